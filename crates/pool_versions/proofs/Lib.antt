@@ -1,0 +1,3 @@
+pub mod AfterSort
+pub mod Ascending
+pub mod Limits

@@ -1,0 +1,16 @@
+//! Backends and members.
+use maglev_table::Name;
+
+/// A backend: its name and its IPv4 address, most significant byte first. Two backends are equal where both parts are.
+#[derive(Clone, Copy, PartialEq, Eq)]
+pub struct Backend {
+    pub name: Name,
+    pub addr: u32,
+}
+
+/// A backend as a member of a service, up or down.
+#[derive(Clone, Copy, PartialEq, Eq)]
+pub struct Member {
+    pub backend: Backend,
+    pub up: bool,
+}

@@ -1,0 +1,17 @@
+//! Pools by version: which backends stand behind a service, and which of them are up.
+//!
+//! A version says which services there are, and which members stand behind each. A catalogue holds the versions that
+//! a cluster may run, each under its number. What was taken into it never changes.
+#![tactic(auto)]
+
+mod backend;
+mod catalogue;
+mod doubles;
+mod service;
+
+pub use backend::{Backend, Member};
+pub use catalogue::{Catalogue, PoolFault};
+pub use service::{Service, Version};
+
+#[cfg(test)]
+mod tests;

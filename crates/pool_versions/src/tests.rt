@@ -1,0 +1,229 @@
+use super::{Backend, Catalogue, Member, PoolFault, Service, Version};
+use five_tuple::Flow;
+use maglev_table::{Name, TableSize};
+use std::alloc::Global;
+use std::process::Abort;
+
+const VIP: u32 = 0xc000_0201;
+
+fn size(rt: &impl Abort, slots: u32) -> TableSize {
+    TableSize::new(slots).expect(rt, "a size")
+}
+
+fn member(rt: &impl Abort, name: &[u8], addr: u32, up: bool) -> Member {
+    let name = Name::new(name).expect(rt, "a name");
+    Member {
+        backend: Backend { name, addr },
+        up,
+    }
+}
+
+fn service(rt: &impl Abort, alloc: Global, port: u16, members: &[Member]) -> Service {
+    Service {
+        vip: VIP,
+        proto: 6,
+        port,
+        members: Vec::from_slice(alloc, members).expect(rt, "memory"),
+    }
+}
+
+fn version(
+    rt: &impl Abort,
+    alloc: Global,
+    number: u32,
+    ports: &[u16],
+    members: &[Member],
+) -> Version {
+    let mut services = Vec::new(alloc);
+    for port in ports {
+        services
+            .push(service(rt, alloc, *port, members))
+            .expect(rt, "memory");
+    }
+    Version { number, services }
+}
+
+fn flow(port: u16) -> Flow {
+    Flow {
+        src: 0x0a00_0001,
+        dst: VIP,
+        sport: 1000,
+        dport: port,
+        proto: 6,
+    }
+}
+
+// Names of two letters, all different for numbers below 26 * 26 * 26.
+fn numbered(rt: &impl Abort, number: u32) -> Member {
+    let letters = [
+        b'a' + (number % 26) as u8,
+        b'a' + (number / 26 % 26) as u8,
+        b'a' + (number / 676 % 26) as u8,
+    ];
+    member(rt, &letters, number, true)
+}
+
+fn many(rt: &impl Abort, alloc: Global, count: u32) -> Vec<Member> {
+    let mut members = Vec::new(alloc);
+    for number in 0..count {
+        members.push(numbered(rt, number)).expect(rt, "memory");
+    }
+    members
+}
+
+#[test]
+fn versions_are_found_by_number(rt: HostRuntime) {
+    let alloc = rt.alloc();
+    let mut catalogue = Catalogue::new(alloc, size(&rt, 7));
+    assert_eq!(rt; catalogue.size().slots(), 7);
+    let one = [member(&rt, b"A", 1, true)];
+    assert_eq!(rt;
+        catalogue.add(version(&rt, alloc, 9, &[80, 443], &one)),
+        Ok(())
+    );
+    assert_eq!(rt;
+        catalogue.add(version(&rt, alloc, 4_294_967_295, &[], &one)),
+        Ok(())
+    );
+    let found = catalogue.get(9).expect(&rt, "a version");
+    assert_eq!(rt; found.services.len(), 2);
+    assert_eq!(rt;
+        found.service_of(&flow(443)).expect(&rt, "a service").port,
+        443
+    );
+    assert!(rt; found.service_of(&flow(81)).is_none());
+    assert!(rt; catalogue.get(4_294_967_295).is_some());
+    assert!(rt; catalogue.get(1).is_none());
+    assert!(rt; catalogue.get(0).is_none());
+}
+
+#[test]
+fn ups_ascend_by_name(rt: HostRuntime) {
+    let alloc = rt.alloc();
+    let mut catalogue = Catalogue::new(alloc, size(&rt, 7));
+    let members = [
+        member(&rt, b"b", 1, true),
+        member(&rt, b"B2", 2, true),
+        member(&rt, b"C", 3, false),
+        member(&rt, b"B", 4, true),
+        member(&rt, b"10", 5, true),
+    ];
+    assert_eq!(rt;
+        catalogue.add(version(&rt, alloc, 1, &[80], &members)),
+        Ok(())
+    );
+    let ups = catalogue
+        .up_of(alloc, 1, &flow(80))
+        .expect(&rt, "memory")
+        .expect(&rt, "a service");
+    assert_eq!(rt; ups.len(), 4);
+    for (place, addr) in [(0usize, 5u32), (1, 4), (2, 2), (3, 1)] {
+        assert_eq!(rt;
+            ups.get(place).expect(&rt, "a backend").addr,
+            addr,
+            "at {place}"
+        );
+    }
+    assert!(rt;
+        catalogue
+            .up_of(alloc, 2, &flow(80))
+            .expect(&rt, "memory")
+            .is_none()
+    );
+    assert!(rt;
+        catalogue
+            .up_of(alloc, 1, &flow(81))
+            .expect(&rt, "memory")
+            .is_none()
+    );
+    let udp = Flow {
+        proto: 17,
+        ..flow(80)
+    };
+    assert!(rt;
+        catalogue
+            .up_of(alloc, 1, &udp)
+            .expect(&rt, "memory")
+            .is_none()
+    );
+}
+
+#[test]
+fn the_first_fault_counts(rt: HostRuntime) {
+    let alloc = rt.alloc();
+    let mut catalogue = Catalogue::new(alloc, size(&rt, 7));
+    let one = [member(&rt, b"A", 1, true)];
+    let twice = [member(&rt, b"A", 1, true), member(&rt, b"A", 2, false)];
+    let mut eight = many(&rt, alloc, 8);
+    assert_eq!(rt; catalogue.add(version(&rt, alloc, 1, &[80], &one)), Ok(()));
+    assert_eq!(rt;
+        catalogue.add(version(&rt, alloc, 0, &[80, 80], &twice)),
+        Err(PoolFault::BadNumber)
+    );
+    assert_eq!(rt;
+        catalogue.add(version(&rt, alloc, 1, &[80, 80], &twice)),
+        Err(PoolFault::NumberTaken)
+    );
+    assert_eq!(rt;
+        catalogue.add(version(&rt, alloc, 2, &[80, 81, 80], &twice)),
+        Err(PoolFault::DoubleService)
+    );
+    assert_eq!(rt;
+        catalogue.add(version(&rt, alloc, 2, &[80, 81], &twice)),
+        Err(PoolFault::DoubleName)
+    );
+    assert_eq!(rt;
+        catalogue.add(version(&rt, alloc, 2, &[80], eight.as_slice())),
+        Err(PoolFault::TooMany)
+    );
+    eight.push(numbered(&rt, 3)).expect(&rt, "memory");
+    assert_eq!(rt;
+        catalogue.add(version(&rt, alloc, 2, &[80], eight.as_slice())),
+        Err(PoolFault::DoubleName)
+    );
+    assert!(rt; catalogue.get(2).is_none());
+    assert_eq!(rt;
+        catalogue.add(version(&rt, alloc, 2, &[80], many(&rt, alloc, 7).as_slice())),
+        Ok(())
+    );
+}
+
+#[test]
+fn counts_at_their_limits(rt: HostRuntime) {
+    let alloc = rt.alloc();
+    let mut catalogue = Catalogue::new(alloc, size(&rt, 65537));
+    let most = many(&rt, alloc, 4096);
+    let more = many(&rt, alloc, 4097);
+    assert_eq!(rt;
+        catalogue.add(version(&rt, alloc, 1, &[80], most.as_slice())),
+        Ok(())
+    );
+    assert_eq!(rt;
+        catalogue.add(version(&rt, alloc, 2, &[80], more.as_slice())),
+        Err(PoolFault::TooMany)
+    );
+    let mut ports = Vec::new(alloc);
+    for port in 0..257u16 {
+        ports.push(port).expect(&rt, "memory");
+    }
+    assert_eq!(rt;
+        catalogue.add(version(&rt, alloc, 2, ports.as_slice(), &[])),
+        Err(PoolFault::TooMany)
+    );
+    let _ = ports.pop();
+    assert_eq!(rt;
+        catalogue.add(version(&rt, alloc, 2, ports.as_slice(), &[])),
+        Ok(())
+    );
+    for number in 3..1025u32 {
+        assert_eq!(rt;
+            catalogue.add(version(&rt, alloc, number, &[], &[])),
+            Ok(()),
+            "at {number}"
+        );
+    }
+    assert_eq!(rt;
+        catalogue.add(version(&rt, alloc, 1025, &[], &[])),
+        Err(PoolFault::TooMany)
+    );
+}
