@@ -1,9 +1,8 @@
 -- What the choices of the two spreaders keep.
-use Rattle.std.specs.Prelude.{◌≡◌, ◌<◌, ℕ, ◌%◌, suc, List, [], ◌∷◌, length, Option, Some, None, slice_get, Contains, is_some, true, refl}
+use Rattle.std.specs.Prelude.{◌≡◌, ℕ, ◌%◌, List, ◌∷◌, length, Some, None, Contains, is_some, true, refl}
 use Rattle.std.proofs.Common.{arith, ap}
 use Rattle.std.proofs.lemmas.Option.{slice_get_within, get_or_from_slice_get, slice_get-get_or}
 use Rattle.std.proofs.lemmas.Nat.{mod_below}
-use Rattle.five_tuple.specs.declared.Flow.{Flow}
 use Rattle.spreader.specs.Choices.{node_at, node_by_turn, node_by_hash, ChoosesLive, ChoosesWhereLive, ChoosesNoneOfNone}
 
 at_live : (live : List ℕ) (number node : ℕ) → node_at live number ≡ Some node → Contains live node

@@ -1,0 +1,57 @@
+-- What numbers, addresses and members are, as text.
+use Rattle.std.specs.Prelude.{ℕ, ◌+◌, ◌-◌, ◌*◌, ◌&&◌, ◌==◌, nat_le, nat_lt, Bool, true, false, if◌then◌else◌, List, [], ◌∷◌, ◌++◌, length, Option, Some, None, option_and_then, option_map, codes}
+use Rattle.std.specs.Str.{bytes_eq}
+use Rattle.maglev_table.specs.NameText.{is_name}
+use Rattle.pool_versions.specs.declared.backend.Member.{Member}
+
+-- the digits of a number, of at most a limit, after those with a value
+abbrev pub digits_after : ℕ → ℕ → List ℕ → Option ℕ
+digits_after limit n [] = Some n
+digits_after limit n (b ∷ bs) =
+    if ((nat_le 48 b && nat_le b 57) && nat_le (n * 10 + (b - 48)) limit) then digits_after limit (n * 10 + (b - 48)) bs else None
+
+-- a decimal number of at most a limit, without sign or leading zeros
+abbrev pub decimal_of : ℕ → List ℕ → Option ℕ
+decimal_of limit [] = None
+decimal_of limit (b ∷ bs) = if (b == 48) && nat_lt 0 (length bs) then None else digits_after limit 0 (b ∷ bs)
+
+-- the pieces between a byte's places, where the first piece has begun
+abbrev pub pieces_after : ℕ → List ℕ → List ℕ → List (List ℕ)
+pieces_after c begun [] = begun ∷ []
+pieces_after c begun (b ∷ bs) = if b == c then begun ∷ pieces_after c [] bs else pieces_after c (begun ++ b ∷ []) bs
+
+-- the pieces between a byte's places
+abbrev pub pieces : ℕ → List ℕ → List (List ℕ)
+pieces c text = pieces_after c [] text
+
+-- the address of four numbers
+abbrev pub address_of_pieces : List (List ℕ) → Option ℕ
+address_of_pieces (a ∷ b ∷ c ∷ d ∷ []) =
+    option_and_then (λ w. option_and_then (λ x. option_and_then (λ y. option_map (λ z. ((w * 256 + x) * 256 + y) * 256 + z) (decimal_of 255 d)) (decimal_of 255 c)) (decimal_of 255 b)) (decimal_of 255 a)
+address_of_pieces _ = None
+
+-- an address: four numbers from 0 to 255 joined by dots
+abbrev pub address_of : List ℕ → Option ℕ
+address_of text = address_of_pieces (pieces 46 text)
+
+-- a member of a name, an address and whether it is up
+abbrev pub member_with : List ℕ → Bool → ℕ → Member
+member_with name up addr = record { backend = record { name = name; addr = addr }; up = up }
+
+-- the member of a name at the address that a text is
+abbrev pub member_at_address : List ℕ → Bool → List ℕ → Option Member
+member_at_address name up text = option_map (member_with name up) (address_of text)
+
+-- `ADDRESS`, or `ADDRESS/down`
+abbrev pub member_at : List ℕ → List (List ℕ) → Option Member
+member_at name (address ∷ []) = member_at_address name true address
+member_at name (address ∷ word ∷ []) = if bytes_eq word (codes "down") then member_at_address name false address else None
+member_at name _ = None
+
+abbrev pub member_of_pieces : List (List ℕ) → Option Member
+member_of_pieces (name ∷ place ∷ []) = if is_name name then member_at name (pieces 47 place) else None
+member_of_pieces _ = None
+
+-- a member word: `NAME@ADDRESS`, or `NAME@ADDRESS/down`
+abbrev pub member_of : List ℕ → Option Member
+member_of text = member_of_pieces (pieces 64 text)

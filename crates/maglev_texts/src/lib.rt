@@ -1,0 +1,11 @@
+//! The texts that people write and read: numbers, addresses, member words, backends and flows.
+#![tactic(auto)]
+
+mod members;
+mod parsing;
+mod printing;
+
+pub use members::member;
+pub use parsing::{address, decimal, pieces};
+pub use printing::{AddressText, BackendText, FlowText};
+
