@@ -9,3 +9,5 @@ pub use members::member;
 pub use parsing::{address, decimal, pieces};
 pub use printing::{AddressText, BackendText, FlowText};
 
+#[cfg(test)]
+mod tests;

@@ -34,11 +34,7 @@ fn digits(text: &[u8], limit: u64) -> Option<u64>
 }
 
 /// The pieces of a text between the places of a byte: one more than there are places.
-pub fn pieces<'a>(
-    alloc: Global,
-    text: &'a [u8],
-    byte: u8,
-) -> Result<Vec<&'a [u8]>, AllocError>
+pub fn pieces<'a>(alloc: Global, text: &'a [u8], byte: u8) -> Result<Vec<&'a [u8]>, AllocError>
     ensures { IfOk result (λ v. map (λ w. w.now) v.items ≡ pieces byte text.entry.now) }
 {
     let mut found: Vec<&'a [u8]> = Vec::new(alloc);

@@ -1,6 +1,6 @@
 use Rattle.std.proofs.lemmas.List.{map-append}
 use Rattle.std.proofs.Common.{append_assoc, arith, ◌≡◌, ◌++◌, ◌+◌, ◌-◌, take, drop, map, ap, sym, ◌∙◌}
-use Rattle.maglev_texts.proofs.Pieces.{piece_ends, piece_goes}
+use Rattle.maglev_texts.proofs.Cuts.{piece_ends, piece_goes}
 use Rattle.maglev_texts.proofs.parsing.pieces.Goals as goal
 use Rattle.maglev_texts.proofs.parsing.pieces.Goals.{then-other-byte+in_ok-push, else-other-byte}
 

@@ -1,0 +1,28 @@
+-- A bounded list of flows with their entries, newest first.
+use Rattle.std.specs.Prelude.{ℕ, List, ◌∷◌, take, Option, Some, None}
+use Rattle.five_tuple.specs.declared.Flow.{Flow}
+use Rattle.connection_table.specs.declared.table.Entry.{Entry}
+use Rattle.connection_table.specs.Touches.{Touch, last_touch, without}
+
+-- a table as contracts see it
+pub record Recency : Type 0 where
+  pub limit : ℕ
+  pub pairs : List Touch
+
+-- an entry that was found moves to the front
+abbrev pub moved : Flow → Option Entry → List Touch → List Touch
+moved x None ts = ts
+moved x (Some e) ts = (x, e) ∷ without x ts
+
+-- the list after the flow was looked up
+abbrev pub renewed : Flow → List Touch → List Touch
+renewed x ts = moved x (last_touch x ts) ts
+
+-- an older pair of the flow goes, or in a full list the last pair
+abbrev pub put_over : Option Entry → ℕ → Flow → Entry → List Touch → List Touch
+put_over None capacity x e ts = take capacity ((x, e) ∷ ts)
+put_over (Some older) capacity x e ts = (x, e) ∷ without x ts
+
+-- the list after the pair was put in front of it
+abbrev pub stored : ℕ → Flow → Entry → List Touch → List Touch
+stored capacity x e ts = put_over (last_touch x ts) capacity x e ts

@@ -1,0 +1,17 @@
+//! Connection tables: which backend a flow was given, for a bounded number of flows by least recent use.
+//!
+//! A table remembers, for the flows that were used most recently, the backend that each was sent to and the version of
+//! the pools under which that backend was chosen (connection tracking, Maglev, NSDI 2016, section 3.4). `PlainTable`
+//! keeps a vector, `LruTable` a hash map with links; both keep one law, that of `ConnTable`.
+#![tactic(auto)]
+
+mod lru_table;
+mod plain;
+mod table;
+
+pub use lru_table::LruTable;
+pub use plain::PlainTable;
+pub use table::{ConnTable, Entry};
+
+#[cfg(test)]
+mod tests;

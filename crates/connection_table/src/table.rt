@@ -1,0 +1,54 @@
+//! What a table of connections is.
+ghost use Rattle.std.specs.Prelude.{◌≡◌, ◌≤◌, ◌<◌, ℕ, List, [], length, IfOk, OnOk, OnErr, IsSome, IsOk};
+ghost use Rattle.connection_table.specs.Recency.{renewed, stored};
+ghost use Rattle.connection_table.specs.Touches.{Touch, last_touch};
+
+use five_tuple::Flow;
+use pool_versions::Backend;
+use std::alloc::{AllocError, Global};
+
+/// Where a flow goes, and the number of the version under which that was chosen.
+#[derive(Clone, Copy, PartialEq, Eq)]
+pub struct Entry {
+    pub backend: Backend,
+    pub version: u32,
+}
+
+/// A bounded table of flows with their entries. Each flow is in it once; the most recently used is in front.
+pub trait ConnTable: Drop + Sized {
+    /// How many entries it keeps.
+    ghost capacity: { Self → ℕ };
+
+    /// The flows with their entries, the most recently used first.
+    ghost entries: { Self → List Touch };
+
+    /// An empty table for 1 to 1,000,000 entries. Nothing of the capacity is reserved.
+    fn make(alloc: Global, limit: u32) -> Result<Self, AllocError>
+        requires some { 0 < limit }
+        requires limit { limit ≤ 1000000 }
+        ensures capacity { IfOk result (λ t. capacity t ≡ limit) }
+        ensures empty { IfOk result (λ t. entries t ≡ []) };
+
+    /// The flow's entry, which is in front from now on. Where there is none nothing changes.
+    fn look(&mut self, flow: &Flow) -> Option<Entry>
+        ensures found { result ≡ last_touch flow.now (entries self.old) }
+        ensures renewed { entries self.new ≡ renewed flow.now (entries self.old) }
+        ensures capacity { capacity self.new ≡ capacity self.old };
+
+    /// Puts the flow's entry in front. An older one of that flow goes, or in a full table the last one. Memory is never
+    /// refused for a flow that is there, and where it is refused nothing changes.
+    fn store(&mut self, flow: Flow, entry: Entry) -> Result<(), AllocError>
+        ensures ok { OnOk result (entries self.new ≡ stored (capacity self.old) flow entry (entries self.old)) }
+        ensures err { OnErr result (entries self.new ≡ entries self.old) }
+        ensures there { IsSome (last_touch flow (entries self.old)) → IsOk result }
+        ensures capacity { capacity self.new ≡ capacity self.old };
+
+    /// Empties it.
+    fn clear(&mut self)
+        ensures empty { entries self.new ≡ [] }
+        ensures capacity { capacity self.new ≡ capacity self.old };
+
+    /// How many entries there are.
+    fn len(&self) -> usize
+        ensures { result ≡ length (entries self.now) };
+}

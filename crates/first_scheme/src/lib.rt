@@ -1,0 +1,55 @@
+//! A scheme of one's own: the first of the up backends, by the trait alone.
+#![tactic(auto)]
+
+ghost use Rattle.std.specs.Prelude.{◌≡◌, true, slice_get, refl};
+ghost use Rattle.first_scheme.specs.FirstLaws.{first_is_up, first_is_none};
+
+use five_tuple::Flow;
+use maglev_table::TableSize;
+use pool_versions::Backend;
+use selection::{PrepareFault, Scheme};
+use std::alloc::Global;
+
+/// The first of the up backends, whatever the flow.
+#[derive(Clone, Copy, Debug, PartialEq, Eq)]
+pub struct First;
+
+impl Scheme for First {
+    ghost STEADY = { true };
+
+    const STEADY: bool = true;
+
+    type Prepared = Option<Backend>;
+
+    ghost pick = { λ s size ups x turn. slice_get ups 0 };
+
+    ghost is_prepared = { λ s size ups p. p ≡ slice_get ups 0 };
+
+    fn prepare(
+        &self,
+        alloc: Global,
+        size: TableSize,
+        ups: &[Backend],
+    ) -> Result<Option<Backend>, PrepareFault> {
+        let _ = alloc;
+        let _ = size;
+        Ok(ups.first().copied())
+    }
+
+    fn choose(&self, prepared: &Option<Backend>, flow: &Flow, turn: u64) -> Option<Backend> {
+        let _ = flow;
+        let _ = turn;
+        *prepared
+    }
+
+    ghost pick_is_up = { λ s size ups x turn b h. first_is_up ups b h };
+
+    ghost pick_is_none = { λ s size ups x turn. first_is_none ups };
+
+    ghost pick_is_steady = { λ h s size ups x t u. refl };
+
+    ghost pick_respects_eq = { λ a b e size ups x turn. refl };
+}
+
+#[cfg(test)]
+mod tests;

@@ -1,0 +1,4 @@
+pub mod Among
+pub mod Counts
+pub mod Versions
+pub mod Tables

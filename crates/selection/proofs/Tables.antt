@@ -1,0 +1,66 @@
+-- The table of some backends: every slot names one of them, and their slot counts differ by at most one.
+use Rattle.std.proofs.Common.{◌≡◌, ℕ, ◌+◌, ◌<◌, ◌≤◌, List, [], ◌∷◌, length, map, slice_index, get_or, Option, Some, None, IfSome, refl, sym, ◌∙◌, ap, subst, arith}
+use Rattle.std.specs.List.{All}
+use Rattle.std.proofs.lemmas.List.{length-map}
+use Rattle.std.proofs.lemmas.List.Elements.{All-map, Contains-get_or}
+use Rattle.std.proofs.lemmas.Option.{slice_get-get_or}
+use Rattle.maglev_table.specs.Turns.{Preference, Owners, maglev, preference_of, slots_of}
+use Rattle.pool_versions.specs.declared.backend.Backend.{Backend}
+use Rattle.selection.specs.Picks.{NamedTable, IsEvenTable, IsTable, IsTableOf, FitsTable, table_slots, table_of_ups, preferences, owners_in}
+use Rattle.selection.specs.PickLaws.{maglev_below}
+
+pub all_of_size : (plain : List ℕ → ℕ) (size : ℕ) (ups : List Backend) → All (λ p. p.size ≡ size) (preferences plain size ups)
+all_of_size plain size ups = All-map (λ (p : Preference). p.size ≡ size) (λ b. preference_of plain b.name size) ups (λ k d within. refl)
+
+even_owners : (plain : List ℕ → ℕ) (size : ℕ) (ups : List Backend) (owners : List ℕ) → (ups ≡ [] → ⊥) → length owners ≡ size → owners ≡ maglev (preferences plain size ups) size →
+    ((i j : ℕ) → i < length (preferences plain size ups) → j < length (preferences plain size ups) → slots_of i owners ≤ slots_of j owners + 1) → IsEvenTable (record { size = size; ups = ups; owners = owners })
+even_owners plain size [] owners some long are even = absurd (some refl)
+even_owners plain size (b ∷ bs) owners some long are even =
+    let many : length (preferences plain size (b ∷ bs)) ≡ length (b ∷ bs) = length-map (b ∷ bs) _ in
+    record {
+      long = long;
+      named = λ slot within.
+          let low : slice_index (maglev (preferences plain size (b ∷ bs)) size) slot < length (preferences plain size (b ∷ bs)) = maglev_below (preferences plain size (b ∷ bs)) size slot (omega arith) in
+          let same : slice_index owners slot ≡ slice_index (maglev (preferences plain size (b ∷ bs)) size) slot = ap (λ (xs : List ℕ). slice_index xs slot) are in
+          let below : slice_index owners slot < length (b ∷ bs) = omega (arith, low, same, many) in
+          (get_or (b ∷ bs) (slice_index owners slot) b, slice_get-get_or (b ∷ bs) (slice_index owners slot) b below, Contains-get_or (b ∷ bs) (slice_index owners slot) b below);
+      even = λ i j low high. even i j (omega (arith, low, many)) (omega (arith, high, many));
+    }
+
+no_backends : (plain : List ℕ → ℕ) (size : ℕ) (ups : List Backend) → preferences plain size ups ≡ [] → ups ≡ []
+no_backends plain size [] e = refl
+no_backends plain size (b ∷ bs) e = absurd cc
+
+pub table_fits : (plain : List ℕ → ℕ) (size : ℕ) (ups : List Backend) (o : Option Owners) → (o ≡ None → preferences plain size ups ≡ []) → IfSome o (IsTable (preferences plain size ups) size) → FitsTable size ups o
+table_fits plain size ups None none some = no_backends plain size ups (none refl)
+table_fits plain size ups (Some t) none some =
+    even_owners plain size ups t.owners (λ (e : ups ≡ []). some.some (ap (preferences plain size) e)) some.long some.owners_are some.balanced
+
+listed_slots : (plain : List ℕ → ℕ) (size : ℕ) (ups : List Backend) → (ups ≡ [] → ⊥) → maglev (preferences plain size ups) size ≡ table_slots plain size ups
+unfolding table_slots
+listed_slots plain size [] some = absurd (some refl)
+listed_slots plain size (b ∷ bs) some = refl
+
+no_slots : (plain : List ℕ → ℕ) (size : ℕ) (ups : List Backend) → ups ≡ [] → [] ≡ table_slots plain size ups
+unfolding table_slots
+no_slots plain size [] e = refl
+no_slots plain size (b ∷ bs) e = absurd cc
+
+owners_of_table : (plain : List ℕ → ℕ) (size : ℕ) (ups : List Backend) (o : Option Owners) → (o ≡ None → preferences plain size ups ≡ []) → IfSome o (IsTable (preferences plain size ups) size) → owners_in o ≡ table_slots plain size ups
+owners_of_table plain size ups None none some = no_slots plain size ups (no_backends plain size ups (none refl))
+owners_of_table plain size ups (Some t) none some = some.owners_are ∙ listed_slots plain size ups (λ (e : ups ≡ []). some.some (ap (preferences plain size) e))
+
+named_table : ℕ → List Backend → List ℕ → NamedTable
+named_table size ups owners = record { size = size; ups = ups; owners = owners }
+
+even_if_some : (size : ℕ) (ups : List Backend) (o : Option Owners) → FitsTable size ups o → (ups ≡ [] → ⊥) → IsEvenTable (record { size = size; ups = ups; owners = owners_in o })
+even_if_some size ups None fits some = absurd (some fits)
+even_if_some size ups (Some t) fits some = fits
+
+pub is_table_of : (plain : List ℕ → ℕ) (size : ℕ) (ups : List Backend) (o : Option Owners) → (o ≡ None → preferences plain size ups ≡ []) → IfSome o (IsTable (preferences plain size ups) size) →
+    IsTableOf plain size ups (record { size = size; ups = ups; owners = owners_in o })
+unfolding named_table
+is_table_of plain size ups o none some = record {
+  made = ap (named_table size ups) (owners_of_table plain size ups o none some);
+  even = even_if_some size ups o (table_fits plain size ups o none some);
+}

@@ -1,0 +1,4 @@
+pub mod Faults
+pub mod Picks
+pub mod PickLaws
+pub mod Readied

@@ -1,0 +1,75 @@
+-- The picks of the schemes.
+use Rattle.std.specs.Prelude.{◌≡◌, ◌<◌, ◌≤◌, ◌+◌, ℕ, ◌%◌, List, [], ◌∷◌, map, length, slice_get, slice_index, Option, Some, None}
+use Rattle.std.specs.List.{Contains}
+use Rattle.five_tuple.specs.Flow.{flow_bytes}
+use Rattle.five_tuple.specs.declared.Flow.{Flow}
+use Rattle.maglev_table.specs.Turns.{Preference, Owners, preference_of, maglev, slots_of, IsBalanced}
+use Rattle.pool_versions.specs.declared.backend.Backend.{Backend}
+
+-- the hash of a flow, where slots are asked for: under the tag 'f'
+abbrev pub flow_hash : (List ℕ → ℕ) → Flow → ℕ
+flow_hash plain x = plain (102 ∷ flow_bytes x)
+
+-- the backend at a number, taken modulo the length
+abbrev pub pick_at : List Backend → ℕ → Option Backend
+pick_at ups n = slice_get ups (n % length ups)
+
+-- the backends' preference lists
+abbrev pub preferences : (List ℕ → ℕ) → ℕ → List Backend → List Preference
+preferences plain size ups = map (λ b. preference_of plain b.name size) ups
+
+-- for each slot the place of the backend that took it, where the backends take turns; no slots where nobody is up
+unfoldable pub table_slots : (List ℕ → ℕ) → ℕ → List Backend → List ℕ
+table_slots plain size [] = []
+table_slots plain size (b ∷ bs) = maglev (preferences plain size (b ∷ bs)) size
+
+-- the slot of a flow
+abbrev pub slot_of_flow : (List ℕ → ℕ) → ℕ → Flow → ℕ
+slot_of_flow plain size x = flow_hash plain x % size
+
+-- the backend that a slot names
+abbrev pub slot_names : List Backend → List ℕ → ℕ → Option Backend
+slot_names ups owners slot = slice_get ups (slice_index owners slot)
+
+-- the backend that the flow's slot names in the table of some backends
+abbrev pub table_pick : (List ℕ → ℕ) → ℕ → List Backend → Flow → Option Backend
+table_pick plain size ups x = slot_names ups (table_slots plain size ups) (slot_of_flow plain size x)
+
+-- a table of slots: its size, the backends, and for each slot the place of the one that it names
+pub record NamedTable : Type 0 where
+  pub size : ℕ
+  pub ups : List Backend
+  pub owners : List ℕ
+
+-- every slot names an up backend, and backends' slot counts differ by at most one
+pub record IsEvenTable (t : NamedTable) : Type 0 where
+  pub long : length t.owners ≡ t.size
+  pub named : (slot : ℕ) → slot < t.size → (b : Backend) × (slot_names t.ups t.owners slot ≡ Some b) × Contains t.ups b
+  pub even : (i j : ℕ) → i < length t.ups → j < length t.ups → slots_of i t.owners ≤ slots_of j t.owners + 1
+
+-- the table of some backends
+abbrev pub table_of_ups : (List ℕ → ℕ) → ℕ → List Backend → NamedTable
+table_of_ups plain size ups = record { size = size; ups = ups; owners = table_slots plain size ups }
+
+-- a value is the table of some backends, and where somebody is up an even one
+pub record IsTableOf (plain : List ℕ → ℕ) (size : ℕ) (ups : List Backend) (t : NamedTable) : Type 0 where
+  pub made : t ≡ table_of_ups plain size ups
+  pub even : (ups ≡ [] → ⊥) → IsEvenTable t
+
+-- the slots of a table, if there is one
+abbrev pub owners_in : Option Owners → List ℕ
+owners_in None = []
+owners_in (Some t) = t.owners
+
+-- there is a table where somebody is up, and it is an even one
+abbrev pub FitsTable : ℕ → List Backend → Option Owners → Type 0
+FitsTable size ups None = ups ≡ []
+FitsTable size ups (Some t) = IsEvenTable (record { size = size; ups = ups; owners = t.owners })
+
+-- what population makes of some lists
+pub record IsTable (lists : List Preference) (size : ℕ) (t : Owners) : Type 0 where
+  pub some : lists ≡ [] → ⊥
+  pub lists_are : t.lists ≡ length lists
+  pub long : length t.owners ≡ size
+  pub owners_are : t.owners ≡ maglev lists size
+  pub balanced : IsBalanced (length lists) t.owners

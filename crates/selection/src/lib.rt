@@ -1,0 +1,22 @@
+//! Schemes, which choose a backend for a flow among those that are up, and versions prepared for them.
+//!
+//! [`Maglev`] chooses by a table of slots (Maglev, section 3.4), [`PlainHash`] by a hash modulo the number of backends,
+//! [`RoundRobin`] by turns. A scheme of one's own is a type that meets the laws of [`Scheme`].
+#![tactic(auto)]
+
+mod maglev;
+mod plain;
+mod prepared;
+mod ready;
+mod round;
+mod scheme;
+
+pub use maglev::{Maglev, MaglevTable};
+pub use plain::PlainHash;
+pub use prepared::PreparedVersion;
+pub use ready::Ready;
+pub use round::RoundRobin;
+pub use scheme::{PrepareFault, Scheme};
+
+#[cfg(test)]
+mod tests;

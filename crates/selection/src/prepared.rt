@@ -1,0 +1,144 @@
+//! A version, prepared for a scheme.
+ghost use Rattle.std.specs.Prelude.{◌≡◌, ◌<◌, ◌↔◌, true, option_copied, MatchOption, IsErrOf, IsSomeAnd, Contains, IfOk, IfSome, None, length, count_by};
+ghost use Rattle.std.specs.List.{list_any};
+ghost use Rattle.five_tuple.specs.declared.Flow.{Flow};
+ghost use Rattle.pool_versions.specs.Pool.{ups, ups_under};
+ghost use Rattle.selection.specs.Readied.{Readied, readied_version, ready_for, ups_for, has_more_ups, IsUpFor};
+
+use crate::ready::Ready;
+use crate::scheme::{PrepareFault, Scheme};
+use five_tuple::Flow;
+use maglev_table::TableSize;
+use pool_versions::{Backend, Member, Service, Version};
+use std::alloc::Global;
+use std::marker::Model;
+
+/// A version, prepared for a scheme and a table size: each of its services with its up backends.
+#[derive(Drop)]
+pub struct PreparedVersion<S: Scheme> {
+    scheme: S,
+    size: TableSize,
+    number: u32,
+    services: Vec<Ready<S>>,
+}
+
+impl<S: Scheme> Model for PreparedVersion<S> {
+    ghost use Rattle.selection.specs.Readied.{Readied, AreFor};
+
+    ghost Value = { Readied S };
+
+    ghost view = { λ a. record { scheme = a.scheme; size = a.size; number = a.number; services = a.services.items } };
+
+    ghost invariant = { λ a. AreFor a.scheme a.size a.services.items };
+}
+
+// How many members are up.
+fn up_count(members: &[Member]) -> usize
+    ensures count { result ≡ count_by (λ m. m.up) members.now }
+{
+    members.iter().filter(|member| member.up).count()
+}
+
+// Whether a service has more up backends than there are slots.
+#[tactic(auto, using(crate::proofs::Counts::length_ups))]
+fn has_more_ups(service: &Service, size: TableSize) -> bool
+    ensures { result ≡ has_more_ups size service.now }
+{
+    up_count(service.members.as_slice()) > size.slots() as usize
+}
+
+fn any_has_more_ups(services: &[Service], size: TableSize) -> bool
+    ensures { result ≡ list_any (has_more_ups size) services.now }
+{
+    services.iter().any(|service| has_more_ups(service, size))
+}
+
+impl<S: Scheme> PreparedVersion<S> {
+    /// Prepares a version for a scheme and a size. TooMany is answered exactly where a service has more up backends than
+    /// there are slots, which no version of a catalogue of that size has.
+    pub fn make(
+        alloc: Global,
+        scheme: &S,
+        size: TableSize,
+        version: &Version,
+    ) -> Result<PreparedVersion<S>, PrepareFault>
+        ensures made { IfOk result (λ p. p ≡ readied_version scheme.now size version.now) }
+        ensures ups { IfOk result (λ p. (x : Flow) → ups_for x p.services ≡ ups_under version.now x) }
+        ensures too_many { IsErrOf result PrepareFault.TooMany ↔ (list_any (has_more_ups size) version.now.services.items ≡ true) }
+    {
+        if any_has_more_ups(version.services.as_slice(), size) {
+            return Err(PrepareFault::TooMany);
+        }
+        let mut services: Vec<Ready<S>> = Vec::new(alloc);
+        for service in &version.services {
+            let ready = Ready::make(alloc, scheme, size, service)?;
+            let Ok(()) = services.push(ready) else {
+                return Err(PrepareFault::Memory);
+            };
+        }
+        Ok(PreparedVersion {
+            scheme: *scheme,
+            size,
+            number: version.number,
+            services,
+        })
+    }
+
+    /// The version's number.
+    pub fn number(&self) -> u32
+        ensures { result ≡ self.now.number }
+    {
+        self.number
+    }
+
+    /// The scheme that it was prepared for.
+    pub fn scheme(&self) -> S
+        ensures { result ≡ self.now.scheme }
+    {
+        self.scheme
+    }
+
+    /// The table size that it was prepared for.
+    pub fn size(&self) -> TableSize
+        ensures { result ≡ self.now.size }
+    {
+        self.size
+    }
+
+    fn first(&self, flow: &Flow) -> Option<&Ready<S>>
+        ensures { option_copied result ≡ ready_for flow.now self.now.services }
+    {
+        self.services.iter().find(|service| service.serves(flow))
+    }
+
+    /// The first service that a flow is of, prepared. Ask it for a backend: that needs no condition.
+    pub fn ready(&self, flow: &Flow) -> Option<&Ready<S>>
+        ensures found { option_copied result ≡ ready_for flow.now self.now.services }
+        ensures own { IfSome result (λ r. (r.now.scheme ≡ self.now.scheme) × (r.now.size ≡ self.now.size)) }
+    {
+        let _ = &self.scheme;
+        self.first(flow)
+    }
+
+    /// What the scheme prepared for the first service that a flow is of.
+    pub fn find(&self, flow: &Flow) -> Option<&S::Prepared>
+        ensures { MatchOption result (ups_for flow.now self.now.services ≡ None)
+            (λ p. IsSomeAnd (ups_for flow.now self.now.services) (λ bs. S.is_prepared self.now.scheme self.now.size bs p.now)) }
+    {
+        match self.ready(flow) {
+            Some(ready) => Some(ready.prepared()),
+            None => None,
+        }
+    }
+
+    /// Whether a backend, as the pair of a name and an address, is one of the up backends of the first service that a
+    /// flow is of.
+    pub fn is_up(&self, flow: &Flow, backend: &Backend) -> bool
+        ensures { (result ≡ true) ↔ IsUpFor flow.now backend.now self.now.services }
+    {
+        match self.ready(flow) {
+            Some(ready) => ready.is_up(backend),
+            None => false,
+        }
+    }
+}

@@ -1,0 +1,71 @@
+//! What a scheme is.
+ghost use Rattle.std.specs.Prelude.{◌≡◌, ◌↔◌, Bool, true, ℕ, List, [], Option, Some, None, IfOk, IfErr, Contains};
+ghost use Rattle.five_tuple.specs.declared.Flow.{Flow};
+ghost use Rattle.pool_versions.specs.declared.backend.Backend.{Backend};
+ghost use Rattle.selection.specs.Faults.{IsPrepareFault};
+
+use five_tuple::Flow;
+use maglev_table::TableSize;
+use pool_versions::Backend;
+use std::alloc::{AllocError, Global};
+
+/// Why nothing was prepared.
+#[derive(Clone, Copy, Debug, PartialEq, Eq)]
+pub enum PrepareFault {
+    /// There are more backends than slots.
+    TooMany,
+    /// Memory was refused.
+    Memory,
+}
+
+impl From<AllocError> for PrepareFault {
+    ghost use Rattle.selection.specs.declared.scheme.PrepareFault.TheVariants.{Memory};
+
+    ghost from_gives = { λ _ e. e ≡ Memory };
+
+    fn from(_: AllocError) -> PrepareFault {
+        PrepareFault::Memory
+    }
+}
+
+/// A way to choose a backend for a flow.
+///
+/// A choice is a function, `pick`, of the up backends, the table's size, the flow and the turn. It is one of those
+/// backends, and None exactly where there is none. Schemes that are equal by `==` have one pick. So two balancers with
+/// equal schemes choose alike under one version, whatever they served before.
+pub trait Scheme: Copy + Eq {
+    ghost STEADY: { Bool };
+
+    /// Whether the turn doesn't matter.
+    const STEADY: bool;
+
+    /// What is made of a list of backends before flows come.
+    type Prepared: Drop;
+
+    ghost pick: { Self → ℕ → List Backend → Flow → ℕ → Option Backend };
+
+    ghost is_prepared: { Self → ℕ → List Backend → Self.Prepared → Type 0 };
+
+    /// Prepares a list of backends that are up. TooMany is answered only where there are more backends than slots.
+    fn prepare(
+        &self,
+        alloc: Global,
+        size: TableSize,
+        ups: &[Backend],
+    ) -> Result<Self::Prepared, PrepareFault>
+        ensures ok { IfOk result (is_prepared self.now size ups.now) }
+        ensures err { IfErr result (IsPrepareFault size ups.now) };
+
+    /// The backend of a flow at a turn, of what this scheme prepared.
+    fn choose(&self, prepared: &Self::Prepared, flow: &Flow, turn: u64) -> Option<Backend>
+        requires { (size : ℕ) × (ups : List Backend) × is_prepared self.now size ups prepared.now }
+        ensures { (size : ℕ) (ups : List Backend) → is_prepared self.now size ups prepared.now → result ≡ pick self.now size ups flow.now turn };
+
+    ghost pick_is_up: { (s : Self) (size : ℕ) (ups : List Backend) (x : Flow) (turn : ℕ) (b : Backend) → pick s size ups x turn ≡ Some b → Contains ups b };
+
+    ghost pick_is_none: { (s : Self) (size : ℕ) (ups : List Backend) (x : Flow) (turn : ℕ) → pick s size ups x turn ≡ None ↔ ups ≡ [] };
+
+    ghost pick_is_steady: { STEADY ≡ true → (s : Self) (size : ℕ) (ups : List Backend) (x : Flow) (t u : ℕ) → pick s size ups x t ≡ pick s size ups x u };
+
+    ghost pick_respects_eq: { (a b : Self) → Self.eq a b ≡ true → (size : ℕ) (ups : List Backend) (x : Flow) (turn : ℕ) → pick a size ups x turn ≡ pick b size ups x turn };
+}

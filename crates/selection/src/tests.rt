@@ -1,0 +1,222 @@
+use super::{Maglev, PlainHash, PrepareFault, PreparedVersion, RoundRobin, Scheme};
+use five_tuple::Flow;
+use hash_laws::{Fnv, SumHash};
+use maglev_table::{Name, TableSize};
+use pool_versions::{Backend, Member, Service, Version};
+use std::alloc::Global;
+use std::process::Abort;
+
+const A: u32 = 0x0a08_0001;
+
+const B: u32 = 0x0a08_0002;
+
+const C: u32 = 0x0a08_0003;
+
+fn seven(rt: &impl Abort) -> TableSize {
+    TableSize::new(7).expect(rt, "a size")
+}
+
+fn backend(rt: &impl Abort, name: &[u8], addr: u32) -> Backend {
+    let name = Name::new(name).expect(rt, "a name");
+    Backend { name, addr }
+}
+
+// From 10.0.0.1 to the TCP service 192.0.2.1:80. Under the sum hash the flows of ports 1000, 1001 and 1006 have the slots
+// 6, 0 and 5 of 7.
+fn flow(sport: u16) -> Flow {
+    Flow {
+        src: 0x0a00_0001,
+        dst: 0xc000_0201,
+        sport,
+        dport: 80,
+        proto: 6,
+    }
+}
+
+fn version(rt: &impl Abort, alloc: Global, ups: [bool; 3]) -> Version {
+    let members = [
+        Member {
+            backend: backend(rt, b"C", C),
+            up: ups[2],
+        },
+        Member {
+            backend: backend(rt, b"A", A),
+            up: ups[0],
+        },
+        Member {
+            backend: backend(rt, b"B", B),
+            up: ups[1],
+        },
+    ];
+    let members = Vec::from_slice(alloc, &members).expect(rt, "memory");
+    let mut services = Vec::new(alloc);
+    services
+        .push(Service {
+            vip: 0xc000_0201,
+            proto: 6,
+            port: 80,
+            members,
+        })
+        .expect(rt, "memory");
+    Version {
+        number: 3,
+        services,
+    }
+}
+
+fn shows_table<H: hash_laws::FlowHash>(
+    rt: &impl Abort,
+    alloc: Global,
+    hash: H,
+    ups: &[Backend],
+    addrs: [u32; 7],
+) {
+    let table = Maglev { hash }
+        .table(alloc, seven(rt), ups)
+        .expect(rt, "a table");
+    assert_eq!(rt; table.size().slots(), 7);
+    for slot in 0..table.size().slots() {
+        let named = table.backend_at(slot).expect(rt, "a backend");
+        assert_eq!(rt; named.addr, addrs[slot as usize % 7], "at {slot}");
+    }
+}
+
+#[test]
+fn tables_by_the_sum_hash(rt: HostRuntime) {
+    let alloc = rt.alloc();
+    let all = [
+        backend(&rt, b"A", A),
+        backend(&rt, b"B", B),
+        backend(&rt, b"C", C),
+    ];
+    let two = [backend(&rt, b"A", A), backend(&rt, b"C", C)];
+    shows_table(&rt, alloc, SumHash, &all, [B, A, B, C, C, A, A]);
+    shows_table(&rt, alloc, SumHash, &two, [A, A, A, C, C, C, A]);
+    let nobody = Maglev { hash: SumHash }
+        .table(alloc, seven(&rt), &[])
+        .expect(&rt, "a table");
+    for slot in 0..nobody.size().slots() {
+        assert!(rt; nobody.backend_at(slot).is_none());
+    }
+    let eight = [all[0]; 8];
+    assert!(rt;
+        Maglev { hash: SumHash }
+            .table(alloc, seven(&rt), &eight[..7])
+            .is_ok()
+    );
+    let refused = Maglev { hash: SumHash }.table(alloc, seven(&rt), &eight);
+    assert_eq!(rt; refused.err(), Some(PrepareFault::TooMany));
+}
+
+// The addresses that a scheme chooses at the turns 0, 1 and 2, through its bound.
+fn chosen<S: Scheme>(
+    rt: &impl Abort,
+    alloc: Global,
+    scheme: S,
+    ups: [bool; 3],
+    sport: u16,
+) -> [Option<u32>; 3] {
+    let version = version(rt, alloc, ups);
+    let prepared = PreparedVersion::make(alloc, &scheme, seven(rt), &version).expect(
+        rt,
+        "a prepared version",
+    );
+    assert_eq!(rt; prepared.number(), 3);
+    assert_eq!(rt; prepared.size().slots(), 7);
+    assert!(rt; prepared.scheme() == scheme);
+    assert!(rt; prepared.find(&flow(sport)).is_some());
+    let ready = prepared.ready(&flow(sport)).expect(rt, "a service");
+    let _ = ready.prepared();
+    let mut addrs = [None; 3];
+    for turn in 0..3u64 {
+        addrs[turn as usize] = ready.choose(&flow(sport), turn).map(|backend| backend.addr);
+    }
+    addrs
+}
+
+#[test]
+fn each_scheme_chooses(rt: HostRuntime) {
+    let alloc = rt.alloc();
+    let all = [true, true, true];
+    let without_b = [true, false, true];
+    let maglev = Maglev { hash: SumHash };
+    assert_eq!(rt; chosen(&rt, alloc, maglev, all, 1000), [Some(A); 3]);
+    assert_eq!(rt; chosen(&rt, alloc, maglev, all, 1001), [Some(B); 3]);
+    assert_eq!(rt; chosen(&rt, alloc, maglev, without_b, 1001), [Some(A); 3]);
+    assert_eq!(rt; chosen(&rt, alloc, maglev, all, 1006), [Some(A); 3]);
+    assert_eq!(rt; chosen(&rt, alloc, maglev, without_b, 1006), [Some(C); 3]);
+    let plain = PlainHash { hash: SumHash };
+    assert_eq!(rt; chosen(&rt, alloc, plain, all, 1000), [Some(C); 3]);
+    assert_eq!(rt; chosen(&rt, alloc, plain, without_b, 1000), [Some(C); 3]);
+    assert_eq!(rt;
+        chosen(&rt, alloc, RoundRobin, all, 1000),
+        [Some(A), Some(B), Some(C)]
+    );
+    assert_eq!(rt;
+        chosen(&rt, alloc, RoundRobin, without_b, 1000),
+        [Some(A), Some(C), Some(A)]
+    );
+    let nobody = [false, false, false];
+    assert_eq!(rt; chosen(&rt, alloc, maglev, nobody, 1000), [None; 3]);
+    assert_eq!(rt; chosen(&rt, alloc, plain, nobody, 1000), [None; 3]);
+    assert_eq!(rt; chosen(&rt, alloc, RoundRobin, nobody, 1000), [None; 3]);
+    assert!(rt; Maglev::<Fnv>::STEADY && PlainHash::<Fnv>::STEADY && !RoundRobin::STEADY);
+}
+
+#[test]
+fn a_pair_is_up(rt: HostRuntime) {
+    let alloc = rt.alloc();
+    let version = version(&rt, alloc, [true, false, true]);
+    let maglev = Maglev { hash: SumHash };
+    let prepared = PreparedVersion::make(alloc, &maglev, seven(&rt), &version).expect(
+        &rt,
+        "a prepared version",
+    );
+    let here = flow(1000);
+    assert!(rt; prepared.is_up(&here, &backend(&rt, b"A", A)));
+    assert!(rt; !prepared.is_up(&here, &backend(&rt, b"A", B)));
+    assert!(rt; !prepared.is_up(&here, &backend(&rt, b"C", A)));
+    assert!(rt; !prepared.is_up(&here, &backend(&rt, b"B", B)));
+    assert!(rt; prepared.is_up(&here, &backend(&rt, b"C", C)));
+    let elsewhere = Flow { dport: 81, ..here };
+    assert!(rt; !prepared.is_up(&elsewhere, &backend(&rt, b"A", A)));
+    assert!(rt; prepared.find(&elsewhere).is_none());
+    assert!(rt; prepared.ready(&elsewhere).is_none());
+}
+
+// A version of one service of eight members, of which some are up.
+fn version_of_eight(rt: &impl Abort, alloc: Global, ups: u32) -> Version {
+    let mut members = Vec::new(alloc);
+    for number in 0..8u32 {
+        let name = [b'a' + (number % 8) as u8];
+        members
+            .push(Member {
+                backend: backend(rt, &name, number),
+                up: number < ups,
+            })
+            .expect(rt, "memory");
+    }
+    let mut services = Vec::new(alloc);
+    services
+        .push(Service {
+            vip: 1,
+            proto: 6,
+            port: 80,
+            members,
+        })
+        .expect(rt, "memory");
+    Version {
+        number: 1,
+        services,
+    }
+}
+
+#[test]
+fn more_up_backends_than_slots(rt: HostRuntime) {
+    let alloc = rt.alloc();
+    for (ups, refused) in [(7u32, None), (8, Some(PrepareFault::TooMany))] {
+        let version = version_of_eight(&rt, alloc, ups);
+        let made = PreparedVersion::make(alloc, &RoundRobin, seven(&rt), &version);
+        assert_eq!(rt; made.err(), refused);
+    }
+}
