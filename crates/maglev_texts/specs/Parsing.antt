@@ -48,8 +48,12 @@ member_at name (address ∷ []) = member_at_address name true address
 member_at name (address ∷ word ∷ []) = if bytes_eq word (codes "down") then member_at_address name false address else None
 member_at name _ = None
 
+-- the member of a name at a place
+abbrev pub member_named : List ℕ → List ℕ → Option Member
+member_named name place = if is_name name then member_at name (pieces 47 place) else None
+
 abbrev pub member_of_pieces : List (List ℕ) → Option Member
-member_of_pieces (name ∷ place ∷ []) = if is_name name then member_at name (pieces 47 place) else None
+member_of_pieces (name ∷ place ∷ []) = member_named name place
 member_of_pieces _ = None
 
 -- a member word: `NAME@ADDRESS`, or `NAME@ADDRESS/down`

@@ -1,5 +1,5 @@
 ghost use Rattle.std.specs.Prelude.{◌≡◌, map, IfOk};
-ghost use Rattle.maglev_texts.specs.Parsing.{member_at_address, member_at, member_of_pieces, member_of};
+ghost use Rattle.maglev_texts.specs.Parsing.{member_at_address, member_at, member_named, member_of_pieces, member_of};
 
 use crate::parsing::{address, pieces};
 use maglev_table::Name;
@@ -33,21 +33,30 @@ fn member_at(alloc: Global, name: Name, parts: &[&[u8]]) -> Result<Option<Member
                 Ok(None)
             }
         }
-        _ => Ok(None),
+        [] => Ok(None),
+        [_, _, _, ..] => Ok(None),
     }
 }
 
-fn member_of_pieces(alloc: Global, parts: &[&[u8]]) -> Result<Option<Member>, AllocError>
-    ensures { IfOk result (λ o. o ≡ member_of_pieces (map (λ w. w.now) parts.now)) }
+fn member_named(alloc: Global, name: &[u8], place: &[u8]) -> Result<Option<Member>, AllocError>
+    ensures { IfOk result (λ o. o ≡ member_named name.now place.now) }
 {
-    let [name, place] = parts else {
-        return Ok(None);
-    };
     let Some(name) = Name::new(name) else {
         return Ok(None);
     };
     let parts = pieces(alloc, place, b'/')?;
     member_at(alloc, name, parts.as_slice())
+}
+
+fn member_of_pieces(alloc: Global, parts: &[&[u8]]) -> Result<Option<Member>, AllocError>
+    ensures { IfOk result (λ o. o ≡ member_of_pieces (map (λ w. w.now) parts.now)) }
+{
+    match parts {
+        [name, place] => member_named(alloc, name, place),
+        [] => Ok(None),
+        [_] => Ok(None),
+        [_, _, _, ..] => Ok(None),
+    }
 }
 
 /// The member that a word is: `NAME@ADDRESS`, followed by `/down` where the member is down.

@@ -90,7 +90,7 @@ fn walk_finds_double_service(services: &[Service]) -> bool
 }
 
 /// Whether two members have one name. Where memory for a sort is refused, a slow walk gives the same answer.
-pub(crate) fn has_double_name(alloc: Global, members: &[Member]) -> bool
+pub fn has_double_name(alloc: Global, members: &[Member]) -> bool
     ensures { result ≡ has_double same_name members.now }
 {
     match names_of(alloc, members) {

@@ -11,6 +11,7 @@ mod service;
 
 pub use backend::{Backend, Member};
 pub use catalogue::{Catalogue, PoolFault};
+pub use doubles::has_double_name;
 pub use service::{Service, Version};
 
 #[cfg(test)]

@@ -2,12 +2,13 @@ use Rattle.std.proofs.Common.{◌≡◌, ◌<◌, ◌≤◌, List, ℕ, map, len
 use Rattle.std.proofs.lemmas.List.{length-map}
 use Rattle.maglev_texts.proofs.Words.{of_few, of_many}
 use Rattle.maglev_texts.proofs.members.member_of_pieces.Goals as goal
-use Rattle.maglev_texts.proofs.members.member_of_pieces.Goals.{in_default-via-then-parts-lt2, in_default-via-else-parts-lt2+else-parts-lt3}
 
-pub returns-in_default : goal.returns-in_default
-returns-in_default c =
+pub returns-in-len1 : goal.returns-in-len1
+returns-in-len1 c =
     let long : length (map (λ (w : Bor (List ℕ)). w.now) c.args.parts.now) ≡ length c.args.parts.now = length-map c.args.parts.now (λ (w : Bor (List ℕ)). w.now) in
-    elim c.in_default.branch [
-      | in_default-via-then-parts-lt2 w ↦ of_few (map (λ (w : Bor (List ℕ)). w.now) c.args.parts.now) (omega arith)
-      | in_default-via-else-parts-lt2+else-parts-lt3 w ↦ of_many (map (λ (w : Bor (List ℕ)). w.now) c.args.parts.now) (omega arith)
-    ]
+    of_few (map (λ (w : Bor (List ℕ)). w.now) c.args.parts.now) (omega arith)
+
+pub returns-in-len3-up : goal.returns-in-len3-up
+returns-in-len3-up c =
+    let long : length (map (λ (w : Bor (List ℕ)). w.now) c.args.parts.now) ≡ length c.args.parts.now = length-map c.args.parts.now (λ (w : Bor (List ℕ)). w.now) in
+    of_many (map (λ (w : Bor (List ℕ)). w.now) c.args.parts.now) (omega arith)

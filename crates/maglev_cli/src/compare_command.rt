@@ -1,0 +1,95 @@
+ghost use Rattle.std.specs.Prelude.{◌≡◌, ◌≢◌, IfOk, IfErr};
+ghost use Rattle.pool_versions.specs.Pool.{ups};
+ghost use Rattle.selection.specs.Picks.{table_of_ups};
+ghost use Rattle.maglev_cli.specs.Compare.{WritesCompare, WritesCompareOf, ListsFail, CompareFails, AreGood};
+
+use super::compare_text::compare_text_of;
+use super::fault::CliFault;
+use super::members::lists_in;
+use hash_laws::{AnyHash, FlowHash};
+use maglev_table::TableSize;
+use pool_versions::{Backend, Member, Service};
+use selection::{Maglev, MaglevTable};
+use std::alloc::{AllocError, Global};
+use std::io::Write;
+
+// The up backends of some members, in ascending order of name.
+fn ups_of(alloc: Global, members: Vec<Member>) -> Result<Vec<Backend>, AllocError>
+    ensures { IfOk result (λ v. v.items ≡ ups members.items) }
+{
+    let service = Service {
+        vip: 0,
+        proto: 0,
+        port: 0,
+        members,
+    };
+    service.ups(alloc)
+}
+
+fn table_of<H: FlowHash>(
+    alloc: Global,
+    size: TableSize,
+    hash: &H,
+    ups: &[Backend],
+) -> Result<MaglevTable, AllocError>
+    ensures { IfOk result (λ t. t ≡ table_of_ups (H.plain hash.now) size ups.now) }
+{
+    let scheme = Maglev { hash: *hash };
+    match scheme.table(alloc, size, ups) {
+        Ok(table) => Ok(table),
+        Err(_) => Err(AllocError),
+    }
+}
+
+fn compare_with<H: FlowHash, W: Write>(
+    alloc: Global,
+    size: TableSize,
+    hash: &H,
+    old: &str,
+    new: &str,
+    out: &mut W,
+) -> Result<(), CliFault>
+    ensures written { IfOk result (λ _. WritesCompare (H.plain hash.now) size old.now new.now (W.contents out.old) (W.contents out.new)) }
+    ensures silent { IfErr result (λ fault. fault ≢ CliFault.Write → out.new ≡ out.old) }
+    ensures fault { IfErr result (λ fault. ListsFail fault size old.now new.now) }
+{
+    let lists = lists_in(alloc, size, old, new)?;
+    let old = ups_of(alloc, lists.old)?;
+    let new = ups_of(alloc, lists.new)?;
+    let before = table_of(alloc, size, hash, old.as_slice())?;
+    let after = table_of(alloc, size, hash, new.as_slice())?;
+    let text = compare_text_of(alloc, &before, old.len(), &after, new.len())?;
+    match out.write_all(text.as_bytes()) {
+        Ok(()) => Ok(()),
+        Err(_) => Err(CliFault::Write),
+    }
+}
+
+/// The command `compare`: writes the slots whose backend changes where the members `old` are replaced by `new`.
+///
+/// Each list is one or more member words, `NAME@ADDRESS` or `NAME@ADDRESS/down`, joined by single spaces. Backends are
+/// told apart by name and address. The text is written in one piece once it is whole, so after any fault but `Write`
+/// nothing was written.
+pub fn compare<W: Write>(
+    alloc: Global,
+    size: u32,
+    hash: &str,
+    old: &str,
+    new: &str,
+    out: &mut W,
+) -> Result<(), CliFault>
+    ensures written { IfOk result (λ _. WritesCompareOf hash.now size old.now new.now (W.contents out.old) (W.contents out.new)) }
+    ensures silent { IfErr result (λ fault. fault ≢ CliFault.Write → out.new ≡ out.old) }
+    ensures fault { IfErr result (λ fault. CompareFails fault size hash.now old.now new.now) }
+{
+    let Some(size) = TableSize::new(size) else {
+        return Err(CliFault::BadSize);
+    };
+    let Some(hash) = AnyHash::of_word(hash) else {
+        return Err(CliFault::BadHash);
+    };
+    match compare_with(alloc, size, &hash, old, new, out) {
+        Ok(()) => Ok(()),
+        Err(fault) => Err(fault),
+    }
+}

@@ -1,0 +1,63 @@
+ghost use Rattle.std.specs.Prelude.{◌≡◌, ◌||◌, map, length, IfOk, IfErr};
+ghost use Rattle.maglev_texts.specs.Parsing.{member_of};
+ghost use Rattle.maglev_cli.specs.Compare.{AreMembers, AreLists, AreGood, MembersFail, ListsFail, is_long};
+
+use super::fault::CliFault;
+use maglev_table::TableSize;
+use maglev_texts::{member, pieces};
+use pool_versions::{Member, has_double_name};
+use std::alloc::Global;
+
+/// The most members of a list.
+const MOST_MEMBERS: usize = 4096;
+
+/// The members before and after a change.
+#[derive(Drop)]
+pub(crate) struct Lists {
+    pub(crate) old: Vec<Member>,
+    pub(crate) new: Vec<Member>,
+}
+
+// The members that the words of a text are, which single spaces join.
+fn members_in(alloc: Global, text: &str) -> Result<Vec<Member>, CliFault>
+    ensures members { IfOk result (λ v. AreMembers text.now v.items) }
+    ensures fault { IfErr result (λ fault. MembersFail fault text.now) }
+{
+    let words = pieces(alloc, text.as_bytes(), b' ')?;
+    let mut members = Vec::new(alloc);
+    for word in &words {
+        match member(alloc, word)? {
+            Some(member) => members.push(member)?,
+            None => return Err(CliFault::BadMember),
+        }
+    }
+    Ok(members)
+}
+
+fn is_long(members: &[Member], size: TableSize) -> bool
+    ensures { result ≡ is_long size members.now }
+{
+    members.len() > MOST_MEMBERS || members.len() > size.slots() as usize
+}
+
+/// The members of two texts, tested together.
+pub(crate) fn lists_in(
+    alloc: Global,
+    size: TableSize,
+    old: &str,
+    new: &str,
+) -> Result<Lists, CliFault>
+    ensures lists { IfOk result (λ l. AreLists old.now new.now l.old.items l.new.items) }
+    ensures good { IfOk result (λ l. AreGood size l.old.items l.new.items) }
+    ensures fault { IfErr result (λ fault. ListsFail fault size old.now new.now) }
+{
+    let old = members_in(alloc, old)?;
+    let new = members_in(alloc, new)?;
+    if has_double_name(alloc, old.as_slice()) || has_double_name(alloc, new.as_slice()) {
+        return Err(CliFault::DoubleName);
+    }
+    if is_long(old.as_slice(), size) || is_long(new.as_slice(), size) {
+        return Err(CliFault::TooMany);
+    }
+    Ok(Lists { old, new })
+}
