@@ -58,9 +58,13 @@ compare_text old new =
 abbrev pub AreMembers : List ℕ → List Member → Type 0
 AreMembers text ms = map member_of (pieces 32 text) ≡ map Some ms
 
+-- one of the words is no member
+abbrev pub HasOtherWord : List (List ℕ) → Type 0
+HasOtherWord words = Contains (map member_of words) None
+
 -- one of the text's words is no member
 abbrev pub HasOther : List ℕ → Type 0
-HasOther text = Contains (map member_of (pieces 32 text)) None
+HasOther text = HasOtherWord (pieces 32 text)
 
 -- a name comes twice
 abbrev pub is_double : List Member → Bool
@@ -80,11 +84,15 @@ pub record AreGood (size : ℕ) (ms ns : List Member) : Type 0 where
   pub once : (is_double ms || is_double ns) ≡ false
   pub few : (is_long size ms || is_long size ns) ≡ false
 
+-- what words are where reading them as members ends by a fault
+abbrev pub WordsAreOther : CliFault → List (List ℕ) → Type 0
+WordsAreOther BadMember words = HasOtherWord words
+WordsAreOther Memory words = Unit {0}
+WordsAreOther _ words = ⊥
+
 -- what a member list is where reading it ends by a fault
 abbrev pub MembersFail : CliFault → List ℕ → Type 0
-MembersFail BadMember text = HasOther text
-MembersFail Memory text = Unit {0}
-MembersFail _ text = ⊥
+MembersFail fault text = WordsAreOther fault (pieces 32 text)
 
 -- the same for two lists that are to share a size
 abbrev pub ListsFail : CliFault → ℕ → List ℕ → List ℕ → Type 0

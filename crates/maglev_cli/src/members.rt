@@ -1,6 +1,6 @@
-ghost use Rattle.std.specs.Prelude.{◌≡◌, ◌||◌, map, length, IfOk, IfErr};
+ghost use Rattle.std.specs.Prelude.{◌≡◌, map, Some, IfOk, IfErr};
 ghost use Rattle.maglev_texts.specs.Parsing.{member_of};
-ghost use Rattle.maglev_cli.specs.Compare.{AreMembers, AreLists, AreGood, MembersFail, ListsFail, is_long};
+ghost use Rattle.maglev_cli.specs.Compare.{AreMembers, AreLists, AreGood, WordsAreOther, MembersFail, ListsFail, is_long};
 
 use super::fault::CliFault;
 use maglev_table::TableSize;
@@ -18,20 +18,31 @@ pub(crate) struct Lists {
     pub(crate) new: Vec<Member>,
 }
 
+// The members that words are.
+fn members_of(alloc: Global, words: &[&[u8]]) -> Result<Vec<Member>, CliFault>
+    ensures members { IfOk result (λ v. map member_of (map (λ w. w.now) words.now) ≡ map Some v.items) }
+    ensures fault { IfErr result (λ fault. WordsAreOther fault (map (λ w. w.now) words.now)) }
+{
+    let mut members = Vec::new(alloc);
+    for word in words {
+        let member = match member(alloc, word)? {
+            Some(member) => member,
+            None => return Err(CliFault::BadMember),
+        };
+        let Ok(()) = members.push(member) else {
+            return Err(CliFault::Memory);
+        };
+    }
+    Ok(members)
+}
+
 // The members that the words of a text are, which single spaces join.
 fn members_in(alloc: Global, text: &str) -> Result<Vec<Member>, CliFault>
     ensures members { IfOk result (λ v. AreMembers text.now v.items) }
     ensures fault { IfErr result (λ fault. MembersFail fault text.now) }
 {
     let words = pieces(alloc, text.as_bytes(), b' ')?;
-    let mut members = Vec::new(alloc);
-    for word in &words {
-        match member(alloc, word)? {
-            Some(member) => members.push(member)?,
-            None => return Err(CliFault::BadMember),
-        }
-    }
-    Ok(members)
+    members_of(alloc, words.as_slice())
 }
 
 fn is_long(members: &[Member], size: TableSize) -> bool

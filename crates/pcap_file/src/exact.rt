@@ -1,0 +1,66 @@
+// Whole pieces are read and written.
+ghost use Rattle.std.specs.Prelude.{◌≡◌, ◌≤◌, ◌<◌, ◌+◌, ◌^◌, length, take, IfOk, OnOk, OnErr};
+ghost use Rattle.std.specs.Io.KnownBytes.{Consumes, Appends, IsAtEnd};
+ghost use Rattle.pcap_file.specs.Device.{GivenUp, WithinCalls};
+
+use crate::device::{DeviceFault, Sink, Source};
+
+/// A device failed, or was called as often as a piece allows.
+#[derive(Clone, Copy, Debug, PartialEq, Eq)]
+pub struct Refused;
+
+/// Reads until the place is full or the input ends, and answers how many bytes came. The device is
+/// called at most 1,000 times more than the place has bytes; an empty place makes no call.
+pub fn fill<S: Source>(source: &mut S, buf: &mut [u8]) -> Result<usize, Refused>
+    requires { length buf.old + 1000 < 2 ^ 64 }
+    ensures bound { IfOk result (λ n. n ≤ length buf.new) }
+    ensures bytes { IfOk result (λ n. Consumes (S.left source.old) (S.left source.new) (take n buf.new)) }
+    ensures end { IfOk result (λ n. n < length buf.new → IsAtEnd (S.left source.new)) }
+    ensures failures { OnOk result (S.failures source.new ≡ S.failures source.old) }
+    ensures refused { OnErr result (GivenUp (length buf.old) (S.failures source.old) (S.failures source.new) (S.calls source.old) (S.calls source.new)) }
+    ensures calls { WithinCalls (length buf.old) (S.calls source.old) (S.calls source.new) }
+{
+    let mut at = 0;
+    for _ in 0..buf.len() + 1000 {
+        if at >= buf.len() {
+            return Ok(at);
+        }
+        match source.read(&mut buf[at..]) {
+            Ok(0) => return Ok(at),
+            Ok(n) => at += n,
+            Err(DeviceFault::Interrupted) => {}
+            Err(DeviceFault::Failed) => return Err(Refused),
+        }
+    }
+    if at >= buf.len() {
+        Ok(at)
+    } else {
+        Err(Refused)
+    }
+}
+
+/// Writes all of the bytes, in at most 1,000 calls more than there are bytes.
+pub fn put_all<S: Sink>(sink: &mut S, bytes: &[u8]) -> Result<(), Refused>
+    requires { length bytes.now + 1000 < 2 ^ 64 }
+    ensures bytes { OnOk result (Appends (S.contents sink.old) (S.contents sink.new) bytes.now) }
+    ensures failures { OnOk result (S.failures sink.new ≡ S.failures sink.old) }
+    ensures refused { OnErr result (GivenUp (length bytes.now) (S.failures sink.old) (S.failures sink.new) (S.calls sink.old) (S.calls sink.new)) }
+    ensures calls { WithinCalls (length bytes.now) (S.calls sink.old) (S.calls sink.new) }
+{
+    let mut at = 0;
+    for _ in 0..bytes.len() + 1000 {
+        if at >= bytes.len() {
+            return Ok(());
+        }
+        match sink.write(&bytes[at..]) {
+            Ok(n) => at += n,
+            Err(DeviceFault::Interrupted) => {}
+            Err(DeviceFault::Failed) => return Err(Refused),
+        }
+    }
+    if at >= bytes.len() {
+        Ok(())
+    } else {
+        Err(Refused)
+    }
+}
