@@ -111,6 +111,47 @@ def test_table():
         check("an output that can't be written", (status, err) == (1, b"fault: Write\n"), f"{status} {err!r}")
 
 
+TCP = "45000028000100004006aecd0a000001c000020103e8005000000001000000005002200000000000"
+UDP = "4500001c000100004011aece0a000001c000020103e8003500080000"
+
+
+def test_pick():
+    words = ["pick", "--size", "7", "--hash", "sum", "A", "B", "C"]
+    found = "tcp 10.0.0.1:1000>192.0.2.1:80 slot 6 backend A\n"
+    prints("pick of a TCP datagram", words, found, stdin=TCP.encode())
+    prints("pick with a newline", words, found, stdin=TCP.encode() + b"\n")
+    prints("pick of a UDP datagram", words, "udp 10.0.0.1:1000>192.0.2.1:53 slot 4 backend C\n", stdin=UDP.upper().encode())
+    prints("a UDP length of 7", words, "drop BadTransport\n", stdin=UDP.replace("00080000", "00070000").encode())
+    prints("no datagram", words, "drop Truncated\n", stdin=b"")
+    prints("a fragment", words, "drop Fragment\n", stdin=TCP.replace("00004006aecd", "200040068ecd").encode())
+    wrong = TCP.replace("aecd", "aece").encode()
+    prints("a wrong checksum", words, "drop BadChecksum\n", stdin=wrong)
+    prints("a wrong checksum that isn't tested", ["pick", "--no-check", *words[1:]], found, stdin=wrong)
+    faults("one digit", words, "BadHex", stdin=b"4")
+    faults("a size that isn't listed", ["pick", "--size", "8", "--hash", "sum", "A"], "BadSize", stdin=b"4")
+    faults("an input that is too long", words, "TooLong", stdin=b"0" * 524290)
+    faults("a double name before the input", [*words, "A"], "DoubleName", stdin=b"4")
+    misused("pick with no name", words[:5])
+    done = subprocess.run([PROGRAM, *words], stdin=os.open(str(TOP), os.O_RDONLY), capture_output=True, timeout=600)
+    check("an input that can't be read", (done.returncode, done.stdout, done.stderr) == (1, b"", b"fault: Read\n"), repr(done))
+
+
+def test_compare():
+    words = ["compare", "--size", "7", "--hash", "sum"]
+    old = "A@10.8.0.1 B@10.8.0.2 C@10.8.0.3"
+    moved = "size 7 old 3 new 2 differ 3\n0 B@10.8.0.2 A@10.8.0.1\n2 B@10.8.0.2 A@10.8.0.1\n5 A@10.8.0.1 C@10.8.0.3\n"
+    prints("a member goes down", [*words, "--old", old, "--new", "A@10.8.0.1 B@10.8.0.2/down C@10.8.0.3"], moved)
+    lines = "".join(f"{slot} A@10.8.0.1 A@10.8.0.9\n" for slot in range(7))
+    prints("an address changes", [*words, "--old", "A@10.8.0.1", "--new", "A@10.8.0.9"], "size 7 old 1 new 1 differ 7\n" + lines)
+    prints("nobody is up", [*words, "--old", "A@10.8.0.1/down", "--new", "B@10.8.0.1/down"], "size 7 old 0 new 0 differ 0\n")
+    faults("an empty list", [*words, "--old", "", "--new", old], "BadMember")
+    faults("a leading zero", [*words, "--old", "A@10.8.0.01", "--new", old], "BadMember")
+    faults("a double member", [*words, "--old", old, "--new", "A@10.8.0.1 A@10.8.0.2"], "DoubleName")
+    eight = " ".join(f"{name}@10.8.0.1" for name in "ABCDEFGH")
+    faults("eight members of seven slots", [*words, "--old", old, "--new", eight], "TooMany")
+    misused("compare with one list", [*words, "--old", old])
+
+
 def test_command_line():
     misused("no subcommand", [])
     misused("an unknown subcommand", ["tables"])
@@ -119,7 +160,7 @@ def test_command_line():
     misused("a size that isn't a number", ["table", "--size", "seven", "--hash", "sum", "A"])
     misused("a size that doesn't fit", ["table", "--size", "4294967296", "--hash", "sum", "A"])
     misused("a negative size", ["table", "--size", "-7", "--hash", "sum", "A"])
-    for words in [["--help"], ["table", "--help"]]:
+    for words in [["--help"], ["table", "--help"], ["pick", "--help"], ["compare", "--help"]]:
         status, out, err = run(words)
         check(" ".join(words), status == 0 and b"Usage" in out and err == b"", f"{status} {out!r} {err!r}")
 

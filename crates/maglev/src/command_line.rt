@@ -43,11 +43,60 @@ fn table<'a>(alloc: Global) -> Result<Command<'a>, Error> {
     Ok(table)
 }
 
+fn pick<'a>(alloc: Global) -> Result<Command<'a>, Error> {
+    let no_check = Arg::new(alloc, "no-check")
+        .long("no-check")
+        .help("don't test the header checksum")
+        .action(ArgAction::SetTrue);
+    let pick = Command::new(alloc, "pick")
+        .about(
+            "Reads one IPv4 datagram as hexadecimal text, and prints its flow, slot and backend, or why it is dropped",
+        )
+        .after_help(
+            "Example: echo 4500001c000100004011aece0a000001c000020103e8003500080000 | maglev pick --size 7 --hash sum A B C",
+        )
+        .arg(size(alloc))?
+        .arg(hash(alloc))?
+        .arg(no_check)?
+        .arg(names(alloc))?;
+    Ok(pick)
+}
+
+fn members<'a>(alloc: Global, id: &'a str, help: &'a str) -> Arg<'a> {
+    Arg::new(alloc, id)
+        .long(id)
+        .value_name("MEMBERS")
+        .help(help)
+        .required(true)
+        .action(ArgAction::Set)
+}
+
+fn compare<'a>(alloc: Global) -> Result<Command<'a>, Error> {
+    let old = members(
+        alloc,
+        "old",
+        "members before: NAME@ADDRESS or NAME@ADDRESS/down, joined by single spaces",
+    );
+    let new = members(alloc, "new", "members after");
+    let compare = Command::new(alloc, "compare")
+        .about("Prints the slots that name another backend after a change of members")
+        .after_help(
+            "Example: maglev compare --size 7 --hash sum --old 'A@10.8.0.1 B@10.8.0.2' --new 'A@10.8.0.1 B@10.8.0.2/down'",
+        )
+        .arg(size(alloc))?
+        .arg(hash(alloc))?
+        .arg(old)?
+        .arg(new)?;
+    Ok(compare)
+}
+
 /// The command line of the program.
 pub fn command<'a>(alloc: Global) -> Result<Command<'a>, Error> {
     let whole = Command::new(alloc, "maglev")
         .about("A cluster of layer 4 load balancers after Maglev (NSDI 2016), proved")
         .subcommand_required(true)
-        .subcommand(table(alloc)?)?;
+        .subcommand(table(alloc)?)?
+        .subcommand(pick(alloc)?)?
+        .subcommand(compare(alloc)?)?;
     Ok(whole)
 }

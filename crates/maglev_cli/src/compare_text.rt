@@ -113,8 +113,7 @@ pub(crate) fn compare_text_of(
     let slots = moved_slots(alloc, old, new)?;
     let size = old.size().slots();
     let moved = slots.len();
-    let mut text =
-        format!(in alloc; "size {size} old {before} new {after} differ {moved}\n")?;
+    let mut text = format!(in alloc; "size {size} old {before} new {after} differ {moved}\n")?;
     push_moved_lines(&mut text, old, new, slots.as_slice())?;
     Ok(text)
 }

@@ -1,6 +1,6 @@
-use super::{CliFault, finish, table};
+use super::{CliFault, compare, finish, pick, table};
 use std::alloc::Global;
-use std::io::{self, Write};
+use std::io::{self, Read, Write};
 use std::process::Abort;
 
 /// A writer whose every call fails.
@@ -91,4 +91,166 @@ fn faults_are_shown(rt: HostRuntime) {
     );
     shown(&rt, rt.alloc(), Err(CliFault::Memory), 1, "fault: Memory\n");
     assert_eq!(rt; finish(&Err(CliFault::BadSize), &mut Broken), 1);
+}
+
+fn compared(rt: &impl Abort, alloc: Global, old: &str, new: &str, text: &str) {
+    let mut out = Vec::new(alloc);
+    let done = compare(alloc, 7, "sum", old, new, &mut out);
+    assert_eq!(rt; done, Ok(()));
+    assert_eq!(rt; out.as_slice(), text.as_bytes());
+}
+
+#[test]
+fn comparisons(rt: HostRuntime) {
+    let three = "A@10.8.0.1 B@10.8.0.2 C@10.8.0.3";
+    let moved =
+        "size 7 old 3 new 2 differ 3\n0 B@10.8.0.2 A@10.8.0.1\n2 B@10.8.0.2 A@10.8.0.1\n5 A@10.8.0.1 C@10.8.0.3\n";
+    let down = "A@10.8.0.1 B@10.8.0.2/down C@10.8.0.3";
+    compared(&rt, rt.alloc(), three, down, moved);
+    let turned = "C@10.8.0.3 B@10.8.0.2/down A@10.8.0.1";
+    compared(&rt, rt.alloc(), three, turned, moved);
+    compared(
+        &rt,
+        rt.alloc(),
+        three,
+        three,
+        "size 7 old 3 new 3 differ 0\n",
+    );
+    let nobody = "A@10.8.0.1/down";
+    compared(
+        &rt,
+        rt.alloc(),
+        nobody,
+        nobody,
+        "size 7 old 0 new 0 differ 0\n",
+    );
+    let gone =
+        "size 7 old 1 new 0 differ 7\n0 B@1.2.3.4 -\n1 B@1.2.3.4 -\n2 B@1.2.3.4 -\n3 B@1.2.3.4 -\n4 B@1.2.3.4 -\n5 B@1.2.3.4 -\n6 B@1.2.3.4 -\n";
+    compared(&rt, rt.alloc(), "B@1.2.3.4", nobody, gone);
+}
+
+fn not_compared(rt: &impl Abort, alloc: Global, size: u32, old: &str, new: &str, fault: CliFault) {
+    let mut out = Vec::new(alloc);
+    let done = compare(alloc, size, "sum", old, new, &mut out);
+    assert_eq!(rt; done, Err(fault));
+    assert_eq!(rt; out.len(), 0);
+}
+
+#[test]
+fn faults_of_compare(rt: HostRuntime) {
+    let one = "A@1.2.3.4";
+    let two = "A@1.2.3.4 A@1.2.3.5";
+    let eight =
+        "A@1.2.3.4 B@1.2.3.4 C@1.2.3.4 D@1.2.3.4 E@1.2.3.4 F@1.2.3.4 G@1.2.3.4 H@1.2.3.4/down";
+    not_compared(&rt, rt.alloc(), 8, "", "", CliFault::BadSize);
+    not_compared(&rt, rt.alloc(), 7, "", one, CliFault::BadMember);
+    not_compared(&rt, rt.alloc(), 7, two, "A", CliFault::BadMember);
+    not_compared(
+        &rt,
+        rt.alloc(),
+        7,
+        one,
+        "A@1.2.3.4  B@1.2.3.5",
+        CliFault::BadMember,
+    );
+    not_compared(&rt, rt.alloc(), 7, eight, two, CliFault::DoubleName);
+    not_compared(&rt, rt.alloc(), 7, two, eight, CliFault::DoubleName);
+    not_compared(&rt, rt.alloc(), 7, one, eight, CliFault::TooMany);
+    let done = compare(rt.alloc(), 7, "md5", "", one, &mut Broken);
+    assert_eq!(rt; done, Err(CliFault::BadHash));
+    let done = compare(rt.alloc(), 7, "sum", one, one, &mut Broken);
+    assert_eq!(rt; done, Err(CliFault::Write));
+}
+
+const TCP: &str =
+    "45000028000100004006aecd0a000001c000020103e8005000000001000000005002200000000000";
+
+const UDP: &str = "4500001c000100004011aece0a000001c000020103e8003500080000";
+
+fn picked(rt: &impl Abort, alloc: Global, check: bool, input: &str, line: &str) {
+    let mut out = Vec::new(alloc);
+    let mut bytes = input.as_bytes();
+    let done = pick(
+        alloc,
+        7,
+        "sum",
+        check,
+        &["C", "A", "B"],
+        &mut bytes,
+        &mut out,
+    );
+    assert_eq!(rt; done, Ok(()));
+    assert_eq!(rt; out.as_slice(), line.as_bytes());
+}
+
+#[test]
+fn picks(rt: HostRuntime) {
+    let found = "tcp 10.0.0.1:1000>192.0.2.1:80 slot 6 backend A\n";
+    picked(&rt, rt.alloc(), true, TCP, found);
+    let other = "udp 10.0.0.1:1000>192.0.2.1:53 slot 4 backend C\n";
+    picked(&rt, rt.alloc(), true, UDP, other);
+    let upper = "4500001C000100004011AECE0A000001C000020103E8003500080000\n";
+    picked(&rt, rt.alloc(), true, upper, other);
+    let short = "4500001c000100004011aece0a000001c000020103e8003500070000";
+    picked(&rt, rt.alloc(), true, short, "drop BadTransport\n");
+    picked(&rt, rt.alloc(), true, "", "drop Truncated\n");
+    picked(&rt, rt.alloc(), true, "\n", "drop Truncated\n");
+    let fragment =
+        "450000280001200040068ecd0a000001c000020103e8005000000001000000005002200000000000";
+    picked(&rt, rt.alloc(), true, fragment, "drop Fragment\n");
+    let changed =
+        "45000028000100004006aece0a000001c000020103e8005000000001000000005002200000000000";
+    picked(&rt, rt.alloc(), true, changed, "drop BadChecksum\n");
+    picked(&rt, rt.alloc(), false, changed, found);
+}
+
+fn not_picked(rt: &impl Abort, alloc: Global, input: &[u8], fault: CliFault) {
+    let mut out = Vec::new(alloc);
+    let mut bytes = input;
+    let done = pick(alloc, 7, "sum", true, &["A"], &mut bytes, &mut out);
+    assert_eq!(rt; done, Err(fault));
+    assert_eq!(rt; out.len(), 0);
+}
+
+/// A reader whose every call fails.
+#[derive(Drop)]
+struct Deaf;
+
+impl Read for Deaf {
+    fn read(&mut self, _bytes: &mut [u8]) -> io::Result<usize> {
+        Err(io::Error::from(io::ErrorKind::Other))
+    }
+}
+
+#[test]
+fn faults_of_pick(rt: HostRuntime) {
+    not_picked(&rt, rt.alloc(), b"4", CliFault::BadHex);
+    not_picked(&rt, rt.alloc(), b"4g", CliFault::BadHex);
+    not_picked(&rt, rt.alloc(), b"45\n\n", CliFault::BadHex);
+    not_picked(&rt, rt.alloc(), b" 45", CliFault::BadHex);
+    let mut long = vec![in rt.alloc(); b'0'; 524_290].expect(&rt, "memory");
+    not_picked(&rt, rt.alloc(), long.as_slice(), CliFault::TooLong);
+    long.truncate(524_289);
+    not_picked(&rt, rt.alloc(), long.as_slice(), CliFault::BadHex);
+    let mut out = Vec::new(rt.alloc());
+    let done = pick(rt.alloc(), 7, "sum", true, &["A"], &mut Deaf, &mut out);
+    assert_eq!(rt; done, Err(CliFault::Read));
+    let done = pick(rt.alloc(), 7, "sum", true, &["A", "A"], &mut Deaf, &mut out);
+    assert_eq!(rt; done, Err(CliFault::DoubleName));
+    let mut bytes = TCP.as_bytes();
+    let done = pick(rt.alloc(), 7, "sum", true, &["A"], &mut bytes, &mut Broken);
+    assert_eq!(rt; done, Err(CliFault::Write));
+}
+
+#[test]
+fn a_large_datagram(rt: HostRuntime) {
+    // A header of 65,512 bytes in all, and the digits of the zero bytes behind it.
+    let head = "4500ffe8000000004011000000000000000000000000000000080000";
+    let mut text = vec![in rt.alloc(); b'0'; 131_024].expect(&rt, "memory");
+    text[..56].copy_from_slice(head.as_bytes());
+    let mut out = Vec::new(rt.alloc());
+    let mut bytes = text.as_slice();
+    let done = pick(rt.alloc(), 7, "sum", false, &["A"], &mut bytes, &mut out);
+    assert_eq!(rt; done, Ok(()));
+    assert_eq!(rt; out.as_slice(), b"drop TooLarge\n".as_slice());
 }

@@ -1,0 +1,130 @@
+-- The command `pick`: the flow of a datagram, its slot and its backend, or why it is dropped.
+use Rattle.std.specs.Prelude.{◌≡◌, ◌<◌, ◌≤◌, ℕ, ◌-◌, ◌++◌, Bool, true, false, ◌==◌, nat_lt, if◌then◌else◌, List, [], map, take, length, slice_index, slice_index_or, Option, Some, None, Result, Ok, Err, IfSome, is_some, codes}
+use Rattle.std.specs.Fmt.{decimal}
+use Rattle.std.specs.Io.KnownBytes.{Appends}
+use Rattle.hash_laws.specs.declared.any.AnyHash.{AnyHash}
+use Rattle.hash_laws.specs.Any.{hash_of_word, plain_of}
+use Rattle.hex.specs.Hex.{decode_of}
+use Rattle.hex.specs.declared.FromHexError.{FromHexError}
+use Rattle.maglev_table.specs.Sizes.{is_table_size}
+use Rattle.maglev_table.specs.Turns.{maglev, preference_of}
+use Rattle.ip_headers.specs.declared.IpFault.{IpFault}
+use Rattle.ip_headers.specs.declared.IpFault.TheVariants as fault
+use Rattle.ip_headers.specs.Ipv4.{Datagram, ipv4_answer}
+use Rattle.five_tuple.specs.declared.Flow.{Flow}
+use Rattle.five_tuple.specs.Flow.{flow_answer}
+use Rattle.selection.specs.Picks.{slot_of_flow}
+use Rattle.maglev_texts.specs.Printing.{flow_text}
+use Rattle.maglev_cli.specs.Text.{IsAscending}
+use Rattle.maglev_cli.specs.Refusals.{AreListed, AreNames, WordsFail}
+use Rattle.maglev_cli.specs.declared.fault.CliFault.{CliFault}
+use Rattle.maglev_cli.specs.declared.fault.CliFault.TheVariants.{BadSize, BadHash, BadName, DoubleName, TooMany, Write, BadHex, TooLong, Read, Memory}
+use Rattle.maglev_cli.specs.declared.judging.Judged.{Judged}
+use Rattle.maglev_cli.specs.declared.judging.Judged.TheVariants.{Found, Dropped, TooLarge}
+
+-- the text without one newline at its end
+abbrev pub without_newline : List ℕ → List ℕ
+without_newline text = if slice_index text (length text - 1) == 10 then take (length text - 1) text else text
+
+-- a datagram with a flow that a tunnel can carry
+abbrev pub judge_flow : Datagram → Result Flow IpFault → Judged
+judge_flow d (Err f) = Dropped f
+judge_flow d (Ok x) = if nat_lt 65511 d.total then TooLarge else Found x
+
+abbrev pub judge_datagram : Result Datagram IpFault → Judged
+judge_datagram (Err f) = Dropped f
+judge_datagram (Ok d) = judge_flow d (flow_answer d)
+
+-- what the bytes of a datagram come to, with the test of the checksum or without
+abbrev pub judge_of : Bool → List ℕ → Judged
+judge_of check bytes = judge_datagram (ipv4_answer check bytes)
+
+abbrev pub cause_text : IpFault → List ℕ
+cause_text fault.NotIpv4 = codes "NotIpv4"
+cause_text fault.Truncated = codes "Truncated"
+cause_text fault.BadHeader = codes "BadHeader"
+cause_text fault.BadChecksum = codes "BadChecksum"
+cause_text fault.Fragment = codes "Fragment"
+cause_text fault.NotTcpUdp = codes "NotTcpUdp"
+cause_text fault.BadTransport = codes "BadTransport"
+
+-- the name that a slot of a table names
+abbrev pub name_at : List (List ℕ) → List ℕ → ℕ → List ℕ
+name_at names owners slot = slice_index_or names (slice_index owners slot) []
+
+-- the table of some names in their order
+abbrev pub owners_of_names : (List ℕ → ℕ) → ℕ → List (List ℕ) → List ℕ
+owners_of_names plain size names = maglev (map (λ name. preference_of plain name size) names) size
+
+-- `FLOW slot I backend NAME`
+abbrev pub flow_line : Flow → ℕ → List ℕ → List ℕ
+flow_line x slot name = flow_text x ++ (codes " slot " ++ (decimal slot ++ (codes " backend " ++ (name ++ codes "\n"))))
+
+-- `drop CAUSE`
+abbrev pub drop_line : List ℕ → List ℕ
+drop_line cause = codes "drop " ++ (cause ++ codes "\n")
+
+-- the line of the command `pick` over some names in ascending order
+abbrev pub pick_line : (List ℕ → ℕ) → ℕ → List (List ℕ) → Judged → List ℕ
+pick_line plain size names (Found x) =
+    flow_line x (slot_of_flow plain size x) (name_at names (owners_of_names plain size names) (slot_of_flow plain size x))
+pick_line plain size names (Dropped f) = drop_line (cause_text f)
+pick_line plain size names TooLarge = drop_line (codes "TooLarge")
+
+-- the text is hexadecimal digits and at most one newline, and they are these bytes
+abbrev pub IsHexOf : List ℕ → List ℕ → Type 0
+IsHexOf bytes text = decode_of (without_newline text) ≡ Ok bytes
+
+-- the text is no hexadecimal digits
+abbrev pub IsNoHex : List ℕ → Type 0
+IsNoHex text = (e : FromHexError) × (decode_of (without_newline text) ≡ Err e)
+
+-- the longest input: two digits for each byte of the longest piece, and a newline
+abbrev pub longest : ℕ
+longest = 524289
+
+abbrev pub WritesPick : (List ℕ → ℕ) → ℕ → List (List ℕ) → Bool → Option (List ℕ) → Option (List ℕ) → Option (List ℕ) → Type 0
+WritesPick plain size words check input old new =
+    (sorted : List (List ℕ)) × IsAscending words sorted × (bytes : List ℕ) × IfSome input (IsHexOf bytes) × Appends old new (pick_line plain size sorted (judge_of check bytes))
+
+-- the same, for the hash that a word names
+abbrev pub WritesPickOf : List ℕ → ℕ → List (List ℕ) → Bool → Option (List ℕ) → Option (List ℕ) → Option (List ℕ) → Type 0
+WritesPickOf word size words check input old new =
+    (hash : AnyHash) × (hash_of_word word ≡ Some hash) × WritesPick (plain_of hash) size words check input old new
+
+-- what the text is where decoding it ends by a fault
+abbrev pub HexFails : CliFault → List ℕ → Type 0
+HexFails BadHex text = IsNoHex text
+HexFails Memory text = Unit {0}
+HexFails _ text = ⊥
+
+-- what the input is where reading it ends by a fault
+abbrev pub InputFails : CliFault → Option (List ℕ) → Type 0
+InputFails TooLong input = IfSome input (λ text. longest < length text)
+InputFails Read input = Unit {0}
+InputFails BadHex input = IfSome input (λ text. (length text ≤ longest) × IsNoHex text)
+InputFails Write input = IfSome input (λ text. length text ≤ longest)
+InputFails Memory input = Unit {0}
+InputFails _ input = ⊥
+
+-- names that share a table
+abbrev pub AreFew : ℕ → List (List ℕ) → Type 0
+AreFew size words = AreNames words × (length words ≤ size)
+
+-- the same with the names' faults before
+abbrev pub PickFailsWith : CliFault → ℕ → List (List ℕ) → Option (List ℕ) → Type 0
+PickFailsWith BadName size words input = WordsFail BadName size words
+PickFailsWith DoubleName size words input = WordsFail DoubleName size words
+PickFailsWith TooMany size words input = WordsFail TooMany size words
+PickFailsWith Memory size words input = WordsFail Memory size words
+PickFailsWith TooLong size words input = AreFew size words × InputFails TooLong input
+PickFailsWith Read size words input = AreFew size words
+PickFailsWith BadHex size words input = AreFew size words × InputFails BadHex input
+PickFailsWith Write size words input = AreFew size words × InputFails Write input
+PickFailsWith _ size words input = ⊥
+
+-- when `pick` gives up, and by which fault: the first that holds in their order
+abbrev pub PickFails : CliFault → ℕ → List ℕ → List (List ℕ) → Option (List ℕ) → Type 0
+PickFails BadSize size hash words input = is_table_size size ≡ false
+PickFails BadHash size hash words input = (is_table_size size ≡ true) × (hash_of_word hash ≡ None)
+PickFails fault size hash words input = AreListed size hash × PickFailsWith fault size words input

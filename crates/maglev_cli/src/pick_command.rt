@@ -1,0 +1,196 @@
+ghost use Rattle.std.specs.Prelude.{◌≡◌, ◌<◌, ◌≤◌, ◌≢◌, map, length, IfOk, IfErr, IfSome, OnOk, string_bytes, All, Ok};
+ghost use Rattle.maglev_cli.specs.declared.judging.Judged.TheVariants.{Found};
+ghost use Rattle.maglev_cli.specs.Pick.{longest, without_newline, IsHexOf, judge_of, pick_line, HexFails, InputFails, WritesPick, WritesPickOf, PickFailsWith, PickFails};
+
+use super::fault::CliFault;
+use super::judging::{CauseText, Judged, judge};
+use super::names::{lists_of, names_in_order};
+use five_tuple::Flow;
+use hash_laws::{AnyHash, FlowHash};
+use hex::FromHexError;
+use maglev_table::{Name, TableSize, populate};
+use maglev_texts::FlowText;
+use pcap_file::{FromRead, fill};
+use std::alloc::{AllocError, Global};
+use std::io::{Read, Write};
+
+/// The longest input: two digits for each byte of 262,144, and a newline.
+const LONGEST: usize = 524_289;
+
+// So many bytes. What they are isn't said.
+fn room_for(alloc: Global, size: usize) -> Result<Vec<u8>, AllocError>
+    ensures { IfOk result (λ v. length v.items ≡ size) }
+{
+    vec![in alloc; 0u8; size]
+}
+
+// All bytes of the input, of which there are no more than the longest.
+fn input_of<R: Read>(alloc: Global, input: &mut R) -> Result<Vec<u8>, CliFault>
+    ensures bytes { IfOk result (λ v. IfSome (R.remaining input.old) (λ text. v.items ≡ text)) }
+    ensures short { IfOk result (λ v. length v.items ≤ longest) }
+    ensures fault { IfErr result (λ fault. InputFails fault (R.remaining input.old)) }
+{
+    let mut bytes = room_for(alloc, LONGEST + 1)?;
+    let mut source = FromRead::new(input);
+    let Ok(count) = fill(&mut source, bytes.as_mut_slice()) else {
+        return Err(CliFault::Read);
+    };
+    if count > LONGEST {
+        return Err(CliFault::TooLong);
+    }
+    bytes.truncate(count);
+    Ok(bytes)
+}
+
+fn without_newline(text: &[u8]) -> &[u8]
+    ensures { result.now ≡ without_newline text.entry.now }
+{
+    let length = text.len();
+    if length > 0 && text[length - 1] == b'\n' {
+        &text[..length - 1]
+    } else {
+        text
+    }
+}
+
+// The bytes that the text of the input is.
+fn bytes_of(alloc: Global, text: &[u8]) -> Result<Vec<u8>, CliFault>
+    ensures bytes { IfOk result (λ v. IsHexOf v.items text.now) }
+    ensures fault { IfErr result (λ fault. HexFails fault text.now) }
+{
+    match hex::decode(alloc, without_newline(text)) {
+        Ok(bytes) => Ok(bytes),
+        Err(FromHexError::OutOfMemory) => Err(CliFault::Memory),
+        Err(_) => Err(CliFault::BadHex),
+    }
+}
+
+// The name that the flow's slot names in the table of some names, and the slot.
+fn found_line<H: FlowHash>(
+    alloc: Global,
+    size: TableSize,
+    hash: &H,
+    names: &[Name],
+    flow: Flow,
+) -> Result<String, CliFault>
+    requires some { 0 < length names.now }
+    requires few { length names.now ≤ size }
+    ensures line { IfOk result (λ s. string_bytes s ≡ pick_line (H.plain hash.now) size names.now (Found flow)) }
+    ensures fault { IfErr result (λ fault. fault ≡ CliFault.Memory) }
+{
+    let lists = lists_of(alloc, size, hash, names)?;
+    let table = match populate(alloc, size, lists.as_slice()) {
+        Ok(table) => table,
+        Err(_) => return Err(CliFault::Memory),
+    };
+    let slot = (hash.hash(b'f', &flow.bytes()) % u64::from(size.slots())) as u32;
+    let name = &names[table.slot(slot) as usize];
+    let text = FlowText(flow);
+    match format!(in alloc; "{text} slot {slot} backend {name}\n") {
+        Ok(line) => Ok(line),
+        Err(_) => Err(CliFault::Memory),
+    }
+}
+
+// The line of what a datagram comes to.
+fn line_of<H: FlowHash>(
+    alloc: Global,
+    size: TableSize,
+    hash: &H,
+    names: &[Name],
+    judged: Judged,
+) -> Result<String, CliFault>
+    requires some { 0 < length names.now }
+    requires few { length names.now ≤ size }
+    ensures line { IfOk result (λ s. string_bytes s ≡ pick_line (H.plain hash.now) size names.now judged) }
+    ensures fault { IfErr result (λ fault. fault ≡ CliFault.Memory) }
+{
+    let line = match judged {
+        Judged::Found(flow) => return found_line(alloc, size, hash, names, flow),
+        Judged::Dropped(fault) => {
+            let cause = CauseText(fault);
+            format!(in alloc; "drop {cause}\n")
+        }
+        Judged::TooLarge => format!(in alloc; "drop TooLarge\n"),
+    };
+    match line {
+        Ok(line) => Ok(line),
+        Err(_) => Err(CliFault::Memory),
+    }
+}
+
+// Reads a datagram as hexadecimal text.
+fn datagram_of<R: Read>(alloc: Global, input: &mut R) -> Result<Vec<u8>, CliFault>
+    ensures bytes { IfOk result (λ v. IfSome (R.remaining input.old) (λ text. IsHexOf v.items text)) }
+    ensures short { OnOk result (InputFails CliFault.Write (R.remaining input.old)) }
+    ensures fault { IfErr result (λ fault. InputFails fault (R.remaining input.old)) }
+{
+    let text = input_of(alloc, input)?;
+    match bytes_of(alloc, text.as_slice()) {
+        Ok(bytes) => Ok(bytes),
+        Err(fault) => Err(fault),
+    }
+}
+
+fn pick_with<H: FlowHash, R: Read, W: Write>(
+    alloc: Global,
+    size: TableSize,
+    hash: &H,
+    check: bool,
+    words: &[&str],
+    input: &mut R,
+    out: &mut W,
+) -> Result<(), CliFault>
+    requires { 0 < length words.now }
+    ensures written { IfOk result (λ _. WritesPick (H.plain hash.now) size (map (λ w. w.now) words.now) check
+        (R.remaining input.old) (W.contents out.old) (W.contents out.new)) }
+    ensures silent { IfErr result (λ fault. fault ≢ CliFault.Write → out.new ≡ out.old) }
+    ensures fault { IfErr result (λ fault. PickFailsWith fault size (map (λ w. w.now) words.now) (R.remaining input.old)) }
+{
+    let names = names_in_order(alloc, words)?;
+    if names.len() > size.slots() as usize {
+        return Err(CliFault::TooMany);
+    }
+    let bytes = match datagram_of(alloc, input) {
+        Ok(bytes) => bytes,
+        Err(fault) => return Err(fault),
+    };
+    let judged = judge(bytes.as_slice(), check);
+    let line = line_of(alloc, size, hash, names.as_slice(), judged)?;
+    match out.write_all(line.as_bytes()) {
+        Ok(()) => Ok(()),
+        Err(_) => Err(CliFault::Write),
+    }
+}
+
+/// The command `pick`: reads one IPv4 datagram as hexadecimal text, and writes its flow, the flow's slot and the backend
+/// that the slot names, or why the datagram is dropped.
+///
+/// The input is hexadecimal digits of either case, two a byte, and at most one newline behind them. The header checksum is
+/// tested where `check` holds. The line is written in one piece, so after any fault but `Write` nothing was written.
+pub fn pick<R: Read, W: Write>(
+    alloc: Global,
+    size: u32,
+    hash: &str,
+    check: bool,
+    words: &[&str],
+    input: &mut R,
+    out: &mut W,
+) -> Result<(), CliFault>
+    requires { 0 < length words.now }
+    ensures written { IfOk result (λ _. WritesPickOf hash.now size (map (λ w. w.now) words.now) check
+        (R.remaining input.old) (W.contents out.old) (W.contents out.new)) }
+    ensures silent { IfErr result (λ fault. fault ≢ CliFault.Write → out.new ≡ out.old) }
+    ensures fault { IfErr result (λ fault. PickFails fault size hash.now (map (λ w. w.now) words.now) (R.remaining input.old)) }
+{
+    let Some(size) = TableSize::new(size) else {
+        return Err(CliFault::BadSize);
+    };
+    let Some(hash) = AnyHash::of_word(hash) else {
+        return Err(CliFault::BadHash);
+    };
+    match pick_with(alloc, size, &hash, check, words, input, out) {
+        Ok(()) => Ok(()),
+        Err(fault) => Err(fault),
+    }
+}
