@@ -16,7 +16,7 @@ pub record Steering : Type 0 where
   pub left : List ℕ
 
 -- the worker at which a flow is at home: the hash with the tag 'w', modulo the workers
-abbrev pub home_of : (List ℕ → ℕ) → ℕ → Flow → ℕ
+unfoldable pub home_of : (List ℕ → ℕ) → ℕ → Flow → ℕ
 home_of plain workers x = plain (119 ∷ flow_bytes x) % workers
 
 -- so many workers one after another, from a number on, modulo the workers
@@ -43,7 +43,7 @@ first_taker marks [] = RingsFull
 first_taker marks (w ∷ ws) = if refuses marks w then first_taker marks ws else Worker w
 
 -- a packet tries its home, and then the others from the cursor on
-abbrev pub place_for : List Bool → ℕ → ℕ → ℕ → Placed
+unfoldable pub place_for : List Bool → ℕ → ℕ → ℕ → Placed
 place_for marks workers home c = first_taker marks (home ∷ others workers home c)
 
 -- a packet whose home refused moves the cursor on, wherever it goes

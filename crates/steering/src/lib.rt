@@ -25,6 +25,7 @@ pub enum Placed {
 }
 
 /// The worker at which a flow is at home, of 1 to 16 workers.
+#[tactic(auto, unfolding(crate::specs::Steering::home_of))]
 pub fn home<H: FlowHash>(hash: &H, flow: &Flow, workers: u16) -> u16
     requires { 0 < workers }
     ensures home { result ≡ home_of (H.plain hash.now) workers flow.now }
@@ -108,6 +109,7 @@ impl Steerer {
 
     /// The worker for the next packet, where it is known which workers refuse. Marks at or above the number of
     /// workers aren't looked at. A packet that all refuse moves the cursor on too.
+    #[tactic(auto, unfolding(crate::specs::Steering::place_for))]
     pub fn place<H: FlowHash>(&mut self, hash: &H, flow: &Flow, refused: &[bool; 16]) -> Placed
         ensures place { result ≡ place_for refused.now self.old.workers (home_of (H.plain hash.now) self.old.workers flow.now) self.old.cursor }
         ensures below { IsBelow self.old.workers result }
