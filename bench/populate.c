@@ -1,0 +1,52 @@
+/* The common algorithm of Maglev's population (Maglev, section 3.4), N names at 65537 slots, again and again: what
+   bench/populate.sh runs beside crates/bench_populate. Prints the sum over the slots of slot times owner. */
+#include <stdint.h>
+#include <stdio.h>
+#include <stdlib.h>
+#include <string.h>
+
+enum { SLOTS = 65537 };
+
+static uint64_t fnv(uint8_t tag, const char *text) {
+    uint64_t state = (0xcbf29ce484222325u ^ tag) * 0x100000001b3u;
+    for (; *text; text++) state = (state ^ (uint8_t)*text) * 0x100000001b3u;
+    return state;
+}
+
+static void populate(int32_t *owner, uint32_t *next, const uint32_t *offset, const uint32_t *skip, uint32_t lists) {
+    memcpy(next, offset, lists * sizeof *next);
+    memset(owner, 0xff, SLOTS * sizeof *owner);
+    for (uint32_t taken = 0;;)
+        for (uint32_t who = 0; who < lists; who++) {
+            uint32_t slot = next[who];
+            while (owner[slot] >= 0) {
+                slot += skip[who];
+                if (slot >= SLOTS) slot -= SLOTS;
+            }
+            owner[slot] = (int32_t)who;
+            slot += skip[who];
+            next[who] = slot >= SLOTS ? slot - SLOTS : slot;
+            if (++taken == SLOTS) return;
+        }
+}
+
+int main(int argc, char **argv) {
+    uint32_t lists = argc > 1 ? (uint32_t)atoi(argv[1]) : 3, times = argc > 2 ? (uint32_t)atoi(argv[2]) : 1;
+    uint32_t *offset = malloc(4 * lists), *skip = malloc(4 * lists), *next = malloc(4 * lists);
+    for (uint32_t i = 0; i < lists; i++) {
+        char name[16];
+        snprintf(name, sizeof name, "b%u", i + 1);
+        offset[i] = (uint32_t)(fnv('o', name) % SLOTS);
+        skip[i] = (uint32_t)(fnv('k', name) % (SLOTS - 1) + 1);
+    }
+    uint64_t sum = 0;
+    for (uint32_t t = 0; t < times; t++) {
+        int32_t *owner = malloc(SLOTS * sizeof *owner);
+        populate(owner, next, offset, skip, lists);
+        sum = 0;
+        for (uint64_t slot = 0; slot < SLOTS; slot++) sum += slot * (uint64_t)owner[slot];
+        free(owner);
+    }
+    printf("%llu\n", (unsigned long long)sum);
+    return 0;
+}
