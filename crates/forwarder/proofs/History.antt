@@ -45,5 +45,6 @@ history-none pick capacity = ap (λ (l : List Touch). let r : Forwarding = recor
 -- one serving by the table is one serving by the history
 pub by-history : (pick : Pick) (capacity : ℕ) (f g : Forwarding) (s u : Serving) (choice : Choice) (past : List Serving) → choice ≡ (serve_as pick s (last_touch s.flow f.entries) f.turn).choice → g ≡ after_told (serve_as pick u (last_touch u.flow f.entries) f.turn) f → f ≡ forwarding_of pick capacity past → (choice ≡ (told_after pick capacity (told pick capacity past) s).choice) × (g ≡ forwarding_of pick capacity (u ∷ past))
 by-history pick capacity f g s u choice past a b e = (
-    a ∙ ap (λ (h : Forwarding). (serve_as pick s (last_touch s.flow h.entries) h.turn).choice) e ∙ ap (λ (t : Told). t.choice) (told-table pick capacity past s),
-    b ∙ ap (λ (h : Forwarding). after_told (serve_as pick u (last_touch u.flow h.entries) h.turn) h) e ∙ sym (history-step pick capacity past u))
+  a ∙ ap (λ (h : Forwarding). (serve_as pick s (last_touch s.flow h.entries) h.turn).choice) e ∙ ap (λ (t : Told). t.choice) (told-table pick capacity past s),
+  b ∙ ap (λ (h : Forwarding). after_told (serve_as pick u (last_touch u.flow h.entries) h.turn) h) e ∙ sym (history-step pick capacity past u),
+)

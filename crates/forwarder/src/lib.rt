@@ -51,7 +51,7 @@ pub struct Forwarder<S: Scheme, T: ConnTable> {
 
 impl<S: Scheme, T: ConnTable> Model for Forwarder<S, T> {
     ghost use Rattle.forwarder.specs.declared.Choice.TheVariants.{Forward};
-ghost use Rattle.forwarder.specs.Forwarding.{Forwarding};
+    ghost use Rattle.forwarder.specs.Forwarding.{Forwarding};
 
     ghost Value = { Forwarding };
 

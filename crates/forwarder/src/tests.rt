@@ -70,7 +70,8 @@ fn versions(rt: &impl Abort, alloc: Global) -> Vec<PreparedVersion<Sums>> {
         (5, 1, [true, true, true]),
         (6, 1, [false, false, false]),
     ] {
-        all.push(version(rt, alloc, number, a, up)).expect(rt, "memory");
+        all.push(version(rt, alloc, number, a, up))
+            .expect(rt, "memory");
     }
     all
 }
@@ -85,14 +86,23 @@ fn told(choice: Choice) -> (u32, u32) {
 }
 
 // A step: a source port, the version, the last byte of the backend's address and the origin that are wanted.
-fn shows<T: ConnTable>(rt: &impl Abort, alloc: Global, capacity: u32, steps: &[(u16, usize, u32, u32)])
+fn shows<T: ConnTable>(
+    rt: &impl Abort,
+    alloc: Global,
+    capacity: u32,
+    steps: &[(u16, usize, u32, u32)],
+)
     requires some { 0 < capacity }
     requires limit { capacity ≤ 1000000 }
 {
     let versions = versions(rt, alloc);
-    let mut forwarder: Forwarder<Sums, T> = Forwarder::make(alloc, SUMS, capacity).expect(rt, "room");
+    let mut forwarder: Forwarder<Sums, T> = Forwarder::make(alloc, SUMS, capacity).expect(
+        rt, "room",
+    );
     for (at, (port, version, backend, origin)) in steps.iter().enumerate() {
-        let prepared = versions.get(version.wrapping_sub(1)).expect(rt, "a version");
+        let prepared = versions
+            .get(version.wrapping_sub(1))
+            .expect(rt, "a version");
         let served = forwarder.serve(prepared, &flow(*port, 80), false);
         assert_eq!(rt; told(served.choice), (*backend, *origin), "step {at}");
         assert!(rt; !served.unstored, "stored at step {at}");
@@ -101,12 +111,28 @@ fn shows<T: ConnTable>(rt: &impl Abort, alloc: Global, capacity: u32, steps: &[(
 
 fn shows_all<T: ConnTable>(rt: &impl Abort, alloc: Global) {
     // One place: each other flow takes it. Two places: a hit renews.
-    shows::<T>(rt, alloc, 1, &[(1006, 1, 1, 1), (1000, 2, 1, 2), (1006, 2, 3, 2), (1006, 2, 3, 2)]);
+    shows::<T>(
+        rt,
+        alloc,
+        1,
+        &[
+            (1006, 1, 1, 1),
+            (1000, 2, 1, 2),
+            (1006, 2, 3, 2),
+            (1006, 2, 3, 2),
+        ],
+    );
     shows::<T>(
         rt,
         alloc,
         2,
-        &[(1006, 1, 1, 1), (1000, 2, 1, 2), (1006, 2, 1, 1), (1001, 2, 1, 2), (1006, 2, 1, 1)],
+        &[
+            (1006, 1, 1, 1),
+            (1000, 2, 1, 2),
+            (1006, 2, 1, 1),
+            (1001, 2, 1, 2),
+            (1006, 2, 1, 1),
+        ],
     );
     // A backend that is down is left.
     shows::<T>(rt, alloc, 2, &[(1001, 1, 2, 1), (1001, 2, 1, 2)]);
@@ -129,9 +155,19 @@ fn shows_all<T: ConnTable>(rt: &impl Abort, alloc: Global) {
     shows::<T>(rt, alloc, 2, &[(1000, 1, 1, 1), (1000, 3, 9, 3)]);
     // A version under which nothing was served leaves no trace; one under which a packet was served does.
     shows::<T>(rt, alloc, 2, &[(1000, 1, 1, 1), (1000, 5, 1, 1)]);
-    shows::<T>(rt, alloc, 2, &[(1000, 1, 1, 1), (1000, 4, 2, 4), (1000, 5, 2, 4)]);
+    shows::<T>(
+        rt,
+        alloc,
+        2,
+        &[(1000, 1, 1, 1), (1000, 4, 2, 4), (1000, 5, 2, 4)],
+    );
     // Where nobody is up the entry stays as it was.
-    shows::<T>(rt, alloc, 2, &[(1000, 1, 1, 1), (1000, 6, 0, 0), (1000, 5, 1, 1)]);
+    shows::<T>(
+        rt,
+        alloc,
+        2,
+        &[(1000, 1, 1, 1), (1000, 6, 0, 0), (1000, 5, 1, 1)],
+    );
 }
 
 #[test]
@@ -149,7 +185,9 @@ fn the_examples_with_a_table_over_links(rt: HostRuntime) {
 fn refusals_and_restart(rt: HostRuntime) {
     let alloc = rt.alloc();
     let prepared = version(&rt, alloc, 1, 1, [true, true, true]);
-    let mut forwarder: Forwarder<Sums, LruTable> = Forwarder::make(alloc, SUMS, 2).expect(&rt, "room");
+    let mut forwarder: Forwarder<Sums, LruTable> = Forwarder::make(alloc, SUMS, 2).expect(
+        &rt, "room",
+    );
     let served = forwarder.serve(&prepared, &flow(1000, 81), true);
     assert_eq!(rt; told(served.choice), (255, 0));
     assert!(rt; !served.unstored);
@@ -171,7 +209,9 @@ fn refusals_and_restart(rt: HostRuntime) {
 fn a_flood_keeps_to_the_capacity(rt: HostRuntime) {
     let alloc = rt.alloc();
     let prepared = version(&rt, alloc, 1, 1, [true, true, true]);
-    let mut forwarder: Forwarder<Sums, LruTable> = Forwarder::make(alloc, SUMS, 1000).expect(&rt, "room");
+    let mut forwarder: Forwarder<Sums, LruTable> = Forwarder::make(alloc, SUMS, 1000).expect(
+        &rt, "room",
+    );
     for _ in 0..100000u32 {
         let (_, origin) = told(forwarder.serve(&prepared, &flow(1006, 80), false).choice);
         assert_eq!(rt; origin, 1);

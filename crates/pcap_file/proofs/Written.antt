@@ -1,15 +1,14 @@
 -- What is written of records is read again.
-use Rattle.std.proofs.Common.{◌≡◌, ℕ, zero, suc, ◌+◌, ◌≤◌, ◌<◌, ◌^◌, List, [], ◌∷◌, ◌++◌, All, length, drop, arith, sym, ap, ◌∙◌, refl, subst, append_assoc, drop_at}
+use Rattle.std.proofs.Common.{◌≡◌, ℕ, suc, ◌+◌, ◌≤◌, ◌<◌, ◌^◌, List, [], ◌∷◌, ◌++◌, All, length, arith, sym, ap, ◌∙◌, refl, subst, append_assoc, drop_at}
 use Rattle.std.proofs.lemmas.List.Elements.{All-head, All-tail}
 use Rattle.pcap_file.proofs.Heads.{head-append}
 use Rattle.std.proofs.lemmas.Grind.{common_steps}
-use Rattle.std.proofs.lemmas.Bool.Decides.{nat_tests}
 use Rattle.byteorder.specs.Endian.{little_from}
 use Rattle.pcap_file.specs.declared.format.Ending.TheVariants.{End}
-use Rattle.pcap_file.specs.Format.{Packet, number_in, captured_len, packet_of, step_of, Gives, max_records, max_captured, written_form, written_head, written_record, written_record_head, head_answer}
+use Rattle.pcap_file.specs.Format.{Packet, captured_len, packet_of, step_of, Gives, max_records, written_form, written_head, written_record, written_record_head}
 use Rattle.pcap_file.specs.Text.{Reads}
 use Rattle.pcap_file.specs.Writing.{IsWritable, written_records, WrittenIsReadAgain}
-use Rattle.pcap_file.proofs.Records.{step-gives, packet-pieces, drop-pieces, number_in-append, packet_from, packet-same}
+use Rattle.pcap_file.proofs.Records.{step-gives, packet-pieces, drop-pieces, number_in-append, packet-same}
 
 module _ (s m n : ℕ) (hs : s < 2 ^ 32) (hm : m < 2 ^ 32) (hn : n < 2 ^ 32) where
   secs-read : little_from 0 4 (written_record_head s m n) ≡ s

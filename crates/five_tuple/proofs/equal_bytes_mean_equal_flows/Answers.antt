@@ -1,4 +1,4 @@
-use Rattle.std.proofs.Common.{◌≡◌, ℕ, List, ap, sym, ◌∙◌, refl, arith}
+use Rattle.std.proofs.Common.{◌≡◌, ap, sym, ◌∙◌, refl, arith}
 use Rattle.byteorder.specs.Endian.{big_from}
 use Rattle.five_tuple.specs.declared.Flow.{Flow}
 use Rattle.five_tuple.specs.Flow.{flow_bytes, Fits}

@@ -1,9 +1,8 @@
-use Rattle.std.proofs.Common.{rules, ◌≡◌, ◌≤◌, ◌<◌, ◌+◌, ◌-◌, ◌++◌, ℕ, List, length, take, arith, sym, ap, ◌∙◌, subst, le_refl, refl}
+use Rattle.std.proofs.Common.{rules, ◌+◌, ◌-◌, ◌++◌, length, take, arith, sym, ap, ◌∙◌, subst, le_refl, refl}
 use Rattle.std.proofs.lemmas.Slice.{take-put_mid_below}
 use Rattle.std.specs.Io.KnownBytes.{Consumes}
 use Rattle.std.proofs.KnownBytes.{Consumes-trans, Consumes-kept, Consumes-nil}
 use borrow.Rule.Slice.PartMut.{put_mid}
-use Rattle.pcap_file.specs.Device.{Called}
 use Rattle.pcap_file.proofs.Pieces.{take_split, slice_range-put_mid, called-more, called-none}
 use Rattle.pcap_file.proofs.exact.fill.Goals as goal
 use Rattle.pcap_file.proofs.exact.fill.Goals.{in-Ok, in-Err-Interrupted}

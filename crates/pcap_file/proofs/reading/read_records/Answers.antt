@@ -1,4 +1,4 @@
-use Rattle.std.proofs.Common.{rules, ◌≡◌, ◌∙◌, ◌++◌, ◌∷◌, [], ◌+◌, Ok, Err, map, List, length, ap, sym, subst, arith, length-append}
+use Rattle.std.proofs.Common.{◌≡◌, ◌∙◌, ◌++◌, ◌∷◌, [], ◌+◌, map, List, length, ap, sym, subst, arith, length-append}
 use Rattle.std.proofs.lemmas.List.{map_push}
 use Rattle.pcap_file.specs.Format.{packet, Packet}
 use Rattle.pcap_file.specs.Text.{Passed}

@@ -1,6 +1,5 @@
-use Rattle.std.proofs.Common.{rules, ◌≡◌, ◌<◌, ◌≤◌, ◌+◌, length, take, arith, sym, ap, ◌∙◌, refl, subst, ℕ, take_all, length-take-le}
+use Rattle.std.proofs.Common.{◌≡◌, ◌<◌, ◌≤◌, length, take, arith, sym, ap, ◌∙◌, take_all, length-take-le}
 use Rattle.pcap_file.specs.Format.{captured_len, micros_of, number_in}
-use Rattle.std.specs.Vec.{with_items}
 use Rattle.std.proofs.lemmas.List.{with_items_is}
 use Rattle.pcap_file.proofs.Records.{gave-frame, gave-cut, calls-both, record-second, packet-same}
 use Rattle.pcap_file.proofs.record.read_onto.Goals as goal
