@@ -1,0 +1,85 @@
+-- Adding versions in order, beside the faults of their plain forms.
+use Rattle.std.proofs.Common.{◌≡◌, ℕ, Bool, true, false, cond, ◌||◌, ◌&&◌, ◌==◌, List, [], ◌∷◌, ◌++◌, map, length, reverse, find, is_some, nat_lt, Option, Some, None, Result, Ok, Err, refl, sym, ◌∙◌, ap, if◌then◌else◌, inl, inr, ◌⊎◌, append_assoc}
+use Rattle.std.specs.List.{list_any}
+use Rattle.std.specs.Option.{option_or}
+use Rattle.std.proofs.lemmas.List.{length-map, map-append, reverse-append}
+use Rattle.pool_versions.specs.Pool.{Pools, version_at, same_service, has_double, has_double_name, has_too_many, is_over, services_fault, fault_of, Judged}
+use Rattle.pool_versions.proofs.AfterSort.{double_mapped}
+use Rattle.pool_versions.specs.declared.service.Service.{Service}
+use Rattle.pool_versions.specs.declared.service.Version.{Version}
+use Rattle.pool_versions.specs.declared.backend.Member.{Member}
+use Rattle.pool_versions.specs.declared.catalogue.PoolFault.{PoolFault}
+use Rattle.pool_versions.specs.declared.catalogue.PoolFault.TheVariants as pool
+use Rattle.scenario.specs.Plain.{PlainService, PlainVersion, plain_service, plain_version, same_flows, names_double, is_long, passes_limit, services_refused, version_refused, first_refused}
+use Rattle.scenario.specs.Meaning.{IsPoolRefused, IsCatalogueOf}
+use Rattle.scenario.proofs.Views.{any_of_mapped}
+
+found_step : (b : Bool) (v : Version) (o : Option Version) (c : Bool) → is_some o ≡ c → is_some (cond b (Some v) o) ≡ (b || c)
+found_step true v o c e = refl
+found_step false v o c e = e
+
+-- a number that is there is found
+found_is_there : (n : ℕ) (vs : List Version) → is_some (version_at n vs) ≡ list_any (λ w. w.number == n) (map plain_version vs)
+found_is_there n [] = refl
+found_is_there n (v ∷ vs) = found_step (v.number == n) v _ _ (found_is_there n vs)
+
+over_is_past : (c : Pools) (services : List Service) → is_over c services ≡ passes_limit c.size (map plain_version c.versions) (map plain_service services)
+unfolding is_over
+over_is_past c services =
+    let versions : length (map plain_version c.versions) ≡ length c.versions = length-map c.versions plain_version in
+    let many : length (map plain_service services) ≡ length services = length-map services plain_service in
+    rw (versions, many, any_of_mapped (is_long c.size) plain_service services) refl
+
+services_agree : (c : Pools) (services : List Service) → services_fault c services ≡ services_refused c.size (map plain_version c.versions) (map plain_service services)
+unfolding services_fault services_refused
+services_agree c services =
+    rw (double_mapped same_flows same_service plain_service (λ a b. refl) services, any_of_mapped names_double plain_service services, over_is_past c services) refl
+
+-- the fault of a version is that of its plain form
+pub faults_agree : (c : Pools) (v : Version) → fault_of c v ≡ version_refused c.size (map plain_version c.versions) (plain_version v)
+unfolding fault_of version_refused
+faults_agree c v = rw (found_is_there v.number c.versions, services_agree c v.services.items) refl
+
+refused_step : (size : ℕ) (earlier : List (PlainVersion Member)) (v : PlainVersion Member) (vs : List (PlainVersion Member)) → version_refused size earlier v ≡ None → first_refused size earlier (v ∷ vs) ≡ first_refused size (earlier ++ v ∷ []) vs
+refused_step size earlier v vs e = ap (λ o. option_or o (first_refused size (earlier ++ v ∷ []) vs)) e
+
+refused_here : (size : ℕ) (earlier : List (PlainVersion Member)) (v : PlainVersion Member) (vs : List (PlainVersion Member)) (f : PoolFault) → version_refused size earlier v ≡ Some f → first_refused size earlier (v ∷ vs) ≡ Some f
+refused_here size earlier v vs f e = ap (λ o. option_or o (first_refused size (earlier ++ v ∷ []) vs)) e
+
+last_first : (v : Version) (rest popped : List Version) → popped ≡ rest ++ v ∷ [] → map plain_version (reverse popped) ≡ plain_version v ∷ map plain_version (reverse rest)
+last_first v rest popped e = rw (e, reverse-append rest (v ∷ [])) refl
+
+-- a version was taken
+pub taken_rest : (size : ℕ) (c : Pools) (v : Version) (rest popped : List Version) (all : Option PoolFault) → popped ≡ rest ++ v ∷ [] → fault_of c v ≡ None → c.size ≡ size →
+    first_refused size (map plain_version c.versions) (map plain_version (reverse popped)) ≡ all →
+    first_refused size (map plain_version (c.versions ++ v ∷ [])) (map plain_version (reverse rest)) ≡ all
+taken_rest size c v rest popped all is good sized before =
+    let none : version_refused size (map plain_version c.versions) (plain_version v) ≡ None = rw (← sized) (sym (faults_agree c v) ∙ good) in
+    rw (map-append plain_version c.versions (v ∷ [])) (sym (refused_step size (map plain_version c.versions) (plain_version v) (map plain_version (reverse rest)) none)
+    ∙ (ap (first_refused size (map plain_version c.versions)) (sym (last_first v rest popped is)) ∙ before))
+
+pub taken_all : (c : List Version) (v : Version) (rest popped : List Version) (all : List (PlainVersion Member)) → popped ≡ rest ++ v ∷ [] →
+    map plain_version c ++ map plain_version (reverse popped) ≡ all → map plain_version (c ++ v ∷ []) ++ map plain_version (reverse rest) ≡ all
+taken_all c v rest popped all is before =
+    rw (map-append plain_version c (v ∷ [])) (append_assoc (map plain_version c) (plain_version v ∷ []) (map plain_version (reverse rest))
+    ∙ (ap (λ ps. map plain_version c ++ ps) (sym (last_first v rest popped is)) ∙ before))
+
+refusal : (size : ℕ) (vs : List (PlainVersion Member)) (f : PoolFault) → first_refused size [] vs ≡ Some f → IsPoolRefused size vs f
+refusal size vs pool.BadNumber e = e
+refusal size vs pool.NumberTaken e = e
+refusal size vs pool.DoubleService e = e
+refusal size vs pool.DoubleName e = e
+refusal size vs pool.TooMany e = e
+refusal size vs pool.Memory e = tt
+
+-- a version was refused
+pub refused_now : (size : ℕ) (c : Pools) (v : Version) (rest popped : List Version) (vs : List (PlainVersion Member)) (f : PoolFault) → popped ≡ rest ++ v ∷ [] →
+    (fault_of c v ≡ Some f) ⊎ ((f ≡ pool.Memory) × (fault_of c v ≡ None)) → c.size ≡ size →
+    first_refused size (map plain_version c.versions) (map plain_version (reverse popped)) ≡ first_refused size [] vs → IsPoolRefused size vs f
+refused_now size c v rest popped vs f is judged sized before = elim judged [
+  | inl found ↦
+      let some : version_refused size (map plain_version c.versions) (plain_version v) ≡ Some f = rw (← sized) (sym (faults_agree c v) ∙ found) in
+      refusal size vs f (sym before ∙ (ap (first_refused size (map plain_version c.versions)) (last_first v rest popped is)
+      ∙ refused_here size (map plain_version c.versions) (plain_version v) (map plain_version (reverse rest)) f some))
+  | inr memory ↦ rw memory.0 tt
+]

@@ -1,0 +1,3 @@
+pub mod Views
+pub mod Adding
+pub mod Refusals

@@ -1,0 +1,52 @@
+-- The parts of a scenario as its document holds them: each text is there, whatever it says.
+use Rattle.std.specs.Prelude.{ℕ, ◌&&◌, nat_le, if◌then◌else◌, List, [], ◌∷◌, map, length, codes, Option, Some, None, option_and_then, option_map, String, string_bytes}
+use Rattle.std.specs.declared.alloc.Global.{Global}
+use Rattle.toml.specs.Data.{Data, Members, as_str, as_table}
+use Rattle.maglev_texts.specs.Parsing.{address_of, member_of}
+use Rattle.pool_versions.specs.declared.backend.Member.{Member}
+use Rattle.scenario.specs.Lookups.{number_at, text_at, items_at, all_items, has_only}
+use Rattle.scenario.specs.Words.{protocol_of_word, choices_of, limits_of}
+use Rattle.scenario.specs.Plain.{PlainService, PlainVersion}
+use Rattle.scenario.specs.declared.setup.Choices.{Choices}
+use Rattle.scenario.specs.declared.setup.Limits.{Limits}
+use Rattle.scenario.specs.declared.versions.ServiceDraft.{ServiceDraft}
+use Rattle.scenario.specs.declared.versions.VersionDraft.{VersionDraft}
+
+abbrev pub service_keys : List (List ℕ)
+service_keys = codes "vip" ∷ codes "proto" ∷ codes "port" ∷ codes "members" ∷ []
+
+abbrev pub version_keys : List (List ℕ)
+version_keys = codes "number" ∷ codes "services" ∷ []
+
+-- a text, as the member that it is, if it is one
+abbrev pub word_of : Data → Option (Option Member)
+word_of d = option_map member_of (as_str d)
+
+-- a service whose members are words that may be none
+unfoldable pub service_draft : Members → Option (PlainService (Option Member))
+service_draft ms =
+    option_and_then (λ vip. option_and_then (λ proto. option_and_then (λ port. option_map (λ members.
+    record { vip = vip; proto = proto; port = port; members = members })
+    (option_and_then (all_items word_of) (items_at (codes "members") ms)))
+    (number_at 0 65535 (codes "port") ms))
+    (option_and_then protocol_of_word (text_at (codes "proto") ms)))
+    (option_and_then address_of (text_at (codes "vip") ms))
+
+abbrev pub service_in : Data → Option (PlainService (Option Member))
+service_in d = option_and_then (λ ms. if has_only service_keys ms then service_draft ms else None) (as_table d)
+
+unfoldable pub version_draft : Members → Option (PlainVersion (Option Member))
+version_draft ms =
+    option_and_then (λ number. option_map (λ services. record { number = number; services = services })
+    (option_and_then (all_items service_in) (items_at (codes "services") ms)))
+    (number_at 0 4294967295 (codes "number") ms)
+
+abbrev pub version_in : Data → Option (PlainVersion (Option Member))
+version_in d = option_and_then (λ ms. if has_only version_keys ms then version_draft ms else None) (as_table d)
+
+-- what the drafts of the code stand for
+abbrev pub plain_service_draft : ServiceDraft → PlainService (Option Member)
+plain_service_draft s = record { vip = s.vip; proto = s.proto; port = s.port; members = s.members.items }
+
+abbrev pub plain_version_draft : VersionDraft → PlainVersion (Option Member)
+plain_version_draft v = record { number = v.number; services = map plain_service_draft v.services.items }

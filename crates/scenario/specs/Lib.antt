@@ -1,0 +1,6 @@
+pub mod Lookups
+pub mod Words
+pub mod Steps
+pub mod Plain
+pub mod Drafts
+pub mod Meaning

@@ -1,0 +1,187 @@
+-- Which scenario a text means, and which fault it has.
+use Rattle.std.specs.Prelude.{◌≡◌, ℕ, ◌≤◌, ◌<◌, ◌^◌, ◌&&◌, nat_le, if◌then◌else◌, List, [], ◌∷◌, map, length, codes, Option, Some, None, option_and_then, option_map, Result, Ok, Err, IsUtf8, String, string_bytes, is_none, ⊤}
+use Rattle.std.specs.List.{position_or_len}
+use Rattle.std.specs.declared.alloc.Global.{Global}
+use Rattle.toml.specs.Data.{Data, Members, as_str}
+use Rattle.toml.specs.Parse.{parse_document}
+use Rattle.maglev_texts.specs.Parsing.{address_of}
+use Rattle.pool_versions.specs.declared.backend.Member.{Member}
+use Rattle.pool_versions.specs.declared.catalogue.PoolFault.{PoolFault}
+use Rattle.pool_versions.specs.declared.catalogue.PoolFault.TheVariants as pool
+use Rattle.pool_versions.specs.Pool.{Pools}
+use Rattle.scenario.specs.Lookups.{number_at, items_at, all_items, all_of, has_only}
+use Rattle.scenario.specs.Words.{choices_of, limits_of}
+use Rattle.scenario.specs.Plain.{PlainService, PlainVersion, plain_version, first_refused}
+use Rattle.scenario.specs.Drafts.{version_in, plain_version_draft}
+use Rattle.scenario.specs.Steps.{PlainStep, plain_step, step_of_text}
+use Rattle.scenario.specs.declared.setup.Choices.{Choices}
+use Rattle.scenario.specs.declared.setup.Limits.{Limits}
+use Rattle.scenario.specs.declared.draft.Draft.{Draft}
+use Rattle.scenario.specs.declared.fault.ScenarioFault.{ScenarioFault}
+use Rattle.scenario.specs.declared.fault.ScenarioFault.TheVariants as fault
+use Rattle.scenario.specs.declared.reading.Scenario.{Scenario}
+
+-- a scenario whose words and steps may be none
+pub record PlainDraft : Type 0 where
+  pub choices : Choices
+  pub limits : Limits
+  pub nodes : List ℕ
+  pub versions : List (PlainVersion (Option Member))
+  pub steps : List (List ℕ)
+
+abbrev pub plain_draft : Draft → PlainDraft
+plain_draft d = record { choices = d.choices; limits = d.limits; nodes = d.nodes.items; versions = map plain_version_draft d.versions.items; steps = map string_bytes d.steps.items }
+
+-- a scenario
+pub record Plan : Type 0 where
+  pub choices : Choices
+  pub limits : Limits
+  pub nodes : List ℕ
+  pub versions : List (PlainVersion Member)
+  pub steps : List PlainStep
+
+abbrev pub plan_view : Scenario → Plan
+plan_view s = record {
+  choices = record { size = s.size; hash = s.hash; scheme = s.scheme; spread = s.spread };
+  limits = record { workers = s.workers; capacity = s.capacity; ring = s.ring; check = s.check };
+  nodes = s.nodes.items;
+  versions = map plain_version s.catalogue.versions;
+  steps = map plain_step s.steps.items;
+}
+
+abbrev pub root_keys : List (List ℕ)
+root_keys = codes "format" ∷ codes "size" ∷ codes "hash" ∷ codes "scheme" ∷ codes "spread" ∷ codes "workers" ∷ codes "capacity" ∷ codes "ring" ∷ codes "check" ∷ codes "nodes" ∷ codes "steps" ∷ codes "versions" ∷ []
+
+abbrev pub address_in : Data → Option ℕ
+address_in d = option_and_then address_of (as_str d)
+
+-- 1 to 64 of them
+abbrev pub few_nodes : List ℕ → Option (List ℕ)
+few_nodes ns = if nat_le 1 (length ns) && nat_le (length ns) 64 then Some ns else None
+
+-- at most 100,000 of them
+abbrev pub few_steps : List (List ℕ) → Option (List (List ℕ))
+few_steps ts = if nat_le (length ts) 100000 then Some ts else None
+
+abbrev pub nodes_of : Members → Option (List ℕ)
+nodes_of ms = option_and_then few_nodes (option_and_then (all_items address_in) (items_at (codes "nodes") ms))
+
+abbrev pub versions_in : Members → Option (List (PlainVersion (Option Member)))
+versions_in ms = option_and_then (all_items version_in) (items_at (codes "versions") ms)
+
+abbrev pub steps_in : Members → Option (List (List ℕ))
+steps_in ms = option_and_then few_steps (option_and_then (all_items as_str) (items_at (codes "steps") ms))
+
+-- what a document holds, where all its keys are as they should be
+unfoldable pub draft_of : Members → Option PlainDraft
+draft_of ms =
+    option_and_then (λ choices. option_and_then (λ limits. option_and_then (λ nodes. option_and_then (λ versions. option_map (λ steps.
+    record { choices = choices; limits = limits; nodes = nodes; versions = versions; steps = steps })
+    (steps_in ms)) (versions_in ms)) (nodes_of ms)) (limits_of ms)) (choices_of ms)
+
+abbrev pub draft_in : Members → Option PlainDraft
+draft_in ms = if has_only root_keys ms then draft_of ms else None
+
+-- a service and a version, where each of their words is a member
+abbrev pub service_of : PlainService (Option Member) → Option (PlainService Member)
+service_of s = option_map (λ members. record { vip = s.vip; proto = s.proto; port = s.port; members = members }) (all_of (λ o. o) s.members)
+
+abbrev pub version_of : PlainVersion (Option Member) → Option (PlainVersion Member)
+version_of v = option_map (λ services. record { number = v.number; services = services }) (all_of service_of v.services)
+
+-- the first step that is none
+abbrev pub first_bad_step : ℕ → ℕ → List (List ℕ) → ℕ
+first_bad_step nodes workers texts = position_or_len (λ t. is_none (step_of_text nodes workers t)) texts
+
+abbrev pub with_steps : PlainDraft → List (PlainVersion Member) → Option (List PlainStep) → Result Plan ScenarioFault
+with_steps d versions None = Err (fault.BadStep (first_bad_step (length d.nodes) d.limits.workers d.steps))
+with_steps d versions (Some steps) = Ok (record { choices = d.choices; limits = d.limits; nodes = d.nodes; versions = versions; steps = steps })
+
+abbrev pub with_pools : PlainDraft → List (PlainVersion Member) → Option PoolFault → Result Plan ScenarioFault
+with_pools d versions None = with_steps d versions (all_of (step_of_text (length d.nodes) d.limits.workers) d.steps)
+with_pools d versions (Some f) = Err (fault.Pool f)
+
+abbrev pub with_versions : PlainDraft → Option (List (PlainVersion Member)) → Result Plan ScenarioFault
+with_versions d None = Err fault.BadMember
+with_versions d (Some versions) = with_pools d versions (first_refused d.choices.size [] versions)
+
+-- the scenario of a draft, or its first fault: a bad member word, then a fault of the pools, then the first bad step
+unfoldable pub plan_of_draft : PlainDraft → Result Plan ScenarioFault
+plan_of_draft d = with_versions d (all_of version_of d.versions)
+
+abbrev pub with_draft : Option PlainDraft → Result Plan ScenarioFault
+with_draft None = Err fault.BadKey
+with_draft (Some d) = plan_of_draft d
+
+abbrev pub with_format : Option ℕ → Members → Result Plan ScenarioFault
+with_format None ms = Err fault.BadFormat
+with_format (Some n) ms = with_draft (draft_in ms)
+
+-- what a document says: a scenario, or its first fault
+unfoldable pub plan_of : Members → Result Plan ScenarioFault
+plan_of ms = with_format (number_at 1 1 (codes "format") ms) ms
+
+-- the text is a document whose members are these
+pub record IsDocument (text : List ℕ) (ms : Members) : Type 0 where
+  pub short : length text ≤ 2 ^ 20
+  pub utf8 : IsUtf8 text
+  pub parsed : parse_document text ≡ Some ms
+
+-- the text means this scenario
+pub record Means (text : List ℕ) (s : Scenario) : Type 0 where
+  pub members : Members
+  pub document : IsDocument text members
+  pub plan : plan_of members ≡ Ok (plan_view s)
+  pub sized : s.catalogue.size ≡ s.size
+
+-- why a text is refused
+abbrev pub IsRefused : List ℕ → ScenarioFault → Type 0
+IsRefused text fault.TooLong = 2 ^ 20 < length text
+IsRefused text fault.BadToml = (length text ≤ 2 ^ 20) × (IsUtf8 text → parse_document text ≡ None)
+IsRefused text fault.Memory = ⊤
+IsRefused text e = (ms : Members) × IsDocument text ms × (plan_of ms ≡ Err e)
+
+-- why a draft is refused
+abbrev pub IsDraftRefused : PlainDraft → ScenarioFault → Type 0
+IsDraftRefused d fault.Memory = ⊤
+IsDraftRefused d e = plan_of_draft d ≡ Err e
+
+-- why versions are refused
+abbrev pub IsPoolRefused : ℕ → List (PlainVersion Member) → PoolFault → Type 0
+IsPoolRefused size vs pool.Memory = ⊤
+IsPoolRefused size vs f = first_refused size [] vs ≡ Some f
+
+-- why steps are refused
+abbrev pub AreStepsRefused : ℕ → ℕ → List (List ℕ) → ScenarioFault → Type 0
+AreStepsRefused nodes workers texts fault.Memory = ⊤
+AreStepsRefused nodes workers texts (fault.BadStep n) = (all_of (step_of_text nodes workers) texts ≡ None) × (n ≡ first_bad_step nodes workers texts)
+AreStepsRefused nodes workers texts e = ⊥
+
+-- the catalogue of some versions that were added in order
+pub record IsCatalogueOf (size : ℕ) (vs : List (PlainVersion Member)) (c : Pools) : Type 0 where
+  pub sized : c.size ≡ size
+  pub holds : map plain_version c.versions ≡ vs
+  pub good : first_refused size [] vs ≡ None
+
+-- the limits of a scenario's numbers and lists
+pub record AreLimits (workers capacity ring nodes steps : ℕ) : Type 0 where
+  pub least_workers : 1 ≤ workers
+  pub most_workers : workers ≤ 16
+  pub least_capacity : 1 ≤ capacity
+  pub most_capacity : capacity ≤ 1000000
+  pub least_ring : 1 ≤ ring
+  pub most_ring : ring ≤ 65536
+  pub least_nodes : 1 ≤ nodes
+  pub most_nodes : nodes ≤ 64
+  pub most_steps : steps ≤ 100000
+
+abbrev pub IsLimited : Draft → Type 0
+IsLimited d = AreLimits d.limits.workers d.limits.capacity d.limits.ring (length d.nodes.items) (length d.steps.items)
+
+abbrev pub HasLimits : Scenario → Type 0
+HasLimits s = AreLimits s.workers s.capacity s.ring (length s.nodes.items) (length s.steps.items)
+
+-- a pool fault as a scenario's
+abbrev pub pool_refused : PoolFault → ScenarioFault
+pool_refused pool.Memory = fault.Memory
+pool_refused f = fault.Pool f

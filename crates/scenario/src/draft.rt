@@ -1,0 +1,153 @@
+//! A scenario as its document holds it: all keys are as they should be, but a word may be no member and a text no step.
+ghost use Rattle.std.specs.Prelude.{◌≡◌, ◌≤◌, map, length, option_map, option_and_then, string_bytes, codes, IfOk, IfSome};
+ghost use Rattle.toml.specs.Data.{as_str};
+ghost use Rattle.toml.specs.View.{table_view, items_view};
+ghost use Rattle.scenario.specs.Lookups.{items_at, all_items, has_only};
+ghost use Rattle.scenario.specs.Drafts.{version_in, plain_version_draft};
+ghost use Rattle.scenario.specs.Meaning.{address_in, few_nodes, few_steps, nodes_of, versions_in, steps_in, draft_of, draft_in, root_keys, plain_draft, IsLimited};
+
+use crate::keys::has_only;
+use crate::lookup::items_at;
+use crate::setup::{Choices, Limits, choices_at, limits_at};
+use crate::versions::{VersionDraft, read_versions};
+use maglev_texts::address;
+use std::alloc::{AllocError, Global};
+use toml::{Table, Value};
+
+/// A scenario as its document holds it.
+#[derive(Drop)]
+pub(crate) struct Draft {
+    pub(crate) choices: Choices,
+    pub(crate) limits: Limits,
+    pub(crate) nodes: Vec<u32>,
+    pub(crate) versions: Vec<VersionDraft>,
+    pub(crate) steps: Vec<String>,
+}
+
+#[tactic(auto, using(crate::proofs::Views::items_from))]
+fn addresses(alloc: Global, values: &[Value]) -> Result<Option<Vec<u32>>, AllocError>
+    ensures { IfOk result (λ o. option_map (λ v. v.items) o ≡ all_items address_in (items_view values.now)) }
+{
+    let mut found: Vec<u32> = Vec::new(alloc);
+    for value in values {
+        let Some(text) = value.as_str() else {
+            return Ok(None);
+        };
+        let Some(address) = address(alloc, text.as_bytes())? else {
+            return Ok(None);
+        };
+        found.push(address)?;
+    }
+    Ok(Some(found))
+}
+
+#[tactic(auto, using(crate::proofs::Views::items_from))]
+fn texts(alloc: Global, values: &[Value]) -> Result<Option<Vec<String>>, AllocError>
+    ensures { IfOk result (λ o. option_map (λ v. map string_bytes v.items) o ≡ all_items as_str (items_view values.now)) }
+{
+    let mut found: Vec<String> = Vec::new(alloc);
+    for value in values {
+        let Some(text) = value.as_str() else {
+            return Ok(None);
+        };
+        let text = String::from_str(alloc, text)?;
+        let Ok(()) = found.push(text) else {
+            return Err(AllocError);
+        };
+    }
+    Ok(Some(found))
+}
+
+fn nodes_at(alloc: Global, table: &Table) -> Result<Option<Vec<u32>>, AllocError>
+    ensures value { IfOk result (λ o. option_map (λ v. v.items) o ≡ nodes_of (table_view table.now)) }
+    ensures few { IfOk result (λ o. IfSome o (λ v. (1 ≤ length v.items) × (length v.items ≤ 64))) }
+{
+    let Some(values) = items_at(table, "nodes") else {
+        return Ok(None);
+    };
+    let Some(nodes) = addresses(alloc, values)? else {
+        return Ok(None);
+    };
+    if nodes.is_empty() || nodes.len() > 64 {
+        return Ok(None);
+    }
+    Ok(Some(nodes))
+}
+
+fn versions_at(alloc: Global, table: &Table) -> Result<Option<Vec<VersionDraft>>, AllocError>
+    ensures { IfOk result (λ o. option_map (λ v. map plain_version_draft v.items) o ≡ versions_in (table_view table.now)) }
+{
+    match items_at(table, "versions") {
+        Some(values) => read_versions(alloc, values),
+        None => Ok(None),
+    }
+}
+
+fn steps_at(alloc: Global, table: &Table) -> Result<Option<Vec<String>>, AllocError>
+    ensures value { IfOk result (λ o. option_map (λ v. map string_bytes v.items) o ≡ steps_in (table_view table.now)) }
+    ensures few { IfOk result (λ o. IfSome o (λ v. length v.items ≤ 100000)) }
+{
+    let Some(values) = items_at(table, "steps") else {
+        return Ok(None);
+    };
+    let Some(steps) = texts(alloc, values)? else {
+        return Ok(None);
+    };
+    if steps.len() > 100_000 {
+        return Ok(None);
+    }
+    Ok(Some(steps))
+}
+
+fn has_root_keys(table: &Table) -> bool
+    ensures { result ≡ has_only root_keys (table_view table.now) }
+{
+    has_only(
+        table,
+        &[
+            "format", "size", "hash", "scheme", "spread", "workers", "capacity", "ring", "check",
+            "nodes", "steps", "versions",
+        ],
+    )
+}
+
+#[tactic(auto, unfolding(crate::specs::Meaning::draft_of))]
+fn read_draft(alloc: Global, table: &Table) -> Result<Option<Draft>, AllocError>
+    ensures value { IfOk result (λ o. option_map plain_draft o ≡ draft_of (table_view table.now)) }
+    ensures limits { IfOk result (λ o. IfSome o IsLimited) }
+{
+    let Some(choices) = choices_at(table) else {
+        return Ok(None);
+    };
+    let Some(limits) = limits_at(table) else {
+        return Ok(None);
+    };
+    let Some(nodes) = nodes_at(alloc, table)? else {
+        return Ok(None);
+    };
+    let Some(versions) = versions_at(alloc, table)? else {
+        return Ok(None);
+    };
+    let Some(steps) = steps_at(alloc, table)? else {
+        return Ok(None);
+    };
+    Ok(Some(Draft {
+        choices,
+        limits,
+        nodes,
+        versions,
+        steps,
+    }))
+}
+
+/// The draft that a document is, None where a key isn't as it should be.
+pub(crate) fn draft_in(alloc: Global, table: &Table) -> Result<Option<Draft>, AllocError>
+    ensures value { IfOk result (λ o. option_map plain_draft o ≡ draft_in (table_view table.now)) }
+    ensures limits { IfOk result (λ o. IfSome o IsLimited) }
+{
+    if has_root_keys(table) {
+        read_draft(alloc, table)
+    } else {
+        Ok(None)
+    }
+}

@@ -1,0 +1,24 @@
+//! Scenarios: what a TOML document says that a cluster is and what happens to it.
+//!
+//! [`read`] answers the scenario that a text means, or the first of its faults. Which one is a function of the document's
+//! members, stated apart from the code: `plan_of` in `specs/Meaning.antt`.
+#![tactic(auto)]
+
+mod building;
+mod draft;
+mod fault;
+mod keys;
+mod lookup;
+mod reading;
+mod setup;
+mod step;
+mod versions;
+mod words;
+
+pub use fault::ScenarioFault;
+pub use reading::{Scenario, read};
+pub use step::Step;
+pub use words::{SchemeKind, SpreadKind};
+
+#[cfg(test)]
+mod tests;

@@ -1,0 +1,151 @@
+//! Reads a scenario.
+ghost use Rattle.std.specs.Prelude.{◌≡◌, ◌≤◌, length, map, string_bytes, option_map, IfOk, IfErr, Ok, Some};
+ghost use Rattle.toml.specs.View.{table_view};
+ghost use Rattle.scenario.specs.Lookups.{all_of};
+ghost use Rattle.scenario.specs.Steps.{plain_step, step_of_text};
+ghost use Rattle.scenario.specs.Meaning.{IsDocument, IsRefused, IsDraftRefused, IsLimited, AreStepsRefused, HasLimits, Means, plan_of, plan_of_draft, plan_view, plain_draft, pool_refused};
+
+use crate::building::{catalogue_of, versions_of};
+use crate::draft::{Draft, draft_in};
+use crate::fault::ScenarioFault;
+use crate::lookup::number_at;
+use crate::step::{Step, read_step};
+use crate::words::{SchemeKind, SpreadKind};
+use hash_laws::AnyHash;
+use maglev_table::TableSize;
+use pool_versions::{Catalogue, PoolFault};
+use std::alloc::{AllocError, Global};
+use toml::Table;
+
+// The most bytes of a scenario's text.
+const LONGEST: usize = 1_048_576;
+
+/// A cluster, and what happens to it.
+#[derive(Drop)]
+pub struct Scenario {
+    /// The number of slots of each table.
+    pub size: TableSize,
+    /// The hash of names and flows.
+    pub hash: AnyHash,
+    /// How a flow's backend is chosen.
+    pub scheme: SchemeKind,
+    /// How packets are spread over the nodes.
+    pub spread: SpreadKind,
+    /// The workers of each node, 1 to 16.
+    pub workers: u16,
+    /// The entries of each connection table, 1 to 1,000,000.
+    pub capacity: u32,
+    /// The places of each ring, 1 to 65,536.
+    pub ring: u32,
+    /// Whether IP header checksums are tested.
+    pub check: bool,
+    /// The nodes' IPv4 addresses, most significant byte first: 1 to 64 of them.
+    pub nodes: Vec<u32>,
+    /// The versions of the pools.
+    pub catalogue: Catalogue,
+    /// What happens, in order: at most 100,000 steps.
+    pub steps: Vec<Step>,
+}
+
+// The document that a text is.
+fn document(alloc: Global, text: &[u8]) -> Result<Table, ScenarioFault>
+    ensures ok { IfOk result (λ t. IsDocument text.now (table_view t)) }
+    ensures refused { IfErr result (IsRefused text.now) }
+{
+    if text.len() > LONGEST {
+        return Err(ScenarioFault::TooLong);
+    }
+    match toml::table_from_slice(alloc, text) {
+        Ok(table) => Ok(table),
+        Err(e) if e.is_memory() => Err(ScenarioFault::Memory),
+        Err(_) => Err(ScenarioFault::BadToml),
+    }
+}
+
+fn steps_of(
+    alloc: Global,
+    texts: &[String],
+    nodes: u16,
+    workers: u16,
+) -> Result<Vec<Step>, ScenarioFault>
+    requires { length texts.now ≤ 100000 }
+    ensures ok { IfOk result (λ v. all_of (step_of_text nodes workers) (map string_bytes texts.now) ≡ Some (map plain_step v.items)) }
+    ensures long { IfOk result (λ v. length v.items ≡ length texts.now) }
+    ensures refused { IfErr result (AreStepsRefused nodes workers (map string_bytes texts.now)) }
+{
+    let mut steps: Vec<Step> = Vec::new(alloc);
+    for (n, text) in texts.iter().enumerate() {
+        let Some(step) = read_step(alloc, text.as_bytes(), nodes, workers)? else {
+            return Err(ScenarioFault::BadStep(n as u32));
+        };
+        let Ok(()) = steps.push(step) else {
+            return Err(ScenarioFault::Memory);
+        };
+    }
+    Ok(steps)
+}
+
+fn pool_refused(fault: PoolFault) -> ScenarioFault
+    ensures { result ≡ pool_refused fault }
+{
+    match fault {
+        PoolFault::Memory => ScenarioFault::Memory,
+        fault => ScenarioFault::Pool(fault),
+    }
+}
+
+// The scenario of a draft.
+#[tactic(auto, unfolding(crate::specs::Meaning::plan_of_draft))]
+fn scenario_of(alloc: Global, draft: Draft) -> Result<Scenario, ScenarioFault>
+    requires { IsLimited draft }
+    ensures ok { IfOk result (λ s. plan_of_draft (plain_draft draft) ≡ Ok (plan_view s)) }
+    ensures sized { IfOk result (λ s. s.catalogue.size ≡ s.size) }
+    ensures limits { IfOk result HasLimits }
+    ensures refused { IfErr result (IsDraftRefused (plain_draft draft)) }
+{
+    let Draft {
+        choices,
+        limits,
+        nodes,
+        versions,
+        steps,
+    } = draft;
+    let Some(versions) = versions_of(alloc, versions.as_slice())? else {
+        return Err(ScenarioFault::BadMember);
+    };
+    let catalogue = match catalogue_of(alloc, choices.size, versions) {
+        Ok(catalogue) => catalogue,
+        Err(fault) => return Err(pool_refused(fault)),
+    };
+    let steps = steps_of(alloc, steps.as_slice(), nodes.len() as u16, limits.workers)?;
+    Ok(Scenario {
+        size: choices.size,
+        hash: choices.hash,
+        scheme: choices.scheme,
+        spread: choices.spread,
+        workers: limits.workers,
+        capacity: limits.capacity,
+        ring: limits.ring,
+        check: limits.check,
+        nodes,
+        catalogue,
+        steps,
+    })
+}
+
+/// Reads a scenario: a TOML 1.1 document in UTF-8 of format 1.
+#[tactic(auto, unfolding(crate::specs::Meaning::plan_of))]
+pub fn read(alloc: Global, text: &[u8]) -> Result<Scenario, ScenarioFault>
+    ensures means { IfOk result (Means text.now) }
+    ensures limits { IfOk result HasLimits }
+    ensures refused { IfErr result (IsRefused text.now) }
+{
+    let table = document(alloc, text)?;
+    if number_at(&table, "format", 1, 1).is_none() {
+        return Err(ScenarioFault::BadFormat);
+    }
+    let Some(draft) = draft_in(alloc, &table)? else {
+        return Err(ScenarioFault::BadKey);
+    };
+    scenario_of(alloc, draft)
+}

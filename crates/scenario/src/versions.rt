@@ -1,0 +1,193 @@
+//! Versions as a document holds them: member words are read at once, and those that are none are kept as such.
+ghost use Rattle.std.specs.Prelude.{◌≡◌, map, length, option_map, option_and_then, IfOk, codes, if◌then◌else◌, None};
+ghost use Rattle.toml.specs.View.{table_view, view, items_view};
+ghost use Rattle.maglev_texts.specs.Parsing.{address_of};
+ghost use Rattle.scenario.specs.Lookups.{text_at, items_at, all_items, has_only};
+ghost use Rattle.scenario.specs.Words.{protocol_of_word};
+ghost use Rattle.scenario.specs.Drafts.{service_keys, version_keys, word_of, service_draft, service_in, version_draft, version_in, plain_service_draft, plain_version_draft};
+
+use crate::keys::has_only;
+use crate::lookup::{items_at, number_at, text_at};
+use crate::words::protocol_of_word;
+use maglev_texts::{address, member};
+use pool_versions::Member;
+use std::alloc::{AllocError, Global};
+use toml::{Table, Value};
+
+/// A service whose members may be words that are none.
+#[derive(Drop)]
+pub(crate) struct ServiceDraft {
+    pub(crate) vip: u32,
+    pub(crate) proto: u8,
+    pub(crate) port: u16,
+    pub(crate) members: Vec<Option<Member>>,
+}
+
+/// A version of such services.
+#[derive(Drop)]
+pub(crate) struct VersionDraft {
+    pub(crate) number: u32,
+    pub(crate) services: Vec<ServiceDraft>,
+}
+
+// The members that some texts are, None where something is no text.
+#[tactic(auto, using(crate::proofs::Views::items_from))]
+fn read_words(alloc: Global, values: &[Value]) -> Result<Option<Vec<Option<Member>>>, AllocError>
+    ensures { IfOk result (λ o. option_map (λ v. v.items) o ≡ all_items word_of (items_view values.now)) }
+{
+    let mut found: Vec<Option<Member>> = Vec::new(alloc);
+    for value in values {
+        let Some(text) = value.as_str() else {
+            return Ok(None);
+        };
+        found.push(member(alloc, text.as_bytes())?)?;
+    }
+    Ok(Some(found))
+}
+
+fn words_at(alloc: Global, table: &Table) -> Result<Option<Vec<Option<Member>>>, AllocError>
+    ensures { IfOk result (λ o. option_map (λ v. v.items) o ≡ option_and_then (all_items word_of) (items_at (codes "members") (table_view table.now))) }
+{
+    match items_at(table, "members") {
+        Some(values) => read_words(alloc, values),
+        None => Ok(None),
+    }
+}
+
+fn vip_at(alloc: Global, table: &Table) -> Result<Option<u32>, AllocError>
+    ensures { IfOk result (λ o. o ≡ option_and_then address_of (text_at (codes "vip") (table_view table.now))) }
+{
+    match text_at(table, "vip") {
+        Some(text) => address(alloc, text.as_bytes()),
+        None => Ok(None),
+    }
+}
+
+fn protocol_at(table: &Table) -> Option<u8>
+    ensures { result ≡ option_and_then protocol_of_word (text_at (codes "proto") (table_view table.now)) }
+{
+    protocol_of_word(text_at(table, "proto")?)
+}
+
+#[tactic(auto, unfolding(crate::specs::Drafts::service_draft))]
+fn service_draft_of(alloc: Global, table: &Table) -> Result<Option<ServiceDraft>, AllocError>
+    ensures { IfOk result (λ o. option_map plain_service_draft o ≡ service_draft (table_view table.now)) }
+{
+    let Some(vip) = vip_at(alloc, table)? else {
+        return Ok(None);
+    };
+    let Some(proto) = protocol_at(table) else {
+        return Ok(None);
+    };
+    let Some(port) = number_at(table, "port", 0, 65535) else {
+        return Ok(None);
+    };
+    let Some(members) = words_at(alloc, table)? else {
+        return Ok(None);
+    };
+    Ok(Some(ServiceDraft {
+        vip,
+        proto,
+        port: port as u16,
+        members,
+    }))
+}
+
+fn has_service_keys(table: &Table) -> bool
+    ensures { result ≡ has_only service_keys (table_view table.now) }
+{
+    has_only(table, &["vip", "proto", "port", "members"])
+}
+
+fn service_in(alloc: Global, value: &Value) -> Result<Option<ServiceDraft>, AllocError>
+    ensures { IfOk result (λ o. option_map plain_service_draft o ≡ service_in (view value.now)) }
+{
+    let Some(table) = value.as_table() else {
+        return Ok(None);
+    };
+    if has_service_keys(table) {
+        service_draft_of(alloc, table)
+    } else {
+        Ok(None)
+    }
+}
+
+#[tactic(auto, using(crate::proofs::Views::items_from))]
+fn read_services(alloc: Global, values: &[Value]) -> Result<Option<Vec<ServiceDraft>>, AllocError>
+    ensures { IfOk result (λ o. option_map (λ v. map plain_service_draft v.items) o ≡ all_items service_in (items_view values.now)) }
+{
+    let mut found: Vec<ServiceDraft> = Vec::new(alloc);
+    for value in values {
+        let Some(service) = service_in(alloc, value)? else {
+            return Ok(None);
+        };
+        let Ok(()) = found.push(service) else {
+            return Err(AllocError);
+        };
+    }
+    Ok(Some(found))
+}
+
+fn services_at(alloc: Global, table: &Table) -> Result<Option<Vec<ServiceDraft>>, AllocError>
+    ensures { IfOk result (λ o. option_map (λ v. map plain_service_draft v.items) o ≡ option_and_then (all_items service_in) (items_at (codes "services") (table_view table.now))) }
+{
+    match items_at(table, "services") {
+        Some(values) => read_services(alloc, values),
+        None => Ok(None),
+    }
+}
+
+#[tactic(auto, unfolding(crate::specs::Drafts::version_draft))]
+fn version_draft_of(alloc: Global, table: &Table) -> Result<Option<VersionDraft>, AllocError>
+    ensures { IfOk result (λ o. option_map plain_version_draft o ≡ version_draft (table_view table.now)) }
+{
+    let Some(number) = number_at(table, "number", 0, 4_294_967_295) else {
+        return Ok(None);
+    };
+    let Some(services) = services_at(alloc, table)? else {
+        return Ok(None);
+    };
+    Ok(Some(VersionDraft {
+        number: number as u32,
+        services,
+    }))
+}
+
+fn has_version_keys(table: &Table) -> bool
+    ensures { result ≡ has_only version_keys (table_view table.now) }
+{
+    has_only(table, &["number", "services"])
+}
+
+fn version_in(alloc: Global, value: &Value) -> Result<Option<VersionDraft>, AllocError>
+    ensures { IfOk result (λ o. option_map plain_version_draft o ≡ version_in (view value.now)) }
+{
+    let Some(table) = value.as_table() else {
+        return Ok(None);
+    };
+    if has_version_keys(table) {
+        version_draft_of(alloc, table)
+    } else {
+        Ok(None)
+    }
+}
+
+/// The versions that some values are, None where one of them isn't one.
+#[tactic(auto, using(crate::proofs::Views::items_from))]
+pub(crate) fn read_versions(
+    alloc: Global,
+    values: &[Value],
+) -> Result<Option<Vec<VersionDraft>>, AllocError>
+    ensures { IfOk result (λ o. option_map (λ v. map plain_version_draft v.items) o ≡ all_items version_in (items_view values.now)) }
+{
+    let mut found: Vec<VersionDraft> = Vec::new(alloc);
+    for value in values {
+        let Some(version) = version_in(alloc, value)? else {
+            return Ok(None);
+        };
+        let Ok(()) = found.push(version) else {
+            return Err(AllocError);
+        };
+    }
+    Ok(Some(found))
+}
