@@ -36,11 +36,11 @@ fn version(
     rt: &impl Abort,
     alloc: Global,
     number: u32,
-    a: u32,
+    a: u8,
     up: [bool; 3],
 ) -> PreparedVersion<Sums> {
     let members = [
-        member(rt, b"A", 0x0a080000 + a, up[0]),
+        member(rt, b"A", 0x0a080000 + u32::from(a), up[0]),
         member(rt, b"B", 0x0a080002, up[1]),
         member(rt, b"C", 0x0a080003, up[2]),
     ];

@@ -1,0 +1,60 @@
+-- Servings of different workers may be written worker by worker.
+use Rattle.std.proofs.Common.{◌≡◌, ℕ, ◌<◌, Bool, List, [], ◌∷◌, ◌++◌, Option, None, refl, ap, ◌∙◌}
+use Rattle.std.specs.Prelude.{if◌then◌else◌}
+use Rattle.std.proofs.lemmas.Bool.{lt-ltb, eq-eqb}
+use Rattle.cluster_node.specs.Book.{Line}
+use Rattle.cluster_node.specs.declared.packets.Packet.{Packet}
+use Rattle.cluster_node.specs.declared.events.Event.{Event}
+use Rattle.cluster_node.specs.declared.events.Event.TheVariants.{Serve}
+use Rattle.cluster_node.specs.declared.outcomes.Outcome.{Outcome}
+use Rattle.cluster_node.specs.declared.outcomes.Outcome.TheVariants.{Refused}
+use Rattle.cluster_node.specs.declared.outcomes.Reason.TheVariants.{NoNode}
+use Rattle.cluster_node.specs.Rules.{Rules}
+use Rattle.cluster_node.specs.declared.events.Said.{Said}
+use Rattle.cluster_node.specs.Record.{installed_of, lines_of, by_lines, serve_verdict}
+use Rattle.cluster_core.specs.Runs.{node_of, of_node, verdict, say, verdicts}
+use Rattle.cluster_core.specs.Headline.{lines_at}
+use Rattle.cluster_core.specs.Blocks.{Ask, serves, lines_after, own, past_after}
+use Rattle.cluster_core.proofs.Apart.{serve_leaves}
+
+-- the record of a node with one more event of it
+same_node : (n : ℕ) (s : Said) (past : List Said) → node_of s.event ≡ n → of_node n (s ∷ past) ≡ s ∷ of_node n past
+same_node n s past e = ap (λ (b : Bool). if b then s ∷ of_node n past else of_node n past) (eq-eqb (node_of s.event) n e)
+
+module _ (rules : Rules) (n w : ℕ) (there : n < rules.nodes) where
+  serve_own : (past : List Said) (a : Ask) (x : Option Packet) → verdict rules past (Serve n w a.version a.refused) x ≡ by_lines rules (installed_of (of_node n past)) (lines_at past n w) n w a.version a.refused
+  serve_own past a x = ap (λ (b : Bool). if b then serve_verdict rules (of_node n past) n w a.version a.refused else Refused NoNode) (lt-ltb n rules.nodes there)
+
+  said : List Said → Ask → Said
+  said past a = say rules past (Serve n w a.version a.refused) None
+
+  installed_kept : (past : List Said) (a : Ask) → installed_of (of_node n (say rules past (Serve n w a.version a.refused) None ∷ past)) ≡ installed_of (of_node n past)
+  installed_kept past a = ap installed_of (same_node n (say rules past (Serve n w a.version a.refused) None) past refl)
+
+  own_lines : (past : List Said) (a : Ask) → lines_at (say rules past (Serve n w a.version a.refused) None ∷ past) n w ≡ lines_after (lines_at past n w) a (verdict rules past (Serve n w a.version a.refused) None)
+  own_lines past a = ap (λ (l : List Said). lines_of w l) (same_node n (say rules past (Serve n w a.version a.refused) None) past refl)
+      ∙ ap (λ (b : Bool). if b then lines_after (lines_at past n w) a (verdict rules past (Serve n w a.version a.refused) None) else lines_at past n w) (eq-eqb w w refl)
+
+  -- a worker's servings come to what its own lines say, and the rest follows the record with them
+  pub block : (packets : List Packet) (past : List Said) (asks : List Ask) (rest : List Event) → verdicts rules past packets (serves n w asks ++ rest) ≡ own rules (installed_of (of_node n past)) (lines_at past n w) n w asks ++ verdicts rules (past_after rules past n w asks) packets rest
+  block packets past [] rest = refl
+  block packets past (a ∷ asks) rest =
+      let e : verdict rules past (Serve n w a.version a.refused) None ≡ by_lines rules (installed_of (of_node n past)) (lines_at past n w) n w a.version a.refused = serve_own past a None in
+      let f : lines_at (say rules past (Serve n w a.version a.refused) None ∷ past) n w ≡ lines_after (lines_at past n w) a (by_lines rules (installed_of (of_node n past)) (lines_at past n w) n w a.version a.refused) = own_lines past a ∙ ap (λ (o : Outcome). lines_after (lines_at past n w) a o) e in
+      ap (λ (o : Outcome). o ∷ verdicts rules (say rules past (Serve n w a.version a.refused) None ∷ past) packets (serves n w asks ++ rest)) e
+      ∙ ap (λ (os : List Outcome). by_lines rules (installed_of (of_node n past)) (lines_at past n w) n w a.version a.refused ∷ os)
+      (block packets (say rules past (Serve n w a.version a.refused) None ∷ past) asks rest
+      ∙ ap (λ (vs : List ℕ). own rules vs (lines_at (say rules past (Serve n w a.version a.refused) None ∷ past) n w) n w asks ++ verdicts rules (past_after rules past n w (a ∷ asks)) packets rest) (installed_kept past a)
+      ∙ ap (λ (ls : List Line). own rules (installed_of (of_node n past)) ls n w asks ++ verdicts rules (past_after rules past n w (a ∷ asks)) packets rest) f)
+
+  -- they leave every other worker's lines
+  pub block_leaves : (u : ℕ) → (w ≡ u → ⊥) → (past : List Said) (asks : List Ask) → lines_at (past_after rules past n w asks) n u ≡ lines_at past n u
+  block_leaves u ne past [] = refl
+  block_leaves u ne past (a ∷ asks) = block_leaves u ne (say rules past (Serve n w a.version a.refused) None ∷ past) asks
+      ∙ ap (λ (l : List Said). lines_of u l) (same_node n (say rules past (Serve n w a.version a.refused) None) past refl)
+      ∙ serve_leaves (of_node n past) n w u a.version a.refused None (verdict rules past (Serve n w a.version a.refused) None) ne
+
+  -- and the installed versions
+  pub block_installed : (past : List Said) (asks : List Ask) → installed_of (of_node n (past_after rules past n w asks)) ≡ installed_of (of_node n past)
+  block_installed past [] = refl
+  block_installed past (a ∷ asks) = block_installed (say rules past (Serve n w a.version a.refused) None ∷ past) asks ∙ installed_kept past a

@@ -1,0 +1,73 @@
+-- A forwarder keeps a flow's backend while its entry stands and the backend is up.
+use Rattle.std.proofs.Common.{◌≡◌, ℕ, ◌%◌, ◌^◌, Bool, true, false, List, [], ◌∷◌, Option, Some, None, sym, ap, ◌∙◌}
+use Rattle.std.specs.Prelude.{◌==◌, ◌||◌, nat_lt, if◌then◌else◌}
+use Rattle.std.specs.List.{list_any}
+use Rattle.std.proofs.lemmas.Bool.{false≢true}
+use Rattle.connection_table.specs.declared.table.Entry.{Entry}
+use Rattle.connection_table.specs.Touches.{standing}
+use Rattle.forwarder.specs.declared.Choice.TheVariants as choices
+use Rattle.forwarder.specs.Serving.{Candidates, Pick, Serving, is_up, serve_as, told_by, told_under, touches, asked_count, told}
+use Rattle.cluster_node.specs.declared.serving.Item.{Item}
+use Rattle.cluster_node.specs.declared.serving.Taken.TheVariants as takings
+use Rattle.cluster_node.specs.Book.{Line, next_item, servings, serving_under, greatest_used, taken, taken_of, told_next}
+use Rattle.cluster_node.specs.declared.packets.Packet.{Packet}
+use Rattle.cluster_node.specs.declared.events.Event.{Event}
+use Rattle.cluster_node.specs.declared.events.Event.TheVariants.{Install, Arrive, Serve, Restart}
+use Rattle.cluster_node.specs.declared.outcomes.Outcome.TheVariants.{Forward, Refused}
+use Rattle.cluster_node.specs.declared.outcomes.Reason.TheVariants.{NoNode, NoWorker, UnknownVersion}
+use Rattle.cluster_node.specs.Rules.{Rules}
+use Rattle.cluster_node.specs.declared.events.Said.{Said}
+use Rattle.cluster_node.specs.Record.{accepted, lines_of, of_taken, of_choice, serve_verdict, installed_of, by_queue}
+use Rattle.cluster_core.specs.Runs.{of_node, verdict, packet_of, say, verdicts}
+use Rattle.cluster_core.specs.Headline.{lines_at, entry_at, UpUnder, Keeps, Keeping}
+
+-- a serving of a flow whose entry stands with its backend up
+kept_choice : (pick : Pick) (s : Serving) (e : Entry) (ups : Candidates) (turn : ℕ) → s.ups ≡ Some ups → is_up e.backend ups ≡ true → (serve_as pick s (Some e) turn).choice ≡ choices.Forward e.backend e.version
+kept_choice pick s e ups turn u h =
+    ap (λ (o : Option (Candidates)). (told_under pick s o (Some e) turn).choice) u
+    ∙ ap (λ (b : Bool). (told_by pick s ups (Some e) (if b then Some e else None) turn).choice) h
+
+module _ (rules : Rules) (past : List Said) (n w v : ℕ) (r : Bool) (i : Item) (e : Entry) (up : UpUnder rules v i.flow e.backend) where
+  abbrev pub Lines : List Line
+  Lines = lines_of w past
+
+  abbrev pub Stood : Option Entry
+  Stood = standing rules.capacity i.flow (touches (told rules.pick rules.capacity (servings rules Lines)))
+
+  done_keeps : Stood ≡ Some e → (b : Bool) → accepted (of_taken n w (if b then takings.Behind else takings.Done i (told_next rules Lines i v r).choice)) ≡ true → of_taken n w (if b then takings.Behind else takings.Done i (told_next rules Lines i v r).choice) ≡ Forward n w i.packet i.flow e.backend e.version
+  done_keeps st true a = absurd (false≢true a)
+  done_keeps st false a = ap (of_choice n w i)
+      (ap (λ (o : Option Entry). (serve_as rules.pick (serving_under (rules.ups v) v i.flow r) o (asked_count (told rules.pick rules.capacity (servings rules Lines)) % 2 ^ 64)).choice) st
+      ∙ kept_choice rules.pick (serving_under (rules.ups v) v i.flow r) e up.ups (asked_count (told rules.pick rules.capacity (servings rules Lines)) % 2 ^ 64) up.known up.up)
+
+  taken_keeps : next_item Lines ≡ Some i → Stood ≡ Some e → accepted (of_taken n w (taken rules Lines v r)) ≡ true → of_taken n w (taken rules Lines v r) ≡ Forward n w i.packet i.flow e.backend e.version
+  taken_keeps h st a =
+      let f : of_taken n w (taken_of rules Lines (next_item Lines) v r) ≡ of_taken n w (taken_of rules Lines (Some i) v r) = ap (λ (o : Option Item). of_taken n w (taken_of rules Lines o v r)) h in
+      f ∙ done_keeps st (nat_lt v i.floor || nat_lt v (greatest_used Lines)) (ap accepted (sym f) ∙ a)
+
+  known_keeps : next_item Lines ≡ Some i → Stood ≡ Some e → (b : Bool) → accepted (if b then of_taken n w (taken rules Lines v r) else Refused UnknownVersion) ≡ true → (if b then of_taken n w (taken rules Lines v r) else Refused UnknownVersion) ≡ Forward n w i.packet i.flow e.backend e.version
+  known_keeps h st true a = taken_keeps h st a
+  known_keeps h st false a = absurd (false≢true a)
+
+  worker_keeps : next_item Lines ≡ Some i → Stood ≡ Some e → (b : Bool) → accepted (if b then by_queue rules (installed_of past) Lines (next_item Lines) n w v r else Refused NoWorker) ≡ true → (if b then by_queue rules (installed_of past) Lines (next_item Lines) n w v r else Refused NoWorker) ≡ Forward n w i.packet i.flow e.backend e.version
+  worker_keeps h st true a =
+      let f : by_queue rules (installed_of past) Lines (next_item Lines) n w v r ≡ by_queue rules (installed_of past) Lines (Some i) n w v r = ap (λ (o : Option Item). by_queue rules (installed_of past) Lines o n w v r) h in
+      f ∙ known_keeps h st (list_any (λ u. u == v) (installed_of past)) (ap accepted (sym f) ∙ a)
+  worker_keeps h st false a = absurd (false≢true a)
+
+  pub serve_keeps : next_item Lines ≡ Some i → Stood ≡ Some e → accepted (serve_verdict rules past n w v r) ≡ true → serve_verdict rules past n w v r ≡ Forward n w i.packet i.flow e.backend e.version
+  serve_keeps h st a = worker_keeps h st (nat_lt w rules.workers) a
+
+node_keeps : (rules : Rules) (past : List Said) (n w v : ℕ) (r : Bool) (x : Option Packet) (i : Item) (e : Entry) → (b : Bool) → accepted (if b then serve_verdict rules (of_node n past) n w v r else Refused NoNode) ≡ true → next_item (lines_at past n w) ≡ Some i → entry_at rules past n w i.flow ≡ Some e → UpUnder rules v i.flow e.backend → (if b then serve_verdict rules (of_node n past) n w v r else Refused NoNode) ≡ Forward n w i.packet i.flow e.backend e.version
+node_keeps rules past n w v r x i e true a h st up = serve_keeps rules (of_node n past) n w v r i e up h st a
+node_keeps rules past n w v r x i e false a h st up = absurd (false≢true a)
+
+keeps : (rules : Rules) (past : List Said) (e : Event) (x : Option Packet) → Keeps rules past e (verdict rules past e x)
+keeps rules past (Install n v) x = tt
+keeps rules past (Arrive n k marks) x = tt
+keeps rules past (Restart n) x = tt
+keeps rules past (Serve n w v r) x = λ i e a h st up. node_keeps rules past n w v r x i e (nat_lt n rules.nodes) a h st up
+
+pub keeping : (rules : Rules) (past : List Said) (packets : List Packet) (es : List Event) → Keeping rules past packets es (verdicts rules past packets es)
+keeping rules past packets [] = tt
+keeping rules past packets (e ∷ es) = (keeps rules past e (packet_of packets e), keeping rules (say rules past e (packet_of packets e) ∷ past) packets es)

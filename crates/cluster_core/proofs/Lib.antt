@@ -1,0 +1,14 @@
+pub mod Limits
+pub mod Balance
+pub mod Preparing
+pub mod Nodes
+pub mod Chosen
+pub mod Sends
+pub mod Keeps
+pub mod Apart
+pub mod Splits
+pub mod Touching
+pub mod Blocks
+pub mod Sums
+pub mod Law
+pub mod Frames

@@ -1,0 +1,9 @@
+use Rattle.std.proofs.Common.{Option, subst}
+use Rattle.cluster_node.specs.declared.packets.Packet.{Packet}
+use Rattle.cluster_core.specs.Setups.{rules_for}
+use Rattle.cluster_core.specs.Runs.{RunGoes}
+use Rattle.cluster_core.proofs.running.Run.step.Goals as goal
+
+pub returns-in-Ok-clause-verdict : goal.returns-in-Ok-clause-verdict
+returns-in-Ok-clause-verdict g c = λ past few st.
+    subst (λ (p : Option Packet). RunGoes (λ s z. g.S.Scheme.pick s z) (rules_for (λ s z. g.S.Scheme.pick s z) (λ h. g.H.FlowHash.plain h) c.args.setup.now c.args.catalogue.now) past c.args.event.now p c.in-Ok.outcome c.advance.new.self) c.copied.ensures (c.in-Ok.ensures.verdict past few st)

@@ -1,0 +1,72 @@
+-- The promises over any list of events, in terms of the packets that were sent.
+use Rattle.std.specs.Prelude.{◌≡◌, ℕ, true, List, [], ◌∷◌, Option, Some, None, slice_get}
+use Rattle.five_tuple.specs.declared.Flow.{Flow}
+use Rattle.pool_versions.specs.declared.backend.Backend.{Backend}
+use Rattle.connection_table.specs.declared.table.Entry.{Entry}
+use Rattle.connection_table.specs.Touches.{standing}
+use Rattle.forwarder.specs.Serving.{Candidates, Pick, is_up, touches, told}
+use Rattle.cluster_node.specs.declared.serving.Item.{Item}
+use Rattle.cluster_node.specs.Book.{Line, next_item, servings}
+use Rattle.cluster_node.specs.declared.packets.Packet.{Packet}
+use Rattle.cluster_node.specs.declared.events.Event.{Event}
+use Rattle.cluster_node.specs.declared.events.Event.TheVariants.{Install, Arrive, Serve, Restart}
+use Rattle.cluster_node.specs.declared.outcomes.Outcome.{Outcome}
+use Rattle.cluster_node.specs.declared.outcomes.Outcome.TheVariants.{Forward}
+use Rattle.cluster_node.specs.Rules.{Rules}
+use Rattle.cluster_node.specs.declared.events.Said.{Said}
+use Rattle.cluster_node.specs.Record.{accepted, lines_of}
+use Rattle.cluster_core.specs.Runs.{of_node, packet_of}
+
+-- the scheme's backend among these
+abbrev pub picked : Pick → Flow → Option (Candidates) → Option Backend
+picked pick x None = None
+picked pick x (Some ups) = pick ups x 0
+
+-- the backend of a flow under a version, for a scheme to which the turn doesn't matter
+abbrev pub pick_under : Rules → ℕ → Flow → Option Backend
+pick_under rules v x = picked rules.pick x (rules.ups v x)
+
+-- among the outcomes a packet of the flow is sent to the backend, chosen under the version
+pub record Sent (outs : List Outcome) (x : Flow) (b : Backend) (v : ℕ) : Type 0 where
+  pub place : ℕ
+  pub node : ℕ
+  pub worker : ℕ
+  pub packet : ℕ
+  pub there : slice_get outs place ≡ Some (Forward node worker packet x b v)
+
+-- AGREEMENT. Two packets of one flow that were sent to different backends, by any forwarders, were sent by choices
+-- under versions that pick these backends, and so under versions that differ for the flow.
+abbrev pub Agreement : Rules → List Outcome → Type 0
+Agreement rules outs = (x : Flow) (b₁ b₂ : Backend) (v₁ v₂ : ℕ) → Sent outs x b₁ v₁ → Sent outs x b₂ v₂ → (b₁ ≡ b₂ → ⊥) →
+    (pick_under rules v₁ x ≡ Some b₁) × (pick_under rules v₂ x ≡ Some b₂) × (pick_under rules v₁ x ≡ pick_under rules v₂ x → ⊥) × (v₁ ≡ v₂ → ⊥)
+
+-- what a forwarder's life so far has of its servings, as lines
+abbrev pub lines_at : List Said → ℕ → ℕ → List Line
+lines_at past n w = lines_of w (of_node n past)
+
+-- the entry that stands for a flow on a forwarder: its last touch there, while fewer than the capacity of other flows
+-- were touched after it
+abbrev pub entry_at : Rules → List Said → ℕ → ℕ → Flow → Option Entry
+entry_at rules past n w x = standing rules.capacity x (touches (told rules.pick rules.capacity (servings rules (lines_at past n w))))
+
+-- a backend is up for a flow under a version
+pub record UpUnder (rules : Rules) (v : ℕ) (x : Flow) (b : Backend) : Type 0 where
+  pub ups : Candidates
+  pub known : rules.ups v x ≡ Some ups
+  pub up : is_up b ups ≡ true
+
+-- KEEPING. Where an entry stands for the flow of the packet that an accepted serving takes, and its backend is up under
+-- the serving's version, the packet is sent there, with the entry's origin.
+abbrev pub Keeps : Rules → List Said → Event → Outcome → Type 0
+Keeps rules past (Install n v) o = Unit {0}
+Keeps rules past (Arrive n k marks) o = Unit {0}
+Keeps rules past (Restart n) o = Unit {0}
+Keeps rules past (Serve n w v r) o = (i : Item) (e : Entry) → accepted o ≡ true → next_item (lines_at past n w) ≡ Some i →
+    entry_at rules past n w i.flow ≡ Some e → UpUnder rules v i.flow e.backend →
+    o ≡ Forward n w i.packet i.flow e.backend e.version
+
+-- the promise holds at each event, with the record of all before it
+abbrev pub Keeping : Rules → List Said → List Packet → List Event → List Outcome → Type 0
+Keeping rules past packets [] os = Unit {0}
+Keeping rules past packets (e ∷ es) [] = ⊥
+Keeping rules past packets (e ∷ es) (o ∷ os) = Keeps rules past e o × Keeping rules (record { event = e; packet = packet_of packets e; outcome = o } ∷ past) packets es os

@@ -1,0 +1,10 @@
+pub mod Reading
+pub mod Setups
+pub mod Totals
+pub mod Tally
+pub mod RunView
+pub mod Runs
+pub mod Headline
+pub mod Explain
+pub mod Apart
+pub mod Blocks

@@ -1,0 +1,111 @@
+-- What a list of events comes to: each outcome is read off the record of all events before it.
+use Rattle.std.specs.Prelude.{◌≡◌, ℕ, ◌+◌, ◌==◌, Bool, true, false, List, [], ◌∷◌, length, Option, Some, None, if◌then◌else◌, nat_lt, slice_get, is_some, ◌-◌}
+use Rattle.forwarder.specs.Serving.{Pick}
+use Rattle.cluster_node.specs.NodeView.{NodeView}
+use Rattle.cluster_node.specs.declared.packets.Packet.{Packet}
+use Rattle.cluster_node.specs.declared.events.Event.{Event}
+use Rattle.cluster_node.specs.declared.events.Event.TheVariants.{Install, Arrive, Serve, Restart}
+use Rattle.cluster_node.specs.declared.outcomes.Outcome.{Outcome}
+use Rattle.cluster_node.specs.declared.outcomes.Outcome.TheVariants.{Refused}
+use Rattle.cluster_node.specs.declared.outcomes.Reason.TheVariants.{NoNode}
+use Rattle.cluster_node.specs.Rules.{Rules}
+use Rattle.cluster_node.specs.declared.events.Said.{Said}
+use Rattle.cluster_node.specs.Record.{node_verdict, waits, NodeStands, installed_of, prepared_at, waiting_at, IsPrepared, ArePrepared}
+use Rattle.cluster_core.specs.Totals.{came_of, went_of}
+use Rattle.cluster_core.specs.RunView.{RunView}
+use Rattle.pool_versions.specs.Pool.{Pools, version_at}
+use Rattle.pool_versions.specs.declared.service.Version.{Version}
+use Rattle.selection.specs.Readied.{Readied, readied_version}
+use Rattle.cluster_node.specs.Book.{Line, placed, taken_count}
+
+-- the node that an event names
+abbrev pub node_of : Event → ℕ
+node_of (Install n v) = n
+node_of (Arrive n k marks) = n
+node_of (Serve n w v r) = n
+node_of (Restart n) = n
+
+-- what the record has of one node
+abbrev pub of_node : ℕ → List Said → List Said
+of_node n [] = []
+of_node n (s ∷ past) = if node_of s.event == n then s ∷ of_node n past else of_node n past
+
+-- what an event comes to after all before it
+abbrev pub verdict : Rules → List Said → Event → Option Packet → Outcome
+verdict rules past e x = if nat_lt (node_of e) rules.nodes then node_verdict rules (of_node (node_of e) past) e x else Refused NoNode
+
+-- the packet that an event names
+abbrev pub packet_of : List Packet → Event → Option Packet
+packet_of packets (Install n v) = None
+packet_of packets (Arrive n k marks) = slice_get packets k
+packet_of packets (Serve n w v r) = None
+packet_of packets (Restart n) = None
+
+abbrev pub say : Rules → List Said → Event → Option Packet → Said
+say rules past e x = record { event = e; packet = x; outcome = verdict rules past e x }
+
+-- what the events come to, after a record
+abbrev pub verdicts : Rules → List Said → List Packet → List Event → List Outcome
+verdicts rules past packets [] = []
+verdicts rules past packets (e ∷ es) = verdict rules past e (packet_of packets e) ∷ verdicts rules (say rules past e (packet_of packets e) ∷ past) packets es
+
+-- how many packets wait in all nodes
+abbrev pub waiting_in : List NodeView → ℕ
+waiting_in [] = 0
+waiting_in (m ∷ ms) = waits m.workers + waiting_in ms
+
+-- what is prepared is what the rules say
+abbrev pub AreGood : {S : Type 0} → (S → ℕ → Pick) → Rules → List (Readied S) → Type 0
+AreGood pick_of rules versions = (v : ℕ) → is_some (prepared_at v versions) ≡ true → IsPrepared pick_of rules versions v
+
+-- a run stands for a record
+pub record RunStands {S : Type 0} (pick_of : S → ℕ → Pick) (rules : Rules) (past : List Said) (run : RunView S) : Type 0 where
+  pub working : run.failed ≡ false
+  pub count : length run.nodes ≡ rules.nodes
+  -- each version that was installed on a node is prepared
+  pub good : AreGood pick_of rules run.versions
+  pub prepared : (n : ℕ) → ArePrepared pick_of rules run.versions (installed_of (of_node n past))
+  -- what came into the queues is what went out and what waits
+  pub balance : waiting_in run.nodes + went_of past ≡ came_of past
+  pub each : (n : ℕ) (m : NodeView) → slice_get run.nodes n ≡ Some m → NodeStands rules (of_node n past) m
+
+-- an outcome is what the record says, and the run stands for the record with it
+abbrev pub RunGoes : {S : Type 0} → (S → ℕ → Pick) → Rules → List Said → Event → Option Packet → Outcome → RunView S → Type 0
+RunGoes pick_of rules past e x o run = (o ≡ verdict rules past e x) × RunStands pick_of rules (say rules past e x ∷ past) run
+
+-- the versions after one was prepared: it is prepared once
+abbrev pub prepared_with : {S : Type 0} → S → ℕ → Version → List (Readied S) → List (Readied S)
+prepared_with scheme size version versions =
+    if is_some (prepared_at version.number versions) then versions else readied_version scheme size version ∷ versions
+
+abbrev pub prepared_if : {S : Type 0} → S → ℕ → Option Version → List (Readied S) → List (Readied S)
+prepared_if scheme size None versions = versions
+prepared_if scheme size (Some version) versions = prepared_with scheme size version versions
+
+-- the versions after the one that an event installs was prepared, if the catalogue has it
+abbrev pub prepared_for : {S : Type 0} → S → ℕ → Pools → Event → List (Readied S) → List (Readied S)
+prepared_for scheme size pools (Install n v) versions = prepared_if scheme size (version_at v pools.versions) versions
+prepared_for scheme size pools (Arrive n k marks) versions = versions
+prepared_for scheme size pools (Serve n w v r) versions = versions
+prepared_for scheme size pools (Restart n) versions = versions
+
+-- whether an event installs a version that the catalogue has
+abbrev pub is_known_in : Pools → Event → Bool
+is_known_in pools (Install n v) = is_some (version_at v pools.versions)
+is_known_in pools (Arrive n k marks) = false
+is_known_in pools (Serve n w v r) = false
+is_known_in pools (Restart n) = false
+
+-- the newest version of a node, 0 where there is no such node
+abbrev pub newest_at : Option NodeView → ℕ
+newest_at None = 0
+newest_at (Some m) = m.newest
+
+-- how many packets wait at a worker, 0 where there is no such node or worker
+abbrev pub waiting_on : ℕ → Option NodeView → ℕ
+waiting_on w None = 0
+waiting_on w (Some m) = waiting_at (slice_get m.workers w)
+
+-- how many packets wait by a worker's lines
+abbrev pub waiting_by : List Line → ℕ
+waiting_by ls = length (placed ls) - taken_count ls

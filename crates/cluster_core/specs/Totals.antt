@@ -1,0 +1,80 @@
+-- How many packets came and went, read off the outcomes.
+use Rattle.std.specs.Prelude.{◌≡◌, ℕ, ◌+◌, Bool, true, false, List, [], ◌∷◌, Option, Some, None}
+use Rattle.cluster_node.specs.declared.packets.Packet.{Packet}
+use Rattle.cluster_node.specs.declared.packets.Packet.TheVariants.{Good, Bad}
+use Rattle.cluster_node.specs.declared.outcomes.Outcome.{Outcome}
+use Rattle.cluster_node.specs.declared.outcomes.Outcome.TheVariants.{Installed, Placed, Forward, Dropped, Restarted, Refused}
+use Rattle.cluster_node.specs.declared.outcomes.Cause.{Cause}
+use Rattle.cluster_node.specs.declared.outcomes.Cause.TheVariants.{NotIpv4, Truncated, BadHeader, BadChecksum, Fragment, NotTcpUdp, BadTransport, TooLarge, NoService, NoBackend, NoVersion, RingsFull, LostAtRestart}
+use Rattle.cluster_node.specs.declared.events.Said.{Said}
+
+-- a cause that reading a packet has
+abbrev pub of_reading : Cause → Bool
+of_reading NotIpv4 = true
+of_reading Truncated = true
+of_reading BadHeader = true
+of_reading BadChecksum = true
+of_reading Fragment = true
+of_reading NotTcpUdp = true
+of_reading BadTransport = true
+of_reading TooLarge = true
+of_reading NoService = false
+of_reading NoBackend = false
+of_reading NoVersion = false
+of_reading RingsFull = false
+of_reading LostAtRestart = false
+
+abbrev pub WasRead : Option Packet → Type 0
+WasRead None = Unit {0}
+WasRead (Some (Good x l)) = Unit {0}
+WasRead (Some (Bad c)) = of_reading c ≡ true
+
+-- how many packets an outcome puts into the queues
+abbrev pub came : Outcome → ℕ
+came Installed = 0
+came (Placed w f) = 1
+came (Forward n w k x b v) = 0
+came (Dropped k c) = 0
+came (Restarted l) = 0
+came (Refused r) = 0
+
+-- a drop of a packet that was served
+abbrev pub of_serving : Cause → ℕ
+of_serving NotIpv4 = 0
+of_serving Truncated = 0
+of_serving BadHeader = 0
+of_serving BadChecksum = 0
+of_serving Fragment = 0
+of_serving NotTcpUdp = 0
+of_serving BadTransport = 0
+of_serving TooLarge = 0
+of_serving NoService = 1
+of_serving NoBackend = 1
+of_serving NoVersion = 0
+of_serving RingsFull = 0
+of_serving LostAtRestart = 0
+
+-- how many it takes out
+abbrev pub went : Outcome → ℕ
+went Installed = 0
+went (Placed w f) = 0
+went (Forward n w k x b v) = 1
+went (Dropped k c) = of_serving c
+went (Restarted l) = l
+went (Refused r) = 0
+
+abbrev pub came_all : List Outcome → ℕ
+came_all [] = 0
+came_all (o ∷ os) = came o + came_all os
+
+abbrev pub went_all : List Outcome → ℕ
+went_all [] = 0
+went_all (o ∷ os) = went o + went_all os
+
+abbrev pub came_of : List Said → ℕ
+came_of [] = 0
+came_of (s ∷ past) = came s.outcome + came_of past
+
+abbrev pub went_of : List Said → ℕ
+went_of [] = 0
+went_of (s ∷ past) = went s.outcome + went_of past

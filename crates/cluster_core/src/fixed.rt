@@ -1,0 +1,135 @@
+//! What is fixed for a cluster.
+ghost use Rattle.std.specs.Prelude.{◌≡◌, ◌≤◌, ◌<◌, ◌||◌, ◌==◌, length, Some, None, MatchResult};
+ghost use Rattle.cluster_core.specs.Setups.{Fixed, setup_fault};
+
+use hash_laws::FlowHash;
+use maglev_table::TableSize;
+use selection::Scheme;
+use std::marker::Model;
+
+/// Why a setup was refused. They are tested in this order.
+#[derive(Clone, Copy, Debug, PartialEq, Eq)]
+pub enum SetupFault {
+    /// There are not 1 to 64 nodes.
+    BadNodes,
+    /// There are not 1 to 16 workers.
+    BadWorkers,
+    /// A table doesn't keep 1 to 1,000,000 entries.
+    BadCapacity,
+}
+
+/// What is fixed for a cluster: its hash, scheme and table size, the IPv4 addresses of its nodes, how many workers a node
+/// has, and how many entries a worker's connection table keeps.
+#[derive(Drop)]
+pub struct Setup<S: Scheme, H: FlowHash> {
+    hash: H,
+    scheme: S,
+    size: TableSize,
+    nodes: Vec<u32>,
+    workers: u16,
+    capacity: u32,
+}
+
+impl<S: Scheme, H: FlowHash> Model for Setup<S, H> {
+    ghost use Rattle.std.specs.Prelude.{◌≤◌, ◌<◌, length};
+    ghost use Rattle.cluster_core.specs.Setups.{Fixed};
+
+    ghost Value = { Fixed S H };
+
+    ghost view = { λ s. record { hash = s.hash; scheme = s.scheme; size = s.size; nodes = s.nodes.items; workers = s.workers; capacity = s.capacity } };
+
+    ghost invariant = { λ s. (0 < length s.nodes.items) × (length s.nodes.items ≤ 64) × (0 < s.workers) × (s.workers ≤ 16) × (0 < s.capacity) × (s.capacity ≤ 1000000) };
+}
+
+// The first fault.
+fn fault_of(nodes: usize, workers: u16, capacity: u32) -> Option<SetupFault>
+    ensures { result ≡ setup_fault nodes workers capacity }
+{
+    if nodes == 0 || nodes > 64 {
+        return Some(SetupFault::BadNodes);
+    }
+    if workers == 0 || workers > 16 {
+        return Some(SetupFault::BadWorkers);
+    }
+    if capacity == 0 || capacity > 1000000 {
+        return Some(SetupFault::BadCapacity);
+    }
+    None
+}
+
+impl<S: Scheme, H: FlowHash> Setup<S, H> {
+    /// A setup, or the first fault in the order of `SetupFault`. No memory is taken.
+    #[tactic(auto, using(crate::proofs::Limits::no_fault))]
+    pub fn new(
+        hash: H,
+        scheme: S,
+        size: TableSize,
+        nodes: Vec<u32>,
+        workers: u16,
+        capacity: u32,
+    ) -> Result<Self, SetupFault>
+        ensures { MatchResult result
+            (λ s. (setup_fault (length nodes.items) workers capacity ≡ None) × (s ≡ record { hash = hash; scheme = scheme; size = size; nodes = nodes.items; workers = workers; capacity = capacity }))
+            (λ fault. setup_fault (length nodes.items) workers capacity ≡ Some fault) }
+    {
+        match fault_of(nodes.len(), workers, capacity) {
+            Some(fault) => Err(fault),
+            None => Ok(Setup {
+                hash,
+                scheme,
+                size,
+                nodes,
+                workers,
+                capacity,
+            }),
+        }
+    }
+
+    /// The hash of flows.
+    pub fn hash(&self) -> H
+        ensures { result ≡ self.now.hash }
+    {
+        self.hash
+    }
+
+    /// How a new flow gets its backend.
+    pub fn scheme(&self) -> S
+        ensures { result ≡ self.now.scheme }
+    {
+        self.scheme
+    }
+
+    /// How many slots a table has.
+    pub fn size(&self) -> TableSize
+        ensures { result ≡ self.now.size }
+    {
+        self.size
+    }
+
+    /// The nodes' IPv4 addresses. Elsewhere a node is its place among them.
+    pub fn nodes(&self) -> &[u32]
+        ensures nodes { result.now ≡ self.now.nodes }
+        ensures some { 0 < length result.now }
+        ensures limit { length result.now ≤ 64 }
+    {
+        self.nodes.as_slice()
+    }
+
+    /// How many workers a node has.
+    pub fn workers(&self) -> u16
+        ensures workers { result ≡ self.now.workers }
+        ensures some { 0 < result }
+        ensures limit { result ≤ 16 }
+    {
+        self.workers
+    }
+
+    /// How many entries a worker's connection table keeps.
+    pub fn capacity(&self) -> u32
+        ensures capacity { result ≡ self.now.capacity }
+        ensures some { 0 < result }
+        ensures limit { result ≤ 1000000 }
+    {
+        self.capacity
+    }
+}

@@ -1,0 +1,28 @@
+//! A cluster of load balancers as a state machine over events, and what it promises over every list of events.
+//!
+//! The core has no clock and no network. A list of events installs versions, delivers packets to nodes, lets workers
+//! serve what waits, and restarts nodes; each event comes to one outcome, which is read off the record of all events
+//! before it. `replay` judges a whole list, `Run` one event after another. The promises, for every list: two packets of
+//! one flow that were sent to different backends were chosen under versions that differ for that flow; and a forwarder
+//! keeps a flow's backend while the flow's entry stands and the backend is up (Maglev, NSDI 2016, section 3.4).
+#![tactic(auto)]
+
+mod counting;
+mod counts;
+mod explaining;
+mod fixed;
+mod reading;
+mod replaying;
+mod running;
+
+pub use cluster_node::{Cause, Event, Item, Outcome, Packet, Reason, Said};
+pub use counting::totals;
+pub use counts::Totals;
+pub use explaining::{Verdict, explain};
+pub use fixed::{Setup, SetupFault};
+pub use reading::read_packet;
+pub use replaying::replay;
+pub use running::Run;
+
+#[cfg(test)]
+mod tests;

@@ -1,0 +1,86 @@
+//! Whole lists of events.
+ghost use Rattle.std.specs.Prelude.{◌≡◌, ◌≤◌, ◌<◌, ◌^◌, [], ℕ, true, length, Option, Some, None, IsTrue, IfOk, slice_get, option_copied};
+ghost use Rattle.cluster_node.specs.declared.packets.Packet.{Packet};
+ghost use Rattle.cluster_core.specs.Setups.{Fixed, rules_for};
+ghost use Rattle.cluster_core.specs.Runs.{packet_of, verdicts};
+ghost use Rattle.cluster_core.specs.Headline.{Agreement, Keeping};
+ghost use Rattle.cluster_core.specs.Totals.{WasRead, came_all, went_all};
+ghost use Rattle.cluster_core.specs.Explain.{PickedSends};
+
+use crate::fixed::Setup;
+use crate::running::Run;
+use cluster_node::{Event, Outcome, Packet};
+use connection_table::ConnTable;
+use hash_laws::FlowHash;
+use pool_versions::Catalogue;
+use selection::Scheme;
+use std::alloc::{AllocError, Global};
+
+// The packet that an event names.
+fn packet_at<'a>(packets: &'a [Packet], event: &Event) -> Option<&'a Packet>
+    ensures { option_copied result ≡ packet_of packets.now event.now }
+{
+    match *event {
+        Event::Arrive { packet, .. } => packets.get(packet as usize),
+        _ => None,
+    }
+}
+
+fn count_of(events: &[Event]) -> usize
+    ensures { result ≡ length events.now }
+{
+    events.len()
+}
+
+/// What a list of events comes to: one outcome for each event. Each packet that is Bad has a cause that reading gives.
+///
+/// The outcomes are read off the events alone (`verdicts`). For a scheme to which the turn doesn't matter, two packets of
+/// one flow that were sent to different backends, by any workers of any nodes in any lives, were chosen under versions
+/// that pick these backends, and so under versions that differ for the flow (`agreement`). A worker keeps a flow's backend
+/// while the flow's entry stands and the backend is up (`keeping`). What left the queues is no more than what was placed
+/// (`balance`).
+pub fn replay<S: Scheme, H: FlowHash, T: ConnTable>(
+    alloc: Global,
+    setup: &Setup<S, H>,
+    catalogue: &Catalogue,
+    packets: &[Packet],
+    events: &[Event],
+) -> Result<Vec<Outcome>, AllocError>
+    requires size { catalogue.now.size ≡ setup.now.size }
+    requires read { (k : ℕ) (p : Packet) → slice_get packets.now k ≡ Some p → WasRead (Some p) }
+    ensures verdicts { let rules = rules_for (λ s z. S.pick s z) (λ h. H.plain h) setup.now catalogue.now in
+        IfOk result (λ v. v.items ≡ verdicts rules [] packets.now events.now) }
+    ensures agreement { let rules = rules_for (λ s z. S.pick s z) (λ h. H.plain h) setup.now catalogue.now in
+        S.STEADY ≡ true → IfOk result (λ v. Agreement rules v.items) }
+    ensures keeping { let rules = rules_for (λ s z. S.pick s z) (λ h. H.plain h) setup.now catalogue.now in
+        IfOk result (λ v. Keeping rules [] packets.now events.now v.items) }
+    // what `totals` and `explain` ask of outcomes
+    ensures balance { IfOk result (λ v. went_all v.items ≤ came_all v.items) }
+    ensures picked { let rules = rules_for (λ s z. S.pick s z) (λ h. H.plain h) setup.now catalogue.now in
+        S.STEADY ≡ true → IfOk result (λ v. PickedSends rules v.items) }
+{
+    replay_all::<S, H, T>(alloc, setup, catalogue, packets, events)
+}
+
+// The outcomes, one after another.
+fn replay_all<S: Scheme, H: FlowHash, T: ConnTable>(
+    alloc: Global,
+    setup: &Setup<S, H>,
+    catalogue: &Catalogue,
+    packets: &[Packet],
+    events: &[Event],
+) -> Result<Vec<Outcome>, AllocError>
+    requires size { catalogue.now.size ≡ setup.now.size }
+    requires read { (k : ℕ) (p : Packet) → slice_get packets.now k ≡ Some p → WasRead (Some p) }
+    ensures balance { IfOk result (λ v. went_all v.items ≤ came_all v.items) }
+    ensures verdicts { let rules = rules_for (λ s z. S.pick s z) (λ h. H.plain h) setup.now catalogue.now in
+        IfOk result (λ v. v.items ≡ verdicts rules [] packets.now events.now) }
+{
+    let mut run: Run<S, T> = Run::make(alloc, setup)?;
+    let mut outcomes = Vec::with_capacity(alloc, count_of(events))?;
+    for event in events {
+        let outcome = run.step(setup, catalogue, event, packet_at(packets, event))?;
+        outcomes.push(outcome)?;
+    }
+    Ok(outcomes)
+}

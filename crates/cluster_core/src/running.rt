@@ -1,0 +1,228 @@
+//! A cluster under events that are learnt one by one.
+ghost use Rattle.std.specs.Prelude.{◌≡◌, ◌≤◌, ◌<◌, ◌^◌, ◌∷◌, [], ℕ, true, false, List, length, Option, Some, None, IsTrue, IfOk, OnOk, OnErr, IsErr, option_copied, slice_get, replicate, is_some, insert};
+ghost use Rattle.pool_versions.specs.Pool.{Pools, version_at};
+ghost use Rattle.selection.specs.Readied.{Readied, readied_version};
+ghost use Rattle.cluster_node.specs.Rules.{Rules};
+ghost use Rattle.cluster_node.specs.declared.events.Said.{Said};
+ghost use Rattle.cluster_node.specs.Record.{fresh, prepared_at, newest_of, lines_of};
+ghost use Rattle.cluster_core.specs.Setups.{Fixed, rules_for};
+ghost use Rattle.cluster_core.specs.RunView.{RunView};
+ghost use Rattle.cluster_core.specs.Runs.{node_of, of_node, prepared_with, prepared_for, is_known_in, newest_at, waiting_on, waiting_by, RunStands, RunGoes};
+ghost use Rattle.cluster_core.specs.Totals.{WasRead};
+
+use crate::fixed::Setup;
+use cluster_node::{Event, Node, Outcome, Packet, Reason};
+use connection_table::ConnTable;
+use hash_laws::FlowHash;
+use maglev_table::TableSize;
+use pool_versions::{Catalogue, Version};
+use selection::{PreparedVersion, Scheme};
+use std::alloc::{AllocError, Global};
+use std::marker::Model;
+
+/// A cluster under events that are learnt one by one. A version of the catalogue is prepared once, when it is first
+/// installed.
+#[derive(Drop)]
+pub struct Run<S: Scheme, T: ConnTable> {
+    alloc: Global,
+    failed: bool,
+    nodes: Vec<Node<S, T>>,
+    versions: Vec<PreparedVersion<S>>,
+}
+
+impl<S: Scheme, T: ConnTable> Model for Run<S, T> {
+    ghost use Rattle.cluster_core.specs.RunView.{RunView};
+
+    ghost Value = { RunView S };
+
+    ghost view = { λ r. record { failed = r.failed; nodes = r.nodes.items; versions = r.versions.items } };
+}
+
+// The node that an event names.
+pub(crate) fn node_at(event: &Event) -> u16
+    ensures { result ≡ node_of event.now }
+{
+    match *event {
+        Event::Install { node, .. } => node,
+        Event::Arrive { node, .. } => node,
+        Event::Serve { node, .. } => node,
+        Event::Restart { node } => node,
+    }
+}
+
+// The prepared version of a number.
+fn prepared_of<S: Scheme>(
+    versions: &[PreparedVersion<S>],
+    number: u32,
+) -> Option<&PreparedVersion<S>>
+    ensures { option_copied result ≡ prepared_at number versions.now }
+{
+    versions.iter().find(|version| version.number() == number)
+}
+
+fn is_prepared<S: Scheme>(versions: &[PreparedVersion<S>], number: u32) -> bool
+    ensures { result ≡ is_some (prepared_at number versions.now) }
+{
+    prepared_of(versions, number).is_some()
+}
+
+// Prepares a version unless that was done before. The newest stands in front.
+fn prepare<S: Scheme>(
+    alloc: Global,
+    versions: &mut Vec<PreparedVersion<S>>,
+    scheme: &S,
+    size: TableSize,
+    version: &Version,
+) -> Result<(), AllocError>
+    ensures { OnOk result (versions.new.items ≡ prepared_with scheme.now size version.now versions.old.items) }
+{
+    if is_prepared(versions, version.number) {
+        return Ok(());
+    }
+    match PreparedVersion::make(alloc, scheme, size, version) {
+        Ok(prepared) => match versions.insert(0, prepared) {
+            Ok(()) => Ok(()),
+            Err(_) => Err(AllocError),
+        },
+        // A version of a catalogue has no more backends than slots, so this is want of memory.
+        Err(_) => Err(AllocError),
+    }
+}
+
+// Prepares the version that an event installs, and says whether the catalogue has it.
+fn prepare_for<S: Scheme>(
+    alloc: Global,
+    versions: &mut Vec<PreparedVersion<S>>,
+    scheme: &S,
+    size: TableSize,
+    catalogue: &Catalogue,
+    event: &Event,
+) -> Result<bool, AllocError>
+    ensures known { IfOk result (λ known. known ≡ is_known_in catalogue.now event.now) }
+    ensures after { OnOk result (versions.new.items ≡ prepared_for scheme.now size catalogue.now event.now versions.old.items) }
+{
+    match *event {
+        Event::Install { version, .. } => match catalogue.get(version) {
+            None => Ok(false),
+            Some(found) => match prepare(alloc, versions, scheme, size, found) {
+                Ok(()) => Ok(true),
+                Err(refusal) => Err(refusal),
+            },
+        },
+        _ => Ok(false),
+    }
+}
+
+impl<S: Scheme, T: ConnTable> Run<S, T> {
+    /// A cluster in which nothing has happened. It stands for the empty record.
+    pub fn make<H: FlowHash>(alloc: Global, setup: &Setup<S, H>) -> Result<Self, AllocError>
+        ensures fresh { IfOk result (λ r. r ≡ record { failed = false; nodes = replicate (length setup.now.nodes) (record { newest = 0; installed = []; cursor = 0; workers = replicate setup.now.workers (fresh setup.now.capacity) }); versions = [] }) }
+        ensures stands { (pools : Pools) → IfOk result (λ r. RunStands (λ s z. S.pick s z) (rules_for (λ s z. S.pick s z) (λ h. H.plain h) setup.now pools) [] r) }
+    {
+        Self::make_fresh(alloc, setup)
+    }
+
+    fn make_fresh<H: FlowHash>(alloc: Global, setup: &Setup<S, H>) -> Result<Self, AllocError>
+        ensures fresh { IfOk result (λ r. r ≡ record { failed = false; nodes = replicate (length setup.now.nodes) (record { newest = 0; installed = []; cursor = 0; workers = replicate setup.now.workers (fresh setup.now.capacity) }); versions = [] }) }
+        ensures workers { 0 < setup.now.workers }
+    {
+        let workers = setup.workers();
+        let mut nodes = Vec::new(alloc);
+        for _ in 0..setup.nodes().len() {
+            nodes.push(Node::make(alloc, setup.scheme(), setup.capacity(), workers)?)?;
+        }
+        Ok(Run {
+            alloc,
+            failed: false,
+            nodes,
+            versions: Vec::new(alloc),
+        })
+    }
+
+    /// A node's newest version, 0 where there is none.
+    pub fn newest(&self, node: u16) -> u32
+        ensures { result ≡ newest_at (slice_get self.now.nodes node) }
+    {
+        match self.nodes.get(node as usize) {
+            Some(one) => one.newest(),
+            None => 0,
+        }
+    }
+
+    /// How many packets wait at a worker of a node.
+    pub fn waiting(&self, node: u16, worker: u16) -> usize
+        ensures { result ≡ waiting_on worker (slice_get self.now.nodes node) }
+    {
+        match self.nodes.get(node as usize) {
+            Some(one) => one.waiting(worker),
+            None => 0,
+        }
+    }
+
+    /// One event, after all before it, with the packet that it names if it is an arrival. The setup and the catalogue are
+    /// the same in every step. Once memory was refused it is refused from then on.
+    ///
+    /// By the clause `verdict`, for every record shorter than 2^64 for which the run stands, the outcome is the one that
+    /// the record gives, and the run stands for the record with this event.
+    pub fn step<H: FlowHash>(
+        &mut self,
+        setup: &Setup<S, H>,
+        catalogue: &Catalogue,
+        event: &Event,
+        packet: Option<&Packet>,
+    ) -> Result<Outcome, AllocError>
+        requires size { catalogue.now.size ≡ setup.now.size }
+        requires read { WasRead (option_copied packet) }
+        ensures verdict { let rules = rules_for (λ s z. S.pick s z) (λ h. H.plain h) setup.now catalogue.now in
+            (past : List Said) → length past < 2 ^ 64 → RunStands (λ s z. S.pick s z) rules past self.old →
+            IfOk result (λ o. RunGoes (λ s z. S.pick s z) rules past event.now (option_copied packet.entry) o self.new) }
+        ensures refused { OnErr result (IsTrue self.new.failed) }
+        ensures failed { IsTrue self.old.failed → IsErr result }
+    {
+        if self.failed {
+            return Err(AllocError);
+        }
+        match self.advance(setup, catalogue, event, packet.copied()) {
+            Ok(outcome) => Ok(outcome),
+            Err(refusal) => {
+                self.failed = true;
+                Err(refusal)
+            }
+        }
+    }
+
+    // One event, after all before it.
+    fn advance<H: FlowHash>(
+        &mut self,
+        setup: &Setup<S, H>,
+        catalogue: &Catalogue,
+        event: &Event,
+        packet: Option<Packet>,
+    ) -> Result<Outcome, AllocError>
+        requires { WasRead packet }
+        ensures verdict { let rules = rules_for (λ s z. S.pick s z) (λ h. H.plain h) setup.now catalogue.now in
+            (past : List Said) → length past < 2 ^ 64 → RunStands (λ s z. S.pick s z) rules past self.old →
+            IfOk result (λ o. RunGoes (λ s z. S.pick s z) rules past event.now packet o self.new) }
+    {
+        let at = node_at(event) as usize;
+        if at >= self.nodes.len() {
+            return Ok(Outcome::Refused(Reason::NoNode));
+        }
+        let known = prepare_for(
+            self.alloc,
+            &mut self.versions,
+            &setup.scheme(),
+            setup.size(),
+            catalogue,
+            event,
+        )?;
+        let one = &mut self.nodes[at];
+        one.step(
+            &setup.hash(),
+            self.versions.as_slice(),
+            known,
+            *event,
+            packet,
+        )
+    }
+}

@@ -1,0 +1,5 @@
+pub mod Below
+pub mod Refused
+pub mod Books
+pub mod Clearing
+pub mod Records

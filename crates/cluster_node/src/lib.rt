@@ -1,0 +1,17 @@
+//! One node of a cluster of balancers: events, what each one comes to, and the node's own state.
+//!
+//! An event is one atomic step of a node or worker: a version is installed, a packet arrives, a worker serves the next
+//! packet of its queue, the node restarts. What an event comes to is read off the record of all events before it.
+#![tactic(auto)]
+
+mod events;
+mod outcomes;
+mod packets;
+mod serving;
+mod steps;
+
+pub use events::{Event, Said};
+pub use outcomes::{Cause, Outcome, Reason};
+pub use packets::Packet;
+pub use serving::{Item, Taken};
+pub use steps::Node;

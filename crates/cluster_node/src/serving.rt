@@ -1,0 +1,127 @@
+//! A worker of a node: the packets that wait at it, and the forwarder that serves them.
+ghost use Rattle.std.specs.Prelude.{◌≡◌, ◌≤◌, ◌<◌, ◌∷◌, ◌++◌, [], ◌==◌, length, IfOk, OnOk, OnErr};
+ghost use Rattle.forwarder.specs.Serving.{ups_in};
+ghost use Rattle.cluster_node.specs.WorkerView.{WorkerView};
+ghost use Rattle.cluster_node.specs.Book.{step_of};
+
+use connection_table::ConnTable;
+use five_tuple::Flow;
+use forwarder::{Choice, Forwarder};
+use selection::{PreparedVersion, Scheme};
+use std::alloc::{AllocError, Global};
+use std::collections::VecDeque;
+use std::marker::Model;
+
+/// A packet that waits at a worker, to be served under a version that is not below its floor.
+#[derive(Clone, Copy, Debug, PartialEq, Eq)]
+pub struct Item {
+    pub packet: u32,
+    pub flow: Flow,
+    pub floor: u32,
+}
+
+/// What came of a worker's turn.
+#[derive(Clone, Copy, PartialEq, Eq)]
+pub enum Taken {
+    /// No packet waits.
+    Idle,
+    /// The version is below the packet's floor, or below one that was used before.
+    Behind,
+    /// The next packet was served.
+    Done { item: Item, choice: Choice },
+}
+
+/// A worker in one life of its node.
+#[derive(Drop)]
+pub(crate) struct Worker<S: Scheme, T: ConnTable> {
+    queue: VecDeque<Item>,
+    used: u32,
+    forwarder: Forwarder<S, T>,
+}
+
+impl<S: Scheme, T: ConnTable> Model for Worker<S, T> {
+    ghost use Rattle.cluster_node.specs.WorkerView.{WorkerView};
+
+    ghost Value = { WorkerView };
+
+    ghost view = { λ w. record { queue = w.queue.items; used = w.used; forwarding = w.forwarder } };
+}
+
+impl<S: Scheme, T: ConnTable> Worker<S, T> {
+    // A worker that has done nothing.
+    pub(crate) fn make(alloc: Global, scheme: S, capacity: u32) -> Result<Self, AllocError>
+        requires some { 0 < capacity }
+        requires limit { capacity ≤ 1000000 }
+        ensures { IfOk result (λ w. w ≡ record { queue = []; used = 0; forwarding = record { capacity = capacity; entries = []; turn = 0 } }) }
+    {
+        Ok(Worker {
+            queue: VecDeque::new(alloc),
+            used: 0,
+            forwarder: Forwarder::make(alloc, scheme, capacity)?,
+        })
+    }
+
+    // Puts a packet at the end of the queue.
+    pub(crate) fn put(&mut self, item: Item) -> Result<(), AllocError>
+        ensures ok { OnOk result (self.new ≡ record self.old { queue = self.old.queue ++ item ∷ [] }) }
+        ensures err { OnErr result (self.new ≡ self.old) }
+    {
+        self.queue.push_back(item)?;
+        Ok(())
+    }
+
+    // Whether no packet waits.
+    pub(crate) fn is_idle(&self) -> bool
+        ensures { result ≡ (length self.now.queue == 0) }
+    {
+        self.queue.is_empty()
+    }
+
+    // How many packets wait.
+    pub(crate) fn waiting(&self) -> usize
+        ensures { result ≡ length self.now.queue }
+    {
+        self.queue.len()
+    }
+
+    // Serves the next packet.
+    pub(crate) fn take(
+        &mut self,
+        version: &PreparedVersion<S>,
+        refused: bool,
+    ) -> Result<Taken, AllocError>
+        ensures taken { IfOk result (λ t. t ≡ (step_of (S.pick version.now.scheme version.now.size) (λ x. ups_in version.now x) self.old version.now.number refused).taken) }
+        ensures after { OnOk result (self.new ≡ (step_of (S.pick version.now.scheme version.now.size) (λ x. ups_in version.now x) self.old version.now.number refused).after) }
+    {
+        let Some(first) = self.queue.front() else {
+            return Ok(Taken::Idle);
+        };
+        let item = *first;
+        let number = version.number();
+        if number < item.floor || number < self.used {
+            return Ok(Taken::Behind);
+        }
+        let _ = self.queue.pop_front();
+        let served = self.forwarder.serve(version, &item.flow, refused);
+        self.used = number;
+        if served.unstored && !refused {
+            return Err(AllocError);
+        }
+        Ok(Taken::Done {
+            item,
+            choice: served.choice,
+        })
+    }
+
+    // Begins a new life: forgets all, and says how many packets waited.
+    pub(crate) fn restart(&mut self) -> usize
+        ensures lost { result ≡ length self.old.queue }
+        ensures after { self.new ≡ record { queue = []; used = 0; forwarding = record { capacity = self.old.forwarding.capacity; entries = []; turn = 0 } } }
+    {
+        let lost = self.queue.len();
+        self.queue.clear();
+        self.used = 0;
+        self.forwarder.restart();
+        lost
+    }
+}

@@ -1,0 +1,298 @@
+//! One node: its versions, its steerer and its workers.
+ghost use Rattle.std.specs.Prelude.{◌≡◌, ◌≤◌, ◌<◌, ◌%◌, ◌^◌, ◌==◌, ◌∷◌, [], ℕ, Bool, List, length, map, Option, Some, None, IfOk, OnOk, slice_get, slice_set, replicate};
+ghost use Rattle.std.specs.List.{list_any};
+ghost use Rattle.std.specs.Option.{option_copied};
+ghost use Rattle.cluster_node.specs.Rules.{Rules};
+ghost use Rattle.cluster_node.specs.NodeView.{NodeView};
+ghost use Rattle.cluster_node.specs.Steps.{install_step, arrive_step, one_step, serve_step, restarted};
+ghost use Rattle.cluster_node.specs.Record.{of_taken, of_choice, node_verdict, prepared_at, ArePrepared, IsKnown, installed_of, waits, waiting_at, fresh, cleared, NodeStands, NodeGoes};
+ghost use Rattle.cluster_node.specs.declared.events.Said.{Said};
+
+use crate::events::Event;
+use crate::outcomes::{Cause, Outcome, Reason};
+use crate::packets::Packet;
+use crate::serving::{Item, Taken, Worker};
+use connection_table::ConnTable;
+use forwarder::Choice;
+use hash_laws::FlowHash;
+use selection::{PreparedVersion, Scheme};
+use std::alloc::{AllocError, Global};
+use std::marker::Model;
+use steering::{Placed, Steerer};
+
+/// A node of a cluster.
+#[derive(Drop)]
+pub struct Node<S: Scheme, T: ConnTable> {
+    newest: u32,
+    installed: Vec<u32>,
+    steerer: Steerer,
+    workers: Vec<Worker<S, T>>,
+}
+
+impl<S: Scheme, T: ConnTable> Model for Node<S, T> {
+    ghost use Rattle.std.specs.Prelude.{◌≡◌, ◌<◌, length};
+    ghost use Rattle.cluster_node.specs.NodeView.{NodeView};
+
+    ghost Value = { NodeView };
+
+    ghost view = { λ n. record { newest = n.newest; installed = n.installed.items; cursor = n.steerer.cursor; workers = n.workers.items } };
+
+    ghost invariant = { λ n. length n.workers.items ≡ n.steerer.workers };
+}
+
+// The prepared version of a number. The newest ones are in front.
+fn prepared_of<S: Scheme>(
+    versions: &[PreparedVersion<S>],
+    number: u32,
+) -> Option<&PreparedVersion<S>>
+    ensures { option_copied result ≡ prepared_at number versions.now }
+{
+    versions.iter().find(|version| version.number() == number)
+}
+
+fn has(versions: &[u32], version: u32) -> bool
+    ensures { result ≡ list_any (λ u. u == version) versions.now }
+{
+    versions.iter().any(|other| *other == version)
+}
+
+fn sent(node: u16, worker: u16, item: &Item, choice: Choice) -> Outcome
+    ensures { result ≡ of_choice node worker item.now choice }
+{
+    match choice {
+        Choice::Forward { backend, origin } => Outcome::Forward {
+            node,
+            worker,
+            packet: item.packet,
+            flow: item.flow,
+            backend,
+            origin,
+        },
+        Choice::NoService => Outcome::Dropped {
+            packet: item.packet,
+            cause: Cause::NoService,
+        },
+        Choice::NoBackend => Outcome::Dropped {
+            packet: item.packet,
+            cause: Cause::NoBackend,
+        },
+    }
+}
+
+fn outcome_of(node: u16, worker: u16, taken: Taken) -> Outcome
+    ensures { result ≡ of_taken node worker taken }
+{
+    match taken {
+        Taken::Idle => Outcome::Refused(Reason::Idle),
+        Taken::Behind => Outcome::Refused(Reason::VersionRange),
+        Taken::Done { item, choice } => sent(node, worker, &item, choice),
+    }
+}
+
+// A worker's part of a serving.
+fn serve_one<S: Scheme, T: ConnTable>(
+    one: &mut Worker<S, T>,
+    versions: &[PreparedVersion<S>],
+    installed: &[u32],
+    node: u16,
+    worker: u16,
+    version: u32,
+    refused: bool,
+) -> Result<Outcome, AllocError>
+    ensures outcome { IfOk result (λ o. o ≡ (one_step (λ s z. S.pick s z) versions.now installed.now node worker one.old version refused).outcome) }
+    ensures after { OnOk result (one.new ≡ (one_step (λ s z. S.pick s z) versions.now installed.now node worker one.old version refused).after) }
+{
+    if one.is_idle() {
+        return Ok(Outcome::Refused(Reason::Idle));
+    }
+    if !has(installed, version) {
+        return Ok(Outcome::Refused(Reason::UnknownVersion));
+    }
+    let Some(prepared) = prepared_of(versions, version) else {
+        return Ok(Outcome::Refused(Reason::UnknownVersion));
+    };
+    let taken = one.take(prepared, refused)?;
+    Ok(outcome_of(node, worker, taken))
+}
+
+// Empties every worker, and counts the packets that waited.
+fn clear_all<S: Scheme, T: ConnTable>(workers: &mut Vec<Worker<S, T>>) -> u64
+    ensures lost { result ≡ waits workers.old.items % 2 ^ 64 }
+    ensures cleared { workers.new.items ≡ map cleared workers.old.items }
+{
+    let mut lost: u64 = 0;
+    for at in 0..workers.len() {
+        let one = &mut workers[at];
+        lost = lost.wrapping_add(one.restart() as u64);
+    }
+    lost
+}
+
+impl<S: Scheme, T: ConnTable> Node<S, T> {
+    /// A node of 1 to 16 workers on which nothing has happened. Each worker has a connection table of so many entries.
+    pub fn make(alloc: Global, scheme: S, capacity: u32, workers: u16) -> Result<Self, AllocError>
+        requires capacity { 0 < capacity }
+        requires entries { capacity ≤ 1000000 }
+        requires workers { 0 < workers }
+        requires limit { workers ≤ 16 }
+        ensures { IfOk result (λ n. n ≡ record { newest = 0; installed = []; cursor = 0; workers = replicate workers (fresh capacity) }) }
+    {
+        let mut all = Vec::new(alloc);
+        for _ in 0..workers {
+            all.push(Worker::make(alloc, scheme, capacity)?)?;
+        }
+        Ok(Node {
+            newest: 0,
+            installed: Vec::new(alloc),
+            steerer: Steerer::new(workers),
+            workers: all,
+        })
+    }
+
+    /// The version installed last, 0 where there is none.
+    pub fn newest(&self) -> u32
+        ensures { result ≡ self.now.newest }
+    {
+        self.newest
+    }
+
+    /// How many packets wait at a worker, 0 where there is no such worker.
+    pub fn waiting(&self, worker: u16) -> usize
+        ensures { result ≡ waiting_at (slice_get self.now.workers worker) }
+    {
+        match self.workers.get(worker as usize) {
+            Some(one) => one.waiting(),
+            None => 0,
+        }
+    }
+
+    fn install(&mut self, known: bool, version: u32) -> Result<Outcome, AllocError>
+        ensures outcome { IfOk result (λ o. o ≡ (install_step known self.old version).outcome) }
+        ensures after { OnOk result (self.new ≡ (install_step known self.old version).after) }
+    {
+        if !known {
+            return Ok(Outcome::Refused(Reason::UnknownVersion));
+        }
+        if version <= self.newest {
+            return Ok(Outcome::Refused(Reason::NotNewer));
+        }
+        self.installed.insert(0, version)?;
+        self.newest = version;
+        Ok(Outcome::Installed)
+    }
+
+    fn arrive<H: FlowHash>(
+        &mut self,
+        hash: &H,
+        packet: u32,
+        refused: &[bool; 16],
+        body: Option<Packet>,
+    ) -> Result<Outcome, AllocError>
+        ensures outcome { IfOk result (λ o. o ≡ (arrive_step (H.plain hash.now) self.old packet refused.now body).outcome) }
+        ensures after { OnOk result (self.new ≡ (arrive_step (H.plain hash.now) self.old packet refused.now body).after) }
+    {
+        let flow = match body {
+            None => return Ok(Outcome::Refused(Reason::NoPacket)),
+            Some(Packet::Bad(cause)) => return Ok(Outcome::Dropped { packet, cause }),
+            Some(Packet::Good { flow, .. }) => flow,
+        };
+        let floor = self.newest;
+        if floor == 0 {
+            return Ok(Outcome::Dropped {
+                packet,
+                cause: Cause::NoVersion,
+            });
+        }
+        match self.steerer.place(hash, &flow, refused) {
+            Placed::RingsFull => Ok(Outcome::Dropped {
+                packet,
+                cause: Cause::RingsFull,
+            }),
+            Placed::Worker(worker) => {
+                let one = &mut self.workers[worker as usize];
+                match one.put(Item {
+                    packet,
+                    flow,
+                    floor,
+                }) {
+                    Ok(()) => Ok(Outcome::Placed { worker, floor }),
+                    Err(refusal) => Err(refusal),
+                }
+            }
+        }
+    }
+
+    fn serve(
+        &mut self,
+        versions: &[PreparedVersion<S>],
+        node: u16,
+        worker: u16,
+        version: u32,
+        refused: bool,
+    ) -> Result<Outcome, AllocError>
+        ensures outcome { IfOk result (λ o. o ≡ (serve_step (λ s z. S.pick s z) versions.now self.old node worker version refused).outcome) }
+        ensures after { OnOk result (self.new ≡ (serve_step (λ s z. S.pick s z) versions.now self.old node worker version refused).after) }
+    {
+        let at = worker as usize;
+        if at >= self.workers.len() {
+            return Ok(Outcome::Refused(Reason::NoWorker));
+        }
+        let one = &mut self.workers[at];
+        serve_one(
+            one,
+            versions,
+            &self.installed,
+            node,
+            worker,
+            version,
+            refused,
+        )
+    }
+
+    fn restart(&mut self) -> u64
+        ensures lost { result ≡ waits self.old.workers % 2 ^ 64 }
+        ensures after { self.new ≡ restarted self.old }
+    {
+        self.steerer.restart();
+        clear_all(&mut self.workers)
+    }
+
+    /// One event of this node, after all that was said of it before. `known` tells whether the catalogue has the version
+    /// that an installation names; all versions that were installed are among the prepared ones.
+    ///
+    /// By the clause `verdict` the outcome is the one that the record of all events before it gives, for every record
+    /// shorter than 2^64 for which the node stands, and the node stands for the record with this event.
+    pub fn step<H: FlowHash>(
+        &mut self,
+        hash: &H,
+        versions: &[PreparedVersion<S>],
+        known: bool,
+        event: Event,
+        packet: Option<Packet>,
+    ) -> Result<Outcome, AllocError>
+        ensures verdict { (rules : Rules) → (past : List Said) →
+            rules.plain ≡ H.plain hash.now → IsKnown rules event known →
+            ArePrepared (λ s z. S.pick s z) rules versions.now (installed_of past) →
+            length past < 2 ^ 64 →
+            NodeStands rules past self.old →
+            IfOk result (λ o. NodeGoes rules past event packet o self.new) }
+    {
+        match event {
+            Event::Install { version, .. } => self.install(known, version),
+            Event::Arrive {
+                packet: number,
+                refused,
+                ..
+            } => self.arrive(hash, number, &refused, packet),
+            Event::Serve {
+                node,
+                worker,
+                version,
+                refused,
+            } => self.serve(versions, node, worker, version, refused),
+            Event::Restart { .. } => Ok(Outcome::Restarted {
+                lost: self.restart(),
+            }),
+        }
+    }
+}

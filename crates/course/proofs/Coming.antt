@@ -1,0 +1,148 @@
+-- What a run that reads its records one by one rests on.
+use Rattle.std.proofs.Common.{◌≡◌, ℕ, zero, suc, ◌+◌, ◌-◌, ◌<◌, ◌≤◌, Bool, true, false, List, [], ◌∷◌, ◌++◌, length, drop, take, Option, Some, None, refl, sym, ap, ◌∙◌, subst, arith, append_assoc, drop_at, take_at, length-append}
+use Rattle.std.specs.Prelude.{if◌then◌else◌, slice_get}
+use Rattle.cluster_node.specs.declared.events.Said.{Said}
+use Rattle.cluster_node.specs.declared.events.Event.{Event}
+use Rattle.cluster_node.specs.declared.packets.Packet.{Packet}
+use Rattle.course.specs.Cluster.{flow_of}
+use Rattle.course.specs.Cluster.{Cluster, said, waiting_on}
+use Rattle.spreader.specs.Choices.{Choice}
+use Rattle.course.specs.declared.step.Step.{Step}
+use Rattle.course.specs.declared.step.Step.TheVariants as steps
+use Rattle.course.specs.Course.{Course}
+use Rattle.course.proofs.Moves.{deliver_hands}
+use Rattle.course.specs.Steps.{World, world_of, placed_on, is_held, say, serve, follow, arrival, arrive, route, deliver, take_all, repeat, serve_times, drain_from, release, next_ones, after, run}
+
+-- the list goes on with later events
+pub record Grows (old new : List Said) : Type 0 where
+  pub news : List Said
+  pub is : new ≡ news ++ old
+
+grows_none : (a : List Said) → Grows a a
+grows_none a = record { news = []; is = refl }
+
+pub grows_both : (a b c : List Said) → Grows a b → Grows b c → Grows a c
+grows_both a b c p q = record { news = q.news ++ p.news; is = q.is ∙ ap (λ (l : List Said). q.news ++ l) p.is ∙ sym (append_assoc q.news p.news a) }
+
+say_grows : (w : World) (e : Event) (p : Option Packet) (c : Course) → Grows c.past (say w e p c).past
+say_grows w e p c = record { news = said w.cluster.judge c.past e p ∷ []; is = refl }
+
+serve_grows : (w : World) (n u : ℕ) (c : Course) → Grows c.past (serve w n u c).past
+unfolding serve
+serve_grows w n u c = say_grows w _ None c
+
+held_grows : (w : World) (n u : ℕ) (c : Course) (b : Bool) → Grows c.past (if b then c else serve w n u c).past
+held_grows w n u c true = grows_none c.past
+held_grows w n u c false = serve_grows w n u c
+
+follow_grows : (w : World) (n : ℕ) (o : Option ℕ) (c : Course) → Grows c.past (follow w n o c).past
+unfolding follow
+follow_grows w n None c = grows_none c.past
+follow_grows w n (Some u) c = held_grows w n u c (is_held n c)
+
+arrive_grows : (w : World) (n k : ℕ) (p : Packet) (c : Course) → Grows c.past (arrive w n k p c).past
+unfolding arrive
+arrive_grows w n k p c = grows_both c.past (say w (arrival n k c) (Some p) c).past _ (say_grows w (arrival n k c) (Some p) c) (follow_grows w n (placed_on (w.cluster.judge c.past (arrival n k c) (Some p))) (say w (arrival n k c) (Some p) c))
+
+route_grows : (w : World) (k : ℕ) (p : Packet) (o : Option ℕ) (c : Course) → Grows c.past (route w k p o c).past
+unfolding route
+route_grows w k p None c = grows_none c.past
+route_grows w k p (Some n) c = arrive_grows w n k p c
+
+pub deliver_grows : (w : World) (k : ℕ) (p : Packet) (c : Course) → Grows c.past (deliver w k p c).past
+unfolding deliver
+deliver_grows w k p c = route_grows w k p (w.choice c.live (flow_of p) c.nth) (record c { nth = c.nth + 1 })
+
+pub take_grows : (w : World) (ps : List Packet) (c : Course) → Grows c.past (take_all w ps c).past
+unfolding take_all
+take_grows w [] c = grows_none c.past
+take_grows w (p ∷ ps) c =
+    grows_both c.past (deliver w c.read p (record c { read = c.read + 1 })).past _ (deliver_grows w c.read p (record c { read = c.read + 1 })) (take_grows w ps (deliver w c.read p (record c { read = c.read + 1 })))
+
+repeat_grows : (w : World) (k : ℕ) (o : Option Packet) (c : Course) → Grows c.past (repeat w k o c).past
+unfolding repeat
+repeat_grows w k None c = grows_none c.past
+repeat_grows w k (Some p) c = deliver_grows w k p c
+
+times_grows : (w : World) (n u m : ℕ) (c : Course) → Grows c.past (serve_times w n u m c).past
+unfolding serve_times
+times_grows w n u zero c = grows_none c.past
+times_grows w n u (suc m) c = grows_both c.past (serve w n u c).past _ (serve_grows w n u c) (times_grows w n u m (serve w n u c))
+
+drain_grows : (w : World) (n u m : ℕ) (c : Course) → Grows c.past (drain_from w n u m c).past
+unfolding drain_from
+drain_grows w n u zero c = grows_none c.past
+drain_grows w n u (suc m) c = grows_both c.past (serve_times w n u (waiting_on w.cluster n u c.past) c).past _ (times_grows w n u (waiting_on w.cluster n u c.past) c) (drain_grows w n (u + 1) m (serve_times w n u (waiting_on w.cluster n u c.past) c))
+
+pub after_grows : (w : World) (s : Step) (c : Course) → Grows c.past (after w s c).past
+unfolding after
+after_grows w (steps.Install m v) c = say_grows w _ None c
+after_grows w (steps.Live ns) c = grows_none c.past
+after_grows w (steps.Take k) c = take_grows w (next_ones w k c) c
+after_grows w (steps.Lose k) c = grows_none c.past
+after_grows w (steps.Again k) c = repeat_grows w k (slice_get (take c.read w.packets) k) c
+after_grows w (steps.Full m ms) c = grows_none c.past
+after_grows w (steps.Hold m) c = grows_none c.past
+after_grows w (steps.Drain m) c = drain_grows w m 0 w.cluster.workers (release m c)
+after_grows w (steps.Restart m) c = say_grows w _ None (release m c)
+
+pub run_grows : (w : World) (ss : List Step) (c : Course) → Grows c.past (run w ss c).past
+unfolding run
+run_grows w [] c = grows_none c.past
+run_grows w (s ∷ ss) c = grows_both c.past (after w s c).past _ (after_grows w s c) (run_grows w ss (after w s c))
+
+take_nil : (k : ℕ) → take {A = Packet} k [] ≡ []
+take_nil zero = refl
+take_nil (suc k) = refl
+
+-- where the records read are those seen, the next ones are the first of those that come
+pub next_come : (cluster : Cluster) (choice : Choice) (seen more : List Packet) (k : ℕ) (c : Course) → c.read ≡ length seen
+    → next_ones (world_of cluster choice (seen ++ more)) k c ≡ take k more
+next_come cluster choice seen more k c e = ap (take k) (drop_at seen more c.read (sym e))
+
+-- and those that a repeat may name are the ones seen
+pub seen_only : (seen more : List Packet) (k : ℕ) (c : Course) → c.read ≡ length seen → slice_get (take c.read (seen ++ more)) k ≡ slice_get seen k
+seen_only seen more k c e = ap (λ (l : List Packet). slice_get l k) (take_at seen more c.read (sym e))
+
+-- a record that comes is delivered, and one fewer is to be taken
+pub take_one : (cluster : Cluster) (choice : Choice) (seen more : List Packet) (p : Packet) (k : ℕ) (ss : List Step) (c : Course) → c.read ≡ length seen
+    → (w : World) → w ≡ world_of cluster choice (seen ++ p ∷ more)
+    → run w (steps.Take (suc k) ∷ ss) c ≡ run w (steps.Take k ∷ ss) (deliver w c.read p (record c { read = c.read + 1 }))
+unfolding run after take_all
+take_one cluster choice seen more p k ss c e w i =
+    let first : next_ones w (suc k) c ≡ p ∷ take k more = ap (λ (v : World). next_ones v (suc k) c) i ∙ next_come cluster choice seen (p ∷ more) (suc k) c e in
+    let moved : (deliver w c.read p (record c { read = c.read + 1 })).read ≡ length (seen ++ p ∷ []) = (deliver_hands w c.read p (record c { read = c.read + 1 })).read ∙ omega (arith, e, length-append seen (p ∷ [])) in
+    let rest : next_ones w k (deliver w c.read p (record c { read = c.read + 1 })) ≡ take k more =
+    ap (λ (v : World). next_ones v k (deliver w c.read p (record c { read = c.read + 1 }))) (i ∙ ap (λ (l : List Packet). world_of cluster choice l) (sym (append_assoc seen (p ∷ []) more)))
+    ∙ next_come cluster choice (seen ++ p ∷ []) more k (deliver w c.read p (record c { read = c.read + 1 })) moved in
+    ap (λ (l : List Packet). run w ss (take_all w l c)) first
+    ∙ ap (λ (l : List Packet). run w ss (take_all w l (deliver w c.read p (record c { read = c.read + 1 })))) (sym rest)
+
+-- where none comes, nothing is left to be taken
+pub take_ended : (cluster : Cluster) (choice : Choice) (seen : List Packet) (k : ℕ) (ss : List Step) (c : Course) → c.read ≡ length seen
+    → (w : World) → w ≡ world_of cluster choice (seen ++ [])
+    → run w (steps.Take k ∷ ss) c ≡ run w ss c
+unfolding run after take_all
+take_ended cluster choice seen k ss c e w i =
+    let none : next_ones w k c ≡ [] = ap (λ (v : World). next_ones v k c) i ∙ next_come cluster choice seen [] k c e ∙ take_nil k in
+    ap (λ (l : List Packet). run w ss (take_all w l c)) none
+
+pub take_zero : (w : World) (k : ℕ) (ss : List Step) (c : Course) → k ≡ 0 → run w (steps.Take k ∷ ss) c ≡ run w ss c
+unfolding run after take_all
+take_zero w k ss c e = ap (λ (m : ℕ). run w (steps.Take m ∷ ss) c) e
+
+-- one record more, whatever comes behind it
+pub come_one : (cluster : Cluster) (choice : Choice) (seen seen' more : List Packet) (p : Packet) (count i : ℕ) (ss : List Step) (c s n first : Course) (place : ℕ) → i < count → c.read ≡ length seen → seen' ≡ seen ++ p ∷ []
+    → place ≡ c.read → s ≡ record c { read = c.read + 1 } → n ≡ deliver (world_of cluster choice (seen ++ p ∷ more)) place p s
+    → run (world_of cluster choice (seen ++ p ∷ more)) (steps.Take (count - i) ∷ ss) c ≡ run (world_of cluster choice (seen ++ p ∷ more)) (steps.Take count ∷ ss) first
+    → run (world_of cluster choice (seen' ++ more)) (steps.Take (count - (i + 1)) ∷ ss) n ≡ run (world_of cluster choice (seen' ++ more)) (steps.Take count ∷ ss) first
+come_one cluster choice seen seen' more p count i ss c s n first place lt e f g h k inv =
+    let w : World = world_of cluster choice (seen ++ p ∷ more) in
+    let same : seen ++ p ∷ more ≡ seen' ++ more = sym (append_assoc seen (p ∷ []) more) ∙ ap (λ (l : List Packet). l ++ more) (sym f) in
+    let d : n ≡ deliver w c.read p (record c { read = c.read + 1 }) = k ∙ ap (λ (m : ℕ). deliver w m p s) g ∙ ap (λ (x : Course). deliver w c.read p x) h in
+    let one : count - i ≡ suc (count - (i + 1)) = omega arith in
+    subst (λ (l : List Packet). run (world_of cluster choice l) (steps.Take (count - (i + 1)) ∷ ss) n ≡ run (world_of cluster choice l) (steps.Take count ∷ ss) first) same
+    (ap (λ (x : Course). run w (steps.Take (count - (i + 1)) ∷ ss) x) d
+    ∙ sym (take_one cluster choice seen more p (count - (i + 1)) ss c e w refl)
+    ∙ ap (λ (m : ℕ). run w (steps.Take m ∷ ss) c) (sym one)
+    ∙ inv)

@@ -1,0 +1,5 @@
+pub mod Repeats
+pub mod Moves
+pub mod Bounds
+pub mod Coming
+pub mod Readings

@@ -1,0 +1,27 @@
+use Rattle.std.proofs.Common.{rules, ◌≡◌, ◌<◌, ◌+◌, ◌^◌, ◌∷◌, List, Option, length, reverse, refl, sym, ap, ◌∙◌, subst, arith}
+use Rattle.cluster_node.specs.declared.events.Said.{Said}
+use Rattle.cluster_node.specs.declared.outcomes.Outcome.{Outcome}
+use Rattle.course.specs.Cluster.{Cluster, said}
+use Rattle.course.specs.Course.{Course}
+use Rattle.course.specs.Steps.{World, noted, placed_on, say}
+use Rattle.course.proofs.play.Play.say.Goals as goal
+
+pub returns-clause-placed : goal.returns-clause-placed
+returns-clause-placed g c =
+    let few : length c.args.self.now.past < 2 ^ 64 = omega (arith, c.said_count-count.ensures) in
+    let goes = c.in_ok-outcome.ensures c.args.self.now.past few c.requires.stands in
+    c.placed_on-placed.ensures ∙ ap placed_on goes.0
+
+pub returns-clause-stands : goal.returns-clause-stands
+returns-clause-stands g c =
+    let few : length c.args.self.now.past < 2 ^ 64 = omega (arith, c.said_count-count.ensures) in
+    let goes = c.in_ok-outcome.ensures c.args.self.now.past few c.requires.stands in
+    subst (λ (l : List Said). g.C.Core.stands c.args.setup.now l c.step.new.self)
+    (sym (ap (λ (d : Course). d.past) c.in_ok-note.ensures ∙ ap (λ (o : Outcome). (noted c.args.event c.args.packet o c.args.self.now).past) goes.0))
+    goes.1
+
+pub returns-clause-after : goal.returns-clause-after
+returns-clause-after g c = λ w j.
+    let few : length c.args.self.now.past < 2 ^ 64 = omega (arith, c.said_count-count.ensures) in
+    let goes = c.in_ok-outcome.ensures c.args.self.now.past few c.requires.stands in
+    c.in_ok-note.ensures ∙ ap (λ (o : Outcome). noted c.args.event c.args.packet o c.args.self.now) (goes.0 ∙ ap (λ (k : Cluster). k.judge c.args.self.now.past c.args.event c.args.packet) (sym j))

@@ -1,0 +1,13 @@
+use Rattle.std.proofs.Common.{rules, ◌≡◌, ◌+◌, ◌-◌, sym, ◌∙◌, ap, arith, refl}
+use Rattle.course.specs.Course.{Course}
+use Rattle.course.specs.Steps.{World, serve_times}
+use Rattle.course.proofs.Repeats.{serve_next, serve_none}
+use Rattle.course.proofs.play.Play.serve_times.Goals as goal
+
+pub loop-preserved : goal.loop-preserved
+loop-preserved g c = record {
+  stands = c.in_ok-serve.ensures.stands;
+  live = c.in_ok-serve.ensures.live ∙ c.loop.invariant.live;
+  rest = λ w j. ap (λ (d : Course). serve_times w c.args.node c.args.worker (c.args.times - (c.loop.counter + 1)) d) (c.in_ok-serve.ensures.after w j)
+      ∙ sym (serve_next w c.args.node c.args.worker c.args.times c.loop.counter c.loop.self (omega arith)) ∙ c.loop.invariant.rest w j;
+}

@@ -1,0 +1,30 @@
+use Rattle.std.proofs.Common.{rules, ◌≡◌, ℕ, ◌+◌, ◌-◌, List, [], length, drop, get_or, sym, ◌∙◌, ap, arith, refl, subst}
+use Rattle.std.proofs.lemmas.List.{drop_all}
+use Rattle.cluster_node.specs.declared.packets.Packet.{Packet}
+use Rattle.course.specs.Course.{Course}
+use Rattle.course.specs.Steps.{World, world_of, take_all, deliver}
+use Rattle.course.proofs.Repeats.{delivered_next, take_none}
+use Rattle.course.proofs.Readings.{read_at}
+use Rattle.course.proofs.Moves.{handed_next}
+use Rattle.course.proofs.play.Play.take_all.Goals as goal
+
+pub loop-packet-preserved : goal.loop-packet-preserved
+loop-packet-preserved g c =
+    let w0 = world_of (g.C.Core.cluster c.args.setup.now) (g.P.Spread.choice c.args.spread.now) [] in
+    let moved = handed_next w0 _ c.loop-packet.self _ _ _ c.next_place-place.ensures.after (c.in_ok-deliver.ensures.after w0 refl (λ live flow nth. refl)) in
+    record {
+      stands = c.in_ok-deliver.ensures.stands;
+      live = c.in_ok-deliver.ensures.live ∙ ap (λ (d : Course). d.live) c.next_place-place.ensures.after ∙ c.loop-packet.invariant.live;
+      read = omega (arith, moved.0);
+      nth = omega (arith, moved.1);
+      unrouted = omega (arith, moved.2);
+      rest = λ w j k. delivered_next w c.args.packets.now c.loop-packet.packet-index _ c.loop-packet.self _ _ _ (omega arith) c.next_place-place.ensures.place c.next_place-place.ensures.after (c.in_ok-deliver.ensures.after w j k)
+          ∙ c.loop-packet.invariant.rest w j k;
+    }
+
+pub returns-clause-after : goal.returns-clause-after
+returns-clause-after g c = λ w j k.
+    sym (take_none w c.loop-packet.self) ∙ ap (λ (l : List Packet). take_all w l c.loop-packet.self) (sym (drop_all c.loop-packet.packet-index c.args.packets.now (omega arith))) ∙ c.loop-packet.invariant.rest w j k
+
+pub deliver-requires-clause-read : goal.deliver-requires-clause-read
+deliver-requires-clause-read g c = read_at c.args.packets.now c.loop-packet.packet-index _ c.requires.read c.loop-packet-test.true

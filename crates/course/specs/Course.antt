@@ -1,0 +1,21 @@
+-- A scenario's run as a reader follows it: what was said so far, and what its steps fixed.
+use Rattle.std.specs.Prelude.{ℕ, Bool, List}
+use Rattle.cluster_node.specs.declared.events.Said.{Said}
+
+pub record Course : Type 0 where
+  -- the events, newest first, with what each came to
+  pub past : List Said
+  -- how many records were read
+  pub read : ℕ
+  -- the live nodes
+  pub live : List ℕ
+  -- by node, the workers that refuse
+  pub marks : List (List Bool)
+  -- the nodes held, by node
+  pub held : List Bool
+  -- how many packets were handed to the spreader, and how many of them found no live node
+  pub nth : ℕ
+  pub unrouted : ℕ
+  -- how many records were lost, and how many repeats skipped
+  pub lost : ℕ
+  pub skipped : ℕ

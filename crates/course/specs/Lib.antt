@@ -1,0 +1,6 @@
+pub mod Cluster
+pub mod Course
+pub mod Steps
+pub mod Room
+pub mod Tally
+pub mod Streams

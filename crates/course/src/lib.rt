@@ -1,0 +1,16 @@
+//! The course of a scenario: the list of events that its steps and a capture's records define, and what they come to.
+//!
+//! The records of a capture are handed out by the steps: taken, lost, or delivered again. A delivered packet goes to the
+//! node that a spreader chooses among the live ones, and where it is placed there on a worker and the node isn't held,
+//! the worker serves at once.
+#![tactic(auto)]
+
+mod machine;
+mod play;
+mod step;
+mod stream;
+
+pub use machine::Core;
+pub use play::{Play, Tally, all_live};
+pub use step::Step;
+pub use stream::{Records, take_as_they_come};

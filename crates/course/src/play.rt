@@ -1,0 +1,566 @@
+//! A run of a scenario's steps.
+ghost use Rattle.std.specs.Prelude.{◌≡◌, ◌<◌, ◌≤◌, ◌+◌, ◌-◌, ◌^◌, ◌∷◌, ◌++◌, [], ℕ, List, Option, Some, None, length, take, drop, reverse, IfOk, OnOk, slice_get, slice_set, false};
+ghost use Rattle.cluster_node.specs.declared.events.Event.{Event};
+ghost use Rattle.course.specs.Cluster.{Cluster, WasRead, WereRead, flow_of, said, newest_on, waiting_on};
+ghost use Rattle.course.specs.Course.{Course};
+ghost use Rattle.course.specs.Steps.{World, SameChoice, world_of, marks_at, is_held, noted, placed_on, say, serve, follow, arrival, arrive, route, deliver, take_all, repeat, serve_times, drain_from, release, next_ones, after, run, start, below};
+ghost use Rattle.course.specs.Tally.{tally_of};
+ghost use Rattle.course.specs.Room.{Room, Counted};
+
+use crate::machine::Core;
+use crate::step::Step;
+use cluster_node::{Event, Outcome, Packet, Said};
+use spreader::Spread;
+use std::alloc::{AllocError, Global};
+use std::marker::Model;
+
+/// The worker on which an arrival was placed.
+fn placed_on(outcome: &Outcome) -> Option<u16>
+    ensures { result ≡ placed_on outcome.now }
+{
+    match outcome {
+        Outcome::Placed { worker, floor: _ } => Some(*worker),
+        _ => None,
+    }
+}
+
+/// The node that a spreader chooses for a packet, after so many packets.
+fn choose<P: Spread>(spread: &P, packet: &Packet, nth: u64) -> Option<u16>
+    ensures { result ≡ P.choice spread.now (P.live spread.now) (flow_of packet.now) nth }
+{
+    match packet {
+        Packet::Good { flow, len: _ } => spread.node(Some(flow), nth),
+        Packet::Bad(_) => spread.node(None, nth),
+    }
+}
+
+/// All nodes of a cluster of so many, ascending: the live ones at the start.
+pub fn all_live(alloc: Global, nodes: u16) -> Result<Vec<u16>, AllocError>
+    ensures { IfOk result (λ live. live.items ≡ below nodes) }
+{
+    let mut live = Vec::new(alloc);
+    for node in 0..nodes {
+        live.push(node)?;
+    }
+    Ok(live)
+}
+
+/// A run so far: the events that the steps defined, with what each came to, and what the steps fixed.
+#[derive(Drop)]
+pub struct Play {
+    history: Vec<Said>,
+    read: u32,
+    live: Vec<u16>,
+    marks: Vec<[bool; 16]>,
+    held: Vec<bool>,
+    nth: u64,
+    unrouted: u64,
+    lost: u64,
+    skipped: u64,
+}
+
+impl Model for Play {
+    ghost use Rattle.std.specs.Prelude.{reverse};
+    ghost use Rattle.course.specs.Course.{Course};
+
+    ghost Value = { Course };
+
+    ghost view = { λ p. record { past = reverse p.history.items; read = p.read; live = p.live.items; marks = p.marks.items; held = p.held.items; nth = p.nth; unrouted = p.unrouted; lost = p.lost; skipped = p.skipped } };
+}
+
+impl Play {
+    /// The workers of a node that refuse.
+    fn marks_at(&self, node: u16) -> [bool; 16]
+        ensures { result ≡ marks_at node self.now }
+    {
+        match self.marks.get(node as usize) {
+            Some(marks) => *marks,
+            None => [false; 16],
+        }
+    }
+
+    fn is_held(&self, node: u16) -> bool
+        ensures { result ≡ is_held node self.now }
+    {
+        match self.held.get(node as usize) {
+            Some(is_held) => *is_held,
+            None => false,
+        }
+    }
+
+    fn set_held(&mut self, node: u16, is_held: bool)
+        ensures { self.new ≡ record self.old { held = slice_set self.old.held node is_held } }
+    {
+        let at = node as usize;
+        if at < self.held.len() {
+            self.held[at] = is_held;
+        }
+    }
+
+    fn set_marks(&mut self, node: u16, marks: [bool; 16])
+        ensures { self.new ≡ record self.old { marks = slice_set self.old.marks node marks } }
+    {
+        let at = node as usize;
+        if at < self.marks.len() {
+            self.marks[at] = marks;
+        }
+    }
+
+    fn release(&mut self, node: u16)
+        ensures { self.new ≡ release node self.old }
+    {
+        self.set_held(node, false);
+    }
+
+    /// How many events there were.
+    fn said_count(&self) -> usize
+        ensures { result ≡ length self.now.past }
+    {
+        self.history.len()
+    }
+
+    fn note(
+        &mut self,
+        event: Event,
+        packet: Option<Packet>,
+        outcome: Outcome,
+    ) -> Result<(), AllocError>
+        ensures { OnOk result (self.new ≡ noted event packet outcome self.old) }
+    {
+        self.history.push(Said {
+            event,
+            packet,
+            outcome,
+        })?;
+        Ok(())
+    }
+
+    /// An event, and the worker on which it placed a packet.
+    fn say<C: Core>(
+        &mut self,
+        core: &mut C,
+        setup: &C::Setup,
+        event: Event,
+        packet: Option<Packet>,
+    ) -> Result<Option<u16>, AllocError>
+        requires stands { C.stands setup.now self.old.past core.old }
+        requires read { WasRead packet }
+        ensures placed { IfOk result (λ o. o ≡ placed_on ((C.cluster setup.now).judge self.old.past event packet)) }
+        ensures stands { OnOk result (C.stands setup.now self.new.past core.new) }
+        ensures live { OnOk result (self.new.live ≡ self.old.live) }
+        ensures after { OnOk result ((w : World) → w.cluster ≡ C.cluster setup.now → self.new ≡ say w event packet self.old) }
+    {
+        let _count = self.said_count();
+        let outcome = core.step(setup, event, packet)?;
+        let placed = placed_on(&outcome);
+        self.note(event, packet, outcome)?;
+        Ok(placed)
+    }
+
+    /// A serving under the node's newest version.
+    #[tactic(auto, unfolding(crate::specs::Steps::serve))]
+    fn serve<C: Core>(
+        &mut self,
+        core: &mut C,
+        setup: &C::Setup,
+        node: u16,
+        worker: u16,
+    ) -> Result<(), AllocError>
+        requires { C.stands setup.now self.old.past core.old }
+        ensures stands { OnOk result (C.stands setup.now self.new.past core.new) }
+        ensures live { OnOk result (self.new.live ≡ self.old.live) }
+        ensures after { OnOk result ((w : World) → w.cluster ≡ C.cluster setup.now → self.new ≡ serve w node worker self.old) }
+    {
+        let version = core.newest(setup, node);
+        let event = Event::Serve {
+            node,
+            worker,
+            version,
+            refused: false,
+        };
+        self.say(core, setup, event, None)?;
+        Ok(())
+    }
+
+    #[tactic(auto, unfolding(crate::specs::Steps::follow))]
+    fn follow<C: Core>(
+        &mut self,
+        core: &mut C,
+        setup: &C::Setup,
+        node: u16,
+        placed: Option<u16>,
+    ) -> Result<(), AllocError>
+        requires { C.stands setup.now self.old.past core.old }
+        ensures stands { OnOk result (C.stands setup.now self.new.past core.new) }
+        ensures live { OnOk result (self.new.live ≡ self.old.live) }
+        ensures after { OnOk result ((w : World) → w.cluster ≡ C.cluster setup.now → self.new ≡ follow w node placed self.old) }
+    {
+        match placed {
+            Some(worker) if !self.is_held(node) => self.serve(core, setup, node, worker),
+            _ => Ok(()),
+        }
+    }
+
+    /// An arrival, and the serving that may follow it.
+    #[tactic(auto, unfolding(crate::specs::Steps::arrive))]
+    fn arrive<C: Core>(
+        &mut self,
+        core: &mut C,
+        setup: &C::Setup,
+        node: u16,
+        place: u32,
+        packet: Packet,
+    ) -> Result<(), AllocError>
+        requires stands { C.stands setup.now self.old.past core.old }
+        requires read { WasRead (Some packet) }
+        ensures stands { OnOk result (C.stands setup.now self.new.past core.new) }
+        ensures live { OnOk result (self.new.live ≡ self.old.live) }
+        ensures after { OnOk result ((w : World) → w.cluster ≡ C.cluster setup.now → self.new ≡ arrive w node place packet self.old) }
+    {
+        let event = Event::Arrive {
+            node,
+            packet: place,
+            refused: self.marks_at(node),
+        };
+        let placed = self.say(core, setup, event, Some(packet))?;
+        self.follow(core, setup, node, placed)
+    }
+
+    #[tactic(auto, unfolding(crate::specs::Steps::route))]
+    fn route<C: Core>(
+        &mut self,
+        core: &mut C,
+        setup: &C::Setup,
+        place: u32,
+        packet: Packet,
+        chosen: Option<u16>,
+    ) -> Result<(), AllocError>
+        requires stands { C.stands setup.now self.old.past core.old }
+        requires read { WasRead (Some packet) }
+        requires room { self.old.unrouted + 1 < 2 ^ 64 }
+        ensures stands { OnOk result (C.stands setup.now self.new.past core.new) }
+        ensures live { OnOk result (self.new.live ≡ self.old.live) }
+        ensures after { OnOk result ((w : World) → w.cluster ≡ C.cluster setup.now → self.new ≡ route w place packet chosen self.old) }
+    {
+        match chosen {
+            Some(node) => self.arrive(core, setup, node, place, packet),
+            None => {
+                self.unrouted += 1;
+                Ok(())
+            }
+        }
+    }
+
+    /// A packet is handed to the spreader.
+    #[tactic(auto, unfolding(crate::specs::Steps::deliver))]
+    pub fn deliver<C: Core, P: Spread>(
+        &mut self,
+        core: &mut C,
+        setup: &C::Setup,
+        spread: &P,
+        place: u32,
+        packet: Packet,
+    ) -> Result<(), AllocError>
+        requires stands { C.stands setup.now self.old.past core.old }
+        requires live { P.live spread.now ≡ self.old.live }
+        requires read { WasRead (Some packet) }
+        requires room { self.old.unrouted + 1 < 2 ^ 64 }
+        requires many { self.old.nth + 1 < 2 ^ 64 }
+        ensures stands { OnOk result (C.stands setup.now self.new.past core.new) }
+        ensures live { OnOk result (self.new.live ≡ self.old.live) }
+        ensures after { OnOk result ((w : World) → w.cluster ≡ C.cluster setup.now → SameChoice w.choice (P.choice spread.now) → self.new ≡ deliver w place packet self.old) }
+    {
+        let chosen = choose(spread, &packet, self.nth);
+        self.nth += 1;
+        self.route(core, setup, place, packet, chosen)
+    }
+
+    #[tactic(auto, unfolding(crate::specs::Steps::repeat))]
+    fn repeat<C: Core, P: Spread>(
+        &mut self,
+        core: &mut C,
+        setup: &C::Setup,
+        spread: &P,
+        place: u32,
+        packet: Option<Packet>,
+    ) -> Result<(), AllocError>
+        requires stands { C.stands setup.now self.old.past core.old }
+        requires live { P.live spread.now ≡ self.old.live }
+        requires read { WasRead packet }
+        requires room { self.old.unrouted + 1 < 2 ^ 64 }
+        requires many { self.old.nth + 1 < 2 ^ 64 }
+        requires skips { self.old.skipped + 1 < 2 ^ 64 }
+        ensures stands { OnOk result (C.stands setup.now self.new.past core.new) }
+        ensures live { OnOk result (self.new.live ≡ self.old.live) }
+        ensures after { OnOk result ((w : World) → w.cluster ≡ C.cluster setup.now → SameChoice w.choice (P.choice spread.now) → self.new ≡ repeat w place packet self.old) }
+    {
+        match packet {
+            Some(packet) => self.deliver(core, setup, spread, place, packet),
+            None => {
+                self.skipped += 1;
+                Ok(())
+            }
+        }
+    }
+
+    /// A worker's waiting packets are served.
+    #[tactic(auto, unfolding(crate::specs::Steps::serve_times))]
+    fn serve_times<C: Core>(
+        &mut self,
+        core: &mut C,
+        setup: &C::Setup,
+        node: u16,
+        worker: u16,
+        times: u64,
+    ) -> Result<(), AllocError>
+        requires { C.stands setup.now self.old.past core.old }
+        ensures stands { OnOk result (C.stands setup.now self.new.past core.new) }
+        ensures live { OnOk result (self.new.live ≡ self.old.live) }
+        ensures after { OnOk result ((w : World) → w.cluster ≡ C.cluster setup.now → self.new ≡ serve_times w node worker times self.old) }
+    {
+        for _ in 0..times {
+            self.serve(core, setup, node, worker)?;
+        }
+        Ok(())
+    }
+
+    #[tactic(auto, unfolding(crate::specs::Steps::drain_from))]
+    fn drain<C: Core>(
+        &mut self,
+        core: &mut C,
+        setup: &C::Setup,
+        node: u16,
+        workers: u16,
+    ) -> Result<(), AllocError>
+        requires { C.stands setup.now self.old.past core.old }
+        ensures stands { OnOk result (C.stands setup.now self.new.past core.new) }
+        ensures live { OnOk result (self.new.live ≡ self.old.live) }
+        ensures after { OnOk result ((w : World) → w.cluster ≡ C.cluster setup.now → self.new ≡ drain_from w node 0 workers self.old) }
+    {
+        for worker in 0..workers {
+            let times = core.waiting(setup, node, worker);
+            self.serve_times(core, setup, node, worker, times)?;
+        }
+        Ok(())
+    }
+
+    /// The next records, or those that remain.
+    fn next_ones<'a>(&self, packets: &'a [Packet], count: u32) -> &'a [Packet]
+        ensures is { result.now ≡ take count (drop self.now.read packets.entry.now) }
+        ensures read { WereRead packets.entry.now → WereRead result.now }
+    {
+        let from = (self.read as usize).min(packets.len());
+        let rest = &packets[from..];
+        &rest[..(count as usize).min(rest.len())]
+    }
+
+    /// The record of a place, where it was read.
+    fn seen_one(&self, packets: &[Packet], place: u32) -> Option<Packet>
+        ensures is { result ≡ slice_get (take self.now.read packets.now) place }
+        ensures read { WereRead packets.now → WasRead result }
+    {
+        if place < self.read {
+            packets.get(place as usize).copied()
+        } else {
+            None
+        }
+    }
+
+    /// The place of the next record, which is read now.
+    pub fn next_place(&mut self) -> u32
+        requires { self.old.read + 1 < 2 ^ 32 }
+        ensures place { result ≡ self.old.read }
+        ensures after { self.new ≡ record self.old { read = self.old.read + 1 } }
+    {
+        let place = self.read;
+        self.read += 1;
+        place
+    }
+
+    /// Packets are read and delivered.
+    fn take_all<C: Core, P: Spread>(
+        &mut self,
+        core: &mut C,
+        setup: &C::Setup,
+        spread: &P,
+        packets: &[Packet],
+    ) -> Result<(), AllocError>
+        requires stands { C.stands setup.now self.old.past core.old }
+        requires read { WereRead packets.now }
+        requires live { P.live spread.now ≡ self.old.live }
+        requires places { self.old.read + length packets.now < 2 ^ 32 }
+        requires room { self.old.unrouted + length packets.now < 2 ^ 64 }
+        requires many { self.old.nth + length packets.now < 2 ^ 64 }
+        ensures stands { OnOk result (C.stands setup.now self.new.past core.new) }
+        ensures live { OnOk result (self.new.live ≡ self.old.live) }
+        ensures after { OnOk result ((w : World) → w.cluster ≡ C.cluster setup.now → SameChoice w.choice (P.choice spread.now) → self.new ≡ take_all w packets.now self.old) }
+    {
+        for packet in packets {
+            let place = self.next_place();
+            self.deliver(core, setup, spread, place, *packet)?;
+        }
+        Ok(())
+    }
+
+    fn lose(&mut self, count: u32)
+        requires places { self.old.read + count < 2 ^ 32 }
+        requires room { self.old.lost + count < 2 ^ 64 }
+        ensures { self.new ≡ record self.old { read = self.old.read + count; lost = self.old.lost + count } }
+    {
+        self.read += count;
+        self.lost += count as u64;
+    }
+
+    /// A step.
+    #[tactic(auto, unfolding(crate::specs::Steps::after))]
+    pub fn step<C: Core, P: Spread>(
+        &mut self,
+        alloc: Global,
+        core: &mut C,
+        setup: &C::Setup,
+        spread: &mut P,
+        packets: &[Packet],
+        step: &Step,
+    ) -> Result<(), AllocError>
+        requires stands { C.stands setup.now self.old.past core.old }
+        requires read { WereRead packets.now }
+        requires live { P.live spread.old ≡ self.old.live }
+        requires places { length packets.now < 2 ^ 32 }
+        requires room { Room (length packets.now) self.old }
+        ensures live { OnOk result (P.live spread.new ≡ self.new.live) }
+        ensures choice { SameChoice (P.choice spread.old) (P.choice spread.new) }
+        ensures stands { OnOk result (C.stands setup.now self.new.past core.new) }
+        ensures after { OnOk result ((w : World) → w.cluster ≡ C.cluster setup.now → SameChoice w.choice (P.choice spread.old) → w.packets ≡ packets.now → self.new ≡ after w step.now self.old) }
+    {
+        match step {
+            Step::Install { node, version } => {
+                let event = Event::Install {
+                    node: *node,
+                    version: *version,
+                };
+                self.say(core, setup, event, None)?;
+                Ok(())
+            }
+            Step::Live(nodes) => {
+                self.live = Vec::from_slice(alloc, nodes.as_slice())?;
+                spread.set_live(Vec::from_slice(alloc, nodes.as_slice())?);
+                Ok(())
+            }
+            Step::Take(count) => {
+                let ones = self.next_ones(packets, *count);
+                self.take_all(core, setup, spread, ones)
+            }
+            Step::Lose(count) => {
+                let lost = self.next_ones(packets, *count).len() as u32;
+                self.lose(lost);
+                Ok(())
+            }
+            Step::Again(place) => {
+                let packet = self.seen_one(packets, *place);
+                self.repeat(core, setup, spread, *place, packet)
+            }
+            Step::Full { node, marks } => {
+                self.set_marks(*node, *marks);
+                Ok(())
+            }
+            Step::Hold(node) => {
+                self.set_held(*node, true);
+                Ok(())
+            }
+            Step::Drain(node) => {
+                self.release(*node);
+                self.drain(core, setup, *node, C::workers(setup))
+            }
+            Step::Restart(node) => {
+                self.release(*node);
+                self.say(core, setup, Event::Restart { node: *node }, None)?;
+                Ok(())
+            }
+        }
+    }
+
+    /// All nodes are live, no worker refuses, and nothing is held.
+    pub fn start(alloc: Global, nodes: u16) -> Result<Play, AllocError>
+        ensures { IfOk result (λ p. p ≡ start nodes) }
+    {
+        let live = all_live(alloc, nodes)?;
+        let mut marks = Vec::new(alloc);
+        let mut held = Vec::new(alloc);
+        for _ in 0..nodes {
+            marks.push([false; 16])?;
+            held.push(false)?;
+        }
+        Ok(Play {
+            history: Vec::new(alloc),
+            read: 0,
+            live,
+            marks,
+            held,
+            nth: 0,
+            unrouted: 0,
+            lost: 0,
+            skipped: 0,
+        })
+    }
+
+    /// All steps.
+    pub fn run<C: Core, P: Spread>(
+        &mut self,
+        alloc: Global,
+        core: &mut C,
+        setup: &C::Setup,
+        spread: &mut P,
+        packets: &[Packet],
+        steps: &[Step],
+    ) -> Result<(), AllocError>
+        requires stands { C.stands setup.now self.old.past core.old }
+        requires read { WereRead packets.now }
+        requires live { P.live spread.old ≡ self.old.live }
+        requires places { length packets.now < 2 ^ 32 }
+        requires steps { length steps.now < 2 ^ 32 }
+        requires fresh { Counted (length packets.now) 0 self.old }
+        ensures run { OnOk result (self.new ≡ run (world_of (C.cluster setup.now) (P.choice spread.old) packets.now) steps.now self.old) }
+        ensures counted { OnOk result (Counted (length packets.now) (length steps.now) self.new) }
+    {
+        for step in steps {
+            self.step(alloc, core, setup, spread, packets, step)?;
+        }
+        Ok(())
+    }
+
+    /// The events, with what each came to.
+    pub fn history(&self) -> &[Said]
+        ensures { result.now ≡ reverse self.entry.now.past }
+    {
+        self.history.as_slice()
+    }
+
+    /// What a report says of the records, where the capture has so many.
+    pub fn tally(&self, packets: u32) -> Tally
+        requires { self.now.read ≤ packets }
+        ensures { result ≡ tally_of packets self.now }
+    {
+        Tally {
+            packets,
+            lost: self.lost,
+            unrouted: self.unrouted,
+            skipped: self.skipped,
+            left: packets - self.read,
+        }
+    }
+}
+
+/// What a report says of a run's records, in its order.
+#[derive(Clone, Copy, Debug, PartialEq, Eq)]
+pub struct Tally {
+    /// The records of the capture.
+    pub packets: u32,
+    /// Those that were read and lost.
+    pub lost: u64,
+    /// The packets that were delivered when no node was live.
+    pub unrouted: u64,
+    /// The repeats of records that weren't read yet.
+    pub skipped: u64,
+    /// The records that no step read.
+    pub left: u32,
+}
