@@ -12,12 +12,12 @@ service='[[versions]]\nnumber = 1\n[[versions.services]]\nvip = "192.0.2.1"\npro
 {
     printf "$head"
     printf 'steps = ["install 0 1"'
-    awk 'BEGIN { for (i = 1; i < 100000; i++) printf ",\"%s\"", i % 9 ? "take 1" : "full 0 1" }'
+    awk 'BEGIN { for (i = 1; i < 100000; i++) printf(",\"%s\"", (i % 9 ? "take 1" : "full 0 1")) }'
     printf "]\n${service}members = [\"A@10.8.0.1\"]\n"
 } >"$work/steps.toml"
 {
     printf "${head}steps = []\n${service}members = ["
-    awk 'BEGIN { for (i = 1; i < 52000; i++) printf "%s\"b%x@10.%d.%d.1\"", i > 1 ? "," : "", i, i / 256, i % 256 }'
+    awk 'BEGIN { for (i = 1; i < 52000; i++) printf("%s\"b%x@10.%d.%d.1\"", (i > 1 ? "," : ""), i, int(i / 256), i % 256) }'
     printf ']\n'
 } >"$work/members.toml"
 best() { # best TIMES FILE: the least wall time of five runs, in seconds

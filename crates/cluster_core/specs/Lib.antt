@@ -6,5 +6,6 @@ pub mod RunView
 pub mod Runs
 pub mod Headline
 pub mod Explain
+pub mod Tables
 pub mod Apart
 pub mod Blocks

@@ -1,14 +1,13 @@
 -- The counts of a run, step by step.
-use Rattle.std.proofs.Common.{◌≡◌, ℕ, zero, suc, ◌+◌, ◌-◌, ◌<◌, ◌≤◌, ◌^◌, Bool, true, false, List, [], ◌∷◌, length, drop, take, Option, Some, None, refl, sym, ap, ◌∙◌, subst, arith, length-drop, length-take-le, get_or, drop-cons, add-one}
-use Rattle.std.specs.Prelude.{if◌then◌else◌, slice_get}
+use Rattle.std.proofs.Common.{◌≡◌, ℕ, zero, suc, ◌+◌, ◌<◌, ◌≤◌, ◌^◌, List, [], ◌∷◌, length, drop, take, Option, Some, None, refl, sym, ap, ◌∙◌, arith, length-drop, get_or, drop-cons, add-one}
+use Rattle.std.specs.Prelude.{slice_get}
 use Rattle.cluster_node.specs.declared.packets.Packet.{Packet}
-use Rattle.course.specs.Cluster.{flow_of}
 use Rattle.course.specs.Cluster.{waiting_on}
 use Rattle.course.specs.declared.step.Step.{Step}
 use Rattle.course.specs.declared.step.Step.TheVariants as steps
 use Rattle.course.specs.Course.{Course}
 use Rattle.course.specs.Room.{Room, Counted}
-use Rattle.course.specs.Steps.{World, serve, deliver, take_all, repeat, serve_times, drain_from, release, next_ones, after, run, start}
+use Rattle.course.specs.Steps.{World, serve, deliver, take_all, repeat, serve_times, drain_from, release, next_ones, after, run}
 use Rattle.course.proofs.Moves.{Keeps, keeps_same, keeps_both, serve_keeps, Handed, deliver_hands}
 
 times_keeps : (w : World) (n u m : ℕ) (c : Course) → Keeps c (serve_times w n u m c)

@@ -1,12 +1,11 @@
 -- The events that a scenario's steps and its records define, step by step.
-use Rattle.std.specs.Prelude.{◌≡◌, ℕ, zero, suc, ◌+◌, ◌-◌, Bool, true, false, List, [], ◌∷◌, ◌++◌, length, take, drop, Option, Some, None, if◌then◌else◌, slice_get, slice_set, replicate}
+use Rattle.std.specs.Prelude.{◌≡◌, ℕ, zero, suc, ◌+◌, Bool, true, false, List, [], ◌∷◌, ◌++◌, length, take, drop, Option, Some, None, if◌then◌else◌, slice_get, slice_set, replicate}
 use Rattle.five_tuple.specs.declared.Flow.{Flow}
 use Rattle.cluster_node.specs.declared.packets.Packet.{Packet}
 use Rattle.cluster_node.specs.declared.events.Event.{Event}
 use Rattle.cluster_node.specs.declared.events.Event.TheVariants.{Install, Arrive, Serve, Restart}
 use Rattle.cluster_node.specs.declared.outcomes.Outcome.{Outcome}
 use Rattle.cluster_node.specs.declared.outcomes.Outcome.TheVariants.{Installed, Placed, Forward, Dropped, Restarted, Refused}
-use Rattle.cluster_node.specs.declared.events.Said.{Said}
 use Rattle.spreader.specs.Choices.{Choice}
 use Rattle.course.specs.Cluster.{Cluster, said, newest_on, waiting_on, flow_of}
 use Rattle.course.specs.declared.step.Step.{Step}

@@ -1,5 +1,5 @@
 //! Records that are delivered as they come.
-ghost use Rattle.std.specs.Prelude.{◌≡◌, ◌<◌, ◌≤◌, ◌+◌, ◌^◌, ◌∷◌, ◌++◌, [], ℕ, List, true, length, IfOk, OnOk};
+ghost use Rattle.std.specs.Prelude.{◌≡◌, ◌<◌, ◌≤◌, ◌+◌, ◌^◌, ◌∷◌, ◌++◌, [], ℕ, List, true, false, length, IfOk, OnOk};
 ghost use Rattle.cluster_node.specs.declared.packets.Packet.{Packet};
 ghost use Rattle.course.specs.declared.step.Step.{Step};
 ghost use Rattle.course.specs.Cluster.{WasRead};
@@ -19,7 +19,9 @@ pub trait Records {
         ensures { WasRead result };
 }
 
-/// Takes up to so many records as they come. Whether the input ended.
+/// Takes up to so many records as they come, and delivers each. Answers whether the input ended before so many came.
+///
+/// Whatever comes later, to run what is left from here is to run all from before.
 pub fn take_as_they_come<C: Core, P: Spread, R: Records>(
     play: &mut Play,
     core: &mut C,
@@ -39,6 +41,8 @@ pub fn take_as_they_come<C: Core, P: Spread, R: Records>(
     ensures live { OnOk result (play.new.live ≡ play.old.live) }
     ensures seen { OnOk result (play.new.read ≡ length seen.new.items) }
     ensures front { OnOk result ((came : List Packet) × (seen.new.items ≡ seen.old.items ++ came)) }
+    ensures all { IfOk result (λ ended. ended ≡ false → length seen.new.items ≡ length seen.old.items + count) }
+    ensures fewer { IfOk result (λ ended. ended ≡ true → length seen.new.items < length seen.old.items + count) }
     ensures run { IfOk result (λ ended. (more : List Packet) → (ended ≡ true → more ≡ []) → (ss : List Step)
         → run (world_of (C.cluster setup.now) (P.choice spread.now) (seen.new.items ++ more)) ss play.new
         ≡ run (world_of (C.cluster setup.now) (P.choice spread.now) (seen.new.items ++ more)) (take_of count ∷ ss) play.old) }

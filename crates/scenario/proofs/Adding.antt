@@ -1,17 +1,17 @@
 -- Adding versions in order, beside the faults of their plain forms.
-use Rattle.std.proofs.Common.{◌≡◌, ℕ, Bool, true, false, cond, ◌||◌, ◌&&◌, ◌==◌, List, [], ◌∷◌, ◌++◌, map, length, reverse, find, is_some, nat_lt, Option, Some, None, Result, Ok, Err, refl, sym, ◌∙◌, ap, if◌then◌else◌, inl, inr, ◌⊎◌, append_assoc}
+use Rattle.std.proofs.Common.{◌≡◌, ℕ, Bool, true, false, cond, ◌||◌, ◌==◌, List, [], ◌∷◌, ◌++◌, map, length, reverse, is_some, Option, Some, None, refl, sym, ◌∙◌, ap, inl, inr, ◌⊎◌, append_assoc}
 use Rattle.std.specs.List.{list_any}
 use Rattle.std.specs.Option.{option_or}
 use Rattle.std.proofs.lemmas.List.{length-map, map-append, reverse-append}
-use Rattle.pool_versions.specs.Pool.{Pools, version_at, same_service, has_double, has_double_name, has_too_many, is_over, services_fault, fault_of, Judged}
+use Rattle.pool_versions.specs.Pool.{Pools, version_at, same_service, is_over, services_fault, fault_of}
 use Rattle.pool_versions.proofs.AfterSort.{double_mapped}
 use Rattle.pool_versions.specs.declared.service.Service.{Service}
 use Rattle.pool_versions.specs.declared.service.Version.{Version}
 use Rattle.pool_versions.specs.declared.backend.Member.{Member}
 use Rattle.pool_versions.specs.declared.catalogue.PoolFault.{PoolFault}
 use Rattle.pool_versions.specs.declared.catalogue.PoolFault.TheVariants as pool
-use Rattle.scenario.specs.Plain.{PlainService, PlainVersion, plain_service, plain_version, same_flows, names_double, is_long, passes_limit, services_refused, version_refused, first_refused}
-use Rattle.scenario.specs.Meaning.{IsPoolRefused, IsCatalogueOf}
+use Rattle.scenario.specs.Plain.{PlainVersion, plain_service, plain_version, same_flows, names_double, is_long, passes_limit, services_refused, version_refused, first_refused}
+use Rattle.scenario.specs.Meaning.{IsPoolRefused}
 use Rattle.scenario.proofs.Views.{any_of_mapped}
 
 found_step : (b : Bool) (v : Version) (o : Option Version) (c : Bool) → is_some o ≡ c → is_some (cond b (Some v) o) ≡ (b || c)

@@ -1,11 +1,9 @@
 -- A draft's fault is its document's.
-use Rattle.std.proofs.Common.{◌≡◌, ℕ, false, List, Option, Some, None, Result, Ok, Err, IfErr, codes, is_none, option_map, refl, sym, ◌∙◌, ap, subst}
+use Rattle.std.proofs.Common.{◌≡◌, ℕ, false, List, Option, Some, None, Result, Ok, Err, IfErr, codes, is_none, sym, ◌∙◌, ap, subst}
 use Rattle.scenario.specs.Lookups.{number_at}
 use Rattle.scenario.specs.Plain.{PlainVersion}
-use Rattle.scenario.specs.Steps.{PlainStep, step_of_text}
-use Rattle.scenario.specs.Lookups.{all_of}
-use Rattle.scenario.specs.Plain.{first_refused}
-use Rattle.scenario.specs.Meaning.{PlainDraft, Plan, version_of, with_steps, with_pools, with_versions, with_draft, with_format, plan_of_draft, plan_of, draft_in, IsDocument, IsRefused, IsDraftRefused}
+use Rattle.scenario.specs.Steps.{PlainStep}
+use Rattle.scenario.specs.Meaning.{PlainDraft, Plan, with_steps, with_pools, with_versions, with_draft, with_format, plan_of_draft, plan_of, draft_in, IsDocument, IsRefused, IsDraftRefused}
 use Rattle.scenario.specs.declared.fault.ScenarioFault.{ScenarioFault}
 use Rattle.scenario.specs.declared.fault.ScenarioFault.TheVariants as fault
 use Rattle.scenario.specs.declared.reading.Scenario.{Scenario}

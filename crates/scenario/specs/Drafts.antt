@@ -1,14 +1,11 @@
 -- The parts of a scenario as its document holds them: each text is there, whatever it says.
-use Rattle.std.specs.Prelude.{ℕ, ◌&&◌, nat_le, if◌then◌else◌, List, [], ◌∷◌, map, length, codes, Option, Some, None, option_and_then, option_map, String, string_bytes}
-use Rattle.std.specs.declared.alloc.Global.{Global}
+use Rattle.std.specs.Prelude.{ℕ, if◌then◌else◌, List, [], ◌∷◌, map, codes, Option, None, option_and_then, option_map}
 use Rattle.toml.specs.Data.{Data, Members, as_str, as_table}
 use Rattle.maglev_texts.specs.Parsing.{address_of, member_of}
 use Rattle.pool_versions.specs.declared.backend.Member.{Member}
 use Rattle.scenario.specs.Lookups.{number_at, text_at, items_at, all_items, has_only}
-use Rattle.scenario.specs.Words.{protocol_of_word, choices_of, limits_of}
+use Rattle.scenario.specs.Words.{protocol_of_word}
 use Rattle.scenario.specs.Plain.{PlainService, PlainVersion}
-use Rattle.scenario.specs.declared.setup.Choices.{Choices}
-use Rattle.scenario.specs.declared.setup.Limits.{Limits}
 use Rattle.scenario.specs.declared.versions.ServiceDraft.{ServiceDraft}
 use Rattle.scenario.specs.declared.versions.VersionDraft.{VersionDraft}
 

@@ -1,7 +1,6 @@
 -- Which scenario a text means, and which fault it has.
-use Rattle.std.specs.Prelude.{◌≡◌, ℕ, ◌≤◌, ◌<◌, ◌^◌, ◌&&◌, nat_le, if◌then◌else◌, List, [], ◌∷◌, map, length, codes, Option, Some, None, option_and_then, option_map, Result, Ok, Err, IsUtf8, String, string_bytes, is_none, ⊤}
+use Rattle.std.specs.Prelude.{◌≡◌, ℕ, ◌≤◌, ◌<◌, ◌^◌, ◌&&◌, nat_le, if◌then◌else◌, List, [], ◌∷◌, map, length, codes, Option, Some, None, option_and_then, option_map, Result, Ok, Err, IsUtf8, string_bytes, is_none, ⊤}
 use Rattle.std.specs.List.{position_or_len}
-use Rattle.std.specs.declared.alloc.Global.{Global}
 use Rattle.toml.specs.Data.{Data, Members, as_str}
 use Rattle.toml.specs.Parse.{parse_document}
 use Rattle.maglev_texts.specs.Parsing.{address_of}

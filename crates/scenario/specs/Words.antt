@@ -1,5 +1,5 @@
 -- The words and numbers of a scenario's setup.
-use Rattle.std.specs.Prelude.{ℕ, Bool, true, if◌then◌else◌, List, [], ◌∷◌, codes, Option, Some, None, option_and_then, option_map}
+use Rattle.std.specs.Prelude.{ℕ, true, if◌then◌else◌, List, codes, Option, Some, None, option_and_then, option_map}
 use Rattle.std.specs.Str.{bytes_eq}
 use Rattle.hash_laws.specs.Any.{hash_of_word}
 use Rattle.maglev_table.specs.Sizes.{is_table_size}

@@ -99,5 +99,5 @@ listed_table_is_even plain size (b ∷ bs) listed some =
     let many : length (preferences plain size (b ∷ bs)) ≡ length (b ∷ bs) = length-map (b ∷ bs) _ in
     let bounds = listed_within size listed in
     let shared = whole_shared (preferences plain size (b ∷ bs)) size (omega (arith, many)) (omega (arith, bounds.1)) (all_of_size plain size (b ∷ bs))
-        (All-map (λ (p : Preference). IsProper p) (λ c. preference_of plain c.name size) (b ∷ bs) (λ k d within. proper_list plain size _ listed bounds.0)) in
+    (All-map (λ (p : Preference). IsProper p) (λ c. preference_of plain c.name size) (b ∷ bs) (λ k d within. proper_list plain size _ listed bounds.0)) in
     even_owners plain size (b ∷ bs) (maglev (preferences plain size (b ∷ bs)) size) some (length-map-range_with_len _ 0 size) refl shared.1

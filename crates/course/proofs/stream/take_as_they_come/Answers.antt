@@ -1,9 +1,7 @@
-use Rattle.std.proofs.Common.{rules, ◌≡◌, ◌<◌, ◌≤◌, ◌+◌, ◌-◌, ◌∷◌, ◌++◌, [], ℕ, List, length, refl, sym, ap, ◌∙◌, subst, arith, append_assoc, length-append}
+use Rattle.std.proofs.Common.{◌≡◌, ◌+◌, ◌-◌, ◌∷◌, ◌++◌, [], List, length, refl, sym, ap, ◌∙◌, arith, append_assoc, length-append}
 use Rattle.cluster_node.specs.declared.packets.Packet.{Packet}
-use Rattle.course.specs.declared.step.Step.{Step}
 use Rattle.course.specs.Course.{Course}
-use Rattle.course.specs.Steps.{World, world_of, run}
-use Rattle.course.specs.Streams.{take_of}
+use Rattle.course.specs.Steps.{world_of}
 use Rattle.course.proofs.Moves.{handed_next}
 use Rattle.course.proofs.Coming.{come_one, take_ended, take_zero}
 use Rattle.course.proofs.stream.take_as_they_come.Goals as goal

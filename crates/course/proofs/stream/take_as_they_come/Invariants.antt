@@ -1,4 +1,4 @@
-use Rattle.std.proofs.Common.{◌≡◌, ◌≤◌, ℕ, ◌+◌, ◌-◌, List, ◌∷◌, ◌++◌, length}
+use Rattle.std.proofs.Common.{◌≡◌, ◌≤◌, ◌+◌, ◌-◌, List, ◌∷◌, ◌++◌, length}
 use Rattle.cluster_node.specs.declared.packets.Packet.{Packet}
 use Rattle.course.specs.declared.step.Step.{Step}
 use Rattle.course.specs.Steps.{world_of, run}

@@ -1,8 +1,8 @@
 use Rattle.std.proofs.Common.{◌≡◌, ◌++◌, drop, map, option_map}
 use Rattle.scenario.specs.Lookups.{all_of}
-use Rattle.scenario.specs.Plain.{plain_service, plain_version}
-use Rattle.scenario.specs.Drafts.{plain_service_draft, plain_version_draft}
-use Rattle.scenario.specs.Meaning.{service_of, version_of}
+use Rattle.scenario.specs.Plain.{plain_service}
+use Rattle.scenario.specs.Drafts.{plain_service_draft}
+use Rattle.scenario.specs.Meaning.{service_of}
 use Rattle.scenario.proofs.building.services_of.Given as goal
 
 abbrev pub invariant-loop-draft : goal.invariant-loop-draft

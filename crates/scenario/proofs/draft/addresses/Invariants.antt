@@ -1,5 +1,4 @@
-use Rattle.std.proofs.Common.{◌≡◌, ◌++◌, drop, map, option_map, string_bytes}
-use Rattle.toml.specs.Data.{as_str}
+use Rattle.std.proofs.Common.{◌≡◌, ◌++◌, drop, option_map}
 use Rattle.toml.specs.View.{items_view}
 use Rattle.scenario.specs.Lookups.{all_items}
 use Rattle.scenario.specs.Meaning.{address_in}

@@ -2,7 +2,6 @@ use Rattle.std.proofs.Common.{◌≡◌, ◌++◌, drop, map, option_map, string
 use Rattle.toml.specs.Data.{as_str}
 use Rattle.toml.specs.View.{items_view}
 use Rattle.scenario.specs.Lookups.{all_items}
-use Rattle.scenario.specs.Meaning.{address_in}
 use Rattle.scenario.proofs.draft.texts.Given as goal
 
 abbrev pub invariant-loop-value : goal.invariant-loop-value

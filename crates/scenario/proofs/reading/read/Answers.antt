@@ -1,6 +1,6 @@
-use Rattle.std.proofs.Common.{◌≡◌, ◌∙◌, sym, ap, rules, option_map, Some}
+use Rattle.std.proofs.Common.{◌∙◌, sym, ap, rules, option_map}
 use Rattle.toml.specs.View.{table_view}
-use Rattle.scenario.specs.Meaning.{plain_draft, draft_in}
+use Rattle.scenario.specs.Meaning.{plain_draft}
 use Rattle.scenario.proofs.Refusals.{refused_above}
 use Rattle.scenario.proofs.reading.read.Goals as goal
 

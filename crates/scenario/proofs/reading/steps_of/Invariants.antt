@@ -1,4 +1,4 @@
-use Rattle.std.proofs.Common.{◌≡◌, ◌+◌, ◌++◌, drop, map, length, option_map, string_bytes, is_none}
+use Rattle.std.proofs.Common.{◌≡◌, ◌+◌, ◌++◌, drop, map, length, option_map, string_bytes}
 use Rattle.scenario.specs.Lookups.{all_of}
 use Rattle.scenario.specs.Steps.{step_of_text, plain_step}
 use Rattle.scenario.specs.Meaning.{first_bad_step}

@@ -1,4 +1,4 @@
-use Rattle.std.proofs.Common.{◌≡◌, ◌<◌, ℕ, Bool, false, arith, length, get_or, set, ◌==◌, ◌∙◌}
+use Rattle.std.proofs.Common.{false, arith, ◌==◌, ◌∙◌}
 use Rattle.std.specs.List.{list_any}
 use Rattle.std.proofs.lemmas.List.{length-set}
 use Rattle.std.proofs.lemmas.List.Edits.{fill_by_more}

@@ -1,7 +1,7 @@
-use Rattle.std.proofs.Common.{rules, ◌≡◌, ℕ, ◌+◌, ◌-◌, sym, ◌∙◌, ap, arith, refl}
+use Rattle.std.proofs.Common.{ℕ, ◌+◌, ◌-◌, sym, ◌∙◌, ap, arith}
 use Rattle.course.specs.Cluster.{Cluster, waiting_on}
 use Rattle.course.specs.Course.{Course}
-use Rattle.course.specs.Steps.{World, drain_from, serve_times}
+use Rattle.course.specs.Steps.{drain_from, serve_times}
 use Rattle.course.proofs.Repeats.{drain_next}
 use Rattle.course.proofs.play.Play.drain.Goals as goal
 

@@ -1,9 +1,9 @@
-use Rattle.std.proofs.Common.{rules, ◌≡◌, ℕ, ◌+◌, ◌-◌, List, [], length, drop, get_or, sym, ◌∙◌, ap, arith, refl, subst}
+use Rattle.std.proofs.Common.{◌+◌, List, length, sym, ◌∙◌, ap, arith, refl, subst}
 use Rattle.std.proofs.lemmas.List.{drop_all}
 use Rattle.course.specs.declared.step.Step.{Step}
 use Rattle.course.specs.Course.{Course}
 use Rattle.course.specs.Room.{Counted}
-use Rattle.course.specs.Steps.{World, world_of, run, after}
+use Rattle.course.specs.Steps.{world_of, run}
 use Rattle.course.proofs.Bounds.{counted_after, run_next, run_none}
 use Rattle.course.proofs.play.Play.run.Goals as goal
 

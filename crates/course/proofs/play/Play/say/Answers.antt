@@ -1,9 +1,9 @@
-use Rattle.std.proofs.Common.{rules, ◌≡◌, ◌<◌, ◌+◌, ◌^◌, ◌∷◌, List, Option, length, reverse, refl, sym, ap, ◌∙◌, subst, arith}
+use Rattle.std.proofs.Common.{◌<◌, ◌^◌, List, length, sym, ap, ◌∙◌, subst, arith}
 use Rattle.cluster_node.specs.declared.events.Said.{Said}
 use Rattle.cluster_node.specs.declared.outcomes.Outcome.{Outcome}
-use Rattle.course.specs.Cluster.{Cluster, said}
+use Rattle.course.specs.Cluster.{Cluster}
 use Rattle.course.specs.Course.{Course}
-use Rattle.course.specs.Steps.{World, noted, placed_on, say}
+use Rattle.course.specs.Steps.{noted, placed_on}
 use Rattle.course.proofs.play.Play.say.Goals as goal
 
 pub returns-clause-placed : goal.returns-clause-placed

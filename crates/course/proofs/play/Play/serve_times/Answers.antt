@@ -1,7 +1,7 @@
-use Rattle.std.proofs.Common.{rules, ◌≡◌, ◌+◌, ◌-◌, sym, ◌∙◌, ap, arith, refl}
+use Rattle.std.proofs.Common.{◌+◌, ◌-◌, sym, ◌∙◌, ap, arith}
 use Rattle.course.specs.Course.{Course}
-use Rattle.course.specs.Steps.{World, serve_times}
-use Rattle.course.proofs.Repeats.{serve_next, serve_none}
+use Rattle.course.specs.Steps.{serve_times}
+use Rattle.course.proofs.Repeats.{serve_next}
 use Rattle.course.proofs.play.Play.serve_times.Goals as goal
 
 pub loop-preserved : goal.loop-preserved

@@ -1,8 +1,8 @@
-use Rattle.std.proofs.Common.{rules, ◌≡◌, ℕ, ◌+◌, ◌-◌, List, [], length, drop, get_or, sym, ◌∙◌, ap, arith, refl, subst}
+use Rattle.std.proofs.Common.{List, [], sym, ◌∙◌, ap, arith, refl}
 use Rattle.std.proofs.lemmas.List.{drop_all}
 use Rattle.cluster_node.specs.declared.packets.Packet.{Packet}
 use Rattle.course.specs.Course.{Course}
-use Rattle.course.specs.Steps.{World, world_of, take_all, deliver}
+use Rattle.course.specs.Steps.{world_of, take_all}
 use Rattle.course.proofs.Repeats.{delivered_next, take_none}
 use Rattle.course.proofs.Readings.{read_at}
 use Rattle.course.proofs.Moves.{handed_next}

@@ -1,0 +1,46 @@
+//! The promises for Maglev, in terms of its tables.
+ghost use Rattle.std.specs.Prelude.{◌≡◌, ℕ, [], true, Some, IfOk, slice_get};
+ghost use Rattle.selection.specs.Picks.{table_pick};
+ghost use Rattle.cluster_node.specs.Rules.{Rules};
+ghost use Rattle.cluster_node.specs.declared.packets.Packet.{Packet};
+ghost use Rattle.cluster_core.specs.Setups.{Fixed, rules_for};
+ghost use Rattle.cluster_core.specs.Runs.{verdicts};
+ghost use Rattle.cluster_core.specs.Headline.{Keeping};
+ghost use Rattle.cluster_core.specs.Totals.{WasRead};
+ghost use Rattle.cluster_core.specs.Tables.{TablesDiffer, TablesAreEven};
+
+use crate::fixed::Setup;
+use crate::replaying::replay;
+use cluster_node::{Event, Outcome, Packet};
+use connection_table::ConnTable;
+use hash_laws::FlowHash;
+use pool_versions::Catalogue;
+use selection::Maglev;
+use std::alloc::{AllocError, Global};
+
+/// What a list of events comes to in a cluster whose scheme is Maglev, made with the cluster's hash.
+///
+/// Over every list of deliveries, losses, repeats, installed versions, evictions and restarts: two packets of one flow
+/// that were sent to different backends were chosen under versions whose tables differ at that flow's slot
+/// (`agreement`); a worker keeps a flow's backend while its entry stands and the backend is up (`keeping`); every slot
+/// names an up backend, and backends' slot counts differ by at most one (`slots`). See `replay`.
+pub fn replay_maglev<H: FlowHash, T: ConnTable>(
+    alloc: Global,
+    setup: &Setup<Maglev<H>, H>,
+    catalogue: &Catalogue,
+    packets: &[Packet],
+    events: &[Event],
+) -> Result<Vec<Outcome>, AllocError>
+    requires hash { setup.now.scheme.hash ≡ setup.now.hash }
+    requires size { catalogue.now.size ≡ setup.now.size }
+    requires read { (k : ℕ) (p : Packet) → slice_get packets.now k ≡ Some p → WasRead (Some p) }
+    ensures verdicts { let rules = rules_for (λ s z ups x t. table_pick (H.plain s.hash) z ups x) (λ h. H.plain h) setup.now catalogue.now in
+        IfOk result (λ v. v.items ≡ verdicts rules [] packets.now events.now) }
+    ensures agreement { IfOk result (λ v. TablesDiffer (H.plain setup.now.hash) setup.now.size catalogue.now v.items) }
+    ensures keeping { let rules = rules_for (λ s z ups x t. table_pick (H.plain s.hash) z ups x) (λ h. H.plain h) setup.now catalogue.now in
+        IfOk result (λ v. Keeping rules [] packets.now events.now v.items) }
+    ensures slots { TablesAreEven (H.plain setup.now.hash) setup.now.size catalogue.now }
+{
+    let _slots = setup.size().slots();
+    replay::<Maglev<H>, H, T>(alloc, setup, catalogue, packets, events)
+}
