@@ -72,6 +72,7 @@ fn catalogue(rt: &impl Abort, alloc: Global) -> Catalogue
         all.add(version(rt, alloc, number, a, up))
             .expect(rt, "a version");
     }
+    assert!(rt; all.size().slots() == 7);
     all
 }
 
