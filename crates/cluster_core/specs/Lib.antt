@@ -9,3 +9,4 @@ pub mod Explain
 pub mod Tables
 pub mod Apart
 pub mod Blocks
+pub mod Laws

@@ -1,0 +1,35 @@
+-- What a worker's servings depend on.
+use Rattle.std.specs.Prelude.{◌≡◌, ℕ, ◌<◌, ◌||◌, Bool, List, ◌++◌, length, map, Some, if◌then◌else◌, nat_lt, slice_get}
+use Rattle.forwarder.specs.Serving.{told, told_after}
+use Rattle.cluster_node.specs.declared.serving.Item.{Item}
+use Rattle.cluster_node.specs.declared.serving.Taken.TheVariants.{Behind, Done}
+use Rattle.cluster_node.specs.declared.packets.Packet.{Packet}
+use Rattle.cluster_node.specs.declared.events.Event.{Event}
+use Rattle.cluster_node.specs.declared.events.Said.{Said}
+use Rattle.cluster_node.specs.Rules.{Rules}
+use Rattle.cluster_node.specs.Book.{serving_under, taken}
+use Rattle.cluster_node.specs.Record.{installed_of, lines_of, serve_verdict}
+use Rattle.cluster_core.specs.Runs.{of_node, verdicts}
+use Rattle.cluster_core.specs.Headline.{lines_at}
+use Rattle.cluster_core.specs.Apart.{Served, Popped, serving, greatest, settled}
+use Rattle.cluster_core.specs.Blocks.{Ask, serves, own, past_after}
+
+-- a serving's verdict depends on the worker's own lines and the versions installed on its node alone
+abbrev pub ServesDependOnOwnLines : Type 0
+ServesDependOnOwnLines = (rules : Rules) (a b : List Said) (n w v : ℕ) (r : Bool) → lines_of w a ≡ lines_of w b → installed_of a ≡ installed_of b → serve_verdict rules a n w v r ≡ serve_verdict rules b n w v r
+
+-- servings of one worker after one another come to what its own lines say, and the rest follows the record with them
+abbrev pub ServesStandInBlocks : Type 0
+ServesStandInBlocks = (rules : Rules) (n w : ℕ) → n < rules.nodes → (packets : List Packet) (past : List Said) (asks : List Ask) (rest : List Event) →
+    verdicts rules past packets (serves n w asks ++ rest) ≡ own rules (installed_of (of_node n past)) (lines_at past n w) n w asks ++ verdicts rules (past_after rules past n w asks) packets rest
+
+-- they leave the lines of every other worker, and the installed versions
+abbrev pub BlocksLeaveOthers : Type 0
+BlocksLeaveOthers = (rules : Rules) (n w : ℕ) → n < rules.nodes → (u : ℕ) → (w ≡ u → ⊥) → (past : List Said) (asks : List Ask) →
+    (lines_at (past_after rules past n w asks) n u ≡ lines_at past n u) × (installed_of (of_node n (past_after rules past n w asks)) ≡ installed_of (of_node n past))
+
+-- with all packets placed before all servings, the next serving of a worker that popped the first packets in order comes
+-- to what its forwarder answers after its own servings
+abbrev pub ServesFollowPackets : Type 0
+ServesFollowPackets = (rules : Rules) (items : List Item) (done : List Served) (i : Item) (v : ℕ) (r : Bool) → Popped items done → slice_get items (length done) ≡ Some i →
+    taken rules (settled items done) v r ≡ (if nat_lt v i.floor || nat_lt v (greatest done) then Behind else Done i (told_after rules.pick rules.capacity (told rules.pick rules.capacity (map (serving rules) done)) (serving_under (rules.ups v) v i.flow r)).choice)
