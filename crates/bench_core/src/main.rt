@@ -5,7 +5,7 @@
 #![tactic(auto)]
 
 ghost use Rattle.std.specs.Prelude.{◌≡◌, IfOk, Some};
-ghost use Rattle.cluster_core.specs.Totals.{WasRead};
+ghost use Rattle.cluster_node.specs.Records.{WasRead};
 
 use cluster_core::{Event, Outcome, Packet, Run, Setup};
 use connection_table::LruTable;

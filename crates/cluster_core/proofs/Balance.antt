@@ -26,7 +26,8 @@ use Rattle.cluster_node.specs.Rules.{Rules}
 use Rattle.cluster_node.specs.declared.events.Said.{Said}
 use Rattle.cluster_node.specs.Record.{accepted, lines_of, of_taken, of_choice, install_verdict, arrive_verdict, steered, serve_verdict, node_verdict, newest_of, refusals_of, installed_of, placed_count, served_count, placed_by, served_by, waits, by_queue}
 use Rattle.cluster_core.specs.Runs.{waiting_in}
-use Rattle.cluster_core.specs.Totals.{of_reading, WasRead, came, of_serving, went, came_all, went_all}
+use Rattle.cluster_core.specs.Totals.{came, of_serving, went, came_all, went_all}
+use Rattle.cluster_node.specs.Records.{WasRead, of_reading}
 
 reading_not_serving : (c : Cause) → of_reading c ≡ true → of_serving c ≡ 0
 reading_not_serving NotIpv4 h = refl

@@ -12,8 +12,8 @@ use Rattle.cluster_node.specs.declared.outcomes.Reason.TheVariants.{NoNode}
 use Rattle.cluster_node.specs.Rules.{Rules}
 use Rattle.cluster_node.specs.declared.events.Said.{Said}
 use Rattle.cluster_node.specs.Record.{installed_of, lines_of, by_lines, serve_verdict}
-use Rattle.cluster_core.specs.Runs.{node_of, of_node, verdict, say, verdicts}
-use Rattle.cluster_core.specs.Headline.{lines_at}
+use Rattle.cluster_core.specs.Runs.{verdict, say, verdicts}
+use Rattle.cluster_node.specs.Records.{lines_at, node_of, of_node}
 use Rattle.cluster_core.specs.Blocks.{Ask, serves, lines_after, own, past_after}
 use Rattle.cluster_core.proofs.Apart.{serve_leaves}
 

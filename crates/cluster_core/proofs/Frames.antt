@@ -9,7 +9,7 @@ use Rattle.five_tuple.specs.declared.Flow.{Flow}
 use Rattle.five_tuple.specs.Flow.{flow_answer}
 use Rattle.cluster_node.specs.declared.packets.Packet.TheVariants.{Good, Bad}
 use Rattle.cluster_node.specs.declared.outcomes.Cause.TheVariants.{TooLarge}
-use Rattle.cluster_core.specs.Totals.{of_reading, WasRead}
+use Rattle.cluster_node.specs.Records.{WasRead, of_reading}
 use Rattle.cluster_core.specs.Reading.{cause_of, sized, of_flow, of_datagram, of_frame, packet_read}
 
 fault_read : (fault : IpFault) → of_reading (cause_of fault) ≡ true

@@ -18,8 +18,9 @@ use Rattle.cluster_node.specs.declared.outcomes.Reason.TheVariants.{NoNode, NoWo
 use Rattle.cluster_node.specs.Rules.{Rules}
 use Rattle.cluster_node.specs.declared.events.Said.{Said}
 use Rattle.cluster_node.specs.Record.{accepted, lines_of, of_taken, of_choice, serve_verdict, installed_of, by_queue}
-use Rattle.cluster_core.specs.Runs.{of_node, verdict, packet_of, say, verdicts}
-use Rattle.cluster_core.specs.Headline.{lines_at, entry_at, UpUnder, Keeps, Keeping}
+use Rattle.cluster_core.specs.Runs.{verdict, packet_of, say, verdicts}
+use Rattle.cluster_node.specs.Records.{lines_at, of_node}
+use Rattle.cluster_core.specs.Headline.{entry_at, UpUnder, Keeps, Keeping}
 
 -- a serving of a flow whose entry stands with its backend up
 kept_choice : (pick : Pick) (s : Serving) (e : Entry) (ups : Candidates) (turn : ℕ) → s.ups ≡ Some ups → is_up e.backend ups ≡ true → (serve_as pick s (Some e) turn).choice ≡ choices.Forward e.backend e.version

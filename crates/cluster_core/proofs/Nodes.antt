@@ -15,14 +15,15 @@ use Rattle.cluster_node.specs.declared.events.Said.{Said}
 use Rattle.cluster_node.specs.Record.{node_verdict, node_say, fresh, NodeStands, NodeGoes, ArePrepared, installed_of}
 use Rattle.cluster_node.proofs.Records.{stands_none}
 use Rattle.cluster_node.specs.Record.{waits}
-use Rattle.cluster_core.specs.Totals.{WasRead, came, went, came_of, went_of, came_all, went_all}
+use Rattle.cluster_core.specs.Totals.{came, went, came_of, went_of, came_all, went_all}
+use Rattle.cluster_node.specs.Records.{WasRead, node_of, of_node}
 use Rattle.cluster_core.proofs.Balance.{Moves, moves, waits_all_set, came_more, went_more}
 use Rattle.cluster_core.specs.RunView.{RunView}
 use Rattle.forwarder.specs.Serving.{Pick}
 use Rattle.selection.specs.Readied.{Readied}
 use Rattle.cluster_core.proofs.Preparing.{MorePrepared, still_prepared, none_installed}
 use Rattle.std.proofs.lemmas.Bool.{false≢true}
-use Rattle.cluster_core.specs.Runs.{waiting_in, node_of, of_node, verdict, packet_of, say, verdicts, RunStands, RunGoes}
+use Rattle.cluster_core.specs.Runs.{waiting_in, verdict, packet_of, say, verdicts, RunStands, RunGoes}
 
 get_set : (ws : List NodeView) (w j : ℕ) (u x : NodeView) → slice_get (slice_set ws w u) j ≡ Some x → (((j ≡ w) × (u ≡ x)) ⊎ ((j ≡ w → ⊥) × (slice_get ws j ≡ Some x)))
 get_set [] w j u x h = absurd (cc)

@@ -20,7 +20,8 @@ use Rattle.cluster_node.specs.declared.outcomes.Outcome.TheVariants.{Refused}
 use Rattle.cluster_node.specs.declared.outcomes.Reason.TheVariants.{NoNode}
 use Rattle.cluster_node.specs.Record.{accepted, installed_by, installed_of, newest_of, install_verdict, node_verdict, prepared_at, IsKnown, IsPrepared, ArePrepared}
 use Rattle.cluster_core.specs.Setups.{Fixed, rules_for}
-use Rattle.cluster_core.specs.Runs.{node_of, of_node, verdict, say, AreGood, prepared_with, prepared_if, prepared_for, is_known_in}
+use Rattle.cluster_core.specs.Runs.{verdict, say, AreGood, prepared_with, prepared_if, prepared_for, is_known_in}
+use Rattle.cluster_node.specs.Records.{node_of, of_node}
 
 -- the version that an event installs, if the catalogue has it, is prepared
 abbrev pub NewIsPrepared : {S : Type 0} → (S → ℕ → Pick) → Rules → List (Readied S) → Event → Type 0

@@ -24,7 +24,8 @@ use Rattle.cluster_node.specs.Record.{lines_of, of_taken, of_choice, install_ver
 use Rattle.steering.specs.declared.Placed.{Placed as Placing}
 use Rattle.steering.specs.declared.Placed.TheVariants as placings
 use Rattle.steering.specs.Steering.{home_of, place_for}
-use Rattle.cluster_core.specs.Runs.{node_of, of_node, verdict, packet_of, say, verdicts}
+use Rattle.cluster_core.specs.Runs.{verdict, packet_of, say, verdicts}
+use Rattle.cluster_node.specs.Records.{node_of, of_node}
 use Rattle.cluster_core.specs.Headline.{picked, pick_under, Agreement}
 use Rattle.cluster_core.specs.Explain.{send_of, PickedSend, PickedSends}
 use Rattle.cluster_core.proofs.Chosen.{Up, Chosen, ChoiceOk, Coherent, choice_ok}

@@ -14,8 +14,9 @@ use Rattle.cluster_node.specs.declared.outcomes.Outcome.{Outcome}
 use Rattle.cluster_node.specs.declared.outcomes.Outcome.TheVariants.{Forward}
 use Rattle.cluster_node.specs.Rules.{Rules}
 use Rattle.cluster_node.specs.declared.events.Said.{Said}
-use Rattle.cluster_node.specs.Record.{accepted, lines_of}
-use Rattle.cluster_core.specs.Runs.{of_node, packet_of}
+use Rattle.cluster_node.specs.Record.{accepted}
+use Rattle.cluster_core.specs.Runs.{packet_of}
+use Rattle.cluster_node.specs.Records.{lines_at}
 
 -- the scheme's backend among these
 abbrev pub picked : Pick → Flow → Option (Candidates) → Option Backend
@@ -39,10 +40,6 @@ pub record Sent (outs : List Outcome) (x : Flow) (b : Backend) (v : ℕ) : Type 
 abbrev pub Agreement : Rules → List Outcome → Type 0
 Agreement rules outs = (x : Flow) (b₁ b₂ : Backend) (v₁ v₂ : ℕ) → Sent outs x b₁ v₁ → Sent outs x b₂ v₂ → (b₁ ≡ b₂ → ⊥) →
     (pick_under rules v₁ x ≡ Some b₁) × (pick_under rules v₂ x ≡ Some b₂) × (pick_under rules v₁ x ≡ pick_under rules v₂ x → ⊥) × (v₁ ≡ v₂ → ⊥)
-
--- what a forwarder's life so far has of its servings, as lines
-abbrev pub lines_at : List Said → ℕ → ℕ → List Line
-lines_at past n w = lines_of w (of_node n past)
 
 -- the entry that stands for a flow on a forwarder: its last touch there, while fewer than the capacity of other flows
 -- were touched after it

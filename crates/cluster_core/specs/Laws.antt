@@ -9,8 +9,8 @@ use Rattle.cluster_node.specs.declared.events.Said.{Said}
 use Rattle.cluster_node.specs.Rules.{Rules}
 use Rattle.cluster_node.specs.Book.{serving_under, taken}
 use Rattle.cluster_node.specs.Record.{installed_of, lines_of, serve_verdict}
-use Rattle.cluster_core.specs.Runs.{of_node, verdicts}
-use Rattle.cluster_core.specs.Headline.{lines_at}
+use Rattle.cluster_core.specs.Runs.{verdicts}
+use Rattle.cluster_node.specs.Records.{lines_at, of_node}
 use Rattle.cluster_core.specs.Apart.{Served, Popped, serving, greatest, settled}
 use Rattle.cluster_core.specs.Blocks.{Ask, serves, own, past_after}
 

@@ -11,24 +11,13 @@ use Rattle.cluster_node.specs.declared.outcomes.Reason.TheVariants.{NoNode}
 use Rattle.cluster_node.specs.Rules.{Rules}
 use Rattle.cluster_node.specs.declared.events.Said.{Said}
 use Rattle.cluster_node.specs.Record.{node_verdict, waits, NodeStands, installed_of, prepared_at, waiting_at, IsPrepared, ArePrepared}
+use Rattle.cluster_node.specs.Records.{node_of, of_node}
 use Rattle.cluster_core.specs.Totals.{came_of, went_of}
 use Rattle.cluster_core.specs.RunView.{RunView}
 use Rattle.pool_versions.specs.Pool.{Pools, version_at}
 use Rattle.pool_versions.specs.declared.service.Version.{Version}
 use Rattle.selection.specs.Readied.{Readied, readied_version}
 use Rattle.cluster_node.specs.Book.{Line, placed, taken_count}
-
--- the node that an event names
-abbrev pub node_of : Event → ℕ
-node_of (Install n v) = n
-node_of (Arrive n k marks) = n
-node_of (Serve n w v r) = n
-node_of (Restart n) = n
-
--- what the record has of one node
-abbrev pub of_node : ℕ → List Said → List Said
-of_node n [] = []
-of_node n (s ∷ past) = if node_of s.event == n then s ∷ of_node n past else of_node n past
 
 -- what an event comes to after all before it
 abbrev pub verdict : Rules → List Said → Event → Option Packet → Outcome

@@ -8,27 +8,6 @@ use Rattle.cluster_node.specs.declared.outcomes.Cause.{Cause}
 use Rattle.cluster_node.specs.declared.outcomes.Cause.TheVariants.{NotIpv4, Truncated, BadHeader, BadChecksum, Fragment, NotTcpUdp, BadTransport, TooLarge, NoService, NoBackend, NoVersion, RingsFull, LostAtRestart}
 use Rattle.cluster_node.specs.declared.events.Said.{Said}
 
--- a cause that reading a packet has
-abbrev pub of_reading : Cause → Bool
-of_reading NotIpv4 = true
-of_reading Truncated = true
-of_reading BadHeader = true
-of_reading BadChecksum = true
-of_reading Fragment = true
-of_reading NotTcpUdp = true
-of_reading BadTransport = true
-of_reading TooLarge = true
-of_reading NoService = false
-of_reading NoBackend = false
-of_reading NoVersion = false
-of_reading RingsFull = false
-of_reading LostAtRestart = false
-
-abbrev pub WasRead : Option Packet → Type 0
-WasRead None = Unit {0}
-WasRead (Some (Good x l)) = Unit {0}
-WasRead (Some (Bad c)) = of_reading c ≡ true
-
 -- how many packets an outcome puts into the queues
 abbrev pub came : Outcome → ℕ
 came Installed = 0

@@ -6,7 +6,7 @@ ghost use Rattle.cluster_node.specs.declared.packets.Packet.{Packet};
 ghost use Rattle.cluster_core.specs.Setups.{Fixed, rules_for};
 ghost use Rattle.cluster_core.specs.Runs.{verdicts};
 ghost use Rattle.cluster_core.specs.Headline.{Keeping};
-ghost use Rattle.cluster_core.specs.Totals.{WasRead};
+ghost use Rattle.cluster_node.specs.Records.{WasRead};
 ghost use Rattle.cluster_core.specs.Tables.{TablesDiffer, TablesAreEven};
 
 use crate::fixed::Setup;

@@ -3,7 +3,7 @@ ghost use Rattle.std.specs.Prelude.{◌≡◌, Some};
 ghost use Rattle.ip_headers.specs.Ipv4.{view, ipv4_answer};
 ghost use Rattle.five_tuple.specs.Flow.{flow_answer};
 ghost use Rattle.cluster_core.specs.Reading.{cause_of, of_flow, of_datagram, packet_read};
-ghost use Rattle.cluster_core.specs.Totals.{WasRead};
+ghost use Rattle.cluster_node.specs.Records.{WasRead};
 
 use cluster_node::{Cause, Packet};
 use five_tuple::flow_of;

@@ -4,7 +4,8 @@ ghost use Rattle.cluster_node.specs.declared.packets.Packet.{Packet};
 ghost use Rattle.cluster_core.specs.Setups.{Fixed, rules_for};
 ghost use Rattle.cluster_core.specs.Runs.{packet_of, verdicts};
 ghost use Rattle.cluster_core.specs.Headline.{Agreement, Keeping};
-ghost use Rattle.cluster_core.specs.Totals.{WasRead, came_all, went_all};
+ghost use Rattle.cluster_core.specs.Totals.{came_all, went_all};
+ghost use Rattle.cluster_node.specs.Records.{WasRead};
 ghost use Rattle.cluster_core.specs.Explain.{PickedSends};
 
 use crate::fixed::Setup;

@@ -7,8 +7,8 @@ ghost use Rattle.cluster_node.specs.declared.events.Said.{Said};
 ghost use Rattle.cluster_node.specs.Record.{fresh, prepared_at, newest_of, lines_of};
 ghost use Rattle.cluster_core.specs.Setups.{Fixed, rules_for};
 ghost use Rattle.cluster_core.specs.RunView.{RunView};
-ghost use Rattle.cluster_core.specs.Runs.{node_of, of_node, prepared_with, prepared_for, is_known_in, newest_at, waiting_on, waiting_by, RunStands, RunGoes};
-ghost use Rattle.cluster_core.specs.Totals.{WasRead};
+ghost use Rattle.cluster_core.specs.Runs.{prepared_with, prepared_for, is_known_in, newest_at, waiting_on, waiting_by, RunStands, RunGoes};
+ghost use Rattle.cluster_node.specs.Records.{WasRead, node_of, of_node};
 
 use crate::fixed::Setup;
 use cluster_node::{Event, Node, Outcome, Packet, Reason};

@@ -1,6 +1,6 @@
 //! The worked examples as lists of events, on both tables.
 ghost use Rattle.std.specs.Prelude.{◌≡◌, ◌<◌, ◌≤◌, length, slice_get, Some, IfSome};
-ghost use Rattle.cluster_core.specs.Totals.{WasRead};
+ghost use Rattle.cluster_node.specs.Records.{WasRead};
 ghost use Rattle.cluster_node.specs.declared.packets.Packet.{Packet};
 
 use super::*;

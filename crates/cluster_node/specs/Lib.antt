@@ -4,3 +4,4 @@ pub mod Book
 pub mod NodeView
 pub mod Record
 pub mod Steps
+pub mod Records

@@ -1,7 +1,8 @@
 //! What a cluster's core owes to the steps of a scenario.
 ghost use Rattle.std.specs.Prelude.{◌≡◌, ◌<◌, ◌^◌, ◌∷◌, ℕ, List, length, IfOk};
 ghost use Rattle.cluster_node.specs.declared.events.Said.{Said};
-ghost use Rattle.course.specs.Cluster.{Cluster, WasRead, said, newest_on, waiting_on};
+ghost use Rattle.course.specs.Cluster.{Cluster, said, newest_on, waiting_on};
+ghost use Rattle.cluster_node.specs.Records.{WasRead};
 
 use cluster_node::{Event, Outcome, Packet};
 use std::alloc::AllocError;

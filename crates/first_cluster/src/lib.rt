@@ -3,7 +3,7 @@
 
 ghost use Rattle.std.specs.Prelude.{◌≡◌, ℕ, Some, IfOk, slice_get};
 ghost use Rattle.cluster_node.specs.declared.packets.Packet.{Packet};
-ghost use Rattle.cluster_core.specs.Totals.{WasRead};
+ghost use Rattle.cluster_node.specs.Records.{WasRead};
 ghost use Rattle.first_cluster.specs.Firsts.{FirstsDiffer};
 
 use cluster_core::{Event, Outcome, Packet, Setup, replay};

@@ -1,7 +1,7 @@
 use Rattle.std.proofs.Common.{Some, sym, subst}
 use Rattle.ip_headers.specs.Ipv4.{ipv4_answer}
 use Rattle.cluster_node.specs.declared.packets.Packet.{Packet}
-use Rattle.cluster_core.specs.Totals.{WasRead}
+use Rattle.cluster_node.specs.Records.{WasRead}
 use Rattle.cluster_core.proofs.Frames.{datagram_read}
 use Rattle.cluster_core.proofs.reading.read_packet.Goals as goal
 

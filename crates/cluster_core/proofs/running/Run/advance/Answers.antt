@@ -4,7 +4,8 @@ use Rattle.cluster_node.specs.Rules.{Rules}
 use Rattle.cluster_node.specs.Record.{ArePrepared, installed_of}
 use Rattle.cluster_core.specs.Setups.{rules_for}
 use Rattle.cluster_core.specs.RunView.{RunView}
-use Rattle.cluster_core.specs.Runs.{node_of, RunStands}
+use Rattle.cluster_core.specs.Runs.{RunStands}
+use Rattle.cluster_node.specs.Records.{node_of}
 use Rattle.cluster_core.proofs.Preparing.{MorePrepared, event_prepares, is_known}
 use Rattle.cluster_core.proofs.Nodes.{no_node, result_said}
 use Rattle.cluster_core.proofs.running.Run.advance.Goals as goal
