@@ -9,8 +9,8 @@ ghost use Rattle.course.specs.Tally.{tally_of};
 ghost use Rattle.course.specs.Room.{Room, Counted};
 
 use crate::machine::Core;
-use crate::step::Step;
 use cluster_node::{Event, Outcome, Packet, Said};
+use scenario_steps::Step;
 use spreader::Spread;
 use std::alloc::{AllocError, Global};
 use std::marker::Model;

@@ -15,7 +15,7 @@ use Rattle.spreader.specs.Choices.{Choice}
 use Rattle.cluster_node.specs.declared.packets.Packet.{Packet}
 use Rattle.cluster_node.specs.Records.{WasRead}
 use Rattle.cluster_core.proofs.Frames.{was_read}
-use Rattle.course.specs.declared.step.Step.{Step}
+use Rattle.scenario_steps.specs.declared.Step.{Step}
 use Rattle.course.specs.Cluster.{Cluster, WereRead}
 use Rattle.course.specs.Course.{Course}
 use Rattle.course.specs.Steps.{World, world_of, run, start}

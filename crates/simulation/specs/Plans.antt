@@ -1,6 +1,6 @@
 -- What a run takes of a scenario.
 use Rattle.std.specs.Prelude.{ℕ, Bool, List}
-use Rattle.course.specs.declared.step.Step.{Step}
+use Rattle.scenario_steps.specs.declared.Step.{Step}
 use Rattle.simulation.specs.declared.plan.Plan.{Plan}
 
 -- the nodes' addresses, whether the headers' checksums are tested, and the steps
