@@ -104,19 +104,12 @@ impl<S: Scheme> Ready<S> {
         &self.prepared
     }
 
-    // Whether a backend, name and address, is among the up ones, as a test.
-    fn has_up(&self, backend: &Backend) -> bool
-        ensures { result ≡ list_any (same_backend backend.now) self.now.ups }
-    {
-        is_among(self.ups.as_slice(), backend)
-    }
-
     /// Whether a backend, as the pair of a name and an address, is one of the service's up backends.
     #[tactic(auto, using(crate::proofs::Among::any_is_contained))]
     pub fn is_up(&self, backend: &Backend) -> bool
         ensures among { (result ≡ true) ↔ Contains self.now.ups backend.now }
         ensures value { result ≡ list_any (same_backend backend.now) self.now.ups }
     {
-        self.has_up(backend)
+        is_among(self.ups.as_slice(), backend)
     }
 }

@@ -75,6 +75,7 @@ fn shows_table<H: hash_laws::FlowHash>(
         .table(alloc, seven(rt), ups)
         .expect(rt, "a table");
     assert_eq!(rt; table.size().slots(), 7);
+    assert!(rt; table.ups() == ups);
     for slot in 0..table.size().slots() {
         let named = table.backend_at(slot).expect(rt, "a backend");
         assert_eq!(rt; named.addr, addrs[slot as usize % 7], "at {slot}");
