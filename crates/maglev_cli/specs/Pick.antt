@@ -1,5 +1,5 @@
 -- The command `pick`: the flow of a datagram, its slot and its backend, or why it is dropped.
-use Rattle.std.specs.Prelude.{◌≡◌, ◌<◌, ◌≤◌, ℕ, ◌-◌, ◌++◌, Bool, true, false, ◌==◌, nat_lt, if◌then◌else◌, List, [], map, take, length, slice_index, slice_index_or, Option, Some, None, Result, Ok, Err, IfSome, is_some, codes}
+use Rattle.std.specs.Prelude.{◌≡◌, ◌<◌, ◌≤◌, ℕ, ◌-◌, ◌++◌, Bool, true, false, ◌==◌, nat_lt, if◌then◌else◌, List, [], map, take, length, slice_index, slice_index_or, Option, Some, None, Result, Ok, Err, IfSome, codes}
 use Rattle.std.specs.Fmt.{decimal}
 use Rattle.std.specs.Io.KnownBytes.{Appends}
 use Rattle.hash_laws.specs.declared.any.AnyHash.{AnyHash}
