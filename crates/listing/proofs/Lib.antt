@@ -1,1 +1,1 @@
-mod Walks
+pub mod Walks

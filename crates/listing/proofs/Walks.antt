@@ -1,11 +1,25 @@
 -- One line more of what is yet to be written.
-use Rattle.std.proofs.Common.{◌≡◌, ℕ, suc, ◌+◌, ◌<◌, ◌≤◌, List, [], ◌∷◌, ◌++◌, length, drop, get_or, refl, ap, sym, ◌∙◌, append_assoc, ◌⊎◌, inl, inr, add-one}
+use Rattle.std.proofs.Common.{◌≡◌, ℕ, suc, ◌+◌, ◌<◌, ◌≤◌, List, [], ◌∷◌, ◌++◌, map, length, drop, get_or, refl, ap, sym, ◌∙◌, append_assoc, ◌⊎◌, inl, inr, add-one}
 use Rattle.std.proofs.lemmas.List.{append-nil, drop_all}
+use Rattle.std.proofs.lemmas.List.FromFn.{fill_by_all}
+use Rattle.std.specs.List.{flat_map, zip, range_with_len}
 use Rattle.std.proofs.Math.Seq.{drop-cons}
 use Rattle.cluster_node.specs.declared.events.Said.{Said}
 use Rattle.cluster_node.specs.declared.outcomes.Cause.{Cause}
 use Rattle.listing.specs.Lines.{line_text, lines_from}
-use Rattle.listing.specs.Report.{drop_line, drop_lines}
+use Rattle.listing.specs.Report.{causes, drop_line, drops_text}
+
+-- the lines of some causes, each with its count
+abbrev pub drop_lines : List Cause → List ℕ → List ℕ
+drop_lines cs counts = flat_map (λ p. drop_line p.0 p.1) (zip cs counts)
+
+-- each cause has the count at its place
+pub by_number : (counts : List ℕ) → length counts ≡ 13 → drop_lines causes counts ≡ drops_text counts
+unfolding drops_text
+by_number counts h =
+    let f : ℕ → ℕ = λ k. get_or counts k 0 in
+    let whole : counts ≡ map f (range_with_len 0 13) = fill_by_all f counts 13 0 h (λ k low. refl) in
+    ap (λ (ns : List ℕ). drop_lines causes ns) whole
 
 pub line_more : (history : List Said) (k : ℕ) (said : Said) (old new whole : List ℕ) → k < length history → said ≡ get_or history k said → new ≡ old ++ line_text k said → old ++ lines_from k (drop k history) ≡ whole → new ++ lines_from (k + 1) (drop (k + 1) history) ≡ whole
 line_more history k said old new whole h at grown e =

@@ -1,6 +1,6 @@
 //! The report: the counts of a run.
 ghost use Rattle.std.specs.Prelude.{◌≡◌, ◌++◌, IfOk, OnOk, string_bytes};
-ghost use Rattle.listing.specs.Report.{count_line, cut_line, drop_line, drop_lines, records_text, totals_text, report_text};
+ghost use Rattle.listing.specs.Report.{count_line, cut_line, drop_line, drops_text, records_text, totals_text, report_text};
 
 use crate::names::CauseText;
 use cluster_core::Totals;
@@ -51,10 +51,11 @@ fn push_drop(text: &mut String, cause: Cause, count: u64) -> Result<(), AllocErr
     write!(text, "drop {cause} {count}\n")
 }
 
-fn push_drops(text: &mut String, causes: &[Cause], counts: &[u64]) -> Result<(), AllocError>
-    ensures { OnOk result (string_bytes text.new ≡ string_bytes text.old ++ drop_lines causes.now counts.now) }
+#[tactic(auto, using(crate::proofs::Walks::by_number))]
+fn push_drops(text: &mut String, counts: &[u64; 13]) -> Result<(), AllocError>
+    ensures { OnOk result (string_bytes text.new ≡ string_bytes text.old ++ drops_text counts.now) }
 {
-    for (cause, count) in causes.iter().zip(counts) {
+    for (cause, count) in CAUSES.iter().zip(counts.iter()) {
         push_drop(text, *cause, *count)?;
     }
     Ok(())
@@ -78,7 +79,7 @@ fn push_totals(text: &mut String, totals: &Totals) -> Result<(), AllocError>
 {
     push_count(text, "received", totals.received)?;
     push_count(text, "forwarded", totals.forwarded)?;
-    push_drops(text, &CAUSES, &totals.dropped)?;
+    push_drops(text, &totals.dropped)?;
     push_count(text, "waiting", totals.waiting)?;
     push_count(text, "refused", totals.refused)
 }
