@@ -13,3 +13,6 @@ pub mod Blocks
 pub mod Sums
 pub mod Law
 pub mod Frames
+pub mod Asked
+pub mod Order
+pub mod Told

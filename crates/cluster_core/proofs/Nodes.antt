@@ -37,7 +37,7 @@ length_set [] w u = refl
 length_set (y ∷ ws) zero u = refl
 length_set (y ∷ ws) (suc w) u = ap suc (length_set ws w u)
 
-get_below : (ws : List NodeView) (w : ℕ) (u : NodeView) → slice_get ws w ≡ Some u → w < length ws
+pub get_below : (ws : List NodeView) (w : ℕ) (u : NodeView) → slice_get ws w ≡ Some u → w < length ws
 get_below [] w u h = absurd (cc)
 get_below (y ∷ ws) zero u h = omega arith
 get_below (y ∷ ws) (suc w) u h = omega (arith, get_below ws w u h)

@@ -93,7 +93,7 @@ module _ (rules : Rules) where
   node_pick past (Serve n w v r) p = if_goes (nat_lt w rules.workers) (by_queue rules (installed_of past) (lines_of w past) (next_item (lines_of w past)) n w v r) (Refused NoWorker) (queue_goes past n w v r (next_item (lines_of w past))) tt
   node_pick past (Restart n) p = tt
 
-  verdict_pick : (past : List Said) (e : Event) (p : Option Packet) → GoesToPick (verdict rules past e p)
+  pub verdict_pick : (past : List Said) (e : Event) (p : Option Packet) → GoesToPick (verdict rules past e p)
   verdict_pick past e p = if_goes (nat_lt (node_of e) rules.nodes) (node_verdict rules (of_node (node_of e) past) e p) (Refused NoNode) (node_pick (of_node (node_of e) past) e p) tt
 
   pub verdicts_pick : (past : List Said) (packets : List Packet) (es : List Event) (k : ℕ) (o : Outcome) → slice_get (verdicts rules past packets es) k ≡ Some o → GoesToPick o
@@ -115,7 +115,7 @@ module _ (rules : Rules) where
       let n : pick_under rules v₁ x ≡ pick_under rules v₂ x → ⊥ = λ e. d (let f : Some b₁ ≡ Some b₂ = sym p ∙ e ∙ q in cc) in
       (p, q, n, λ e. n (ap (λ (v : ℕ). pick_under rules v x) e))
 
-picked_send : (rules : Rules) → ((ups : Candidates) (x : Flow) (t u : ℕ) → rules.pick ups x t ≡ rules.pick ups x u) → (o : Outcome) → GoesToPick rules o → PickedSend rules (send_of o)
+pub picked_send : (rules : Rules) → ((ups : Candidates) (x : Flow) (t u : ℕ) → rules.pick ups x t ≡ rules.pick ups x u) → (o : Outcome) → GoesToPick rules o → PickedSend rules (send_of o)
 picked_send rules steady Installed h = tt
 picked_send rules steady (Placed w f) h = tt
 picked_send rules steady (Forward n w k x b v) h = pick_chosen rules steady x b v h

@@ -1,7 +1,6 @@
 -- What Maglev picks is what a slot names.
-use Rattle.std.proofs.Common.{◌≡◌, ℕ, List, [], Option, Some, None, true, refl, sym, ap, ◌∙◌, subst}
+use Rattle.std.proofs.Common.{◌≡◌, ℕ, List, Option, Some, None, true, refl, sym, ap, ◌∙◌}
 use Rattle.five_tuple.specs.declared.Flow.{Flow}
-use Rattle.pool_versions.specs.declared.backend.Backend.{Backend}
 use Rattle.pool_versions.specs.Pool.{Pools, up_of}
 use Rattle.maglev_table.specs.Sizes.{is_table_size}
 use Rattle.selection.specs.Picks.{table_pick, slot_of_flow}
@@ -9,7 +8,7 @@ use Rattle.selection.proofs.Tables.{listed_table_is_even}
 use Rattle.forwarder.specs.Serving.{Candidates, Pick}
 use Rattle.cluster_node.specs.Rules.{Rules}
 use Rattle.cluster_node.specs.declared.outcomes.Outcome.{Outcome}
-use Rattle.cluster_core.specs.Headline.{picked, pick_under, Sent, Agreement}
+use Rattle.cluster_core.specs.Headline.{picked, pick_under, Agreement}
 use Rattle.cluster_core.specs.Tables.{named_in, named_under, TablesDiffer, TablesAreEven}
 
 picked_named : (plain : List ℕ → ℕ) (size : ℕ) (pick : Pick) → ((ups : Candidates) (x : Flow) → pick ups x 0 ≡ table_pick plain size ups x) → (x : Flow) (o : Option Candidates) → picked pick x o ≡ named_in plain size o (slot_of_flow plain size x)

@@ -6,7 +6,7 @@ use Rattle.connection_table.specs.declared.table.Entry.{Entry}
 use Rattle.connection_table.specs.Touches.{standing}
 use Rattle.forwarder.specs.Serving.{Candidates, Pick, is_up, touches, told}
 use Rattle.cluster_node.specs.declared.serving.Item.{Item}
-use Rattle.cluster_node.specs.Book.{Line, next_item, servings}
+use Rattle.cluster_node.specs.Book.{next_item, servings}
 use Rattle.cluster_node.specs.declared.packets.Packet.{Packet}
 use Rattle.cluster_node.specs.declared.events.Event.{Event}
 use Rattle.cluster_node.specs.declared.events.Event.TheVariants.{Install, Arrive, Serve, Restart}

@@ -10,3 +10,4 @@ pub mod Tables
 pub mod Apart
 pub mod Blocks
 pub mod Laws
+pub mod Histories

@@ -1,7 +1,5 @@
 -- How many packets came and went, read off the outcomes.
-use Rattle.std.specs.Prelude.{◌≡◌, ℕ, ◌+◌, Bool, true, false, List, [], ◌∷◌, Option, Some, None}
-use Rattle.cluster_node.specs.declared.packets.Packet.{Packet}
-use Rattle.cluster_node.specs.declared.packets.Packet.TheVariants.{Good, Bad}
+use Rattle.std.specs.Prelude.{ℕ, ◌+◌, List, [], ◌∷◌}
 use Rattle.cluster_node.specs.declared.outcomes.Outcome.{Outcome}
 use Rattle.cluster_node.specs.declared.outcomes.Outcome.TheVariants.{Installed, Placed, Forward, Dropped, Restarted, Refused}
 use Rattle.cluster_node.specs.declared.outcomes.Cause.{Cause}

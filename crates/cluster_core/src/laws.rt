@@ -1,6 +1,7 @@
 //! What a worker's servings depend on: its own packets and servings, and the versions installed on its node. So the
 //! servings of different workers may be written one worker after another. The clauses are the laws; the bodies do nothing.
 ghost use Rattle.cluster_core.specs.Laws.{ServesDependOnOwnLines, ServesStandInBlocks, BlocksLeaveOthers, ServesFollowPackets};
+ghost use Rattle.cluster_core.specs.Histories.{ServesWhatWasPlaced, SendsWhatWaitsFirst, SendsFollowPicks, HistoriesCount};
 
 /// The outcome of a serving is the same after every two records with the same lines of that worker and the same versions
 /// installed on its node; servings of one worker after one another come to what its own lines say; and they leave the
@@ -15,4 +16,19 @@ pub fn servings_stand_apart()
 /// its forwarder does after its own servings.
 pub fn servings_follow_packets()
     ensures { ServesFollowPackets }
+{}
+
+/// In every record whose outcomes are the verdicts no worker serves more than was placed on it, and what is sent is the
+/// packet that waits first for the worker.
+pub fn queues_are_in_order()
+    ensures sound { ServesWhatWasPlaced }
+    ensures first { SendsWhatWaitsFirst }
+{}
+
+/// The same of a history, which has the oldest event in front: for a scheme to which the turn doesn't matter each packet
+/// that was sent went to the pick under its origin, as `explain` asks; and its outcomes put into the queues, and take out,
+/// what its record says, as `totals` asks.
+pub fn histories_are_told()
+    ensures picked { SendsFollowPicks }
+    ensures counts { HistoriesCount }
 {}

@@ -23,7 +23,9 @@ pub use counts::Totals;
 pub use explaining::{Verdict, explain};
 pub use fixed::{Setup, SetupFault};
 pub use headline::replay_maglev;
-pub use laws::{servings_follow_packets, servings_stand_apart};
+pub use laws::{
+    histories_are_told, queues_are_in_order, servings_follow_packets, servings_stand_apart,
+};
 pub use reading::read_packet;
 pub use replaying::replay;
 pub use running::Run;

@@ -7,7 +7,8 @@ ghost use Rattle.cluster_node.specs.declared.events.Said.{Said};
 ghost use Rattle.cluster_node.specs.Record.{fresh, prepared_at, newest_of, lines_of};
 ghost use Rattle.cluster_core.specs.Setups.{Fixed, rules_for};
 ghost use Rattle.cluster_core.specs.RunView.{RunView};
-ghost use Rattle.cluster_core.specs.Runs.{prepared_with, prepared_for, is_known_in, newest_at, waiting_on, waiting_by, RunStands, RunGoes};
+ghost use Rattle.cluster_core.specs.Runs.{prepared_with, prepared_for, is_known_in, newest_at, waiting_on, newest_said, waiting_said, RunStands, RunGoes};
+ghost use Rattle.cluster_core.specs.Totals.{came_of, went_of};
 ghost use Rattle.cluster_node.specs.Records.{WasRead, node_of, of_node};
 
 use crate::fixed::Setup;
@@ -141,6 +142,13 @@ impl<S: Scheme, T: ConnTable> Run<S, T> {
 
     /// A node's newest version, 0 where there is none.
     pub fn newest(&self, node: u16) -> u32
+        ensures kept { result ≡ newest_at (slice_get self.now.nodes node) }
+        ensures said { (rules : Rules) → (past : List Said) → RunStands (λ s z. S.pick s z) rules past self.now → result ≡ newest_said rules node past }
+    {
+        self.newest_of(node)
+    }
+
+    fn newest_of(&self, node: u16) -> u32
         ensures { result ≡ newest_at (slice_get self.now.nodes node) }
     {
         match self.nodes.get(node as usize) {
@@ -151,6 +159,13 @@ impl<S: Scheme, T: ConnTable> Run<S, T> {
 
     /// How many packets wait at a worker of a node.
     pub fn waiting(&self, node: u16, worker: u16) -> usize
+        ensures kept { result ≡ waiting_on worker (slice_get self.now.nodes node) }
+        ensures said { (rules : Rules) → (past : List Said) → RunStands (λ s z. S.pick s z) rules past self.now → result ≡ waiting_said rules node worker past }
+    {
+        self.waiting_of(node, worker)
+    }
+
+    fn waiting_of(&self, node: u16, worker: u16) -> usize
         ensures { result ≡ waiting_on worker (slice_get self.now.nodes node) }
     {
         match self.nodes.get(node as usize) {
@@ -158,6 +173,12 @@ impl<S: Scheme, T: ConnTable> Run<S, T> {
             None => 0,
         }
     }
+
+    /// What left the queues is no more than what was placed, by every record for which the run stands. The body does
+    /// nothing.
+    pub fn keeps_balance(&self)
+        ensures { (rules : Rules) → (past : List Said) → RunStands (λ s z. S.pick s z) rules past self.now → went_of past ≤ came_of past }
+    {}
 
     /// One event, after all before it, with the packet that it names if it is an arrival. The setup and the catalogue are
     /// the same in every step. Once memory was refused it is refused from then on.

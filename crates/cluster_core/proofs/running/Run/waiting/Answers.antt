@@ -1,0 +1,6 @@
+use Rattle.std.proofs.Common.{◌∙◌}
+use Rattle.cluster_core.proofs.Asked.{waiting_is}
+use Rattle.cluster_core.proofs.running.Run.waiting.Goals as goal
+
+pub returns-clause-said : goal.returns-clause-said
+returns-clause-said g c = λ rules past st. c.waiting_of.ensures ∙ waiting_is (λ s z. g.S.Scheme.pick s z) rules past c.args.self.now st c.args.node c.args.worker
