@@ -82,7 +82,10 @@ def run_refused(library, case, refused):
 
 
 def refuse_each(library, case, behind):
-    """Refuses one growth after the other until a run has no more. Gives how many runs were as they must be, and were not."""
+    """Refuses one growth after the other until a run has no more. Gives how many runs were as they must be, and were not.
+
+    Where no run says Memory nothing was refused at all, which counts as a failure.
+    """
     name = case.arguments[0]
     passed = failed = faults = 0
     for number in range(1, MOST_GROWTHS):
@@ -96,7 +99,7 @@ def refuse_each(library, case, behind):
         if not was_refused:
             later = " with all behind it" if behind else ""
             print(f"{name}: {number - 1} growths, each refused{later}: {faults} times Memory")
-            return passed, failed
+            return (passed, failed) if faults else (passed, failed + 1)
     print(f"FAILED {name}: more than {MOST_GROWTHS} growths")
     return passed, failed + 1
 
