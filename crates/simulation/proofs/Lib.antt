@@ -4,3 +4,4 @@ pub mod Joined
 pub mod Intakes
 pub mod Going
 pub mod Followed
+pub mod Staged

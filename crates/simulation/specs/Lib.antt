@@ -6,3 +6,4 @@ pub mod Wires
 pub mod Simulated
 pub mod Going
 pub mod Following
+pub mod Stages

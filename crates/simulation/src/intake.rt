@@ -3,6 +3,7 @@ ghost use Rattle.std.specs.Prelude.{◌≡◌, ◌<◌, ◌≤◌, ◌+◌, None
 ghost use Rattle.pcap_file.specs.Format.{Packet as Record, packet, max_records};
 ghost use Rattle.simulation.specs.Intake.{Taking, Seen, SeenMore};
 
+use ip_headers::Link;
 use pcap_file::{Ending, Frame, Head, PcapFault, Source, read_record_into};
 use std::alloc::Global;
 use std::marker::Model;
@@ -42,6 +43,20 @@ impl Intake {
             given: 0,
             ended: None,
         }
+    }
+
+    // What the records' bytes begin with.
+    pub(crate) fn link(&self) -> Link
+        ensures { result ≡ self.now.head.link }
+    {
+        self.head.link
+    }
+
+    // The record read last.
+    pub(crate) fn frame(&self) -> &Frame
+        ensures { packet result.now ≡ self.now.record_read }
+    {
+        &self.frame
     }
 
     // Reads the next record, unless the input has ended.

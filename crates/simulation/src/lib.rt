@@ -8,6 +8,7 @@ mod plan;
 mod playing;
 mod relaying;
 mod sending;
+mod staging;
 
 pub use fault::SimulationFault;
 pub use plan::Plan;

@@ -1,0 +1,141 @@
+-- How a run moves as events come behind it.
+use Rattle.std.proofs.Common.{◌≡◌, ◌⊎◌, ◌≢◌, ℕ, zero, suc, ◌+◌, ◌*◌, ◌<◌, ◌≤◌, Bool, true, false, List, [], ◌∷◌, ◌++◌, length, drop, reverse, Option, Some, None, Result, Ok, Err, refl, sym, ap, ◌∙◌, subst, arith, append_assoc, append-nil, drop_at, slice_get, inl, inr, OnOk, IfErr}
+use Rattle.std.proofs.lemmas.List.{reverse-append, reverse-reverse}
+use Rattle.std.specs.Io.KnownBytes.{Appends}
+use Rattle.ip_headers.specs.declared.Link.{Link}
+use Rattle.pcap_file.specs.Format.{Packet as Record}
+use Rattle.cluster_node.specs.declared.events.Event.{Event}
+use Rattle.cluster_node.specs.declared.events.Event.TheVariants.{Install, Arrive, Serve, Restart}
+use Rattle.cluster_node.specs.declared.events.Said.{Said}
+use Rattle.cluster_node.specs.declared.packets.Packet.{Packet}
+use Rattle.cluster_node.specs.Records.{Judged}
+use Rattle.course.specs.Cluster.{Cluster}
+use Rattle.course.specs.Course.{Course}
+use Rattle.course.specs.Steps.{World, deliver, after, names_records}
+use Rattle.course.proofs.Quiet.{is_arrival, Quiet, Calm, Arrived, deliver_arrives, apart_calm}
+use Rattle.course.proofs.Told.{deliver_told, after_told}
+use Rattle.waiting_frames.specs.Mirrors.{Mirrors, ComesAs, IsNoArrival}
+use Rattle.simulation.specs.declared.fault.SimulationFault.{SimulationFault}
+use Rattle.simulation.specs.declared.fault.SimulationFault.TheVariants.{Write}
+use Rattle.simulation.specs.Plans.{Planned}
+use Rattle.simulation.specs.Sent.{Sending, sent, records_text, BeginsWith}
+use Rattle.simulation.specs.Simulated.{traffic_of}
+use Rattle.simulation.specs.Going.{onto}
+use Rattle.simulation.specs.Following.{NoArrivals, ArrivesFirst, CanSettle}
+use Rattle.simulation.specs.Stages.{Sound}
+use Rattle.simulation.proofs.Sends.{sent_append}
+use Rattle.simulation.proofs.Going.{begins_more, begins_whole, begins_behind, appends_behind, onto_reverse}
+
+-- a course went on with these events, the newest in front
+pub record Moved (c d : Course) : Type 0 where
+  pub news : List Said
+  pub is : d.past ≡ news ++ c.past
+
+pub history_moved : (c d : Course) (m : Moved c d) → reverse d.past ≡ reverse c.past ++ reverse m.news
+history_moved c d m = ap reverse m.is ∙ reverse-append m.news c.past
+
+pub events_of : (c d : Course) (m : Moved c d) (h i : List Said) (n : ℕ) → h ≡ reverse c.past → i ≡ reverse d.past → n ≡ length h → drop n i ≡ reverse m.news
+events_of c d m h i n e f k =
+    ap (λ (l : List Said). drop n l) (f ∙ history_moved c d m)
+    ∙ drop_at (reverse c.past) (reverse m.news) n (sym (k ∙ ap length e))
+
+onto_moved : (c d : Course) (m : Moved c d) → onto c.past (reverse m.news) ≡ d.past
+onto_moved c d m = onto_reverse c.past (reverse m.news) ∙ ap (λ (l : List Said). l ++ c.past) (reverse-reverse m.news) ∙ sym m.is
+
+pub can_settle : (k : Cluster) (plan : Planned) (link : Link) (all : List Record) (c d : Course) (m : Moved c d) (events : List Said) (qs : List (List Record)) (begun out : Option (List ℕ))
+    → Sound k plan link all c qs begun out → Judged k.judge d.past → events ≡ reverse m.news → CanSettle all k c.past events qs
+can_settle k plan link all c d m events qs begun out s j e = record {
+  workers = s.workers;
+  room = s.room;
+  orderly = s.orderly;
+  judged = subst (λ (l : List Said). Judged k.judge l) (sym (ap (λ (l : List Said). onto c.past l) e ∙ onto_moved c d m)) j;
+  mirrors = s.mirrors;
+}
+
+sent_moved : (plan : Planned) (link : Link) (all : List Record) (c d : Course) (m : Moved c d) (events : List Said) → events ≡ reverse m.news
+    → sent (traffic_of plan link all) (reverse d.past) ≡ sent (traffic_of plan link all) (reverse c.past) ++ sent (traffic_of plan link all) events
+sent_moved plan link all c d m events e =
+    ap (sent (traffic_of plan link all)) (history_moved c d m ∙ ap (λ (l : List Said). reverse c.past ++ l) (sym e)) ∙ sent_append (traffic_of plan link all) (reverse c.past) events
+
+sound_moved : (k : Cluster) (plan : Planned) (link : Link) (all : List Record) (c d : Course) (m : Moved c d) (events : List Said) (qs ps : List (List Record)) (begun out new : Option (List ℕ))
+    → Sound k plan link all c qs begun out → Judged k.judge d.past → events ≡ reverse m.news → length ps ≡ length qs
+    → Mirrors all k (onto c.past events) ps × Appends out new (records_text (sent (traffic_of plan link all) events)) → Sound k plan link all d ps begun new
+sound_moved k plan link all c d m events qs ps begun out new s j e n h = record {
+  workers = s.workers;
+  room = omega (arith, s.room, n);
+  orderly = s.orderly;
+  judged = j;
+  mirrors = subst (λ (l : List Said). Mirrors all k l ps) (ap (λ (l : List Said). onto c.past l) e ∙ onto_moved c d m) h.0;
+  sent = subst (λ (l : List Sending). Appends begun new (records_text l)) (sym (sent_moved plan link all c d m events e))
+      (appends_behind begun out new (sent (traffic_of plan link all) (reverse c.past)) (sent (traffic_of plan link all) events) s.sent h.1);
+}
+
+pub sound_after : (k : Cluster) (plan : Planned) (link : Link) (all : List Record) (c d : Course) (m : Moved c d) (events : List Said) (qs ps : List (List Record)) (begun out new : Option (List ℕ)) (r : Result (Unit {0}) SimulationFault)
+    → Sound k plan link all c qs begun out → Judged k.judge d.past → events ≡ reverse m.news → length ps ≡ length qs
+    → OnOk r (Mirrors all k (onto c.past events) ps × Appends out new (records_text (sent (traffic_of plan link all) events))) → OnOk r (Sound k plan link all d ps begun new)
+sound_after k plan link all c d m events qs ps begun out new (Ok u) s j e n h = sound_moved k plan link all c d m events qs ps begun out new s j e n h
+sound_after k plan link all c d m events qs ps begun out new (Err f) s j e n h = tt
+
+pub cut_before : (k : Cluster) (plan : Planned) (link : Link) (all : List Record) (c d : Course) (m : Moved c d) (qs : List (List Record)) (begun out : Option (List ℕ))
+    → Sound k plan link all c qs begun out → BeginsWith begun out (sent (traffic_of plan link all) (reverse d.past))
+cut_before k plan link all c d m qs begun out s =
+    begins_more begun out (sent (traffic_of plan link all) (reverse c.past)) (sent (traffic_of plan link all) (reverse m.news)) (sent (traffic_of plan link all) (reverse d.past))
+    (sent_moved plan link all c d m (reverse m.news) refl) (begins_whole begun out (sent (traffic_of plan link all) (reverse c.past)) s.sent)
+
+pub cut_after : (k : Cluster) (plan : Planned) (link : Link) (all : List Record) (c d : Course) (m : Moved c d) (events : List Said) (qs : List (List Record)) (begun out new : Option (List ℕ)) (r : Result (Unit {0}) SimulationFault)
+    → Sound k plan link all c qs begun out → events ≡ reverse m.news
+    → IfErr r (λ f. f ≢ Write → BeginsWith out new (sent (traffic_of plan link all) events)) → IfErr r (λ f. f ≢ Write → BeginsWith begun new (sent (traffic_of plan link all) (reverse d.past)))
+cut_after k plan link all c d m events qs begun out new (Ok u) s e h = tt
+cut_after k plan link all c d m events qs begun out new (Err f) s e h = λ n.
+    subst (λ (l : List Sending). BeginsWith begun new l) (sym (sent_moved plan link all c d m events e))
+    (begins_behind begun out new (sent (traffic_of plan link all) (reverse c.past)) (sent (traffic_of plan link all) events) s.sent (h n))
+
+quiet_event : (e : Event) → is_arrival e ≡ false → IsNoArrival e
+quiet_event (Install n v) h = tt
+quiet_event (Arrive n i marks) h = let bad : true ≡ false = h in cc
+quiet_event (Serve n w v r) h = tt
+quiet_event (Restart n) h = tt
+
+no_arrivals : (a b : List Said) → NoArrivals a → NoArrivals b → NoArrivals (a ++ b)
+no_arrivals [] b p q = q
+no_arrivals (s ∷ a) b p q = (p.0, no_arrivals a b p.1 q)
+
+quiet_history : (a : List Said) → Quiet a → NoArrivals (reverse a)
+quiet_history [] q = tt
+quiet_history (s ∷ a) q = subst NoArrivals (sym (reverse-append (s ∷ []) a)) (no_arrivals (reverse a) (s ∷ []) (quiet_history a q.1) (quiet_event s.event q.0, tt))
+
+comes : (all : List Record) (r : Record) (k n : ℕ) (marks : List Bool) (e : Event) → e ≡ Arrive n k marks → slice_get all k ≡ Some r → ComesAs all r e
+comes all r k n marks e i h = subst (λ (x : Event). ComesAs all r x) (sym i) h
+
+-- a packet that is delivered arrives first, if at all
+pub record Arriving (all : List Record) (r : Record) (c d : Course) : Type 0 where
+  pub moved : Moved c d
+  pub first : ArrivesFirst all r (reverse moved.news)
+
+arriving_of : (all : List Record) (r : Record) (k : ℕ) (c d : Course) → slice_get all k ≡ Some r → ((d.past ≡ c.past) ⊎ Arrived k c.past d.past) → Arriving all r c d
+arriving_of all r k c d h (inl e) = record { moved = record { news = []; is = e }; first = tt }
+arriving_of all r k c d h (inr a) = record {
+  moved = record { news = a.later ++ a.arrival ∷ []; is = a.is ∙ sym (append_assoc a.later (a.arrival ∷ []) c.past) };
+  first = subst (λ (l : List Said). ArrivesFirst all r l) (sym (reverse-append a.later (a.arrival ∷ []))) (comes all r k a.node a.marks a.arrival.event a.event h, quiet_history a.later a.quiet);
+}
+
+pub delivered : (w : World) (k : ℕ) (p : Packet) (all : List Record) (r : Record) (c d : Course) → d ≡ deliver w k p c → slice_get all k ≡ Some r → Arriving all r c d
+delivered w k p all r c d e h = subst (λ (x : Course). Arriving all r c x) (sym e) (arriving_of all r k c (deliver w k p c) h (deliver_arrives w k p c))
+
+pub delivered_told : (w : World) (j : Cluster) (k : ℕ) (p : Packet) (c d : Course) → w.cluster ≡ j → d ≡ deliver w k p c → Judged j.judge c.past → Judged j.judge d.past
+delivered_told w j k p c d i e h =
+    subst (λ (x : Cluster). Judged x.judge d.past) i (subst (λ (x : Course). Judged w.cluster.judge x.past) (sym e) (deliver_told w k p c (subst (λ (x : Cluster). Judged x.judge c.past) (sym i) h)))
+
+-- a step that names no record brings no arrival
+pub record Quietly (c d : Course) : Type 0 where
+  pub moved : Moved c d
+  pub quiet : NoArrivals (reverse moved.news)
+
+pub stepped : (w : World) (s : _) (c d : Course) → names_records s ≡ false → d ≡ after w s c → Quietly c d
+stepped w s c d h e =
+    let calm : Calm c.past (after w s c).past = apart_calm w s c h in
+    subst (λ (x : Course). Quietly c x) (sym e) (record { moved = record { news = calm.news; is = calm.is }; quiet = quiet_history calm.news calm.quiet })
+
+pub stepped_told : (w : World) (j : Cluster) (s : _) (c d : Course) → w.cluster ≡ j → d ≡ after w s c → Judged j.judge c.past → Judged j.judge d.past
+stepped_told w j s c d i e h =
+    subst (λ (x : Cluster). Judged x.judge d.past) i (subst (λ (x : Course). Judged w.cluster.judge x.past) (sym e) (after_told w s c (subst (λ (x : Cluster). Judged x.judge c.past) (sym i) h)))

@@ -1,0 +1,39 @@
+-- A run record by record, between two of its moves.
+use Rattle.std.specs.Prelude.{◌≡◌, ◌≤◌, ℕ, ◌*◌, true, List, [], ◌++◌, length, Option, is_some}
+use Rattle.ip_headers.specs.declared.Link.{Link}
+use Rattle.pcap_file.specs.Format.{Packet as Record}
+use Rattle.spreader.specs.Choices.{Choice}
+use Rattle.scenario_steps.specs.declared.Step.{Step}
+use Rattle.cluster_node.specs.Records.{Judged}
+use Rattle.course.specs.Cluster.{Cluster, Orderly}
+use Rattle.course.specs.Course.{Course}
+use Rattle.waiting_frames.specs.Mirrors.{Mirrors}
+use Rattle.simulation.specs.Plans.{Planned}
+use Rattle.simulation.specs.Intake.{Seen}
+use Rattle.simulation.specs.Keeping.{NamesAll, Holds}
+use Rattle.simulation.specs.Going.{Left, SentSoFar}
+use Rattle.simulation.specs.declared.staging.Stage.{Stage}
+
+-- where all the records are these: the queues of frames mirror the course, and behind the header the output got what was
+-- sent so far
+pub record Sound (cluster : Cluster) (plan : Planned) (link : Link) (all : List Record) (course : Course) (qs : List (List Record)) (begun out : Option (List ℕ)) : Type 0 where
+  pub workers : cluster.workers ≤ 16
+  pub room : cluster.nodes * 16 ≤ length qs
+  pub orderly : Orderly cluster
+  pub judged : Judged cluster.judge course.past
+  pub mirrors : Mirrors all cluster course.past qs
+  pub sent : SentSoFar plan link all course begun out
+
+-- where all the records are these: what is left to be done leads to the course of the whole plan
+pub record Going (cluster : Cluster) (choice : Choice) (plan : Planned) (link : Link) (all : List Record) (ss : List Step) (stage : Stage) (begun out : Option (List ℕ)) : Type 0 where
+  pub left : Left cluster choice plan link all ss stage.play
+  pub sound : Sound cluster plan link all stage.play stage.relay.waiting begun out
+  pub holds : Holds all plan.steps stage.play.read stage.kept
+
+-- with these steps left: some records were read, and whatever comes behind them, the run is going
+pub record Reached (cluster : Cluster) (choice : Choice) (plan : Planned) (text begun : Option (List ℕ)) (ss : List Step) (stage : Stage) (left out : Option (List ℕ)) : Type 0 where
+  pub seen : List Record
+  pub read : Seen text seen left stage.intake
+  pub place : stage.play.read ≡ length seen
+  pub named : NamesAll plan.steps stage.kept
+  pub going : (more : List Record) → (is_some stage.intake.ended ≡ true → more ≡ []) → Going cluster choice plan stage.intake.head.link (seen ++ more) ss stage begun out

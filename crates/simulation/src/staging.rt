@@ -1,0 +1,94 @@
+//! A run record by record.
+ghost use Rattle.std.specs.Prelude.{◌≡◌, ◌≢◌, ◌<◌, ◌≤◌, ◌+◌, ◌^◌, ◌∷◌, [], ℕ, List, Option, Some, false, length, drop, slice_get, reverse, IfOk, IfErr, OnOk};
+ghost use Rattle.std.specs.Io.KnownBytes.{Appends};
+ghost use Rattle.pcap_file.specs.Format.{Packet as Record, packet};
+ghost use Rattle.scenario_steps.specs.declared.Step.{Step};
+ghost use Rattle.course.specs.Steps.{World, SameChoice, deliver, after, names_records};
+ghost use Rattle.course.specs.Streams.{take_of};
+ghost use Rattle.course.specs.Room.{Counted};
+ghost use Rattle.simulation.specs.Plans.{planned};
+ghost use Rattle.simulation.specs.Sent.{packet_in, sent, BeginsWith};
+ghost use Rattle.simulation.specs.Simulated.{traffic_of};
+ghost use Rattle.simulation.specs.Going.{Shortened};
+ghost use Rattle.simulation.specs.Stages.{Sound, Going, Reached};
+
+use crate::fault::SimulationFault;
+use crate::intake::Intake;
+use crate::keeping::Kept;
+use crate::plan::Plan;
+use crate::relaying::Relay;
+use crate::sending::Wire;
+use cluster_node::Said;
+use course::{Core, Play};
+use pcap_file::{Sink, Source};
+use scenario_steps::Step;
+use spreader::Spread;
+use std::alloc::Global;
+
+/// The course so far, the frames that wait, the records that come again, and those that are read.
+#[derive(Drop)]
+pub(crate) struct Stage {
+    play: Play,
+    relay: Relay,
+    kept: Kept,
+    intake: Intake,
+}
+
+// The events of a history behind so many.
+fn behind(history: &[Said], count: usize) -> &[Said]
+    ensures { result.now ≡ drop count history.entry.now }
+{
+    &history[count.min(history.len())..]
+}
+
+impl Stage {
+    // How frames are read, and the nodes' addresses.
+    fn wire<'a>(&self, plan: Plan<'a>) -> Wire<'a>
+        ensures { result ≡ record { nodes = plan.entry.nodes; link = self.now.intake.head.link; check = plan.entry.check } }
+    {
+        Wire {
+            nodes: plan.nodes,
+            link: self.intake.link(),
+            check: plan.check,
+        }
+    }
+
+    // Delivers the record that was read last, and sends what is sent then.
+    fn deliver<C: Core, P: Spread, O: Sink>(
+        &mut self,
+        alloc: Global,
+        core: &mut C,
+        setup: &C::Setup,
+        spread: &P,
+        plan: Plan<'_>,
+        place: u32,
+        output: &mut O,
+    ) -> Result<(), SimulationFault>
+        requires stands { C.stands setup.now self.old.play.past core.old }
+        requires live { P.live spread.now ≡ self.old.play.live }
+        requires room { self.old.play.unrouted + 1 < 2 ^ 64 }
+        requires many { self.old.play.nth + 1 < 2 ^ 64 }
+        ensures stands { OnOk result (C.stands setup.now self.new.play.past core.new) }
+        ensures live { OnOk result (self.new.play.live ≡ self.old.play.live) }
+        ensures kept { self.new.kept ≡ self.old.kept }
+        ensures intake { (self.new.intake.given ≡ self.old.intake.given) × (self.new.intake.ended ≡ self.old.intake.ended) × (self.new.intake.head ≡ self.old.intake.head) }
+        ensures play { OnOk result ((w : World) → w.cluster ≡ C.cluster setup.now → SameChoice w.choice (P.choice spread.now) → self.new.play ≡ deliver w place (packet_in self.old.intake.head.link plan.entry.check self.old.intake.record_read) self.old.play) }
+        ensures sound { (all : List Record) (begun : Option (List ℕ)) →
+            Sound (C.cluster setup.now) (planned plan.entry) self.old.intake.head.link all self.old.play self.old.relay.waiting begun (O.contents output.old) → slice_get all place ≡ Some self.old.intake.record_read →
+            OnOk result (Sound (C.cluster setup.now) (planned plan.entry) self.old.intake.head.link all self.new.play self.new.relay.waiting begun (O.contents output.new)) }
+        ensures cut { (w : World) (all : List Record) (begun : Option (List ℕ)) → w.cluster ≡ C.cluster setup.now → SameChoice w.choice (P.choice spread.now) →
+            Sound (C.cluster setup.now) (planned plan.entry) self.old.intake.head.link all self.old.play self.old.relay.waiting begun (O.contents output.old) → slice_get all place ≡ Some self.old.intake.record_read →
+            IfErr result (λ fault. fault ≢ SimulationFault.Write → BeginsWith begun (O.contents output.new) (sent (traffic_of (planned plan.entry) self.old.intake.head.link all) (reverse (deliver w place (packet_in self.old.intake.head.link plan.entry.check self.old.intake.record_read) self.old.play).past))) }
+    {
+        let wire = self.wire(plan);
+        let before = self.play.history().len();
+        let packet = wire.packet(self.intake.frame());
+        match self.play.deliver(core, setup, spread, place, packet) {
+            Ok(()) => {}
+            Err(_) => return Err(SimulationFault::Memory),
+        }
+        let events = behind(self.play.history(), before);
+        self.relay
+            .settle_delivered(alloc, &wire, events, &mut self.intake, output)
+    }
+}
