@@ -1,5 +1,5 @@
 //! The records of a capture, read one by one.
-ghost use Rattle.std.specs.Prelude.{◌≡◌, ◌<◌, ◌≤◌, ◌+◌, None, IfOk, IfErr, OnOk, List, ℕ, Option, is_some};
+ghost use Rattle.std.specs.Prelude.{◌≡◌, ◌<◌, ◌≤◌, ◌+◌, true, false, None, IfOk, IfErr, OnOk, List, ℕ, Option, is_some};
 ghost use Rattle.pcap_file.specs.Format.{Packet as Record, packet, max_records};
 ghost use Rattle.simulation.specs.Intake.{Taking, Seen, SeenMore};
 
@@ -52,6 +52,13 @@ impl Intake {
         self.head.link
     }
 
+    // How many were read.
+    pub(crate) fn given(&self) -> u32
+        ensures { result ≡ self.now.given }
+    {
+        self.given
+    }
+
     // The record read last.
     pub(crate) fn frame(&self) -> &Frame
         ensures { packet result.now ≡ self.now.record_read }
@@ -63,7 +70,9 @@ impl Intake {
     pub(crate) fn next<I: Source>(&mut self, input: &mut I) -> Result<bool, PcapFault>
         ensures head { self.new.head ≡ self.old.head }
         ensures more { (text : Option (List ℕ)) (seen : List Record) → Seen text seen (I.left input.old) self.old → IfOk result (λ more. SeenMore more text seen (I.left input.new) self.new) }
-        ensures few { OnOk result (self.new.given ≤ max_records) }
+        ensures same { IfOk result (λ more. more ≡ true → (self.new.ended ≡ self.old.ended) × (self.new.given ≡ self.old.given + 1)) }
+        ensures none { IfOk result (λ more. more ≡ false → self.new.given ≡ self.old.given) }
+        ensures few { self.new.given ≤ max_records }
     {
         if self.ended.is_some() {
             return Ok(false);

@@ -1,5 +1,5 @@
 //! A run record by record.
-ghost use Rattle.std.specs.Prelude.{◌≡◌, ◌≢◌, ◌<◌, ◌≤◌, ◌+◌, ◌^◌, ◌∷◌, [], ℕ, List, Option, Some, false, length, drop, slice_get, reverse, IfOk, IfErr, OnOk};
+ghost use Rattle.std.specs.Prelude.{◌≡◌, ◌≢◌, ◌<◌, ◌≤◌, ◌+◌, ◌^◌, ◌∷◌, [], ℕ, List, Option, Some, true, false, length, drop, slice_get, reverse, IfOk, IfErr, OnOk};
 ghost use Rattle.std.specs.Io.KnownBytes.{Appends};
 ghost use Rattle.pcap_file.specs.Format.{Packet as Record, packet};
 ghost use Rattle.scenario_steps.specs.declared.Step.{Step};
@@ -10,6 +10,8 @@ ghost use Rattle.simulation.specs.Plans.{planned};
 ghost use Rattle.simulation.specs.Sent.{packet_in, sent, BeginsWith};
 ghost use Rattle.simulation.specs.Simulated.{traffic_of};
 ghost use Rattle.simulation.specs.Going.{Shortened};
+ghost use Rattle.simulation.specs.Intake.{Seen, SeenMore};
+ghost use Rattle.simulation.specs.Keeping.{NamesAll, Holds};
 ghost use Rattle.simulation.specs.Stages.{Sound, Going, Reached};
 
 use crate::fault::SimulationFault;
@@ -90,5 +92,69 @@ impl Stage {
         let events = behind(self.play.history(), before);
         self.relay
             .settle_delivered(alloc, &wire, events, &mut self.intake, output)
+    }
+
+    // A step that names no record.
+    fn apart<C: Core, P: Spread, O: Sink>(
+        &mut self,
+        alloc: Global,
+        core: &mut C,
+        setup: &C::Setup,
+        spread: &mut P,
+        plan: Plan<'_>,
+        step: &Step,
+        output: &mut O,
+    ) -> Result<(), SimulationFault>
+        requires stands { C.stands setup.now self.old.play.past core.old }
+        requires live { P.live spread.old ≡ self.old.play.live }
+        ensures stands { OnOk result (C.stands setup.now self.new.play.past core.new) }
+        ensures live { OnOk result (P.live spread.new ≡ self.new.play.live) }
+        ensures choice { SameChoice (P.choice spread.old) (P.choice spread.new) }
+        ensures kept { self.new.kept ≡ self.old.kept }
+        ensures intake { self.new.intake ≡ self.old.intake }
+        ensures play { OnOk result ((w : World) → w.cluster ≡ C.cluster setup.now → names_records step.now ≡ false → self.new.play ≡ after w step.now self.old.play) }
+        ensures sound { (all : List Record) (begun : Option (List ℕ)) → names_records step.now ≡ false →
+            Sound (C.cluster setup.now) (planned plan.entry) self.old.intake.head.link all self.old.play self.old.relay.waiting begun (O.contents output.old) →
+            OnOk result (Sound (C.cluster setup.now) (planned plan.entry) self.old.intake.head.link all self.new.play self.new.relay.waiting begun (O.contents output.new)) }
+        ensures cut { (w : World) (all : List Record) (begun : Option (List ℕ)) → w.cluster ≡ C.cluster setup.now → names_records step.now ≡ false →
+            Sound (C.cluster setup.now) (planned plan.entry) self.old.intake.head.link all self.old.play self.old.relay.waiting begun (O.contents output.old) →
+            IfErr result (λ fault. fault ≢ SimulationFault.Write → BeginsWith begun (O.contents output.new) (sent (traffic_of (planned plan.entry) self.old.intake.head.link all) (reverse (after w step.now self.old.play).past))) }
+    {
+        let wire = self.wire(plan);
+        let before = self.play.history().len();
+        match self.play.step_apart(alloc, core, setup, spread, step) {
+            Ok(()) => {}
+            Err(_) => return Err(SimulationFault::Memory),
+        }
+        let events = behind(self.play.history(), before);
+        self.relay.settle_all(alloc, &wire, events, output)
+    }
+
+    // Reads a record, and keeps it where a step delivers it again.
+    fn read_one<I: Source>(
+        &mut self,
+        alloc: Global,
+        input: &mut I,
+    ) -> Result<bool, SimulationFault>
+        ensures play { self.new.play ≡ self.old.play }
+        ensures relay { self.new.relay ≡ self.old.relay }
+        ensures head { self.new.intake.head ≡ self.old.intake.head }
+        ensures more { (text : Option (List ℕ)) (seen : List Record) → Seen text seen (I.left input.old) self.old.intake → IfOk result (λ more. SeenMore more text seen (I.left input.new) self.new.intake) }
+        ensures same { IfOk result (λ more. more ≡ true → (self.new.intake.ended ≡ self.old.intake.ended) × (self.new.intake.given ≡ self.old.intake.given + 1)) }
+        ensures none { IfOk result (λ more. more ≡ false → (self.new.intake.given ≡ self.old.intake.given) × (self.new.kept ≡ self.old.kept)) }
+        ensures named { (ss : List Step) → NamesAll ss self.old.kept → OnOk result (NamesAll ss self.new.kept) }
+        ensures holds { (all : List Record) (ss : List Step) → NamesAll ss self.old.kept → Holds all ss self.old.intake.given self.old.kept →
+            IfOk result (λ more. more ≡ true → slice_get all self.old.intake.given ≡ Some self.new.intake.record_read → Holds all ss (self.old.intake.given + 1) self.new.kept) }
+        ensures unwritten { IfErr result (λ fault. fault ≢ SimulationFault.Write) }
+    {
+        let place = self.intake.given();
+        match self.intake.next(input) {
+            Ok(true) => {
+                self.kept.note(alloc, place, self.intake.frame())?;
+                Ok(true)
+            }
+            Ok(false) => Ok(false),
+            Err(fault) => Err(SimulationFault::Capture(fault)),
+        }
     }
 }

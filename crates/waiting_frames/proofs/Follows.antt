@@ -1,6 +1,6 @@
 -- The frames that wait stay those of the packets that wait, event by event.
-use Rattle.std.proofs.Common.{◌≡◌, ℕ, ◌+◌, ◌*◌, ◌<◌, ◌≤◌, Bool, true, false, List, [], ◌∷◌, ◌++◌, length, drop, map, zero, suc, Option, Some, None, refl, sym, ap, ◌∙◌, subst, arith}
-use Rattle.std.specs.Prelude.{slice_get, ◌==◌, ◌&&◌, nat_lt, if◌then◌else◌, option_map, IsSomeAnd}
+use Rattle.std.proofs.Common.{◌≡◌, ℕ, ◌+◌, ◌*◌, ◌<◌, ◌≤◌, Bool, true, false, List, [], ◌∷◌, ◌++◌, length, drop, map, zero, suc, Option, Some, None, refl, sym, ap, ◌∙◌, arith}
+use Rattle.std.specs.Prelude.{slice_get, ◌==◌, ◌&&◌, if◌then◌else◌, option_map, IsSomeAnd}
 use Rattle.std.proofs.lemmas.List.{map-append, drop-append-le, drop-map}
 use Rattle.five_tuple.specs.declared.Flow.{Flow}
 use Rattle.pool_versions.specs.declared.backend.Backend.{Backend}
@@ -16,10 +16,10 @@ use Rattle.cluster_node.specs.declared.outcomes.Outcome.{Outcome}
 use Rattle.cluster_node.specs.declared.outcomes.Outcome.TheVariants.{Installed, Placed, Forward, Dropped, Restarted, Refused}
 use Rattle.cluster_node.specs.Book.{Line, put, took, placed, taken_count, next_item}
 use Rattle.cluster_node.specs.Record.{accepted, lines_of, line_by}
-use Rattle.cluster_node.specs.Records.{Judged, node_of, of_node, lines_at}
+use Rattle.cluster_node.specs.Records.{node_of, of_node, lines_at}
 use Rattle.cluster_node.proofs.Books.{drop_at}
-use Rattle.course.specs.Cluster.{Cluster, Orderly, TakesFirst, queue_by}
-use Rattle.waiting_frames.specs.Queues.{queue_at, HasQueue, Moves, only_at, placed_by, put_by, arrived, settled_by, settled, taken_by, taken_out}
+use Rattle.course.specs.Cluster.{Cluster, TakesFirst, queue_by}
+use Rattle.waiting_frames.specs.Queues.{queue_at, HasQueue, Moves, placed_by, put_by, arrived, settled_by, settled, taken_by, taken_out}
 use Rattle.waiting_frames.specs.Mirrors.{Mirrors, CanFollow, ComesAs, IsNoArrival}
 
 -- one worker's records are those of its packets, by its lines

@@ -1,7 +1,7 @@
 -- Where the queues lie, and how they move when one of them changes.
-use Rattle.std.proofs.Common.{◌≡◌, ◌≢◌, ℕ, ◌+◌, ◌*◌, ◌<◌, ◌≤◌, Bool, true, false, List, [], ◌∷◌, length, drop, zero, suc, Option, Some, None, refl, sym, ap, ◌∙◌, subst, arith, ◌⊎◌, inl, inr, replicate}
+use Rattle.std.proofs.Common.{◌≡◌, ◌≢◌, ℕ, ◌+◌, ◌*◌, ◌<◌, ◌≤◌, Bool, true, false, List, [], length, zero, suc, Some, None, refl, sym, ap, ◌∙◌, arith, replicate}
 use Rattle.std.specs.Prelude.{slice_get, slice_set, slice_index_or, ◌==◌, ◌&&◌, nat_lt, if◌then◌else◌}
-use Rattle.std.proofs.lemmas.Bool.{eqb-true, lt-ltb, le-ltb, true≢false, eq-eqb, ne_eqb, ltb-true, ltb-false, eqb-false}
+use Rattle.std.proofs.lemmas.Bool.{eqb-true, lt-ltb, true≢false, eq-eqb, ltb-true, ltb-false, eqb-false}
 use Rattle.std.proofs.lemmas.List.{get_or-set_same, get_or-set_other, get_or_past, length-set}
 use Rattle.pcap_file.specs.Format.{Packet as Record}
 use Rattle.waiting_frames.specs.Queues.{queue_at, HasQueue, place_of, Moves, only_at, changed_at, first_at, emptied}

@@ -1,4 +1,4 @@
-use Rattle.std.proofs.Common.{refl, subst, sym, ap}
+use Rattle.std.proofs.Common.{◌≡◌, true, false, refl, subst, sym, ap}
 use Rattle.pcap_file.specs.Format.{packet}
 use Rattle.simulation.specs.Intake.{Taking, Seen}
 use Rattle.simulation.proofs.Intakes.{one_more, at_end, is_none_of}
@@ -17,5 +17,7 @@ returns-in-Err g c =
     record {
       head = ap (λ (x : Taking). x.head) c.self.view_is;
       more = λ text seen s. (at_end t text _ _ seen (packet c.read_record_into.new.frame) c.in-Err.ending none (subst (λ (x : Taking). Seen text seen (g.I.Source.left c.args.input.now) x) (sym c.self.view_is) s) c.in-Err.ensures.gave, refl);
+      same = λ e. let bad : false ≡ true = e in cc;
+      none = λ e. ap (λ (x : Taking). x.given) c.self.view_is;
       few = c.self.invariant;
     }
