@@ -146,3 +146,40 @@ come_one cluster choice seen seen' more p count i ss c s n first place lt e f g 
     ∙ sym (take_one cluster choice seen more p (count - (i + 1)) ss c e w refl)
     ∙ ap (λ (m : ℕ). run w (steps.Take m ∷ ss) c) (sym one)
     ∙ inv)
+
+-- a record that is lost, and one fewer is to be lost
+pub lose_one : (cluster : Cluster) (choice : Choice) (seen more : List Packet) (p : Packet) (k : ℕ) (ss : List Step) (c : Course) → c.read ≡ length seen
+    → (w : World) → w ≡ world_of cluster choice (seen ++ p ∷ more)
+    → run w (steps.Lose (suc k) ∷ ss) c ≡ run w (steps.Lose k ∷ ss) (record c { read = c.read + 1; lost = c.lost + 1 })
+unfolding run after
+lose_one cluster choice seen more p k ss c e w i =
+    let d : Course = record c { read = c.read + 1; lost = c.lost + 1 } in
+    let first : next_ones w (suc k) c ≡ p ∷ take k more = ap (λ (v : World). next_ones v (suc k) c) i ∙ next_come cluster choice seen (p ∷ more) (suc k) c e in
+    let moved : d.read ≡ length (seen ++ p ∷ []) = omega (arith, e, length-append seen (p ∷ [])) in
+    let rest : next_ones w k d ≡ take k more =
+    ap (λ (v : World). next_ones v k d) (i ∙ ap (λ (l : List Packet). world_of cluster choice l) (sym (append_assoc seen (p ∷ []) more)))
+    ∙ next_come cluster choice (seen ++ p ∷ []) more k d moved in
+    let n : length (next_ones w (suc k) c) ≡ 1 + length (next_ones w k d) = omega (arith, ap length first, ap length rest) in
+    ap (λ (x : Course). run w ss x) (lost_same c (length (next_ones w (suc k) c)) (length (next_ones w k d)) n)
+  where
+    lost_same : (c : Course) (a b : ℕ) → a ≡ 1 + b → (record c { read = c.read + a; lost = c.lost + a }) ≡ (record c { read = c.read + 1 + b; lost = c.lost + 1 + b })
+    lost_same c a b h = ap (λ (m : ℕ). record c { read = m; lost = c.lost + a }) (omega (arith, h)) ∙ ap (λ (m : ℕ). record c { read = c.read + 1 + b; lost = m }) (omega (arith, h))
+
+-- where none comes, nothing is left to be lost
+pub lose_ended : (cluster : Cluster) (choice : Choice) (seen : List Packet) (k : ℕ) (ss : List Step) (c : Course) → c.read ≡ length seen
+    → (w : World) → w ≡ world_of cluster choice (seen ++ [])
+    → run w (steps.Lose k ∷ ss) c ≡ run w ss c
+unfolding run after
+lose_ended cluster choice seen k ss c e w i =
+    let none : length (next_ones w k c) ≡ 0 = ap (λ (v : World). length (next_ones v k c)) i ∙ ap length (next_come cluster choice seen [] k c e ∙ take_nil k) in
+    ap (λ (x : Course). run w ss x) (lost_none c (length (next_ones w k c)) none)
+  where
+    lost_none : (c : Course) (a : ℕ) → a ≡ 0 → (record c { read = c.read + a; lost = c.lost + a }) ≡ c
+    lost_none c a h = ap (λ (m : ℕ). record c { read = m; lost = c.lost + a }) (omega (arith, h)) ∙ ap (λ (m : ℕ). record c { lost = m }) (omega (arith, h))
+
+pub lose_zero : (w : World) (k : ℕ) (ss : List Step) (c : Course) → k ≡ 0 → run w (steps.Lose k ∷ ss) c ≡ run w ss c
+unfolding run after
+lose_zero w k ss c e = ap (λ (m : ℕ). run w (steps.Lose m ∷ ss) c) e ∙ ap (λ (x : Course). run w ss x) (lost_nothing c)
+  where
+    lost_nothing : (c : Course) → (record c { read = c.read + 0; lost = c.lost + 0 }) ≡ c
+    lost_nothing c = ap (λ (m : ℕ). record c { read = m; lost = c.lost + 0 }) (omega arith) ∙ ap (λ (m : ℕ). record c { lost = m }) (omega arith)

@@ -5,3 +5,4 @@ pub mod Intakes
 pub mod Going
 pub mod Followed
 pub mod Staged
+pub mod Reaching

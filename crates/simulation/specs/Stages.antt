@@ -1,5 +1,5 @@
 -- A run record by record, between two of its moves.
-use Rattle.std.specs.Prelude.{◌≡◌, ◌≤◌, ℕ, ◌*◌, true, List, [], ◌++◌, length, Option, is_some}
+use Rattle.std.specs.Prelude.{◌≡◌, ◌≤◌, ℕ, ◌*◌, Bool, true, false, List, [], ◌∷◌, ◌++◌, length, Option, is_some}
 use Rattle.ip_headers.specs.declared.Link.{Link}
 use Rattle.pcap_file.specs.Format.{Packet as Record}
 use Rattle.spreader.specs.Choices.{Choice}
@@ -7,6 +7,7 @@ use Rattle.scenario_steps.specs.declared.Step.{Step}
 use Rattle.cluster_node.specs.Records.{Judged}
 use Rattle.course.specs.Cluster.{Cluster, Orderly}
 use Rattle.course.specs.Course.{Course}
+use Rattle.course.specs.Streams.{take_of, lose_of}
 use Rattle.waiting_frames.specs.Mirrors.{Mirrors}
 use Rattle.simulation.specs.Plans.{Planned}
 use Rattle.simulation.specs.Intake.{Seen}
@@ -37,3 +38,13 @@ pub record Reached (cluster : Cluster) (choice : Choice) (plan : Planned) (text 
   pub place : stage.play.read ≡ length seen
   pub named : NamesAll plan.steps stage.kept
   pub going : (more : List Record) → (is_some stage.intake.ended ≡ true → more ≡ []) → Going cluster choice plan stage.intake.head.link (seen ++ more) ss stage begun out
+
+-- a record was taken, so that one fewer is to be taken; or the input has ended, so that none is
+abbrev pub still_to_take : Bool → ℕ → List Step → List Step
+still_to_take true k ss = take_of k ∷ ss
+still_to_take false k ss = ss
+
+-- the same of records that are lost
+abbrev pub still_to_lose : Bool → ℕ → List Step → List Step
+still_to_lose true k ss = lose_of k ∷ ss
+still_to_lose false k ss = ss

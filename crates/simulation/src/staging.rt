@@ -1,10 +1,10 @@
 //! A run record by record.
 ghost use Rattle.std.specs.Prelude.{◌≡◌, ◌≢◌, ◌<◌, ◌≤◌, ◌+◌, ◌^◌, ◌∷◌, [], ℕ, List, Option, Some, true, false, length, drop, slice_get, reverse, IfOk, IfErr, OnOk};
 ghost use Rattle.std.specs.Io.KnownBytes.{Appends};
-ghost use Rattle.pcap_file.specs.Format.{Packet as Record, packet};
+ghost use Rattle.pcap_file.specs.Format.{Packet as Record, max_records};
 ghost use Rattle.scenario_steps.specs.declared.Step.{Step};
 ghost use Rattle.course.specs.Steps.{World, SameChoice, deliver, after, names_records};
-ghost use Rattle.course.specs.Streams.{take_of};
+ghost use Rattle.course.specs.Streams.{take_of, lose_of};
 ghost use Rattle.course.specs.Room.{Counted};
 ghost use Rattle.simulation.specs.Plans.{planned};
 ghost use Rattle.simulation.specs.Sent.{packet_in, sent, BeginsWith};
@@ -12,7 +12,7 @@ ghost use Rattle.simulation.specs.Simulated.{traffic_of};
 ghost use Rattle.simulation.specs.Going.{Shortened};
 ghost use Rattle.simulation.specs.Intake.{Seen, SeenMore};
 ghost use Rattle.simulation.specs.Keeping.{NamesAll, Holds};
-ghost use Rattle.simulation.specs.Stages.{Sound, Going, Reached};
+ghost use Rattle.simulation.specs.Stages.{Sound, Going, Reached, still_to_take, still_to_lose};
 
 use crate::fault::SimulationFault;
 use crate::intake::Intake;
@@ -131,11 +131,7 @@ impl Stage {
     }
 
     // Reads a record, and keeps it where a step delivers it again.
-    fn read_one<I: Source>(
-        &mut self,
-        alloc: Global,
-        input: &mut I,
-    ) -> Result<bool, SimulationFault>
+    fn read_one<I: Source>(&mut self, alloc: Global, input: &mut I) -> Result<bool, SimulationFault>
         ensures play { self.new.play ≡ self.old.play }
         ensures relay { self.new.relay ≡ self.old.relay }
         ensures head { self.new.intake.head ≡ self.old.intake.head }
@@ -145,6 +141,7 @@ impl Stage {
         ensures named { (ss : List Step) → NamesAll ss self.old.kept → OnOk result (NamesAll ss self.new.kept) }
         ensures holds { (all : List Record) (ss : List Step) → NamesAll ss self.old.kept → Holds all ss self.old.intake.given self.old.kept →
             IfOk result (λ more. more ≡ true → slice_get all self.old.intake.given ≡ Some self.new.intake.record_read → Holds all ss (self.old.intake.given + 1) self.new.kept) }
+        ensures few { self.new.intake.given ≤ max_records }
         ensures unwritten { IfErr result (λ fault. fault ≢ SimulationFault.Write) }
     {
         let place = self.intake.given();
@@ -155,6 +152,43 @@ impl Stage {
             }
             Ok(false) => Ok(false),
             Err(fault) => Err(SimulationFault::Capture(fault)),
+        }
+    }
+
+    // Takes the next record: reads it and delivers it. Says whether there was one.
+    fn take_one<C: Core, P: Spread, I: Source, O: Sink>(
+        &mut self,
+        alloc: Global,
+        core: &mut C,
+        setup: &C::Setup,
+        spread: &P,
+        plan: Plan<'_>,
+        input: &mut I,
+        output: &mut O,
+    ) -> Result<bool, SimulationFault>
+        requires stands { C.stands setup.now self.old.play.past core.old }
+        requires live { P.live spread.now ≡ self.old.play.live }
+        requires few { (n : ℕ) × (n < 2 ^ 32) × Counted self.old.intake.given n self.old.play }
+        ensures stands { OnOk result (C.stands setup.now self.new.play.past core.new) }
+        ensures live { OnOk result (self.new.play.live ≡ self.old.play.live) }
+        ensures few { (n : ℕ) → Counted self.old.intake.given n self.old.play → OnOk result (Counted self.new.intake.given n self.new.play) }
+        ensures head { self.new.intake.head ≡ self.old.intake.head }
+        ensures reached { (text begun : Option (List ℕ)) (ss : List Step) (k : ℕ) →
+            Reached (C.cluster setup.now) (P.choice spread.now) (planned plan.entry) text begun (take_of (k + 1) ∷ ss) self.old (I.left input.old) (O.contents output.old) →
+            IfOk result (λ more. Reached (C.cluster setup.now) (P.choice spread.now) (planned plan.entry) text begun (still_to_take more k ss) self.new (I.left input.new) (O.contents output.new)) }
+        ensures short { (text begun : Option (List ℕ)) (ss : List Step) (k : ℕ) →
+            Reached (C.cluster setup.now) (P.choice spread.now) (planned plan.entry) text begun (take_of (k + 1) ∷ ss) self.old (I.left input.old) (O.contents output.old) →
+            IfErr result (λ fault. fault ≢ SimulationFault.Write → Shortened (C.cluster setup.now) (P.choice spread.now) (planned plan.entry) self.old.intake.head text begun (O.contents output.new)) }
+    {
+        match self.read_one(alloc, input) {
+            Ok(true) => {}
+            Ok(false) => return Ok(false),
+            Err(fault) => return Err(fault),
+        }
+        let place = self.play.next_place();
+        match self.deliver(alloc, core, setup, spread, plan, place, output) {
+            Ok(()) => Ok(true),
+            Err(fault) => Err(fault),
         }
     }
 }

@@ -1,0 +1,184 @@
+-- How a run record by record reaches its next record.
+use Rattle.std.proofs.Common.{◌≡◌, ◌≢◌, ℕ, zero, suc, ◌+◌, ◌*◌, ◌≤◌, ◌<◌, Bool, true, false, List, [], ◌∷◌, ◌++◌, length, map, reverse, Option, Some, None, is_some, refl, sym, ap, ◌∙◌, subst, arith, append_assoc, append-nil, length-append, slice_get}
+use Rattle.std.proofs.lemmas.List.{map-append}
+use Rattle.std.specs.Io.KnownBytes.{Appends}
+use Rattle.ip_headers.specs.declared.Link.{Link}
+use Rattle.pcap_file.specs.declared.format.Head.{Head}
+use Rattle.pcap_file.specs.declared.format.Ending.{Ending}
+use Rattle.pcap_file.specs.Format.{Packet as Record}
+use Rattle.pcap_file.specs.Text.{Passed}
+use Rattle.spreader.specs.Choices.{Choice}
+use Rattle.scenario_steps.specs.declared.Step.{Step}
+use Rattle.cluster_node.specs.declared.packets.Packet.{Packet}
+use Rattle.cluster_node.specs.declared.events.Said.{Said}
+use Rattle.cluster_node.specs.Records.{Judged}
+use Rattle.waiting_frames.specs.Mirrors.{Mirrors}
+use Rattle.course.specs.Cluster.{Cluster}
+use Rattle.course.specs.Course.{Course}
+use Rattle.course.specs.Steps.{World, world_of, run, deliver}
+use Rattle.course.specs.Streams.{take_of, lose_of}
+use Rattle.course.specs.Room.{Counted}
+use Rattle.course.proofs.Moves.{deliver_hands, handed_next}
+use Rattle.course.proofs.Coming.{take_one, take_ended, take_zero, lose_one, lose_ended, lose_zero}
+use Rattle.simulation.specs.Plans.{Planned}
+use Rattle.simulation.specs.Sent.{Sending, packet_in, packets_of, sent, records_text, BeginsWith}
+use Rattle.simulation.specs.Simulated.{course_of, traffic_of}
+use Rattle.simulation.specs.Intake.{Taking, HasSeen, Seen}
+use Rattle.simulation.specs.Keeping.{NamesAll, Holds}
+use Rattle.simulation.specs.Going.{Left, SentSoFar, Shortened}
+use Rattle.simulation.specs.Stages.{Sound, Going, Reached}
+use Rattle.simulation.specs.declared.staging.Stage.{Stage}
+use Rattle.simulation.proofs.Going.{seen_passed, shortened, begins_whole}
+
+pub packets_push : (link : Link) (check : Bool) (seen more : List Record) (r : Record) → packets_of link check (seen ++ r ∷ more) ≡ packets_of link check seen ++ packet_in link check r ∷ packets_of link check more
+packets_push link check seen more r = map-append (packet_in link check) seen (r ∷ more)
+
+packets_count : (link : Link) (check : Bool) (seen : List Record) → length (packets_of link check seen) ≡ length seen
+packets_count link check [] = refl
+packets_count link check (r ∷ rs) = ap suc (packets_count link check rs)
+
+pub seen_same : (t u : Taking) (text left : Option (List ℕ)) (seen : List Record) → u.head ≡ t.head → u.ended ≡ t.ended → u.given ≡ t.given → Seen text seen left t → Seen text seen left u
+seen_same t u text left seen h e g s = record {
+  has = subst (λ (x : Head). HasSeen x u.ended text seen left) (sym h) (subst (λ (x : Option Ending). HasSeen t.head x text seen left) (sym e) s.has);
+  count = g ∙ s.count;
+}
+
+pub at_place : (seen more : List Record) (r : Record) (n : ℕ) → n ≡ length seen → slice_get (seen ++ r ∷ more) n ≡ Some r
+at_place [] more r n e = ap (λ (m : ℕ). slice_get (r ∷ more) m) e
+at_place (x ∷ seen) more r n e = ap (λ (m : ℕ). slice_get (x ∷ seen ++ r ∷ more) m) e ∙ at_place seen more r (length seen) refl
+
+pub pushed : (seen more : List Record) (r : Record) → seen ++ r ∷ more ≡ (seen ++ r ∷ []) ++ more
+pushed seen more r = sym (append_assoc seen (r ∷ []) more)
+
+pub count_pushed : (seen : List Record) (r : Record) → length (seen ++ r ∷ []) ≡ length seen + 1
+count_pushed seen r = length-append seen (r ∷ [])
+
+-- a record is taken, and one fewer is left to be taken
+pub took : (cluster : Cluster) (choice : Choice) (plan : Planned) (link : Link) (seen more : List Record) (r : Record) (k : ℕ) (ss : List Step) (c d : Course) → c.read ≡ length seen
+    → d ≡ deliver (world_of cluster choice (packets_of link plan.check (seen ++ r ∷ more))) c.read (packet_in link plan.check r) (record c { read = c.read + 1 })
+    → Left cluster choice plan link (seen ++ r ∷ more) (take_of (k + 1) ∷ ss) c → Left cluster choice plan link (seen ++ r ∷ more) (take_of k ∷ ss) d
+took cluster choice plan link seen more r k ss c d e f l =
+    let w = world_of cluster choice (packets_of link plan.check (seen ++ r ∷ more)) in
+    ap (λ (x : Course). run w (take_of k ∷ ss) x) f
+    ∙ sym (take_one cluster choice (packets_of link plan.check seen) (packets_of link plan.check more) (packet_in link plan.check r) k ss c (e ∙ sym (packets_count link plan.check seen)) w
+    (ap (λ (l : List Packet). world_of cluster choice l) (packets_push link plan.check seen more r)))
+    ∙ ap (λ (m : ℕ). run w (take_of m ∷ ss) c) (omega arith)
+    ∙ l
+
+-- a record is lost, and one fewer is left to be lost
+pub lost : (cluster : Cluster) (choice : Choice) (plan : Planned) (link : Link) (seen more : List Record) (r : Record) (k : ℕ) (ss : List Step) (c d : Course) → c.read ≡ length seen
+    → d ≡ record c { read = c.read + 1; lost = c.lost + 1 }
+    → Left cluster choice plan link (seen ++ r ∷ more) (lose_of (k + 1) ∷ ss) c → Left cluster choice plan link (seen ++ r ∷ more) (lose_of k ∷ ss) d
+lost cluster choice plan link seen more r k ss c d e f l =
+    let w = world_of cluster choice (packets_of link plan.check (seen ++ r ∷ more)) in
+    ap (λ (x : Course). run w (lose_of k ∷ ss) x) f
+    ∙ sym (lose_one cluster choice (packets_of link plan.check seen) (packets_of link plan.check more) (packet_in link plan.check r) k ss c (e ∙ sym (packets_count link plan.check seen)) w
+    (ap (λ (l : List Packet). world_of cluster choice l) (packets_push link plan.check seen more r)))
+    ∙ ap (λ (m : ℕ). run w (lose_of m ∷ ss) c) (omega arith)
+    ∙ l
+
+-- where the input has ended nothing is left to be taken, or lost
+pub took_all : (cluster : Cluster) (choice : Choice) (plan : Planned) (link : Link) (seen : List Record) (k : ℕ) (ss : List Step) (c : Course) → c.read ≡ length seen
+    → Left cluster choice plan link (seen ++ []) (take_of k ∷ ss) c → Left cluster choice plan link (seen ++ []) ss c
+took_all cluster choice plan link seen k ss c e l =
+    let w = world_of cluster choice (packets_of link plan.check (seen ++ [])) in
+    sym (take_ended cluster choice (packets_of link plan.check seen) k ss c (e ∙ sym (packets_count link plan.check seen)) w (ap (λ (l : List Packet). world_of cluster choice l) (map-append (packet_in link plan.check) seen []))) ∙ l
+
+pub lost_all : (cluster : Cluster) (choice : Choice) (plan : Planned) (link : Link) (seen : List Record) (k : ℕ) (ss : List Step) (c : Course) → c.read ≡ length seen
+    → Left cluster choice plan link (seen ++ []) (lose_of k ∷ ss) c → Left cluster choice plan link (seen ++ []) ss c
+lost_all cluster choice plan link seen k ss c e l =
+    let w = world_of cluster choice (packets_of link plan.check (seen ++ [])) in
+    sym (lose_ended cluster choice (packets_of link plan.check seen) k ss c (e ∙ sym (packets_count link plan.check seen)) w (ap (λ (l : List Packet). world_of cluster choice l) (map-append (packet_in link plan.check) seen []))) ∙ l
+
+-- where a run that reached a record stops there, the output is a beginning
+pub short_of : (cluster : Cluster) (choice : Choice) (plan : Planned) (text begun : Option (List ℕ)) (ss : List Step) (stage : Stage) (left out : Option (List ℕ)) → Reached cluster choice plan text begun ss stage left out → Shortened cluster choice plan stage.intake.head text begun out
+short_of cluster choice plan text begun ss stage left out r =
+    let g = subst (λ (l : List Record). Going cluster choice plan stage.intake.head.link l ss stage begun out) (append-nil r.seen) (r.going [] (λ _. refl)) in
+    let p = seen_passed stage.intake.head stage.intake.ended text left r.seen r.read.has in
+    shortened cluster choice plan stage.intake.head text p.0 begun out r.seen ss stage.play p.1 g.left (begins_whole begun out _ g.sound.sent)
+
+-- a course whose past is the same is as sound
+pub sound_same : (cluster : Cluster) (plan : Planned) (link : Link) (all : List Record) (c d : Course) (qs ps : List (List Record)) (begun out : Option (List ℕ)) → d.past ≡ c.past → ps ≡ qs → Sound cluster plan link all c qs begun out → Sound cluster plan link all d ps begun out
+sound_same cluster plan link all c d qs ps begun out e f s = record {
+  workers = s.workers;
+  room = omega (arith, s.room, ap length f);
+  orderly = s.orderly;
+  judged = subst (λ (l : List Said). Judged cluster.judge l) (sym e) s.judged;
+  mirrors = subst (λ (l : List Said). Mirrors all cluster l ps) (sym e) (subst (λ (q : List (List Record)). Mirrors all cluster c.past q) (sym f) s.mirrors);
+  sent = subst (λ (l : List Said). Appends begun out (records_text (sent (traffic_of plan link all) (reverse l)))) (sym e) s.sent;
+}
+
+-- no record came: the input has ended, and the step is over
+pub reached_end : (cluster : Cluster) (choice : Choice) (plan : Planned) (text begun : Option (List ℕ)) (step : Step) (ss : List Step) (old new : Stage) (left left' out : Option (List ℕ)) → (r : Reached cluster choice plan text begun (step ∷ ss) old left out)
+    → Seen text r.seen left' new.intake × (is_some new.intake.ended ≡ true) → new.play ≡ old.play → new.relay ≡ old.relay → new.kept ≡ old.kept → new.intake.head ≡ old.intake.head
+    → ((link : Link) → Left cluster choice plan link (r.seen ++ []) (step ∷ ss) old.play → Left cluster choice plan link (r.seen ++ []) ss old.play)
+    → Reached cluster choice plan text begun ss new left' out
+reached_end cluster choice plan text begun step ss old new left left' out r s p q k h turn = record {
+  seen = r.seen;
+  read = s.0;
+  place = ap (λ (c : Course). c.read) p ∙ r.place;
+  named = subst (λ x. NamesAll plan.steps x) (sym k) r.named;
+  going = λ more cond.
+      let g : Going cluster choice plan old.intake.head.link (r.seen ++ []) (step ∷ ss) old begun out = r.going [] (λ _. refl) in
+      subst (λ (l : List Record). Going cluster choice plan new.intake.head.link (r.seen ++ l) ss new begun out) (sym (cond s.1))
+      (subst (λ (x : Head). Going cluster choice plan x.link (r.seen ++ []) ss new begun out) (sym h) (record {
+        left = subst (λ (c : Course). Left cluster choice plan old.intake.head.link (r.seen ++ []) ss c) (sym p) (turn old.intake.head.link g.left);
+        sound = sound_same cluster plan old.intake.head.link (r.seen ++ []) old.play new.play old.relay.waiting new.relay.waiting begun out (ap (λ (c : Course). c.past) p) (ap (λ x. x.waiting) q) g.sound;
+        holds = subst (λ x. Holds (r.seen ++ []) plan.steps new.play.read x) (sym k) (subst (λ (n : ℕ). Holds (r.seen ++ []) plan.steps n old.kept) (sym (ap (λ (c : Course). c.read) p)) g.holds);
+      }));
+}
+
+-- what is fixed for a move over a further record
+pub record OneMore (plan : Planned) (text : Option (List ℕ)) (seen : List Record) (r : Record) (old new : Stage) (left' : Option (List ℕ)) : Type 0 where
+  pub read : Seen text (seen ++ r ∷ []) left' new.intake
+  pub going : old.intake.ended ≡ None
+  pub head : new.intake.head ≡ old.intake.head
+  pub named : NamesAll plan.steps new.kept
+  pub holds : (all : List Record) → Holds all plan.steps old.intake.given old.kept → slice_get all old.intake.given ≡ Some r → Holds all plan.steps (old.intake.given + 1) new.kept
+
+not_ended : (o : Option Ending) (X : Type 0) → o ≡ None → is_some o ≡ true → X
+not_ended o X e f = let bad : false ≡ true = ap is_some (sym e) ∙ f in cc
+
+-- a further record: what is left, and how sound it is, with that record and more behind it
+pub reached_more : (cluster : Cluster) (choice : Choice) (plan : Planned) (text begun : Option (List ℕ)) (ss ts : List Step) (old new : Stage) (left left' out out' : Option (List ℕ)) (x : Record) → (r : Reached cluster choice plan text begun ss old left out)
+    → OneMore plan text r.seen x old new left' → new.play.read ≡ old.play.read + 1
+    → ((more : List Record) → Left cluster choice plan old.intake.head.link (r.seen ++ x ∷ more) ss old.play → Left cluster choice plan old.intake.head.link (r.seen ++ x ∷ more) ts new.play)
+    → ((more : List Record) → Sound cluster plan old.intake.head.link (r.seen ++ x ∷ more) old.play old.relay.waiting begun out → Sound cluster plan old.intake.head.link (r.seen ++ x ∷ more) new.play new.relay.waiting begun out')
+    → Reached cluster choice plan text begun ts new left' out'
+reached_more cluster choice plan text begun ss ts old new left left' out out' x r m n turn sound = record {
+  seen = r.seen ++ x ∷ [];
+  read = m.read;
+  place = omega (arith, n, r.place, count_pushed r.seen x);
+  named = m.named;
+  going = λ more cond.
+      let g : Going cluster choice plan old.intake.head.link (r.seen ++ x ∷ more) ss old begun out = r.going (x ∷ more) (λ e. not_ended old.intake.ended (x ∷ more ≡ []) m.going e) in
+      let given : old.intake.given ≡ old.play.read = r.read.count ∙ sym r.place in
+      subst (λ (h : Head). Going cluster choice plan h.link ((r.seen ++ x ∷ []) ++ more) ts new begun out') (sym m.head)
+      (subst (λ (l : List Record). Going cluster choice plan old.intake.head.link l ts new begun out') (pushed r.seen more x) (record {
+        left = turn more g.left;
+        sound = sound more g.sound;
+        holds = subst (λ (k : ℕ). Holds (r.seen ++ x ∷ more) plan.steps k new.kept) (ap (λ (k : ℕ). k + 1) given ∙ sym n)
+            (m.holds (r.seen ++ x ∷ more) (subst (λ (k : ℕ). Holds (r.seen ++ x ∷ more) plan.steps k old.kept) (sym given) g.holds) (at_place r.seen more x old.intake.given r.read.count));
+      }));
+}
+
+-- a further record was read, and the move over it stopped
+pub short_more : (cluster : Cluster) (choice : Choice) (plan : Planned) (text begun : Option (List ℕ)) (ss ts : List Step) (old mid : Stage) (left left' out out' : Option (List ℕ)) (x : Record) (d : Course) → (r : Reached cluster choice plan text begun ss old left out)
+    → OneMore plan text r.seen x old mid left'
+    → (Left cluster choice plan old.intake.head.link (r.seen ++ x ∷ []) ss old.play → Left cluster choice plan old.intake.head.link (r.seen ++ x ∷ []) ts d)
+    → (Sound cluster plan old.intake.head.link (r.seen ++ x ∷ []) old.play old.relay.waiting begun out → BeginsWith begun out' (sent (traffic_of plan old.intake.head.link (r.seen ++ x ∷ [])) (reverse d.past)))
+    → Shortened cluster choice plan old.intake.head text begun out'
+short_more cluster choice plan text begun ss ts old mid left left' out out' x d r m turn cut =
+    let g : Going cluster choice plan old.intake.head.link (r.seen ++ x ∷ []) ss old begun out = r.going (x ∷ []) (λ e. not_ended old.intake.ended (x ∷ [] ≡ []) m.going e) in
+    let p = seen_passed mid.intake.head mid.intake.ended text left' (r.seen ++ x ∷ []) m.read.has in
+    shortened cluster choice plan old.intake.head text p.0 begun out' (r.seen ++ x ∷ []) ts d (subst (λ (h : Head). Passed h text (r.seen ++ x ∷ []) p.0) m.head p.1) (turn g.left) (cut g.sound)
+
+-- the counts after a record was taken
+pub counted_taken : (given n : ℕ) (w : World) (p : Packet) (c s d : Course) (place : ℕ) → s ≡ record c { read = c.read + 1 } → d ≡ deliver w place p s → Counted given n c → Counted (given + 1) n d
+counted_taken given n w p c s d place e f h =
+    let m = handed_next w p c s d place e f in
+    record { read = omega (arith, m.0, h.read); nth = omega (arith, m.0, m.1, h.nth); unrouted = omega (arith, m.0, m.2, h.unrouted); lost = omega (arith, m.0, m.3, h.lost); skipped = omega (arith, m.4, h.skipped) }
+
+pub delivered_same : (w : World) (check : Bool) (x : Record) (h i : Head) (m n : ℕ) (s t : Course) → h ≡ i → m ≡ n → s ≡ t → deliver w m (packet_in h.link check x) s ≡ deliver w n (packet_in i.link check x) t
+delivered_same w check x h i m n s t e f k =
+    ap (λ (y : Head). deliver w m (packet_in y.link check x) s) e ∙ ap (λ (j : ℕ). deliver w j (packet_in i.link check x) s) f ∙ ap (λ (y : Course). deliver w n (packet_in i.link check x) y) k
