@@ -1,17 +1,12 @@
 -- What was received was forwarded, dropped or waits.
 use Rattle.std.proofs.Common.{◌≡◌, ℕ, ◌+◌, ◌-◌, ◌≤◌, Bool, true, false, List, [], ◌∷◌, length, suc, refl, arith}
-use Rattle.std.specs.Prelude.{if◌then◌else◌, count_by}
-use Rattle.std.proofs.lemmas.List.Recursion.{is_count_by}
+use Rattle.std.specs.Prelude.{if◌then◌else◌}
 use Rattle.cluster_node.specs.declared.outcomes.Outcome.{Outcome}
 use Rattle.cluster_node.specs.declared.outcomes.Outcome.TheVariants.{Installed, Placed, Forward, Dropped, Restarted, Refused}
 use Rattle.cluster_node.specs.declared.outcomes.Cause.{Cause}
 use Rattle.cluster_node.specs.declared.outcomes.Cause.TheVariants.{NotIpv4, Truncated, BadHeader, BadChecksum, Fragment, NotTcpUdp, BadTransport, TooLarge, NoService, NoBackend, NoVersion, RingsFull, LostAtRestart}
 use Rattle.cluster_core.specs.Totals.{came_all, went_all}
 use Rattle.cluster_core.specs.Tally.{is_arrival, is_forward, lost_all, how_many, drops_all, dropped, is_placed}
-
--- as std counts
-pub counted : (p : Outcome → Bool) (os : List Outcome) → how_many p os ≡ count_by p os
-counted p os = is_count_by (how_many p) p refl (λ o rest. refl) os
 
 abbrev pub Balanced : List Outcome → Type 0
 Balanced os = how_many (λ o. is_arrival o) os + went_all os ≡ came_all os + (how_many (λ o. is_forward o) os + (dropped os + lost_all os))

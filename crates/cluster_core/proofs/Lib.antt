@@ -10,9 +10,9 @@ pub mod Apart
 pub mod Splits
 pub mod Touching
 pub mod Blocks
-pub mod Sums
 pub mod Law
 pub mod Frames
 pub mod Asked
+pub mod Bumps
 pub mod Order
 pub mod Told

@@ -11,3 +11,4 @@ pub mod Apart
 pub mod Blocks
 pub mod Laws
 pub mod Histories
+pub mod Counting

@@ -1,10 +1,13 @@
-//! Totals of a list of outcomes.
-ghost use Rattle.std.specs.Prelude.{◌≡◌, ◌-◌, ◌≤◌, ◌<◌, ◌+◌, ◌^◌, ◌%◌, ◌∷◌, [], ℕ, List, length};
-ghost use Rattle.cluster_core.specs.Tally.{number, at_serving, is_arrival, is_forward, lost_of, lost_all, drops, drops_all, dropped, how_many, is_placed, is_refused};
+//! Totals of outcomes, in one pass.
+ghost use Rattle.std.specs.Prelude.{◌≡◌, ◌≤◌, ◌<◌, ◌+◌, ◌^◌, ◌∷◌, [], ℕ, List, length, get_or, if◌then◌else◌};
+ghost use Rattle.cluster_node.specs.declared.outcomes.Outcome.{Outcome};
+ghost use Rattle.cluster_core.specs.Tally.{number, at_serving, is_arrival, is_forward, lost_of, lost_all, drops_all, dropped, how_many, is_refused};
 ghost use Rattle.cluster_core.specs.Totals.{came_all, went_all};
+ghost use Rattle.cluster_core.specs.Histories.{outcomes_of};
+ghost use Rattle.cluster_core.specs.Counting.{kind, bumped, Leads, Fits, Totalled};
 
 use crate::counts::Totals;
-use cluster_node::{Cause, Outcome};
+use cluster_node::{Cause, Outcome, Said};
 
 fn at_serving(cause: Cause) -> bool
     ensures { result ≡ at_serving cause }
@@ -15,22 +18,14 @@ fn at_serving(cause: Cause) -> bool
     }
 }
 
-fn is_arrival(outcome: &Outcome) -> bool
-    ensures { result ≡ is_arrival outcome.now }
+// How many packets came to a node.
+fn arrivals(outcome: &Outcome) -> u64
+    ensures { result ≡ (if is_arrival outcome.now then 1 else 0) }
 {
     match *outcome {
-        Outcome::Placed { .. } => true,
-        Outcome::Dropped { cause, .. } => !at_serving(cause),
-        _ => false,
-    }
-}
-
-fn is_forward(outcome: &Outcome) -> bool
-    ensures { result ≡ is_forward outcome.now }
-{
-    match *outcome {
-        Outcome::Forward { .. } => true,
-        _ => false,
+        Outcome::Placed { .. } => 1,
+        Outcome::Dropped { cause, .. } => { if at_serving(cause) { 0 } else { 1 } }
+        _ => 0,
     }
 }
 
@@ -43,40 +38,9 @@ fn lost_of(outcome: &Outcome) -> u64
     }
 }
 
-#[tactic(auto, using(crate::proofs::Law::counted))]
-fn received(outcomes: &[Outcome]) -> u64
-    ensures { result ≡ how_many (λ o. is_arrival o) outcomes.now }
-{
-    outcomes
-        .iter()
-        .filter(|outcome| is_arrival(outcome))
-        .count() as u64
-}
-
-#[tactic(auto, using(crate::proofs::Law::counted))]
-fn forwarded(outcomes: &[Outcome]) -> u64
-    ensures { result ≡ how_many (λ o. is_forward o) outcomes.now }
-{
-    outcomes
-        .iter()
-        .filter(|outcome| is_forward(outcome))
-        .count() as u64
-}
-
-// The packets lost at restarts.
-fn lost(outcomes: &[Outcome]) -> u64
-    requires { lost_all outcomes.now < 2 ^ 64 }
-    ensures { result ≡ lost_all outcomes.now }
-{
-    let mut lost: u64 = 0;
-    for outcome in outcomes {
-        lost = lost.wrapping_add(lost_of(outcome));
-    }
-    lost
-}
-
 fn number(cause: Cause) -> u8
-    ensures { result ≡ number cause }
+    ensures number { result ≡ number cause }
+    ensures few { result ≤ 13 }
 {
     match cause {
         Cause::NotIpv4 => 1,
@@ -95,64 +59,141 @@ fn number(cause: Cause) -> u8
     }
 }
 
-fn drops(outcome: &Outcome, cause: u8) -> bool
-    ensures { result ≡ drops cause outcome.now }
+const PLACED: u8 = 14;
+
+const FORWARDED: u8 = 15;
+
+const RESTARTED: u8 = 16;
+
+const REFUSED: u8 = 17;
+
+// Drops are told apart by the numbers of their causes, 1 to 13.
+fn kind(outcome: &Outcome) -> u8
+    ensures kind { result ≡ kind outcome.now }
+    ensures few { result < 18 }
 {
     match *outcome {
-        Outcome::Dropped { cause: this, .. } => number(this) == cause,
-        _ => false,
+        Outcome::Installed => 0,
+        Outcome::Placed { .. } => PLACED,
+        Outcome::Forward { .. } => FORWARDED,
+        Outcome::Dropped { cause, .. } => number(cause),
+        Outcome::Restarted { .. } => RESTARTED,
+        Outcome::Refused(_) => REFUSED,
     }
 }
 
-#[tactic(auto, using(crate::proofs::Law::counted))]
-fn drops_all(outcomes: &[Outcome], cause: u8) -> u64
-    ensures { result ≡ drops_all cause outcomes.now }
+fn bump(kinds: &mut [u64; 18], kind: u8)
+    requires few { kind < 18 }
+    requires room { get_or kinds.old kind 0 + 1 < 2 ^ 64 }
+    ensures { kinds.new ≡ bumped kind kinds.old }
 {
-    outcomes
-        .iter()
-        .filter(|outcome| drops(outcome, cause))
-        .count() as u64
+    kinds[kind as usize] += 1;
 }
 
-fn is_placed(outcome: &Outcome) -> bool
-    ensures { result ≡ is_placed outcome.now }
-{
-    match *outcome {
-        Outcome::Placed { .. } => true,
-        _ => false,
+// What was counted so far: how many outcomes of each kind, how many arrivals, and how many packets were lost.
+#[derive(Clone, Copy)]
+struct Counter {
+    kinds: [u64; 18],
+    received: u64,
+    lost: u64,
+}
+
+impl Counter {
+    fn new() -> Self
+        ensures { (all : List Outcome) → Leads all all result.kinds result.received result.lost }
+    {
+        Counter {
+            kinds: [0; 18],
+            received: 0,
+            lost: 0,
+        }
     }
-}
 
-fn is_refused(outcome: &Outcome) -> bool
-    ensures { result ≡ is_refused outcome.now }
-{
-    match *outcome {
-        Outcome::Refused(_) => true,
-        _ => false,
+    // One outcome more.
+    fn count(&mut self, outcome: &Outcome)
+        requires { (rest : List Outcome) × (all : List Outcome) × Fits all × Leads (outcome.now ∷ rest) all self.old.kinds self.old.received self.old.lost }
+        ensures { (rest all : List Outcome) → Leads (outcome.now ∷ rest) all self.old.kinds self.old.received self.old.lost → Leads rest all self.new.kinds self.new.received self.new.lost }
+    {
+        bump(&mut self.kinds, kind(outcome));
+        self.received += arrivals(outcome);
+        self.lost += lost_of(outcome);
     }
-}
 
-#[tactic(auto, using(crate::proofs::Law::counted))]
-fn placed(outcomes: &[Outcome]) -> u64
-    ensures { result ≡ how_many (λ o. is_placed o) outcomes.now }
-{
-    outcomes.iter().filter(|outcome| is_placed(outcome)).count() as u64
-}
+    fn of(&self, kind: u8) -> u64
+        requires { kind < 18 }
+        ensures { result ≡ get_or self.now.kinds kind 0 }
+    {
+        self.kinds[kind as usize]
+    }
 
-#[tactic(auto, using(crate::proofs::Law::counted))]
-fn refused(outcomes: &[Outcome]) -> u64
-    ensures { result ≡ how_many (λ o. is_refused o) outcomes.now }
-{
-    outcomes
-        .iter()
-        .filter(|outcome| is_refused(outcome))
-        .count() as u64
+    // How many packets wait.
+    fn waiting(&self) -> u64
+        requires { (all : List Outcome) × Fits all × (went_all all ≤ came_all all) × Leads [] all self.now.kinds self.now.received self.now.lost }
+        ensures { (all : List Outcome) → Leads [] all self.now.kinds self.now.received self.now.lost → result + went_all all ≡ came_all all }
+    {
+        self.of(PLACED) - (self.of(FORWARDED) + self.of(9) + self.of(10) + self.lost)
+    }
+
+    fn totals(&self) -> Totals
+        requires { (all : List Outcome) × Fits all × (went_all all ≤ came_all all) × Leads [] all self.now.kinds self.now.received self.now.lost }
+        ensures { (all : List Outcome) → Leads [] all self.now.kinds self.now.received self.now.lost → Totalled result all }
+    {
+        Totals {
+            received: self.received,
+            forwarded: self.of(FORWARDED),
+            dropped: [
+                self.of(1),
+                self.of(2),
+                self.of(3),
+                self.of(4),
+                self.of(5),
+                self.of(6),
+                self.of(7),
+                self.of(8),
+                self.of(9),
+                self.of(10),
+                self.of(11),
+                self.of(12),
+                self.lost,
+            ],
+            waiting: self.waiting(),
+            refused: self.of(REFUSED),
+        }
+    }
 }
 
 fn length_of(outcomes: &[Outcome]) -> usize
     ensures { result ≡ length outcomes.now }
 {
     outcomes.len()
+}
+
+fn length_of_history(history: &[Said]) -> usize
+    ensures { result ≡ length history.now }
+{
+    history.len()
+}
+
+fn counted(outcomes: &[Outcome]) -> Counter
+    requires { Fits outcomes.now }
+    ensures { Leads [] outcomes.now result.kinds result.received result.lost }
+{
+    let mut counter = Counter::new();
+    for outcome in outcomes {
+        counter.count(outcome);
+    }
+    counter
+}
+
+fn counted_history(history: &[Said]) -> Counter
+    requires { Fits (outcomes_of history.now) }
+    ensures { Leads [] (outcomes_of history.now) result.kinds result.received result.lost }
+{
+    let mut counter = Counter::new();
+    for said in history {
+        counter.count(&said.outcome);
+    }
+    counter
 }
 
 /// The totals of a list of outcomes. Each list that `replay` answers meets the condition: what left the queues is no more
@@ -167,29 +208,20 @@ pub fn totals(outcomes: &[Outcome]) -> Totals
     ensures refused { result.refused ≡ how_many (λ o. is_refused o) outcomes.now }
 {
     let _length = length_of(outcomes);
-    let forwarded = forwarded(outcomes);
-    let no_service = drops_all(outcomes, 9);
-    let no_backend = drops_all(outcomes, 10);
-    let lost = lost(outcomes);
-    Totals {
-        received: received(outcomes),
-        forwarded,
-        dropped: [
-            drops_all(outcomes, 1),
-            drops_all(outcomes, 2),
-            drops_all(outcomes, 3),
-            drops_all(outcomes, 4),
-            drops_all(outcomes, 5),
-            drops_all(outcomes, 6),
-            drops_all(outcomes, 7),
-            drops_all(outcomes, 8),
-            no_service,
-            no_backend,
-            drops_all(outcomes, 11),
-            drops_all(outcomes, 12),
-            lost,
-        ],
-        waiting: placed(outcomes) - (forwarded + no_service + no_backend + lost),
-        refused: refused(outcomes),
-    }
+    counted(outcomes).totals()
+}
+
+/// The same of a run's history.
+pub fn totals_of(history: &[Said]) -> Totals
+    requires { let outcomes = outcomes_of history.now in went_all outcomes ≤ came_all outcomes }
+    ensures received { result.received ≡ how_many (λ o. is_arrival o) (outcomes_of history.now) }
+    ensures forwarded { result.forwarded ≡ how_many (λ o. is_forward o) (outcomes_of history.now) }
+    ensures dropped { let outcomes = outcomes_of history.now in
+        result.dropped ≡ drops_all 1 outcomes ∷ drops_all 2 outcomes ∷ drops_all 3 outcomes ∷ drops_all 4 outcomes ∷ drops_all 5 outcomes ∷ drops_all 6 outcomes ∷ drops_all 7 outcomes ∷ drops_all 8 outcomes ∷ drops_all 9 outcomes ∷ drops_all 10 outcomes ∷ drops_all 11 outcomes ∷ drops_all 12 outcomes ∷ lost_all outcomes ∷ [] }
+    ensures waiting { result.waiting + went_all (outcomes_of history.now) ≡ came_all (outcomes_of history.now) }
+    ensures law { result.received ≡ result.forwarded + ((dropped (outcomes_of history.now) + lost_all (outcomes_of history.now)) + result.waiting) }
+    ensures refused { result.refused ≡ how_many (λ o. is_refused o) (outcomes_of history.now) }
+{
+    let _length = length_of_history(history);
+    counted_history(history).totals()
 }
