@@ -3,8 +3,8 @@ use Rattle.std.proofs.Common.{◌≡◌, ℕ, zero, suc, ◌+◌, ◌<◌, ◌�
 use Rattle.std.specs.Prelude.{slice_get}
 use Rattle.cluster_node.specs.declared.packets.Packet.{Packet}
 use Rattle.course.specs.Cluster.{waiting_on}
-use Rattle.course.specs.declared.step.Step.{Step}
-use Rattle.course.specs.declared.step.Step.TheVariants as steps
+use Rattle.scenario_steps.specs.declared.Step.{Step}
+use Rattle.scenario_steps.specs.declared.Step.TheVariants as steps
 use Rattle.course.specs.Course.{Course}
 use Rattle.course.specs.Room.{Room, Counted}
 use Rattle.course.specs.Steps.{World, serve, deliver, take_all, repeat, serve_times, drain_from, release, next_ones, after, run}

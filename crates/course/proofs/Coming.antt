@@ -7,8 +7,8 @@ use Rattle.cluster_node.specs.declared.packets.Packet.{Packet}
 use Rattle.course.specs.Cluster.{flow_of}
 use Rattle.course.specs.Cluster.{Cluster, said, waiting_on}
 use Rattle.spreader.specs.Choices.{Choice}
-use Rattle.course.specs.declared.step.Step.{Step}
-use Rattle.course.specs.declared.step.Step.TheVariants as steps
+use Rattle.scenario_steps.specs.declared.Step.{Step}
+use Rattle.scenario_steps.specs.declared.Step.TheVariants as steps
 use Rattle.course.specs.Course.{Course}
 use Rattle.course.proofs.Moves.{deliver_hands}
 use Rattle.course.specs.Steps.{World, world_of, placed_on, is_held, say, serve, follow, arrival, arrive, route, deliver, take_all, repeat, serve_times, drain_from, release, next_ones, after, run}

@@ -3,3 +3,4 @@ pub mod Moves
 pub mod Bounds
 pub mod Coming
 pub mod Readings
+pub mod Told

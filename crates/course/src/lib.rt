@@ -7,10 +7,9 @@
 
 mod machine;
 mod play;
-mod step;
 mod stream;
 
 pub use machine::Core;
 pub use play::{Play, Tally, all_live};
-pub use step::Step;
+pub use scenario_steps::Step;
 pub use stream::{Records, take_as_they_come};

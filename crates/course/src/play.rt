@@ -9,8 +9,8 @@ ghost use Rattle.course.specs.Tally.{tally_of};
 ghost use Rattle.course.specs.Room.{Room, Counted};
 
 use crate::machine::Core;
-use crate::step::Step;
 use cluster_node::{Event, Outcome, Packet, Said};
+use scenario_steps::Step;
 use spreader::Spread;
 use std::alloc::{AllocError, Global};
 use std::marker::Model;
@@ -522,6 +522,8 @@ impl Play {
         requires fresh { Counted (length packets.now) 0 self.old }
         ensures run { OnOk result (self.new ≡ run (world_of (C.cluster setup.now) (P.choice spread.old) packets.now) steps.now self.old) }
         ensures counted { OnOk result (Counted (length packets.now) (length steps.now) self.new) }
+        ensures stands { OnOk result (C.stands setup.now self.new.past core.new) }
+        ensures live { OnOk result (P.live spread.new ≡ self.new.live) }
     {
         for step in steps {
             self.step(alloc, core, setup, spread, packets, step)?;

@@ -1,7 +1,7 @@
 //! Records that are delivered as they come.
 ghost use Rattle.std.specs.Prelude.{◌≡◌, ◌<◌, ◌≤◌, ◌+◌, ◌^◌, ◌∷◌, ◌++◌, [], ℕ, List, true, false, length, IfOk, OnOk};
 ghost use Rattle.cluster_node.specs.declared.packets.Packet.{Packet};
-ghost use Rattle.course.specs.declared.step.Step.{Step};
+ghost use Rattle.scenario_steps.specs.declared.Step.{Step};
 ghost use Rattle.cluster_node.specs.Records.{WasRead};
 ghost use Rattle.course.specs.Steps.{world_of, run};
 ghost use Rattle.course.specs.Streams.{take_of};

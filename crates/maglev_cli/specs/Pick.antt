@@ -1,5 +1,5 @@
 -- The command `pick`: the flow of a datagram, its slot and its backend, or why it is dropped.
-use Rattle.std.specs.Prelude.{◌≡◌, ◌<◌, ◌≤◌, ℕ, ◌-◌, ◌++◌, Bool, true, false, ◌==◌, nat_lt, if◌then◌else◌, List, [], map, take, length, slice_index, slice_index_or, Option, Some, None, Result, Ok, Err, IfSome, is_some, codes}
+use Rattle.std.specs.Prelude.{◌≡◌, ◌<◌, ◌≤◌, ℕ, ◌-◌, ◌++◌, Bool, true, false, ◌==◌, nat_lt, if◌then◌else◌, List, [], map, take, length, slice_index, slice_index_or, Option, Some, None, Result, Ok, Err, IfSome, codes}
 use Rattle.std.specs.Fmt.{decimal}
 use Rattle.std.specs.Io.KnownBytes.{Appends}
 use Rattle.hash_laws.specs.declared.any.AnyHash.{AnyHash}
@@ -16,7 +16,7 @@ use Rattle.five_tuple.specs.Flow.{flow_answer}
 use Rattle.selection.specs.Picks.{slot_of_flow}
 use Rattle.maglev_texts.specs.Printing.{flow_text}
 use Rattle.maglev_cli.specs.Text.{IsAscending}
-use Rattle.maglev_cli.specs.Refusals.{AreListed, AreNames, WordsFail}
+use Rattle.maglev_cli.specs.Refusals.{AreListed, AreFew, WordsFail}
 use Rattle.maglev_cli.specs.declared.fault.CliFault.{CliFault}
 use Rattle.maglev_cli.specs.declared.fault.CliFault.TheVariants.{BadSize, BadHash, BadName, DoubleName, TooMany, Write, BadHex, TooLong, Read, Memory}
 use Rattle.maglev_cli.specs.declared.judging.Judged.{Judged}
@@ -106,10 +106,6 @@ InputFails BadHex input = IfSome input (λ text. (length text ≤ longest) × Is
 InputFails Write input = IfSome input (λ text. length text ≤ longest)
 InputFails Memory input = Unit {0}
 InputFails _ input = ⊥
-
--- names that share a table
-abbrev pub AreFew : ℕ → List (List ℕ) → Type 0
-AreFew size words = AreNames words × (length words ≤ size)
 
 -- the same with the names' faults before
 abbrev pub PickFailsWith : CliFault → ℕ → List (List ℕ) → Option (List ℕ) → Type 0

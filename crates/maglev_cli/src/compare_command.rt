@@ -58,7 +58,7 @@ fn compare_with<H: FlowHash, W: Write>(
     let new = ups_of(alloc, lists.new)?;
     let before = table_of(alloc, size, hash, old.as_slice())?;
     let after = table_of(alloc, size, hash, new.as_slice())?;
-    let text = compare_text_of(alloc, &before, old.len(), &after, new.len())?;
+    let text = compare_text_of(alloc, &before, &after)?;
     match out.write_all(text.as_bytes()) {
         Ok(()) => Ok(()),
         Err(_) => Err(CliFault::Write),

@@ -101,17 +101,15 @@ fn push_moved_lines(
 pub(crate) fn compare_text_of(
     alloc: Global,
     old: &MaglevTable,
-    before: usize,
     new: &MaglevTable,
-    after: usize,
 ) -> Result<String, AllocError>
-    requires same { old.now.size ≡ new.now.size }
-    requires before { before ≡ length old.now.ups }
-    requires after { after ≡ length new.now.ups }
+    requires { old.now.size ≡ new.now.size }
     ensures { IfOk result (λ s. string_bytes s ≡ compare_text old.now new.now) }
 {
     let slots = moved_slots(alloc, old, new)?;
     let size = old.size().slots();
+    let before = old.ups().len();
+    let after = new.ups().len();
     let moved = slots.len();
     let mut text = format!(in alloc; "size {size} old {before} new {after} differ {moved}\n")?;
     push_moved_lines(&mut text, old, new, slots.as_slice())?;

@@ -4,7 +4,7 @@ ghost use Rattle.std.specs.Cmp.Lexicographic.{slice_cmp};
 ghost use Rattle.std.specs.Ordering.{nat_cmp};
 ghost use Rattle.std.specs.declared.cmp.Ordering.TheVariants.{Less};
 ghost use Rattle.maglev_cli.specs.Text.{IsAscending};
-ghost use Rattle.maglev_cli.specs.Refusals.{NamesFail, AreNames};
+ghost use Rattle.maglev_cli.specs.Refusals.{NamesFail, WordsFail, AreNames, AreFew};
 ghost use Rattle.maglev_table.specs.NameText.{is_name};
 ghost use Rattle.maglev_table.specs.Turns.{preference_of};
 
@@ -57,8 +57,8 @@ fn ascends(names: &[Name]) -> bool
     true
 }
 
-/// The names that words are, in ascending order.
-pub(crate) fn names_in_order(alloc: Global, words: &[&str]) -> Result<Vec<Name>, CliFault>
+// The names that words are, in ascending order.
+fn names_in_order(alloc: Global, words: &[&str]) -> Result<Vec<Name>, CliFault>
     ensures ascending { IfOk result (λ v. IsAscending (map (λ w. w.now) words.now) v.items) }
     ensures names { OnOk result (AreNames (map (λ w. w.now) words.now)) }
     ensures fault { IfErr result (λ fault. NamesFail fault (map (λ w. w.now) words.now)) }
@@ -70,6 +70,25 @@ pub(crate) fn names_in_order(alloc: Global, words: &[&str]) -> Result<Vec<Name>,
     names.sort()?;
     if !ascends(names.as_slice()) {
         return Err(CliFault::DoubleName);
+    }
+    Ok(names)
+}
+
+/// The names that words are, in ascending order, where a table of the size has a slot for each of them.
+pub(crate) fn names_for(
+    alloc: Global,
+    size: TableSize,
+    words: &[&str],
+) -> Result<Vec<Name>, CliFault>
+    ensures ascending { IfOk result (λ v. IsAscending (map (λ w. w.now) words.now) v.items) }
+    ensures each { IfOk result (λ v. length v.items ≡ length words.now) }
+    ensures few { OnOk result (AreFew size (map (λ w. w.now) words.now)) }
+    ensures fault { IfErr result (λ fault. WordsFail fault size (map (λ w. w.now) words.now)) }
+    ensures unwritten { IfErr result (λ fault. fault ≢ CliFault.Write) }
+{
+    let names = names_in_order(alloc, words)?;
+    if names.len() > size.slots() as usize {
+        return Err(CliFault::TooMany);
     }
     Ok(names)
 }

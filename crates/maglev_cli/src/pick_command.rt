@@ -4,7 +4,7 @@ ghost use Rattle.maglev_cli.specs.Pick.{longest, without_newline, IsHexOf, judge
 
 use super::fault::CliFault;
 use super::judging::{CauseText, Judged, judge};
-use super::names::{lists_of, names_in_order};
+use super::names::{lists_of, names_for};
 use five_tuple::Flow;
 use hash_laws::{AnyHash, FlowHash};
 use hex::FromHexError;
@@ -147,10 +147,7 @@ fn pick_with<H: FlowHash, R: Read, W: Write>(
     ensures silent { IfErr result (λ fault. fault ≢ CliFault.Write → out.new ≡ out.old) }
     ensures fault { IfErr result (λ fault. PickFailsWith fault size (map (λ w. w.now) words.now) (R.remaining input.old)) }
 {
-    let names = names_in_order(alloc, words)?;
-    if names.len() > size.slots() as usize {
-        return Err(CliFault::TooMany);
-    }
+    let names = names_for(alloc, size, words)?;
     let bytes = match datagram_of(alloc, input) {
         Ok(bytes) => bytes,
         Err(fault) => return Err(fault),

@@ -1,13 +1,10 @@
 -- The up members in order: the list ascends by name, holds each of them, and nothing else.
-use Rattle.std.proofs.Common.{◌≡◌, ℕ, zero, suc, ◌+◌, ◌<◌, ◌≤◌, Bool, true, false, List, [], ◌∷◌, ◌++◌, length, map, filter, refl, sym, ◌∙◌, ap, arith, slice_index_or, cond, inl, inr}
+use Rattle.std.proofs.Common.{◌≡◌, ℕ, zero, suc, ◌+◌, ◌<◌, ◌≤◌, Bool, true, false, List, [], ◌∷◌, ◌++◌, length, filter, sym, ap, arith, slice_index_or, inl, inr}
 use Rattle.std.proofs.lemmas.List.{length-map, append-nil}
-use Rattle.std.specs.Cmp.{IsTotalOrder}
-use Rattle.std.specs.Cmp.Lexicographic.{slice_cmp}
 use Rattle.std.proofs.lemmas.Cmp.{nat_list_cmp_total}
 use Rattle.std.specs.declared.cmp.Ordering.{Ordering}
 use Rattle.std.specs.declared.cmp.Ordering.TheVariants.{Less, Equal, Greater}
-use Rattle.std.specs.Ordering.{nat_cmp, is_lt, ordering_reverse}
-use Rattle.std.specs.List.{insert}
+use Rattle.std.specs.Ordering.{is_lt, ordering_reverse}
 use Rattle.std.specs.List.Sorted.{IsPermutation, IsSortedBy}
 use Rattle.std.proofs.lemmas.Bool.{cases_Bool, true≢false}
 use Rattle.std.proofs.lemmas.List.Sums.{length-filter, count_by-le-length}
@@ -30,7 +27,7 @@ cons_at lt x y zs h s (suc k) d low within =
 sorted_cons : {X : Type 0} (lt : X → X → Bool) (x y : X) (zs : List X) → lt y x ≡ false → IsSortedBy lt (y ∷ zs) → IsSortedBy lt (x ∷ y ∷ zs)
 sorted_cons lt x y zs h s = cons_at lt x y zs h s
 
-sorted_rest : {X : Type 0} (lt : X → X → Bool) (x : X) (ys : List X) → IsSortedBy lt (x ∷ ys) → IsSortedBy lt ys
+pub sorted_rest : {X : Type 0} (lt : X → X → Bool) (x : X) (ys : List X) → IsSortedBy lt (x ∷ ys) → IsSortedBy lt ys
 sorted_rest lt x ys s = λ k d low within.
     let e : suc k + 1 ≡ suc (k + 1) = omega arith in
     let h = s (suc k) d (omega arith) (omega arith) in
@@ -58,7 +55,7 @@ inserted_behind c b (d ∷ ds) h s = elim (cases_Bool (is_below b.name d.name)) 
   | inr higher ↦ rw higher (sorted_cons name_below c d (insert_by_name b ds) (sorted_first name_below c d ds s) (inserted_behind d b ds higher (sorted_rest name_below c (d ∷ ds) s)))
 ]
 
-inserted_ascends : (b : Backend) (cs : List Backend) → AscendsByName cs → AscendsByName (insert_by_name b cs)
+pub inserted_ascends : (b : Backend) (cs : List Backend) → AscendsByName cs → AscendsByName (insert_by_name b cs)
 inserted_ascends b [] s = sorted_one name_below b
 inserted_ascends b (c ∷ cs) s = elim (cases_Bool (is_below b.name c.name)) [
   | inl lower ↦ rw lower (sorted_cons name_below b c cs (below_is_not_above b.name c.name lower) s)

@@ -1,3 +1,4 @@
 pub mod AfterSort
 pub mod Ascending
 pub mod Limits
+pub mod Stable

@@ -1,5 +1,5 @@
 -- What was taken in keeps the limits.
-use Rattle.std.proofs.Common.{◌≡◌, ℕ, ◌≤◌, Bool, true, false, cond, ◌||◌, List, [], ◌∷◌, length, Option, Some, None, find, IfSome, refl, sym, ◌∙◌, arith, nat_lt, is_some, inl, inr, ◌==◌, ◌++◌, if◌then◌else◌}
+use Rattle.std.proofs.Common.{◌≡◌, ℕ, ◌≤◌, Bool, true, false, cond, ◌||◌, List, [], ◌∷◌, length, Option, Some, None, find, refl, sym, arith, nat_lt, is_some, inl, inr, ◌==◌, ◌++◌, if◌then◌else◌}
 use Rattle.std.specs.List.{list_any, All}
 use Rattle.std.specs.List.Sorted.{IsPermutation}
 use Rattle.std.proofs.lemmas.Bool.{or_parts, ltb-false, cases_Bool}

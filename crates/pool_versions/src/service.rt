@@ -1,7 +1,7 @@
 //! Services and versions.
-ghost use Rattle.std.specs.Prelude.{◌≡◌, ◌≤◌, [], length, insert, IfOk, option_copied};
+ghost use Rattle.std.specs.Prelude.{◌≡◌, ◌≤◌, length, IfOk, option_copied};
 ghost use Rattle.std.specs.List.Sorted.{IsPermutation};
-ghost use Rattle.pool_versions.specs.Pool.{same_service, has_too_many, up_backends, ups, insert_by_name, AscendsByName, serves, find_service};
+ghost use Rattle.pool_versions.specs.Pool.{same_service, has_too_many, up_backends, ups, AscendsByName, serves, find_service};
 
 use crate::backend::{Backend, Member};
 use five_tuple::Flow;
@@ -27,17 +27,17 @@ pub struct Version {
     pub services: Vec<Service>,
 }
 
-// Where a backend goes in a list that ascends by name.
-fn place_of(sorted: &[Backend], backend: &Backend) -> usize
-    ensures bound { result ≤ length sorted.now }
-    ensures place { insert sorted.now result backend.now ≡ insert_by_name backend.now sorted.now }
+// The backends of the up members, in the members' order.
+fn up_backends(alloc: Global, members: &[Member]) -> Result<Vec<Backend>, AllocError>
+    ensures { IfOk result (λ v. v.items ≡ up_backends members.now) }
 {
-    for (i, other) in sorted.iter().enumerate() {
-        if backend.name < other.name {
-            return i;
+    let mut backends = Vec::with_capacity(alloc, members.len())?;
+    for member in members {
+        if member.up {
+            backends.push(member.backend)?;
         }
     }
-    sorted.len()
+    Ok(backends)
 }
 
 impl Service {
@@ -55,14 +55,9 @@ impl Service {
         ensures permutation { IfOk result (λ v. IsPermutation (up_backends self.now.members.items) v.items) }
         ensures short { IfOk result (λ v. length v.items ≤ length self.now.members.items) }
     {
-        let mut sorted: Vec<Backend> = Vec::new(alloc);
-        for member in &self.members {
-            if member.up {
-                let at = place_of(sorted.as_slice(), &member.backend);
-                sorted.insert(at, member.backend)?;
-            }
-        }
-        Ok(sorted)
+        let mut backends = up_backends(alloc, self.members.as_slice())?;
+        backends.sort_by(|one, other| one.name.cmp(&other.name))?;
+        Ok(backends)
     }
 
     // Whether it serves the flows of another.

@@ -148,6 +148,45 @@ fn ups_ascend_by_name(rt: HostRuntime) {
     );
 }
 
+// The addresses of the up backends of some members, in the order of the answer.
+fn addrs_of_ups(rt: &impl Abort, alloc: Global, members: &[Member]) -> Vec<u32> {
+    let ups = service(rt, alloc, 80, members)
+        .ups(alloc)
+        .expect(rt, "memory");
+    let mut addrs = Vec::new(alloc);
+    for backend in &ups {
+        addrs.push(backend.addr).expect(rt, "memory");
+    }
+    addrs
+}
+
+// The names of 676 members end in one letter, and the first letter is the number's last digit in base 26.
+#[test]
+fn many_ups_ascend_by_name(rt: HostRuntime) {
+    let alloc = rt.alloc();
+    let members = many(&rt, alloc, 676);
+    let addrs = addrs_of_ups(&rt, alloc, members.as_slice());
+    assert_eq!(rt; addrs.len(), 676);
+    for (place, addr) in addrs.iter().enumerate() {
+        assert_eq!(rt; *addr as usize, place / 26 + place % 26 * 26);
+    }
+}
+
+// A catalogue refuses such a service; a version by itself may have it.
+#[test]
+fn ups_of_one_name_keep_their_order(rt: HostRuntime) {
+    let alloc = rt.alloc();
+    let members = [
+        member(&rt, b"B", 1, true),
+        member(&rt, b"A", 2, true),
+        member(&rt, b"B", 3, true),
+        member(&rt, b"A", 4, false),
+        member(&rt, b"B", 5, true),
+    ];
+    let addrs = addrs_of_ups(&rt, alloc, &members);
+    assert_eq!(rt; addrs.as_slice(), [2, 1, 3, 5].as_slice());
+}
+
 #[test]
 fn the_first_fault_counts(rt: HostRuntime) {
     let alloc = rt.alloc();

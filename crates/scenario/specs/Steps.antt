@@ -3,8 +3,8 @@ use Rattle.std.specs.Prelude.{ℕ, Bool, ◌==◌, nat_lt, if◌then◌else◌, 
 use Rattle.std.specs.List.{list_any, range_with_len}
 use Rattle.std.specs.Str.{bytes_eq}
 use Rattle.maglev_texts.specs.Parsing.{decimal_of, pieces}
-use Rattle.scenario.specs.declared.step.Step.{Step}
-use Rattle.scenario.specs.declared.step.Step.TheVariants as code
+use Rattle.scenario_steps.specs.declared.Step.{Step}
+use Rattle.scenario_steps.specs.declared.Step.TheVariants as code
 use Rattle.scenario.specs.declared.step.Kind.{Kind}
 use Rattle.scenario.specs.declared.step.Kind.TheVariants as kind
 

@@ -17,7 +17,7 @@ mod words;
 
 pub use fault::ScenarioFault;
 pub use reading::{Scenario, read};
-pub use step::Step;
+pub use scenario_steps::Step;
 pub use words::{SchemeKind, SpreadKind};
 
 #[cfg(test)]

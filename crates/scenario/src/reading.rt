@@ -9,11 +9,12 @@ use crate::building::{catalogue_of, versions_of};
 use crate::draft::{Draft, draft_in};
 use crate::fault::ScenarioFault;
 use crate::lookup::number_at;
-use crate::step::{Step, read_step};
+use crate::step::read_step;
 use crate::words::{SchemeKind, SpreadKind};
 use hash_laws::AnyHash;
 use maglev_table::TableSize;
 use pool_versions::{Catalogue, PoolFault};
+use scenario_steps::Step;
 use std::alloc::{AllocError, Global};
 use toml::Table;
 

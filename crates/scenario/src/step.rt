@@ -1,37 +1,14 @@
-//! The steps of a scenario.
+//! The steps of a scenario as texts.
 ghost use Rattle.std.specs.Prelude.{◌≡◌, ◌<◌, ◌≤◌, map, option_map, IfOk, IfSome, length, []};
 ghost use Rattle.std.specs.Str.{bytes_eq};
 ghost use Rattle.scenario.specs.Steps.{below, new_number, numbers_after, marks_of, install_of, live_of, full_of, number_of, node_of, kind_of, step_of, step_of_text, plain_step};
 
 use maglev_texts::{decimal, pieces};
+use scenario_steps::Step;
 use std::alloc::{AllocError, Global};
 
 // The greatest number in a step.
 const GREATEST: u64 = 4_294_967_295;
-
-/// A step. Nodes are places in the scenario's list of nodes, workers are numbered from 0, and a record is named by its
-/// place in the capture.
-#[derive(Drop)]
-pub enum Step {
-    /// `install N V`: version V is installed on node N.
-    Install { node: u16, version: u32 },
-    /// `live N ..`: from now on these nodes are live, in this order.
-    Live(Vec<u16>),
-    /// `take K`: the next K records, or those that remain, are delivered.
-    Take(u32),
-    /// `lose K`: the next K records, or those that remain, are read and lost.
-    Lose(u32),
-    /// `again P`: record P is delivered again.
-    Again(u32),
-    /// `full N W ..`: from now on the marked workers of node N refuse each arrival, and the others don't.
-    Full { node: u16, marks: [bool; 16] },
-    /// `hold N`: node N serves nothing until it is drained or restarted.
-    Hold(u16),
-    /// `drain N`: the hold ends, and node N serves what waits.
-    Drain(u16),
-    /// `restart N`: node N begins another life.
-    Restart(u16),
-}
 
 // A number below a limit.
 fn below(text: &[u8], limit: u16) -> Option<u16>

@@ -1,3 +1,4 @@
+use super::ScenarioFault::{BadFormat, BadKey, BadMember, BadStep, BadToml, Pool, TooLong};
 use super::{Scenario, ScenarioFault, SchemeKind, SpreadKind, Step, read};
 use five_tuple::Flow;
 use hash_laws::AnyHash;
@@ -165,109 +166,81 @@ fn other_words_and_keys(rt: HostRuntime) {
 #[test]
 fn each_fault_alone(rt: HostRuntime) {
     let alloc = rt.alloc();
-    let bad_key = Some(ScenarioFault::BadKey);
-    let bad_step = Some(ScenarioFault::BadStep(1));
     let rows = [
-        ("format = 1", "format = ", Some(ScenarioFault::BadToml)),
-        (
-            "size = 7",
-            "size = 7\nsize = 7",
-            Some(ScenarioFault::BadToml),
-        ),
-        (
-            "size = 7",
-            "size = 9223372036854775808",
-            Some(ScenarioFault::BadToml),
-        ),
-        ("format = 1", "", Some(ScenarioFault::BadFormat)),
-        ("format = 1", "format = 2", Some(ScenarioFault::BadFormat)),
-        (
-            "format = 1",
-            "format = \"1\"",
-            Some(ScenarioFault::BadFormat),
-        ),
-        ("size = 7", "size = 8", bad_key),
-        ("size = 7", "", bad_key),
-        ("size = 7", "size = 7.0", bad_key),
-        ("size = 7", "size = 7\nsizes = 7", bad_key),
-        ("\"sum\"", "\"SUM\"", bad_key),
-        ("\"maglev\"", "\"other\"", bad_key),
-        ("\"turn\"", "\"turns\"", bad_key),
-        ("workers = 1", "workers = 0", bad_key),
-        ("workers = 1", "workers = 17", bad_key),
-        ("capacity = 2", "capacity = 0", bad_key),
-        ("capacity = 2", "capacity = 1000001", bad_key),
-        ("capacity = 2", "capacity = 2\nring = 0", bad_key),
-        ("capacity = 2", "capacity = 2\nring = 65537", bad_key),
-        ("capacity = 2", "capacity = 2\ncheck = 1", bad_key),
-        ("\"10.9.0.1\", \"10.9.0.2\"", "", bad_key),
-        ("\"10.9.0.1\"", "\"10.9.0.01\"", bad_key),
-        ("\"10.9.0.1\"", "\"10.9.0.256\"", bad_key),
-        ("\"10.9.0.1\"", "\"10.9.0\"", bad_key),
-        ("\"10.9.0.1\"", "7", bad_key),
-        ("\"take 2\"", "2", bad_key),
-        ("number = 1", "number = 4294967296", bad_key),
-        ("number = 1", "number = -1", bad_key),
-        ("number = 1", "number = 1\nname = 1", bad_key),
-        ("\"192.0.2.1\"", "\"192.0.2.1/32\"", bad_key),
-        ("\"tcp\"", "\"icmp\"", bad_key),
-        ("port = 80", "port = 65536", bad_key),
-        ("port = 80", "port = 80\nports = 80", bad_key),
-        ("\"C@10.8.0.3\"", "3", bad_key),
-        (
-            "\"C@10.8.0.3\"",
-            "\"10.8.0.3\"",
-            Some(ScenarioFault::BadMember),
-        ),
-        (
-            "\"C@10.8.0.3\"",
-            "\"C@10.8.0.3/up\"",
-            Some(ScenarioFault::BadMember),
-        ),
-        (
-            "\"C@10.8.0.3\"",
-            "\"-@10.8.0.3\"",
-            Some(ScenarioFault::BadMember),
-        ),
-        (
-            "number = 1",
-            "number = 0",
-            Some(ScenarioFault::Pool(PoolFault::BadNumber)),
-        ),
-        (
-            "number = 1",
-            "number = 2",
-            Some(ScenarioFault::Pool(PoolFault::NumberTaken)),
-        ),
+        ("format = 1", "format = ", BadToml),
+        ("size = 7", "size = 7\nsize = 7", BadToml),
+        ("size = 7", "size = 9223372036854775808", BadToml),
+        ("format = 1", "", BadFormat),
+        ("format = 1", "format = 2", BadFormat),
+        ("format = 1", "format = \"1\"", BadFormat),
+        ("size = 7", "size = 8", BadKey),
+        ("size = 7", "", BadKey),
+        ("size = 7", "size = 7.0", BadKey),
+        ("size = 7", "size = 7\nsizes = 7", BadKey),
+        ("\"sum\"", "\"SUM\"", BadKey),
+        ("\"maglev\"", "\"other\"", BadKey),
+        ("\"turn\"", "\"turns\"", BadKey),
+        ("workers = 1", "workers = 0", BadKey),
+        ("workers = 1", "workers = 17", BadKey),
+        ("capacity = 2", "capacity = 0", BadKey),
+        ("capacity = 2", "capacity = 1000001", BadKey),
+        ("capacity = 2", "capacity = 2\nring = 0", BadKey),
+        ("capacity = 2", "capacity = 2\nring = 65537", BadKey),
+        ("capacity = 2", "capacity = 2\ncheck = 1", BadKey),
+        ("\"10.9.0.1\", \"10.9.0.2\"", "", BadKey),
+        ("\"10.9.0.1\"", "\"10.9.0.01\"", BadKey),
+        ("\"10.9.0.1\"", "\"10.9.0.256\"", BadKey),
+        ("\"10.9.0.1\"", "\"10.9.0\"", BadKey),
+        ("\"10.9.0.1\"", "7", BadKey),
+        ("\"take 2\"", "2", BadKey),
+        ("number = 1", "number = 4294967296", BadKey),
+        ("number = 1", "number = -1", BadKey),
+        ("number = 1", "number = 1\nname = 1", BadKey),
+        ("\"192.0.2.1\"", "\"192.0.2.1/32\"", BadKey),
+        ("\"tcp\"", "\"icmp\"", BadKey),
+        ("port = 80", "port = 65536", BadKey),
+        ("port = 80", "port = 80\nports = 80", BadKey),
+        ("\"C@10.8.0.3\"", "3", BadKey),
+        ("\"C@10.8.0.3\"", "\"10.8.0.3\"", BadMember),
+        ("\"C@10.8.0.3\"", "\"C@10.8.0.3/up\"", BadMember),
+        ("\"C@10.8.0.3\"", "\"-@10.8.0.3\"", BadMember),
+        ("number = 1", "number = 0", Pool(PoolFault::BadNumber)),
+        ("number = 1", "number = 2", Pool(PoolFault::NumberTaken)),
         (
             "\"C@10.8.0.3\"",
             "\"A@10.8.0.3\"",
-            Some(ScenarioFault::Pool(PoolFault::DoubleName)),
+            Pool(PoolFault::DoubleName),
         ),
-        ("\"take 2\"", "\"take  2\"", bad_step),
-        ("\"take 2\"", "\"take\"", bad_step),
-        ("\"take 2\"", "\"take 02\"", bad_step),
-        ("\"take 2\"", "\"take +2\"", bad_step),
-        ("\"take 2\"", "\"take 4294967296\"", bad_step),
-        ("\"take 2\"", "\"take 2 \"", bad_step),
-        ("\"take 2\"", "\"took 2\"", bad_step),
-        ("\"take 2\"", "\"\"", bad_step),
-        ("\"take 2\"", "\"live 2\"", bad_step),
-        ("\"take 2\"", "\"live 0 0\"", bad_step),
-        ("\"take 2\"", "\"full 0 1\"", bad_step),
-        ("\"take 2\"", "\"full 0 0 0\"", bad_step),
-        ("\"take 2\"", "\"full\"", bad_step),
-        ("\"take 2\"", "\"hold 2\"", bad_step),
-        ("\"take 2\"", "\"install 0\"", bad_step),
-        ("\"hold 1\"", "\"hold 2\"", Some(ScenarioFault::BadStep(2))),
-        ("\"hold 1\"", "\"take 4294967295\"", None),
+        ("\"take 2\"", "\"take  2\"", BadStep(1)),
+        ("\"take 2\"", "\"take\"", BadStep(1)),
+        ("\"take 2\"", "\"take 02\"", BadStep(1)),
+        ("\"take 2\"", "\"take +2\"", BadStep(1)),
+        ("\"take 2\"", "\"take 4294967296\"", BadStep(1)),
+        ("\"take 2\"", "\"take 2 \"", BadStep(1)),
+        ("\"take 2\"", "\"took 2\"", BadStep(1)),
+        ("\"take 2\"", "\"\"", BadStep(1)),
+        ("\"take 2\"", "\"live 2\"", BadStep(1)),
+        ("\"take 2\"", "\"live 0 0\"", BadStep(1)),
+        ("\"take 2\"", "\"full 0 1\"", BadStep(1)),
+        ("\"take 2\"", "\"full 0 0 0\"", BadStep(1)),
+        ("\"take 2\"", "\"full\"", BadStep(1)),
+        ("\"take 2\"", "\"hold 2\"", BadStep(1)),
+        ("\"take 2\"", "\"install 0\"", BadStep(1)),
+        ("\"hold 1\"", "\"hold 2\"", BadStep(2)),
     ];
     for (from, to, expected) in rows {
         assert_eq!(rt;
             fault(&rt, alloc, (from, to), NOTHING),
-            expected,
+            Some(expected),
             "{from} to {to}"
         );
+    }
+    for greatest in [
+        ("\"hold 1\"", "\"take 4294967295\""),
+        ("workers = 1", "workers = 16"),
+        ("capacity = 2", "capacity = 1000000"),
+    ] {
+        assert_eq!(rt; fault(&rt, alloc, greatest, NOTHING), None);
     }
 }
 
@@ -278,42 +251,34 @@ fn the_first_of_two_faults(rt: HostRuntime) {
         (
             ("size = 7", "size = "),
             ("format = 1", "format = 2"),
-            ScenarioFault::BadToml,
+            BadToml,
         ),
-        (
-            ("\"hold 1\"", "7"),
-            ("format = 1", "format = 2"),
-            ScenarioFault::BadFormat,
-        ),
-        (
-            ("\"C@10.8.0.3\"", "\"C\""),
-            ("\"hold 1\"", "7"),
-            ScenarioFault::BadKey,
-        ),
+        (("\"hold 1\"", "7"), ("format = 1", "format = 2"), BadFormat),
+        (("\"C@10.8.0.3\"", "\"C\""), ("\"hold 1\"", "7"), BadKey),
         (
             ("number = 1", "number = 0"),
             ("\"C@10.8.0.3\"", "\"C\""),
-            ScenarioFault::BadMember,
+            BadMember,
         ),
         (
             ("number = 1", "number = 0"),
             ("port = 80", "port = 65536"),
-            ScenarioFault::BadKey,
+            BadKey,
         ),
         (
             ("\"take 2\"", "\"take\""),
             ("number = 1", "number = 0"),
-            ScenarioFault::Pool(PoolFault::BadNumber),
+            Pool(PoolFault::BadNumber),
         ),
         (
             ("\"hold 1\"", "\"hold\""),
             ("\"take 2\"", "\"take\""),
-            ScenarioFault::BadStep(1),
+            BadStep(1),
         ),
         (
             ("number = 1", "number = 2"),
             ("\"B@10.8.0.2/down\"", "\"A@10.8.0.2\""),
-            ScenarioFault::Pool(PoolFault::NumberTaken),
+            Pool(PoolFault::NumberTaken),
         ),
     ];
     for (first, second, expected) in rows {
@@ -359,19 +324,10 @@ fn fault_of_steps(rt: &impl Abort, alloc: Global, count: u32) -> Option<Scenario
 fn counts_at_their_limits(rt: HostRuntime) {
     let alloc = rt.alloc();
     assert_eq!(rt; fault_of_nodes(&rt, alloc, 64), None);
-    assert_eq!(rt; fault_of_nodes(&rt, alloc, 65), Some(ScenarioFault::BadKey));
+    assert_eq!(rt; fault_of_nodes(&rt, alloc, 65), Some(BadKey));
     assert_eq!(rt; fault_of_steps(&rt, alloc, 100_000), None);
-    assert_eq!(rt;
-        fault_of_steps(&rt, alloc, 100_001),
-        Some(ScenarioFault::BadKey)
-    );
-    assert_eq!(rt;
-        fault_of_steps(&rt, alloc, 150_000),
-        Some(ScenarioFault::TooLong)
-    );
-    assert_eq!(rt; read(alloc, b"").err(), Some(ScenarioFault::BadFormat));
-    assert_eq!(rt;
-        read(alloc, b"format = 1\n# \xff").err(),
-        Some(ScenarioFault::BadToml)
-    );
+    assert_eq!(rt; fault_of_steps(&rt, alloc, 100_001), Some(BadKey));
+    assert_eq!(rt; fault_of_steps(&rt, alloc, 150_000), Some(TooLong));
+    assert_eq!(rt; read(alloc, b"").err(), Some(BadFormat));
+    assert_eq!(rt; read(alloc, b"format = 1\n# \xff").err(), Some(BadToml));
 }

@@ -1,4 +1,5 @@
 pub mod Among
 pub mod Counts
-pub mod Versions
+pub mod Halves
 pub mod Tables
+pub mod Versions

@@ -77,6 +77,13 @@ impl MaglevTable {
         self.size
     }
 
+    /// The backends that it was made of, in their order.
+    pub fn ups(&self) -> &[Backend]
+        ensures { result.now ≡ self.now.ups }
+    {
+        self.ups.as_slice()
+    }
+
     /// The backend that a slot names, None where nobody is up. Slots begin at 0.
     pub fn backend_at(&self, slot: u32) -> Option<Backend>
         requires { slot < self.now.size }

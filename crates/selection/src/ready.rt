@@ -1,7 +1,8 @@
 //! One service of a version, prepared for a scheme.
 ghost use Rattle.std.specs.Prelude.{◌≡◌, ◌↔◌, true, IfOk, IfErr, Contains};
 ghost use Rattle.std.specs.List.{list_any};
-ghost use Rattle.pool_versions.specs.Pool.{ups};
+ghost use Rattle.pool_versions.specs.Pool.{ups, AscendsByName};
+ghost use Rattle.selection.specs.Halves.{is_at_head};
 ghost use Rattle.selection.specs.Readied.{ReadiedService, readied_of, serves_readied, same_backend};
 ghost use Rattle.selection.specs.Faults.{IsPrepareFault};
 
@@ -25,13 +26,38 @@ pub struct Ready<S: Scheme> {
 }
 
 impl<S: Scheme> Model for Ready<S> {
+    ghost use Rattle.pool_versions.specs.Pool.{AscendsByName};
     ghost use Rattle.selection.specs.Readied.{ReadiedService};
 
     ghost Value = { ReadiedService S };
 
     ghost view = { λ a. record { scheme = a.scheme; size = a.size; vip = a.vip; proto = a.proto; port = a.port; ups = a.ups.items } };
 
-    ghost invariant = { λ a. S.is_prepared a.scheme a.size a.ups.items a.prepared };
+    ghost invariant = { λ a. S.is_prepared a.scheme a.size a.ups.items a.prepared × AscendsByName a.ups.items };
+}
+
+// Whether a backend is among those of its name that a list begins with.
+fn is_at_head(ups: &[Backend], backend: &Backend) -> bool
+    ensures { result ≡ is_at_head backend.now ups.now }
+{
+    for other in ups {
+        if backend.name != other.name {
+            return false;
+        }
+        if backend.addr == other.addr {
+            return true;
+        }
+    }
+    false
+}
+
+// Whether a backend, name and address, is in a list that ascends by name.
+fn is_among(ups: &[Backend], backend: &Backend) -> bool
+    requires { AscendsByName ups.now }
+    ensures { result ≡ list_any (same_backend backend.now) ups.now }
+{
+    let first = ups.partition_point(|other| other.name < backend.name);
+    is_at_head(&ups[first..], backend)
 }
 
 impl<S: Scheme> Ready<S> {
@@ -78,19 +104,12 @@ impl<S: Scheme> Ready<S> {
         &self.prepared
     }
 
-    // Whether a backend, name and address, is among the up ones, as a test.
-    fn has_up(&self, backend: &Backend) -> bool
-        ensures { result ≡ list_any (same_backend backend.now) self.now.ups }
-    {
-        self.ups.iter().any(|other| *backend == *other)
-    }
-
     /// Whether a backend, as the pair of a name and an address, is one of the service's up backends.
     #[tactic(auto, using(crate::proofs::Among::any_is_contained))]
     pub fn is_up(&self, backend: &Backend) -> bool
         ensures among { (result ≡ true) ↔ Contains self.now.ups backend.now }
         ensures value { result ≡ list_any (same_backend backend.now) self.now.ups }
     {
-        self.has_up(backend)
+        is_among(self.ups.as_slice(), backend)
     }
 }

@@ -75,6 +75,7 @@ fn shows_table<H: hash_laws::FlowHash>(
         .table(alloc, seven(rt), ups)
         .expect(rt, "a table");
     assert_eq!(rt; table.size().slots(), 7);
+    assert!(rt; table.ups() == ups);
     for slot in 0..table.size().slots() {
         let named = table.backend_at(slot).expect(rt, "a backend");
         assert_eq!(rt; named.addr, addrs[slot as usize % 7], "at {slot}");
@@ -184,14 +185,13 @@ fn a_pair_is_up(rt: HostRuntime) {
     assert!(rt; prepared.ready(&elsewhere).is_none());
 }
 
-// A version of one service of eight members, of which some are up.
-fn version_of_eight(rt: &impl Abort, alloc: Global, ups: u32) -> Version {
+// A version of one service of eight members of the addresses 0 to 7, of which the first ones are up.
+fn version_of_eight(rt: &impl Abort, alloc: Global, names: &[u8; 8], ups: usize) -> Version {
     let mut members = Vec::new(alloc);
-    for number in 0..8u32 {
-        let name = [b'a' + (number % 8) as u8];
+    for (number, name) in names.iter().enumerate() {
         members
             .push(Member {
-                backend: backend(rt, &name, number),
+                backend: backend(rt, &[*name], number as u32),
                 up: number < ups,
             })
             .expect(rt, "memory");
@@ -214,9 +214,47 @@ fn version_of_eight(rt: &impl Abort, alloc: Global, ups: u32) -> Version {
 #[test]
 fn more_up_backends_than_slots(rt: HostRuntime) {
     let alloc = rt.alloc();
-    for (ups, refused) in [(7u32, None), (8, Some(PrepareFault::TooMany))] {
-        let version = version_of_eight(&rt, alloc, ups);
+    for (ups, refused) in [(7usize, None), (8, Some(PrepareFault::TooMany))] {
+        let version = version_of_eight(&rt, alloc, b"abcdefgh", ups);
         let made = PreparedVersion::make(alloc, &RoundRobin, seven(&rt), &version);
         assert_eq!(rt; made.err(), refused);
     }
+}
+
+// Which of eight pairs of a name and a number are up.
+fn which_are_up(rt: &impl Abort, alloc: Global, names: &[u8; 8], pairs: &[u8; 8]) -> [bool; 8] {
+    let version = version_of_eight(rt, alloc, names, 7);
+    let prepared = PreparedVersion::make(alloc, &RoundRobin, seven(rt), &version).expect(
+        rt,
+        "a prepared version",
+    );
+    let flow = Flow {
+        dst: 1,
+        ..flow(1000)
+    };
+    let mut are_up = [false; 8];
+    for (number, name) in pairs.iter().enumerate() {
+        are_up[number] = prepared.is_up(&flow, &backend(rt, &[*name], number as u32));
+    }
+    are_up
+}
+
+#[test]
+fn each_up_backend_is_found(rt: HostRuntime) {
+    let alloc = rt.alloc();
+    let but_the_last = [true, true, true, true, true, true, true, false];
+    for names in [
+        b"abcdefgh",
+        b"hgfedcba",
+        b"dbfaceg0",
+        b"zzzzzzzz",
+        b"bbbaaacc",
+    ] {
+        assert_eq!(rt; which_are_up(&rt, alloc, names, names), but_the_last);
+        assert_eq!(rt; which_are_up(&rt, alloc, names, b"ZZZZZZZZ"), [false; 8]);
+    }
+    assert_eq!(rt;
+        which_are_up(&rt, alloc, b"bbbaaacc", b"bcbaaaac"),
+        [true, false, true, true, true, true, false, false]
+    );
 }

@@ -1,6 +1,6 @@
 use Rattle.std.proofs.Common.{◌≡◌, ◌≤◌, ◌+◌, ◌-◌, List, ◌∷◌, ◌++◌, length}
 use Rattle.cluster_node.specs.declared.packets.Packet.{Packet}
-use Rattle.course.specs.declared.step.Step.{Step}
+use Rattle.scenario_steps.specs.declared.Step.{Step}
 use Rattle.course.specs.Steps.{world_of, run}
 use Rattle.course.specs.Streams.{take_of}
 use Rattle.course.proofs.stream.take_as_they_come.Given as goal

@@ -1,4 +1,4 @@
-use Rattle.std.proofs.Common.{rules, not, ◌≡◌, Bool}
+use Rattle.std.proofs.Common.{rules, not}
 use Rattle.std.proofs.lemmas.List.Sorted.{answers_always}
 use Rattle.pool_versions.proofs.AfterSort.{double_from_sort}
 use Rattle.pool_versions.proofs.doubles.has_double_key.Goals as goal

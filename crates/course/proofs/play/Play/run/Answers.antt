@@ -1,6 +1,6 @@
 use Rattle.std.proofs.Common.{◌+◌, List, length, sym, ◌∙◌, ap, arith, refl, subst}
 use Rattle.std.proofs.lemmas.List.{drop_all}
-use Rattle.course.specs.declared.step.Step.{Step}
+use Rattle.scenario_steps.specs.declared.Step.{Step}
 use Rattle.course.specs.Course.{Course}
 use Rattle.course.specs.Room.{Counted}
 use Rattle.course.specs.Steps.{world_of, run}

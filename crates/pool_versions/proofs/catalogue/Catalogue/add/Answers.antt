@@ -1,4 +1,4 @@
-use Rattle.std.proofs.Common.{◌≡◌, ◌∙◌, ap, sym}
+use Rattle.std.proofs.Common.{◌∙◌, ap, sym}
 use Rattle.std.specs.Result.{is_ok}
 use Rattle.pool_versions.specs.Pool.{fault_of}
 use Rattle.pool_versions.proofs.Limits.{taken_keeps}

@@ -1,4 +1,3 @@
-use Rattle.std.proofs.Common.{◌≡◌, option_copied, Some}
 use Rattle.pool_versions.proofs.Limits.{has_ups}
 use Rattle.pool_versions.proofs.catalogue.Catalogue.up_of.Goals as goal
 

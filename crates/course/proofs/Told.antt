@@ -1,0 +1,77 @@
+-- Each outcome of a run is the judge's.
+use Rattle.std.proofs.Common.{◌≡◌, ℕ, zero, suc, ◌+◌, Bool, true, false, List, [], ◌∷◌, take, Option, Some, None, refl}
+use Rattle.std.specs.Prelude.{if◌then◌else◌, slice_get}
+use Rattle.cluster_node.specs.declared.events.Event.{Event}
+use Rattle.cluster_node.specs.declared.packets.Packet.{Packet}
+use Rattle.cluster_node.specs.Records.{Judged}
+use Rattle.course.specs.Cluster.{flow_of, waiting_on}
+use Rattle.scenario_steps.specs.declared.Step.{Step}
+use Rattle.scenario_steps.specs.declared.Step.TheVariants as steps
+use Rattle.course.specs.Course.{Course}
+use Rattle.course.specs.Steps.{World, placed_on, is_held, say, serve, follow, arrival, arrive, route, deliver, take_all, repeat, serve_times, drain_from, release, next_ones, after, run, start}
+
+abbrev Told : World → Course → Type 0
+Told w c = Judged w.cluster.judge c.past
+
+serve_told : (w : World) (n u : ℕ) (c : Course) → Told w c → Told w (serve w n u c)
+unfolding serve
+serve_told w n u c h = (refl, h)
+
+held_told : (w : World) (n u : ℕ) (c : Course) (b : Bool) → Told w c → Told w (if b then c else serve w n u c)
+held_told w n u c true h = h
+held_told w n u c false h = serve_told w n u c h
+
+follow_told : (w : World) (n : ℕ) (o : Option ℕ) (c : Course) → Told w c → Told w (follow w n o c)
+unfolding follow
+follow_told w n None c h = h
+follow_told w n (Some u) c h = held_told w n u c (is_held n c) h
+
+arrive_told : (w : World) (n k : ℕ) (p : Packet) (c : Course) → Told w c → Told w (arrive w n k p c)
+unfolding arrive
+arrive_told w n k p c h = follow_told w n (placed_on (w.cluster.judge c.past (arrival n k c) (Some p))) (say w (arrival n k c) (Some p) c) (refl, h)
+
+route_told : (w : World) (k : ℕ) (p : Packet) (o : Option ℕ) (c : Course) → Told w c → Told w (route w k p o c)
+unfolding route
+route_told w k p None c h = h
+route_told w k p (Some n) c h = arrive_told w n k p c h
+
+pub deliver_told : (w : World) (k : ℕ) (p : Packet) (c : Course) → Told w c → Told w (deliver w k p c)
+unfolding deliver
+deliver_told w k p c h = route_told w k p (w.choice c.live (flow_of p) c.nth) (record c { nth = c.nth + 1 }) h
+
+take_told : (w : World) (ps : List Packet) (c : Course) → Told w c → Told w (take_all w ps c)
+unfolding take_all
+take_told w [] c h = h
+take_told w (p ∷ ps) c h = take_told w ps (deliver w c.read p (record c { read = c.read + 1 })) (deliver_told w c.read p (record c { read = c.read + 1 }) h)
+
+repeat_told : (w : World) (k : ℕ) (o : Option Packet) (c : Course) → Told w c → Told w (repeat w k o c)
+unfolding repeat
+repeat_told w k None c h = h
+repeat_told w k (Some p) c h = deliver_told w k p c h
+
+times_told : (w : World) (n u m : ℕ) (c : Course) → Told w c → Told w (serve_times w n u m c)
+unfolding serve_times
+times_told w n u zero c h = h
+times_told w n u (suc m) c h = times_told w n u m (serve w n u c) (serve_told w n u c h)
+
+drain_told : (w : World) (n u m : ℕ) (c : Course) → Told w c → Told w (drain_from w n u m c)
+unfolding drain_from
+drain_told w n u zero c h = h
+drain_told w n u (suc m) c h = drain_told w n (u + 1) m (serve_times w n u (waiting_on w.cluster n u c.past) c) (times_told w n u (waiting_on w.cluster n u c.past) c h)
+
+pub after_told : (w : World) (s : Step) (c : Course) → Told w c → Told w (after w s c)
+unfolding after
+after_told w (steps.Install m v) c h = (refl, h)
+after_told w (steps.Live ns) c h = h
+after_told w (steps.Take k) c h = take_told w (next_ones w k c) c h
+after_told w (steps.Lose k) c h = h
+after_told w (steps.Again k) c h = repeat_told w k (slice_get (take c.read w.packets) k) c h
+after_told w (steps.Full m ms) c h = h
+after_told w (steps.Hold m) c h = h
+after_told w (steps.Drain m) c h = drain_told w m 0 w.cluster.workers (release m c) h
+after_told w (steps.Restart m) c h = (refl, h)
+
+pub run_told : (w : World) (ss : List Step) (c : Course) → Told w c → Told w (run w ss c)
+unfolding run
+run_told w [] c h = h
+run_told w (s ∷ ss) c h = run_told w ss (after w s c) (after_told w s c h)

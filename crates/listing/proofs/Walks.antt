@@ -1,0 +1,43 @@
+-- One line more of what is yet to be written.
+use Rattle.std.proofs.Common.{◌≡◌, ℕ, suc, ◌+◌, ◌<◌, ◌≤◌, List, [], ◌∷◌, ◌++◌, map, length, drop, get_or, refl, ap, sym, ◌∙◌, append_assoc, ◌⊎◌, inl, inr, add-one}
+use Rattle.std.proofs.lemmas.List.{append-nil, drop_all}
+use Rattle.std.proofs.lemmas.List.FromFn.{fill_by_all}
+use Rattle.std.specs.List.{flat_map, zip, range_with_len}
+use Rattle.std.proofs.Math.Seq.{drop-cons}
+use Rattle.cluster_node.specs.declared.events.Said.{Said}
+use Rattle.cluster_node.specs.declared.outcomes.Cause.{Cause}
+use Rattle.listing.specs.Lines.{line_text, lines_from}
+use Rattle.listing.specs.Report.{causes, drop_line, drops_text}
+
+-- the lines of some causes, each with its count
+abbrev pub drop_lines : List Cause → List ℕ → List ℕ
+drop_lines cs counts = flat_map (λ p. drop_line p.0 p.1) (zip cs counts)
+
+-- each cause has the count at its place
+pub by_number : (counts : List ℕ) → length counts ≡ 13 → drop_lines causes counts ≡ drops_text counts
+unfolding drops_text
+by_number counts h =
+    let f : ℕ → ℕ = λ k. get_or counts k 0 in
+    let whole : counts ≡ map f (range_with_len 0 13) = fill_by_all f counts 13 0 h (λ k low. refl) in
+    ap (λ (ns : List ℕ). drop_lines causes ns) whole
+
+pub line_more : (history : List Said) (k : ℕ) (said : Said) (old new whole : List ℕ) → k < length history → said ≡ get_or history k said → new ≡ old ++ line_text k said → old ++ lines_from k (drop k history) ≡ whole → new ++ lines_from (k + 1) (drop (k + 1) history) ≡ whole
+line_more history k said old new whole h at grown e =
+    let front : drop k history ≡ said ∷ drop (k + 1) history = rw add-one (drop-cons history k said h ∙ ap (λ (s : Said). s ∷ drop (suc k) history) (sym at)) in
+    rw grown (append_assoc old (line_text k said) (lines_from (k + 1) (drop (k + 1) history)) ∙ (ap (λ (rest : List Said). old ++ lines_from k rest) (sym front) ∙ e))
+
+pub lines_end : (history : List Said) (k : ℕ) (text whole : List ℕ) → length history ≤ k → text ++ lines_from k (drop k history) ≡ whole → text ≡ whole
+lines_end history k text whole h e = sym (append-nil text) ∙ (ap (λ (rest : List Said). text ++ lines_from k rest) (sym (drop_all k history h)) ∙ e)
+
+pub drop_more : (cs ds : List Cause) (ns ms : List ℕ) (cause : Cause) (count : ℕ) (old new whole : List ℕ) → cs ≡ cause ∷ ds → ns ≡ count ∷ ms → new ≡ old ++ drop_line cause count → old ++ drop_lines cs ns ≡ whole → new ++ drop_lines ds ms ≡ whole
+drop_more cs ds ns ms cause count old new whole front back grown e =
+    let step : drop_lines cs ns ≡ drop_line cause count ++ drop_lines ds ms = rw (front, back) refl in
+    rw grown (append_assoc old (drop_line cause count) (drop_lines ds ms) ∙ (ap (λ (rest : List ℕ). old ++ rest) (sym step) ∙ e))
+
+no_lines : (cs : List Cause) (ns : List ℕ) → (cs ≡ []) ⊎ (ns ≡ []) → drop_lines cs ns ≡ []
+no_lines cs ns (inl h) = rw h refl
+no_lines [] ns (inr h) = refl
+no_lines (c ∷ cs) ns (inr h) = rw h refl
+
+pub drops_end : (cs : List Cause) (ns : List ℕ) (text whole : List ℕ) → (cs ≡ []) ⊎ (ns ≡ []) → text ++ drop_lines cs ns ≡ whole → text ≡ whole
+drops_end cs ns text whole h e = sym (append-nil text) ∙ (ap (λ (rest : List ℕ). text ++ rest) (sym (no_lines cs ns h)) ∙ e)

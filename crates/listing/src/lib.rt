@@ -1,0 +1,15 @@
+//! The texts of a run: its events with what each came to, its report, and why two packets went where they went.
+#![tactic(auto)]
+
+mod lines;
+mod names;
+mod reports;
+mod verdicts;
+
+pub use lines::listing_text;
+pub use names::{CauseText, ReasonText};
+pub use reports::report_text;
+pub use verdicts::verdict_text;
+
+#[cfg(test)]
+mod tests;

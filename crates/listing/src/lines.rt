@@ -1,0 +1,86 @@
+//! The listing: a line for each event, with what it came to.
+ghost use Rattle.std.specs.Prelude.{◌≡◌, ◌++◌, IfOk, OnOk, string_bytes};
+ghost use Rattle.listing.specs.Lines.{line_text, listing};
+
+use crate::names::{CauseText, ReasonText};
+use cluster_node::{Event, Outcome, Said};
+use maglev_texts::BackendText;
+use std::alloc::{AllocError, Global};
+use std::fmt;
+
+#[derive(Clone, Copy)]
+struct EventText(Event);
+
+#[derive(Clone, Copy)]
+struct OutcomeText(Outcome);
+
+impl fmt::Display for EventText {
+    ghost use Rattle.std.specs.Prelude.{Some};
+    ghost use Rattle.listing.specs.Lines.{event_text};
+
+    ghost output = { λ e. Some (event_text e.0) };
+
+    fn fmt<W: fmt::Write>(&self, f: &mut fmt::Formatter<W>) -> fmt::Result {
+        match self.0 {
+            Event::Install { node, version } => write!(f, "install {node} {version}"),
+            Event::Arrive { node, packet, .. } => write!(f, "arrive {node} {packet}"),
+            Event::Serve {
+                node,
+                worker,
+                version,
+                ..
+            } => write!(f, "serve {node} {worker} {version}"),
+            Event::Restart { node } => write!(f, "restart {node}"),
+        }
+    }
+}
+
+impl fmt::Display for OutcomeText {
+    ghost use Rattle.std.specs.Prelude.{Some};
+    ghost use Rattle.listing.specs.Lines.{outcome_text};
+
+    ghost output = { λ o. Some (outcome_text o.0) };
+
+    fn fmt<W: fmt::Write>(&self, f: &mut fmt::Formatter<W>) -> fmt::Result {
+        match self.0 {
+            Outcome::Installed => f.write_str("installed"),
+            Outcome::Placed { worker, .. } => write!(f, "placed {worker}"),
+            Outcome::Forward {
+                backend,
+                origin,
+                ..
+            } => {
+                let backend = BackendText(backend);
+                write!(f, "forward {backend} from {origin}")
+            }
+            Outcome::Dropped { cause, .. } => {
+                let cause = CauseText(cause);
+                write!(f, "drop {cause}")
+            }
+            Outcome::Restarted { lost } => write!(f, "restarted {lost}"),
+            Outcome::Refused(reason) => {
+                let reason = ReasonText(reason);
+                write!(f, "refused {reason}")
+            }
+        }
+    }
+}
+
+fn push_line(text: &mut String, number: usize, said: &Said) -> Result<(), AllocError>
+    ensures { OnOk result (string_bytes text.new ≡ string_bytes text.old ++ line_text number said.now) }
+{
+    let event = EventText(said.event);
+    let outcome = OutcomeText(said.outcome);
+    write!(text, "{number} {event}: {outcome}\n")
+}
+
+/// The listing of a history, the oldest event first: `K EVENT: OUTCOME` for each, K from 0.
+pub fn listing_text(alloc: Global, history: &[Said]) -> Result<String, AllocError>
+    ensures { IfOk result (λ s. string_bytes s ≡ listing history.now) }
+{
+    let mut text = String::new(alloc);
+    for (number, said) in history.iter().enumerate() {
+        push_line(&mut text, number, said)?;
+    }
+    Ok(text)
+}

@@ -1,0 +1,322 @@
+use super::{CauseText, ReasonText, listing_text, report_text, verdict_text};
+use cluster_core::{Totals, Verdict};
+use cluster_node::{Cause, Event, Outcome, Reason, Said};
+use course::Tally;
+use five_tuple::Flow;
+use maglev_table::Name;
+use pool_versions::Backend;
+use std::alloc::AllocError;
+use std::process::Abort;
+
+fn shows(rt: &impl Abort, made: Result<String, AllocError>, text: &str) {
+    assert_eq!(rt; made.expect(rt, "memory").as_str(), text);
+}
+
+fn backend(rt: &impl Abort, name: &str, addr: u32) -> Backend {
+    Backend {
+        name: Name::new(name.as_bytes()).expect(rt, "a name"),
+        addr,
+    }
+}
+
+fn said(event: Event, outcome: Outcome) -> Said {
+    Said {
+        event,
+        packet: None,
+        outcome,
+    }
+}
+
+fn install(version: u32) -> Said {
+    said(Event::Install { node: 0, version }, Outcome::Installed)
+}
+
+fn arrive(packet: u32, outcome: Outcome) -> Said {
+    let event = Event::Arrive {
+        node: 0,
+        packet,
+        refused: [false; 16],
+    };
+    said(event, outcome)
+}
+
+fn serve(worker: u16, version: u32, outcome: Outcome) -> Said {
+    let event = Event::Serve {
+        node: 0,
+        worker,
+        version,
+        refused: false,
+    };
+    said(event, outcome)
+}
+
+fn forward(packet: u32, backend: Backend, origin: u32) -> Outcome {
+    Outcome::Forward {
+        node: 0,
+        worker: 0,
+        packet,
+        flow: Flow {
+            src: 0x0a00_0001,
+            dst: 0xc000_0201,
+            sport: 1001,
+            dport: 80,
+            proto: 6,
+        },
+        backend,
+        origin,
+    }
+}
+
+fn placed(floor: u32) -> Outcome {
+    Outcome::Placed { worker: 0, floor }
+}
+
+#[test]
+fn a_listing(rt: HostRuntime) {
+    let a = backend(&rt, "A", 0x0a08_0001);
+    let b = backend(&rt, "B", 0x0a08_0002);
+    let history = [
+        install(1),
+        arrive(0, placed(1)),
+        serve(0, 1, forward(0, b, 1)),
+        install(2),
+        arrive(1, placed(2)),
+        serve(0, 2, forward(1, a, 2)),
+    ];
+    shows(
+        &rt,
+        listing_text(rt.alloc(), &history),
+        "0 install 0 1: installed
+1 arrive 0 0: placed 0
+2 serve 0 0 1: forward B@10.8.0.2 from 1
+3 install 0 2: installed
+4 arrive 0 1: placed 0
+5 serve 0 0 2: forward A@10.8.0.1 from 2
+",
+    );
+    shows(&rt, listing_text(rt.alloc(), &[]), "");
+}
+
+#[test]
+fn other_outcomes(rt: HostRuntime) {
+    let dropped = Outcome::Dropped {
+        packet: 4,
+        cause: Cause::RingsFull,
+    };
+    let history = [
+        arrive(4, dropped),
+        serve(7, 9, Outcome::Refused(Reason::UnknownVersion)),
+        said(Event::Restart { node: 1 }, Outcome::Restarted { lost: 2 }),
+    ];
+    shows(
+        &rt,
+        listing_text(rt.alloc(), &history),
+        "0 arrive 0 4: drop RingsFull
+1 serve 0 7 9: refused UnknownVersion
+2 restart 1: restarted 2
+",
+    );
+}
+
+const NOTHING: Tally = Tally {
+    packets: 0,
+    lost: 0,
+    unrouted: 0,
+    skipped: 0,
+    left: 0,
+};
+
+const NOBODY: Totals = Totals {
+    received: 0,
+    forwarded: 0,
+    dropped: [0; 13],
+    waiting: 0,
+    refused: 0,
+};
+
+#[test]
+fn two_packets_sent(rt: HostRuntime) {
+    let tally = Tally {
+        packets: 2,
+        ..NOTHING
+    };
+    let totals = Totals {
+        received: 2,
+        forwarded: 2,
+        ..NOBODY
+    };
+    shows(
+        &rt,
+        report_text(rt.alloc(), tally, &totals, false),
+        "packets 2
+lost 0
+unrouted 0
+skipped 0
+left 0
+cut no
+received 2
+forwarded 2
+waiting 0
+refused 0
+",
+    );
+}
+
+#[test]
+fn lost_at_a_restart(rt: HostRuntime) {
+    let tally = Tally {
+        packets: 3,
+        ..NOTHING
+    };
+    let totals = Totals {
+        received: 3,
+        forwarded: 1,
+        dropped: [0, 0, 0, 0, 0, 0, 0, 0, 0, 0, 0, 0, 2],
+        ..NOBODY
+    };
+    shows(
+        &rt,
+        report_text(rt.alloc(), tally, &totals, false),
+        "packets 3
+lost 0
+unrouted 0
+skipped 0
+left 0
+cut no
+received 3
+forwarded 1
+drop LostAtRestart 2
+waiting 0
+refused 0
+",
+    );
+}
+
+#[test]
+fn each_count(rt: HostRuntime) {
+    let tally = Tally {
+        packets: 2,
+        unrouted: 1,
+        skipped: 1,
+        left: 1,
+        ..NOTHING
+    };
+    let totals = Totals {
+        refused: 1,
+        ..NOBODY
+    };
+    shows(
+        &rt,
+        report_text(rt.alloc(), tally, &totals, false),
+        "packets 2
+lost 0
+unrouted 1
+skipped 1
+left 1
+cut no
+received 0
+forwarded 0
+waiting 0
+refused 1
+",
+    );
+}
+
+#[test]
+fn each_drop(rt: HostRuntime) {
+    let totals = Totals {
+        received: 76,
+        dropped: [1, 2, 3, 4, 5, 6, 7, 8, 0, 10, 0, 12, 13],
+        waiting: 5,
+        ..NOBODY
+    };
+    let tally = Tally { lost: 6, ..NOTHING };
+    shows(
+        &rt,
+        report_text(rt.alloc(), tally, &totals, true),
+        "packets 0
+lost 6
+unrouted 0
+skipped 0
+left 0
+cut yes
+received 76
+forwarded 0
+drop NotIpv4 1
+drop Truncated 2
+drop BadHeader 3
+drop BadChecksum 4
+drop Fragment 5
+drop NotTcpUdp 6
+drop BadTransport 7
+drop TooLarge 8
+drop NoBackend 10
+drop RingsFull 12
+drop LostAtRestart 13
+waiting 5
+refused 0
+",
+    );
+}
+
+#[test]
+fn verdicts(rt: HostRuntime) {
+    let alloc = rt.alloc();
+    let moved = Verdict::Split {
+        slot: 5,
+        v1: 1,
+        v2: 2,
+        b1: backend(&rt, "A", 0x0a08_0001),
+        b2: backend(&rt, "C", 0x0a08_0003),
+    };
+    let line = "split slot 5 version 1 A@10.8.0.1 version 2 C@10.8.0.3\n";
+    shows(&rt, verdict_text(alloc, &moved), line);
+    let turned = Verdict::Split {
+        slot: 5,
+        v1: 1,
+        v2: 1,
+        b1: backend(&rt, "B", 0x0a08_0002),
+        b2: backend(&rt, "A", 0x0a08_0001),
+    };
+    let line = "split slot 5 version 1 B@10.8.0.2 version 1 A@10.8.0.1\n";
+    shows(&rt, verdict_text(alloc, &turned), line);
+    shows(&rt, verdict_text(alloc, &Verdict::NotSent), "not sent\n");
+    shows(
+        &rt,
+        verdict_text(alloc, &Verdict::OtherFlow),
+        "other flow\n",
+    );
+    shows(&rt, verdict_text(alloc, &Verdict::Same), "same\n");
+}
+
+#[test]
+fn names(rt: HostRuntime) {
+    for (cause, name) in [
+        (Cause::NotIpv4, "NotIpv4"),
+        (Cause::Truncated, "Truncated"),
+        (Cause::BadHeader, "BadHeader"),
+        (Cause::BadChecksum, "BadChecksum"),
+        (Cause::Fragment, "Fragment"),
+        (Cause::NotTcpUdp, "NotTcpUdp"),
+        (Cause::BadTransport, "BadTransport"),
+        (Cause::TooLarge, "TooLarge"),
+        (Cause::NoService, "NoService"),
+        (Cause::NoBackend, "NoBackend"),
+        (Cause::NoVersion, "NoVersion"),
+        (Cause::RingsFull, "RingsFull"),
+        (Cause::LostAtRestart, "LostAtRestart"),
+    ] {
+        shows(&rt, CauseText(cause).to_string(rt.alloc()), name);
+    }
+    for (reason, name) in [
+        (Reason::NoNode, "NoNode"),
+        (Reason::NoWorker, "NoWorker"),
+        (Reason::NoPacket, "NoPacket"),
+        (Reason::UnknownVersion, "UnknownVersion"),
+        (Reason::NotNewer, "NotNewer"),
+        (Reason::Idle, "Idle"),
+        (Reason::VersionRange, "VersionRange"),
+    ] {
+        shows(&rt, ReasonText(reason).to_string(rt.alloc()), name);
+    }
+}

@@ -1,0 +1,69 @@
+-- What is asked of a scenario's run, and the text that answers it.
+use Rattle.std.specs.Prelude.{◌≡◌, ℕ, ◌-◌, Bool, true, false, List, [], ◌∷◌, ◌++◌, reverse, Option, Some, None, option_and_then, if◌then◌else◌, slice_get}
+use Rattle.five_tuple.specs.declared.Flow.{Flow}
+use Rattle.pcap_file.specs.declared.format.Ending.{Ending}
+use Rattle.pcap_file.specs.declared.format.Ending.TheVariants.{End, Cut, Failed}
+use Rattle.selection.specs.Picks.{slot_of_flow}
+use Rattle.spreader.specs.Choices.{Choice}
+use Rattle.cluster_node.specs.declared.events.Said.{Said}
+use Rattle.cluster_node.specs.declared.outcomes.Outcome.{Outcome}
+use Rattle.cluster_core.specs.declared.counts.Totals.{Totals}
+use Rattle.cluster_core.specs.Tally.{is_arrival, is_forward, is_refused, how_many, drops_all, lost_all}
+use Rattle.cluster_core.specs.Totals.{came_all, went_all}
+use Rattle.cluster_core.specs.Histories.{outcomes_of}
+use Rattle.cluster_core.specs.Explain.{Send, send_of, explained}
+use Rattle.course.specs.Cluster.{Cluster}
+use Rattle.course.specs.Course.{Course}
+use Rattle.course.specs.Tally.{tally_of}
+use Rattle.listing.specs.Lines.{listing}
+use Rattle.listing.specs.Report.{report_text}
+use Rattle.listing.specs.Verdicts.{verdict_text}
+use Rattle.simulation.specs.Plans.{Planned}
+use Rattle.simulation.specs.Simulated.{Simulated}
+use Rattle.scenario_play.specs.declared.asking.Asked.{Asked}
+use Rattle.scenario_play.specs.declared.asking.Asked.TheVariants.{Report, Events}
+
+-- the totals of some outcomes
+abbrev pub totals_in : List Outcome → Totals
+totals_in outs = record {
+  received = how_many (λ o. is_arrival o) outs;
+  forwarded = how_many (λ o. is_forward o) outs;
+  dropped = drops_all 1 outs ∷ drops_all 2 outs ∷ drops_all 3 outs ∷ drops_all 4 outs ∷ drops_all 5 outs ∷ drops_all 6 outs ∷ drops_all 7 outs ∷ drops_all 8 outs ∷ drops_all 9 outs ∷ drops_all 10 outs ∷ drops_all 11 outs ∷ drops_all 12 outs ∷ lost_all outs ∷ [];
+  waiting = came_all outs - went_all outs;
+  refused = how_many (λ o. is_refused o) outs;
+}
+
+-- the input ended inside a record
+abbrev pub is_cut : Ending → Bool
+is_cut End = false
+is_cut Cut = true
+is_cut (Failed fault) = false
+
+-- the report of a run over so many records
+abbrev pub plain_report : Course → ℕ → Ending → List ℕ
+plain_report course packets ending = report_text (tally_of packets course) (totals_in (outcomes_of (reverse course.past))) (is_cut ending)
+
+-- the same, with a line for each event before it where they are asked for
+abbrev pub report_of : Bool → Course → ℕ → Ending → List ℕ
+report_of true course packets ending = listing (reverse course.past) ++ plain_report course packets ending
+report_of false course packets ending = plain_report course packets ending
+
+-- what was sent at an event, counted from 0
+abbrev pub send_at : List Said → ℕ → Option Send
+send_at history k = option_and_then (λ s. send_of s.outcome) (slice_get history k)
+
+-- why the packets of two events went where they went
+abbrev pub line_of : (Flow → ℕ) → Course → ℕ → ℕ → List ℕ
+line_of slot course one other = verdict_text (explained slot (send_at (reverse course.past) one) (send_at (reverse course.past) other))
+
+abbrev pub answer_of : (Flow → ℕ) → Asked → Course → ℕ → Ending → List ℕ
+answer_of slot (Report list) course packets ending = report_of list course packets ending
+answer_of slot (Events one other) course packets ending = line_of slot course one other
+
+-- the scenario ran over the whole input, the output got what was sent, and the text answers what was asked
+pub record Answers (cluster : Cluster) (choice : Choice) (plan : Planned) (slot : Flow → ℕ) (asked : Asked) (input output output' : Option (List ℕ)) (text : List ℕ) : Type 0 where
+  pub course : Course
+  pub packets : ℕ
+  pub ending : Ending
+  pub simulated : Simulated cluster choice plan input output output' course packets ending
+  pub answer : text ≡ answer_of slot asked course packets ending

@@ -1,0 +1,10 @@
+//! Plays a scenario over a capture, and answers what is asked of the run: its report, or why two packets went where they
+//! went.
+#![tactic(auto)]
+
+mod answering;
+mod asking;
+mod playing;
+
+pub use asking::Asked;
+pub use playing::play_scenario;

@@ -1,0 +1,150 @@
+//! A scenario is played.
+ghost use Rattle.std.specs.Prelude.{◌≡◌, ◌≢◌, ◌≤◌, [], IfOk, IfErr, string_bytes, length, reverse};
+ghost use Rattle.hash_laws.specs.Any.{plain_of};
+ghost use Rattle.selection.specs.Picks.{slot_of_flow};
+ghost use Rattle.course.specs.Steps.{below};
+ghost use Rattle.cluster_run.specs.Ruling.{cluster_of};
+ghost use Rattle.scenario.specs.Meaning.{HasLimits};
+ghost use Rattle.simulation.specs.Plans.{planned};
+ghost use Rattle.simulation.specs.Simulated.{Stopped};
+ghost use Rattle.scenario_play.specs.Described.{pick_by, cluster_in, choice_in, choice_by, plan_in};
+ghost use Rattle.scenario_play.specs.Answers.{Answers};
+
+use crate::answering::answer;
+use crate::asking::Asked;
+use cluster_core::Setup;
+use cluster_run::{Balancers, Rules};
+use connection_table::LruTable;
+use course::all_live;
+use hash_laws::AnyHash;
+use pcap_file::{Sink, Source};
+use scenario::{Scenario, SchemeKind, SpreadKind};
+use selection::{Maglev, PlainHash, RoundRobin, Scheme};
+use simulation::{Plan, SimulationFault, play_capture};
+use spreader::{HashSpread, Spread, TurnSpread};
+use std::alloc::Global;
+
+// Plays the steps with this spreader, and answers.
+fn play_with<S: Scheme, P: Spread, I: Source, O: Sink>(
+    alloc: Global,
+    rules: &Rules<S, AnyHash>,
+    spread: &mut P,
+    plan: Plan<'_>,
+    asked: Asked,
+    input: &mut I,
+    output: &mut O,
+) -> Result<String, SimulationFault>
+    requires live { P.live spread.old ≡ below (length plan.nodes.now) }
+    requires nodes { length plan.nodes.now ≤ 64 }
+    requires steps { length plan.steps.now ≤ 100000 }
+    ensures ok { IfOk result (λ s. Answers (cluster_of (λ s z. S.pick s z) (λ h. plain_of h) rules.now) (P.choice spread.old) (planned plan.entry) (λ x. slot_of_flow (plain_of rules.now.setup.hash) rules.now.setup.size x) asked (I.left input.old) (O.contents output.old) (O.contents output.new) (string_bytes s)) }
+    ensures stopped { IfErr result (λ fault. fault ≢ SimulationFault.Write → Stopped (cluster_of (λ s z. S.pick s z) (λ h. plain_of h) rules.now) (P.choice spread.old) (planned plan.entry) (I.left input.old) (O.contents output.old) (O.contents output.new)) }
+{
+    let mut balancers = Balancers::<S, AnyHash, LruTable>::make(alloc, rules)?;
+    match play_capture(alloc, plan, &mut balancers, rules, spread, input, output) {
+        Ok(played) => {
+            balancers.keep_balance(rules);
+            match answer(alloc, rules, &played, asked) {
+                Ok(text) => Ok(text),
+                Err(_) => Err(SimulationFault::Memory),
+            }
+        }
+        Err(fault) => Err(fault),
+    }
+}
+
+// Plays with the spreader that the scenario names.
+fn play_over<S: Scheme, I: Source, O: Sink>(
+    alloc: Global,
+    rules: &Rules<S, AnyHash>,
+    spread: SpreadKind,
+    plan: Plan<'_>,
+    asked: Asked,
+    input: &mut I,
+    output: &mut O,
+) -> Result<String, SimulationFault>
+    requires nodes { length plan.nodes.now ≤ 64 }
+    requires steps { length plan.steps.now ≤ 100000 }
+    ensures ok { IfOk result (λ s. Answers (cluster_of (λ s z. S.pick s z) (λ h. plain_of h) rules.now) (choice_by spread (plain_of rules.now.setup.hash)) (planned plan.entry) (λ x. slot_of_flow (plain_of rules.now.setup.hash) rules.now.setup.size x) asked (I.left input.old) (O.contents output.old) (O.contents output.new) (string_bytes s)) }
+    ensures stopped { IfErr result (λ fault. fault ≢ SimulationFault.Write → Stopped (cluster_of (λ s z. S.pick s z) (λ h. plain_of h) rules.now) (choice_by spread (plain_of rules.now.setup.hash)) (planned plan.entry) (I.left input.old) (O.contents output.old) (O.contents output.new)) }
+{
+    let live = all_live(alloc, plan.nodes.len() as u16)?;
+    match spread {
+        SpreadKind::Hash => {
+            let mut spread = HashSpread::new(rules.setup().hash(), live);
+            play_with(alloc, rules, &mut spread, plan, asked, input, output)
+        }
+        SpreadKind::Turn => {
+            let mut spread = TurnSpread::new(live);
+            play_with(alloc, rules, &mut spread, plan, asked, input, output)
+        }
+    }
+}
+
+// Plays with the scheme that the scenario names.
+fn play_by<S: Scheme, I: Source, O: Sink>(
+    alloc: Global,
+    scheme: S,
+    scenario: Scenario,
+    asked: Asked,
+    input: &mut I,
+    output: &mut O,
+) -> Result<String, SimulationFault>
+    requires limits { HasLimits scenario }
+    requires size { scenario.catalogue.size ≡ scenario.size }
+    requires picks { S.pick scheme scenario.size ≡ pick_by scenario.scheme (plain_of scenario.hash) scenario.size }
+    ensures ok { IfOk result (λ s. Answers (cluster_in scenario) (choice_in scenario) (plan_in scenario) (λ x. slot_of_flow (plain_of scenario.hash) scenario.size x) asked (I.left input.old) (O.contents output.old) (O.contents output.new) (string_bytes s)) }
+    ensures stopped { IfErr result (λ fault. fault ≢ SimulationFault.Write → Stopped (cluster_in scenario) (choice_in scenario) (plan_in scenario) (I.left input.old) (O.contents output.old) (O.contents output.new)) }
+{
+    let Scenario {
+        size,
+        hash,
+        scheme: _,
+        spread,
+        workers,
+        capacity,
+        ring: _,
+        check,
+        nodes,
+        catalogue,
+        steps,
+    } = scenario;
+    let Ok(setup) = Setup::new(hash, scheme, size, nodes, workers, capacity) else {
+        unreachable!()
+    };
+    let Some(rules) = Rules::new(setup, catalogue) else {
+        unreachable!()
+    };
+    let plan = Plan {
+        nodes: rules.setup().nodes(),
+        check,
+        steps: steps.as_slice(),
+    };
+    match play_over(alloc, &rules, spread, plan, asked, input, output) {
+        Ok(text) => Ok(text),
+        Err(fault) => Err(fault),
+    }
+}
+
+/// Plays a scenario over a capture, and answers what is asked of the run. What the cluster sends is written as another
+/// capture, which is begun once the input's header was accepted. Whatever goes wrong but a write, the output is cut between
+/// records.
+pub fn play_scenario<I: Source, O: Sink>(
+    alloc: Global,
+    scenario: Scenario,
+    asked: Asked,
+    input: &mut I,
+    output: &mut O,
+) -> Result<String, SimulationFault>
+    requires limits { HasLimits scenario }
+    requires size { scenario.catalogue.size ≡ scenario.size }
+    ensures ok { IfOk result (λ s. Answers (cluster_in scenario) (choice_in scenario) (plan_in scenario) (λ x. slot_of_flow (plain_of scenario.hash) scenario.size x) asked (I.left input.old) (O.contents output.old) (O.contents output.new) (string_bytes s)) }
+    ensures stopped { IfErr result (λ fault. fault ≢ SimulationFault.Write → Stopped (cluster_in scenario) (choice_in scenario) (plan_in scenario) (I.left input.old) (O.contents output.old) (O.contents output.new)) }
+{
+    let hash = scenario.hash;
+    match scenario.scheme {
+        SchemeKind::Maglev => play_by(alloc, Maglev { hash }, scenario, asked, input, output),
+        SchemeKind::Plain => play_by(alloc, PlainHash { hash }, scenario, asked, input, output),
+        SchemeKind::Round => play_by(alloc, RoundRobin, scenario, asked, input, output),
+    }
+}

@@ -1,0 +1,4 @@
+pub mod Sent
+pub mod Plans
+pub mod Wires
+pub mod Simulated

@@ -1,0 +1,82 @@
+-- What is sent of the packets of a capture.
+use Rattle.std.specs.Prelude.{◌≡◌, ℕ, Bool, List, [], ◌∷◌, ◌++◌, take, map, Option, Some, None, Result, Ok, Err, slice_get}
+use Rattle.std.specs.Io.KnownBytes.{Appends}
+use Rattle.ip_headers.specs.declared.Link.{Link}
+use Rattle.ip_headers.specs.declared.IpFault.{IpFault}
+use Rattle.ip_headers.specs.Ipv4.{frame_answer}
+use Rattle.pool_versions.specs.declared.backend.Backend.{Backend}
+use Rattle.gre_tunnel.specs.Gre.{wrapped}
+use Rattle.pcap_file.specs.Format.{Packet as Record, written_head, written_record}
+use Rattle.cluster_node.specs.declared.packets.Packet.{Packet}
+use Rattle.cluster_node.specs.declared.packets.Packet.TheVariants.{Good, Bad}
+use Rattle.cluster_node.specs.declared.outcomes.Outcome.{Outcome}
+use Rattle.cluster_node.specs.declared.outcomes.Outcome.TheVariants.{Installed, Placed, Forward, Dropped, Restarted, Refused}
+use Rattle.cluster_node.specs.declared.events.Said.{Said}
+use Rattle.cluster_core.specs.Reading.{packet_read}
+
+-- the packets that the records of a capture are
+abbrev pub packet_in : Link → Bool → Record → Packet
+packet_in link check r = packet_read link check r.bytes
+
+abbrev pub packets_of : Link → Bool → List Record → List Packet
+packets_of link check rs = map (packet_in link check) rs
+
+-- the datagram of a packet, by its length: what stands behind it in the frame is padding
+abbrev pub cut_to : Packet → Result (List ℕ) IpFault → Option (List ℕ)
+cut_to p (Err fault) = None
+cut_to (Bad c) (Ok bytes) = None
+cut_to (Good x len) (Ok bytes) = Some (take len bytes)
+
+unfoldable pub datagram_in : Link → Bool → Record → Option (List ℕ)
+datagram_in link check r = cut_to (packet_in link check r) (frame_answer link r.bytes)
+
+-- a record that is written
+pub record Sending : Type 0 where
+  pub secs : ℕ
+  pub micros : ℕ
+  pub bytes : List ℕ
+
+-- the nodes' addresses, how frames are read, and the records
+pub record Traffic : Type 0 where
+  pub nodes : List ℕ
+  pub link : Link
+  pub check : Bool
+  pub records : List Record
+
+-- a record's datagram is wrapped from the node's address to the backend's, and bears the record's time
+abbrev pub wrapped_as : Record → Option ℕ → ℕ → Option (List ℕ) → List Sending
+wrapped_as r None backend d = []
+wrapped_as r (Some node) backend None = []
+wrapped_as r (Some node) backend (Some inner) = record { secs = r.secs; micros = r.micros; bytes = wrapped node backend inner } ∷ []
+
+abbrev pub sent_at : Traffic → ℕ → Backend → Option Record → List Sending
+sent_at t n b None = []
+sent_at t n b (Some r) = wrapped_as r (slice_get t.nodes n) b.addr (datagram_in t.link t.check r)
+
+-- what an outcome sends
+unfoldable pub sent_by : Traffic → Outcome → List Sending
+sent_by t Installed = []
+sent_by t (Placed w f) = []
+sent_by t (Forward n w k x b v) = sent_at t n b (slice_get t.records k)
+sent_by t (Dropped k c) = []
+sent_by t (Restarted l) = []
+sent_by t (Refused r) = []
+
+-- what a list of events sends, in order
+abbrev pub sent : Traffic → List Said → List Sending
+sent t [] = []
+sent t (s ∷ ss) = sent_by t s.outcome ++ sent t ss
+
+unfoldable pub record_text : Sending → List ℕ
+record_text r = written_record r.secs r.micros r.bytes
+
+abbrev pub records_text : List Sending → List ℕ
+records_text [] = []
+records_text (r ∷ rs) = record_text r ++ records_text rs
+
+abbrev pub capture_text : List Sending → List ℕ
+capture_text rs = written_head ++ records_text rs
+
+-- a device got some of these records, the first ones, and nothing of the others
+abbrev pub BeginsWith : Option (List ℕ) → Option (List ℕ) → List Sending → Type 0
+BeginsWith old new all = (first : List Sending) × (others : List Sending) × (all ≡ first ++ others) × Appends old new (records_text first)

@@ -1,0 +1,24 @@
+use pcap_file::PcapFault;
+use std::alloc::AllocError;
+
+/// Why a run over a capture stopped.
+#[derive(Clone, Copy, Debug, PartialEq, Eq)]
+pub enum SimulationFault {
+    /// The input isn't a capture, or couldn't be read.
+    Capture(PcapFault),
+    /// The output couldn't be written.
+    Write,
+    /// Memory was refused.
+    Memory,
+}
+
+impl From<AllocError> for SimulationFault {
+    ghost use Rattle.std.specs.Prelude.{◌≡◌};
+    ghost use Rattle.simulation.specs.declared.fault.SimulationFault.TheVariants.{Memory};
+
+    ghost from_gives = { λ _ fault. fault ≡ Memory };
+
+    fn from(_: AllocError) -> SimulationFault {
+        SimulationFault::Memory
+    }
+}

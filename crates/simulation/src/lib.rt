@@ -1,0 +1,12 @@
+//! Runs a scenario's steps over a capture: what the cluster sends is wrapped and written as another capture.
+#![tactic(auto)]
+
+mod fault;
+mod plan;
+mod playing;
+mod sending;
+
+pub use fault::SimulationFault;
+pub use plan::Plan;
+pub use playing::{Played, play_capture};
+pub use sending::Wire;

@@ -1,0 +1,190 @@
+//! What the cluster sends is wrapped and written.
+ghost use Rattle.std.specs.Prelude.{◌≡◌, ◌≢◌, ◌≤◌, map, option_map, IfOk, OnOk, OnErr, IfErr, IfSome, length, [], Some, None, Err, slice_get};
+ghost use Rattle.std.specs.Io.KnownBytes.{Appends};
+ghost use Rattle.ip_headers.specs.Ipv4.{frame_answer};
+ghost use Rattle.pcap_file.specs.Format.{packet};
+ghost use Rattle.gre_tunnel.specs.Gre.{wrapped};
+ghost use Rattle.simulation.specs.Sent.{packet_in, cut_to, datagram_in, wrapped_as, sent, sent_by, sent_at, records_text, record_text, BeginsWith};
+ghost use Rattle.simulation.specs.Wires.{traffic};
+
+use crate::fault::SimulationFault;
+use cluster_core::read_packet;
+use cluster_node::{Outcome, Packet, Said};
+use gre_tunnel::wrap;
+use ip_headers::{Link, read_frame};
+use pcap_file::{Frame, Sink, write_record};
+use pool_versions::Backend;
+use std::alloc::{AllocError, Global};
+
+/// The nodes' addresses, and how frames are read.
+#[derive(Clone, Copy)]
+pub struct Wire<'a> {
+    pub nodes: &'a [u32],
+    pub link: Link,
+    pub check: bool,
+}
+
+impl<'a> Wire<'a> {
+    /// A record as a packet.
+    pub fn packet(&self, frame: &Frame) -> Packet
+        ensures { result ≡ packet_in self.now.link self.now.check (packet frame.now) }
+    {
+        read_packet(self.link, frame.bytes.as_slice(), self.check)
+    }
+
+    fn address(&self, node: u16) -> Option<u32>
+        ensures { result ≡ slice_get self.now.nodes.now node }
+    {
+        self.nodes.get(node as usize).copied()
+    }
+}
+
+// The datagram of a packet in the bytes of its frame.
+fn datagram<'a>(link: Link, packet: &Packet, bytes: &'a [u8]) -> Option<&'a [u8]>
+    ensures { option_map (λ d. d.now) result ≡ cut_to packet.now (frame_answer link bytes.now) }
+{
+    let Ok(bytes) = read_frame(link, bytes) else {
+        return None;
+    };
+    match *packet {
+        Packet::Good { flow: _, len } => Some(&bytes[..(len as usize).min(bytes.len())]),
+        Packet::Bad(_) => None,
+    }
+}
+
+// A datagram in a tunnel.
+fn tunnelled(alloc: Global, inner: &[u8], node: u32, backend: u32) -> Result<Vec<u8>, AllocError>
+    requires { length inner.now ≤ 65511 }
+    ensures bytes { IfOk result (λ v. v.items ≡ wrapped node backend inner.now) }
+    ensures short { IfOk result (λ v. length v.items ≤ 65535) }
+{
+    match wrap(alloc, inner, node, backend) {
+        Ok(bytes) => Ok(bytes),
+        Err(_) => Err(AllocError),
+    }
+}
+
+#[tactic(auto, unfolding(crate::specs::Sent::record_text))]
+fn put_record<O: Sink>(
+    output: &mut O,
+    secs: u32,
+    micros: u32,
+    bytes: &[u8],
+) -> Result<(), SimulationFault>
+    requires { length bytes.now ≤ 65535 }
+    ensures ok { OnOk result (Appends (O.contents output.old) (O.contents output.new) (record_text (record { secs = secs; micros = micros; bytes = bytes.now }))) }
+    ensures err { OnErr result (result ≡ Err SimulationFault.Write) }
+{
+    match write_record(output, secs, micros, bytes) {
+        Ok(()) => Ok(()),
+        Err(_) => Err(SimulationFault::Write),
+    }
+}
+
+// A datagram is wrapped from a node's address to a backend's, and written with its record's time.
+fn put_wrapped<O: Sink>(
+    alloc: Global,
+    output: &mut O,
+    node: Option<u32>,
+    backend: u32,
+    frame: &Frame,
+    inner: Option<&[u8]>,
+) -> Result<(), SimulationFault>
+    requires { IfSome inner (λ d. length d.now ≤ 65511) }
+    ensures ok { OnOk result (Appends (O.contents output.old) (O.contents output.new) (records_text (wrapped_as (packet frame.now) node backend (option_map (λ d. d.now) inner.entry)))) }
+    ensures kept { IfErr result (λ fault. fault ≢ SimulationFault.Write → O.contents output.new ≡ O.contents output.old) }
+{
+    let Some(node) = node else {
+        return Ok(());
+    };
+    let Some(inner) = inner else {
+        return Ok(());
+    };
+    let bytes = tunnelled(alloc, inner, node, backend)?;
+    put_record(output, frame.secs, frame.micros, bytes.as_slice())
+}
+
+/// What a node sends to a backend of a record, which was read as this packet.
+#[tactic(auto, unfolding(crate::specs::Sent::datagram_in))]
+pub fn send_record<O: Sink>(
+    alloc: Global,
+    output: &mut O,
+    wire: &Wire<'_>,
+    node: u16,
+    backend: &Backend,
+    frame: &Frame,
+    read: &Packet,
+) -> Result<(), SimulationFault>
+    requires { read.now ≡ packet_in wire.now.link wire.now.check (packet frame.now) }
+    ensures ok { OnOk result (Appends (O.contents output.old) (O.contents output.new) (records_text (sent_at (traffic wire.now []) node backend.entry.now (Some (packet frame.now))))) }
+    ensures kept { IfErr result (λ fault. fault ≢ SimulationFault.Write → O.contents output.new ≡ O.contents output.old) }
+{
+    let inner = datagram(wire.link, read, frame.bytes.as_slice());
+    put_wrapped(
+        alloc,
+        output,
+        wire.address(node),
+        backend.addr,
+        frame,
+        inner,
+    )
+}
+
+// A record that was read before is sent.
+fn send_frame<O: Sink>(
+    alloc: Global,
+    output: &mut O,
+    wire: &Wire<'_>,
+    node: u16,
+    backend: &Backend,
+    frame: &Frame,
+) -> Result<(), SimulationFault>
+    ensures ok { OnOk result (Appends (O.contents output.old) (O.contents output.new) (records_text (sent_at (traffic wire.now []) node backend.now (Some (packet frame.now))))) }
+    ensures kept { IfErr result (λ fault. fault ≢ SimulationFault.Write → O.contents output.new ≡ O.contents output.old) }
+{
+    let read = wire.packet(frame);
+    send_record(alloc, output, wire, node, backend, frame, &read)
+}
+
+// What an outcome sends.
+#[tactic(auto, unfolding(crate::specs::Sent::sent_by))]
+fn send<O: Sink>(
+    alloc: Global,
+    output: &mut O,
+    wire: &Wire<'_>,
+    frames: &[Frame],
+    outcome: &Outcome,
+) -> Result<(), SimulationFault>
+    ensures ok { OnOk result (Appends (O.contents output.old) (O.contents output.new) (records_text (sent_by (traffic wire.now (map packet frames.now)) outcome.now))) }
+    ensures kept { IfErr result (λ fault. fault ≢ SimulationFault.Write → O.contents output.new ≡ O.contents output.old) }
+{
+    match outcome {
+        Outcome::Forward {
+            node,
+            packet,
+            backend,
+            ..
+        } => match frames.get(*packet as usize) {
+            Some(frame) => send_frame(alloc, output, wire, *node, backend, frame),
+            None => Ok(()),
+        },
+        _ => Ok(()),
+    }
+}
+
+/// Sends all that a list of events sends.
+pub fn send_all<O: Sink>(
+    alloc: Global,
+    output: &mut O,
+    wire: &Wire<'_>,
+    frames: &[Frame],
+    history: &[Said],
+) -> Result<(), SimulationFault>
+    ensures ok { OnOk result (Appends (O.contents output.old) (O.contents output.new) (records_text (sent (traffic wire.now (map packet frames.now)) history.now))) }
+    ensures cut { IfErr result (λ fault. fault ≢ SimulationFault.Write → BeginsWith (O.contents output.old) (O.contents output.new) (sent (traffic wire.now (map packet frames.now)) history.now)) }
+{
+    for said in history {
+        send(alloc, output, wire, frames, &said.outcome)?;
+    }
+    Ok(())
+}

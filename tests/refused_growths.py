@@ -1,0 +1,123 @@
+#!/usr/bin/env python3
+"""Refuses each growth of memory of a command in turn, and compares what the program then says.
+
+A run either never needed what was refused and prints its whole text, or it prints `fault: Memory` and nothing else, with
+status 1. Each allocation is refused alone, and once more with all that come behind it, from the first of the program to the
+last. `refuse.c` does it, which the kit's compiler makes into a library that is loaded in front of the program.
+
+The last line is 'N passed, N failed', which counts runs.
+"""
+import dataclasses
+import os
+import pathlib
+import subprocess
+import sys
+import tempfile
+
+TOP = pathlib.Path(__file__).resolve().parent.parent
+PROGRAM = str(TOP / "crates" / "maglev" / "out" / "maglev")
+MOST_GROWTHS = 100_000
+
+THREE = "A@10.8.0.1 B@10.8.0.2 C@10.8.0.3"
+TABLE = "size 7 backends 3\n0 B\n1 A\n2 B\n3 C\n4 C\n5 A\n6 A\ncount A 3\ncount B 2\ncount C 2\n"
+MOVED = "size 7 old 3 new 2 differ 3\n0 B@10.8.0.2 A@10.8.0.1\n2 B@10.8.0.2 A@10.8.0.1\n5 A@10.8.0.1 C@10.8.0.3\n"
+TCP = b"45000028000100004006aecd0a000001c000020103e8005000000001000000005002200000000000"
+
+
+@dataclasses.dataclass
+class Case:
+    """A command, what it is given, and what it prints with ample memory."""
+
+    arguments: list
+    text: str
+    stdin: bytes = b""
+    # Files that lie where it runs, and those that it must have written where it printed its text.
+    files: dict = dataclasses.field(default_factory=dict)
+    written: dict = dataclasses.field(default_factory=dict)
+
+
+CASES = [
+    Case(["table", "--size", "7", "--hash", "sum", "A", "B", "C"], TABLE),
+    Case(["compare", "--size", "7", "--hash", "sum", "--old", THREE, "--new", THREE.replace(".2", ".2/down")], MOVED),
+    Case(["pick", "--size", "7", "--hash", "sum", "A", "B", "C"], "tcp 10.0.0.1:1000>192.0.2.1:80 slot 6 backend A\n", TCP),
+]
+
+
+def compiled(folder):
+    """The library that refuses."""
+    kit = pathlib.Path(subprocess.run(["rt", "doc"], capture_output=True, check=True, text=True).stdout.split()[0]).parent
+    tools = kit / "toolchain" / "bin"
+    library = str(pathlib.Path(folder) / "refuse.so")
+    options = ["-shared", "-fPIC", "-O1", "-nostdlib", "-fuse-ld=lld", "-B", str(tools)]
+    subprocess.run([str(tools / "clang"), *options, "-o", library, str(TOP / "tests" / "refuse.c")], check=True)
+    return library
+
+
+def run_refused(library, case, refused):
+    """Runs a command with one word of refusal, in a folder of its own.
+
+    Gives whether its answer is the ample one, whether it is Memory, whether anything was refused, and the answer.
+    """
+    with tempfile.TemporaryDirectory() as folder:
+        for name, content in case.files.items():
+            (pathlib.Path(folder) / name).write_bytes(content)
+        reader, writer = os.pipe()
+        done = subprocess.run(
+            [PROGRAM, *case.arguments],
+            input=case.stdin,
+            capture_output=True,
+            cwd=folder,
+            env={"LD_PRELOAD": library, "REFUSED": refused, "TOLD": str(writer)},
+            pass_fds=[writer],
+            timeout=60,
+        )
+        os.close(writer)
+        with os.fdopen(reader, "rb") as pipe:
+            was_refused = pipe.read() != b""
+        answer = (done.returncode, done.stdout, done.stderr)
+        is_ample = answer == (0, case.text.encode(), b"")
+        if is_ample:
+            is_ample = all((pathlib.Path(folder) / name).read_bytes() == content for name, content in case.written.items())
+        return is_ample, answer == (1, b"", b"fault: Memory\n"), was_refused, answer
+
+
+def refuse_each(library, case, behind):
+    """Refuses one growth after the other until a run has no more. Gives how many runs were as they must be, and were not.
+
+    Where no run says Memory nothing was refused at all, which counts as a failure.
+    """
+    name = case.arguments[0]
+    passed = failed = faults = 0
+    for number in range(1, MOST_GROWTHS):
+        is_ample, is_memory, was_refused, answer = run_refused(library, case, f"{number}{behind}")
+        if is_ample or (is_memory and was_refused):
+            passed += 1
+            faults += is_memory
+        else:
+            failed += 1
+            print(f"FAILED {name}, growth {number}{behind} refused: {answer}")
+        if not was_refused:
+            later = " with all behind it" if behind else ""
+            print(f"{name}: {number - 1} growths, each refused{later}: {faults} times Memory")
+            return (passed, failed) if faults else (passed, failed + 1)
+    print(f"FAILED {name}: more than {MOST_GROWTHS} growths")
+    return passed, failed + 1
+
+
+def main():
+    subprocess.run([str(TOP / "bin" / "maglev"), "--help"], stdout=subprocess.DEVNULL, check=True)
+    passed = failed = 0
+    with tempfile.TemporaryDirectory() as folder:
+        library = compiled(folder)
+        for case in CASES:
+            for behind in ["", "+"]:
+                more, less = refuse_each(library, case, behind)
+                passed += more
+                failed += less
+    print(f"{passed} passed, {failed} failed")
+    return 1 if failed else 0
+
+
+if __name__ == "__main__":
+    os.chdir(TOP)
+    sys.exit(main())
