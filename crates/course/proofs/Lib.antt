@@ -4,3 +4,4 @@ pub mod Bounds
 pub mod Coming
 pub mod Readings
 pub mod Told
+pub mod Quiet

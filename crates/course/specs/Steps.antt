@@ -117,6 +117,18 @@ after w (steps.Hold n) c = record c { held = slice_set c.held n true }
 after w (steps.Drain n) c = drain_from w n 0 w.cluster.workers (release n c)
 after w (steps.Restart n) c = say w (Restart n) None (release n c)
 
+-- a step that takes records from the capture, or names one
+abbrev pub names_records : Step → Bool
+names_records (steps.Install n v) = false
+names_records (steps.Live ns) = false
+names_records (steps.Take k) = true
+names_records (steps.Lose k) = true
+names_records (steps.Again k) = true
+names_records (steps.Full n m) = false
+names_records (steps.Hold n) = false
+names_records (steps.Drain n) = false
+names_records (steps.Restart n) = false
+
 unfoldable pub run : World → List Step → Course → Course
 run w [] c = c
 run w (s ∷ ss) c = run w ss (after w s c)

@@ -4,7 +4,7 @@ ghost use Rattle.cluster_node.specs.declared.events.Event.{Event};
 ghost use Rattle.course.specs.Cluster.{Cluster, WereRead, flow_of, said, newest_on, waiting_on};
 ghost use Rattle.cluster_node.specs.Records.{WasRead};
 ghost use Rattle.course.specs.Course.{Course};
-ghost use Rattle.course.specs.Steps.{World, SameChoice, world_of, marks_at, is_held, noted, placed_on, say, serve, follow, arrival, arrive, route, deliver, take_all, repeat, serve_times, drain_from, release, next_ones, after, run, start, below};
+ghost use Rattle.course.specs.Steps.{World, SameChoice, world_of, marks_at, is_held, noted, placed_on, say, serve, follow, arrival, arrive, route, deliver, take_all, repeat, serve_times, drain_from, release, next_ones, names_records, after, run, start, below};
 ghost use Rattle.course.specs.Tally.{tally_of};
 ghost use Rattle.course.specs.Room.{Room, Counted};
 
@@ -276,8 +276,9 @@ impl Play {
         self.route(core, setup, place, packet, chosen)
     }
 
+    /// A record is delivered again, or skipped where it isn't there.
     #[tactic(auto, unfolding(crate::specs::Steps::repeat))]
-    fn repeat<C: Core, P: Spread>(
+    pub fn repeat<C: Core, P: Spread>(
         &mut self,
         core: &mut C,
         setup: &C::Setup,
@@ -403,13 +404,68 @@ impl Play {
         Ok(())
     }
 
-    fn lose(&mut self, count: u32)
+    /// So many records are read and lost.
+    pub fn lose(&mut self, count: u32)
         requires places { self.old.read + count < 2 ^ 32 }
         requires room { self.old.lost + count < 2 ^ 64 }
         ensures { self.new ≡ record self.old { read = self.old.read + count; lost = self.old.lost + count } }
     {
         self.read += count;
         self.lost += count as u64;
+    }
+
+    /// A step that names no record: all but `Take`, `Lose` and `Again`, at which nothing is done.
+    #[tactic(auto, unfolding(crate::specs::Steps::after))]
+    pub fn step_apart<C: Core, P: Spread>(
+        &mut self,
+        alloc: Global,
+        core: &mut C,
+        setup: &C::Setup,
+        spread: &mut P,
+        step: &Step,
+    ) -> Result<(), AllocError>
+        requires stands { C.stands setup.now self.old.past core.old }
+        requires live { P.live spread.old ≡ self.old.live }
+        ensures live { OnOk result (P.live spread.new ≡ self.new.live) }
+        ensures choice { SameChoice (P.choice spread.old) (P.choice spread.new) }
+        ensures stands { OnOk result (C.stands setup.now self.new.past core.new) }
+        ensures after { OnOk result ((w : World) → w.cluster ≡ C.cluster setup.now → names_records step.now ≡ false → self.new ≡ after w step.now self.old) }
+    {
+        match step {
+            Step::Install { node, version } => {
+                let event = Event::Install {
+                    node: *node,
+                    version: *version,
+                };
+                self.say(core, setup, event, None)?;
+                Ok(())
+            }
+            Step::Live(nodes) => {
+                self.live = Vec::from_slice(alloc, nodes.as_slice())?;
+                spread.set_live(Vec::from_slice(alloc, nodes.as_slice())?);
+                Ok(())
+            }
+            Step::Full { node, marks } => {
+                self.set_marks(*node, *marks);
+                Ok(())
+            }
+            Step::Hold(node) => {
+                self.set_held(*node, true);
+                Ok(())
+            }
+            Step::Drain(node) => {
+                self.release(*node);
+                self.drain(core, setup, *node, C::workers(setup))
+            }
+            Step::Restart(node) => {
+                self.release(*node);
+                self.say(core, setup, Event::Restart { node: *node }, None)?;
+                Ok(())
+            }
+            Step::Take(_) => Ok(()),
+            Step::Lose(_) => Ok(()),
+            Step::Again(_) => Ok(()),
+        }
     }
 
     /// A step.
@@ -434,19 +490,6 @@ impl Play {
         ensures after { OnOk result ((w : World) → w.cluster ≡ C.cluster setup.now → SameChoice w.choice (P.choice spread.old) → w.packets ≡ packets.now → self.new ≡ after w step.now self.old) }
     {
         match step {
-            Step::Install { node, version } => {
-                let event = Event::Install {
-                    node: *node,
-                    version: *version,
-                };
-                self.say(core, setup, event, None)?;
-                Ok(())
-            }
-            Step::Live(nodes) => {
-                self.live = Vec::from_slice(alloc, nodes.as_slice())?;
-                spread.set_live(Vec::from_slice(alloc, nodes.as_slice())?);
-                Ok(())
-            }
             Step::Take(count) => {
                 let ones = self.next_ones(packets, *count);
                 self.take_all(core, setup, spread, ones)
@@ -460,23 +503,7 @@ impl Play {
                 let packet = self.seen_one(packets, *place);
                 self.repeat(core, setup, spread, *place, packet)
             }
-            Step::Full { node, marks } => {
-                self.set_marks(*node, *marks);
-                Ok(())
-            }
-            Step::Hold(node) => {
-                self.set_held(*node, true);
-                Ok(())
-            }
-            Step::Drain(node) => {
-                self.release(*node);
-                self.drain(core, setup, *node, C::workers(setup))
-            }
-            Step::Restart(node) => {
-                self.release(*node);
-                self.say(core, setup, Event::Restart { node: *node }, None)?;
-                Ok(())
-            }
+            _ => self.step_apart(alloc, core, setup, spread, step),
         }
     }
 

@@ -2,8 +2,11 @@
 #![tactic(auto)]
 
 mod fault;
+mod intake;
+mod keeping;
 mod plan;
 mod playing;
+mod relaying;
 mod sending;
 
 pub use fault::SimulationFault;

@@ -1,0 +1,116 @@
+-- What is sent as events come.
+use Rattle.std.proofs.Common.{◌≡◌, ℕ, ◌+◌, ◌<◌, Bool, List, [], ◌∷◌, ◌++◌, length, drop, get_or, Option, Some, None, Result, Ok, Err, refl, sym, ap, ◌∙◌, subst, arith, append_assoc, drop-cons, add-one, suc, slice_get, append-nil}
+use Rattle.std.specs.Prelude.{OnOk, IfErr, ◌≢◌}
+use Rattle.std.specs.Io.KnownBytes.{Appends}
+use Rattle.std.proofs.KnownBytes.{Appends-trans, Appends-nil}
+use Rattle.five_tuple.specs.declared.Flow.{Flow}
+use Rattle.pool_versions.specs.declared.backend.Backend.{Backend}
+use Rattle.pcap_file.specs.Format.{Packet as Record}
+use Rattle.cluster_node.specs.declared.outcomes.Outcome.{Outcome}
+use Rattle.cluster_node.specs.declared.outcomes.Outcome.TheVariants.{Installed, Placed, Forward, Dropped, Restarted, Refused}
+use Rattle.cluster_node.specs.declared.events.Event.{Event}
+use Rattle.cluster_node.specs.declared.events.Event.TheVariants.{Install, Arrive, Serve, Restart}
+use Rattle.cluster_node.specs.declared.events.Said.{Said}
+use Rattle.cluster_node.specs.Records.{Judge, Judged}
+use Rattle.course.specs.Cluster.{Cluster, TakesFirst, Orderly}
+use Rattle.waiting_frames.specs.Mirrors.{Mirrors, CanFollow, ComesAs, IsNoArrival}
+use Rattle.simulation.specs.declared.sending.Wire.{Wire}
+use Rattle.simulation.specs.Sent.{Traffic, Sending, sent, sent_by, sent_at, records_text, BeginsWith}
+use Rattle.simulation.specs.Wires.{traffic}
+use Rattle.simulation.specs.Following.{sent_with, NoArrivals, CanSettle}
+use Rattle.simulation.specs.Going.{onto}
+use Rattle.simulation.proofs.Going.{begins_whole, appends_behind}
+
+pub nothing_sent : (t : Traffic) (o : Outcome) → ((n w i : ℕ) (x : Flow) (b : Backend) (v : ℕ) → o ≡ Forward n w i x b v → ⊥) → sent_by t o ≡ []
+unfolding sent_by
+nothing_sent t Installed f = refl
+nothing_sent t (Placed w k) f = refl
+nothing_sent t (Forward n w i x b v) f = absurd (f n w i x b v refl)
+nothing_sent t (Dropped k c) f = refl
+nothing_sent t (Restarted l) f = refl
+nothing_sent t (Refused r) f = refl
+
+pub sent_as_taken : (w : Wire) (all : List Record) (o : Outcome) (r : Record) → ((n u i : ℕ) (x : Flow) (b : Backend) (v : ℕ) → o ≡ Forward n u i x b v → slice_get all i ≡ Some r) → sent_with (traffic w []) o r ≡ sent_by (traffic w all) o
+unfolding sent_by sent_with
+sent_as_taken w all Installed r f = refl
+sent_as_taken w all (Placed u k) r f = refl
+sent_as_taken w all (Forward n u i x b v) r f = ap (λ (q : Option Record). sent_at (traffic w all) n b q) (sym (f n u i x b v refl))
+sent_as_taken w all (Dropped k c) r f = refl
+sent_as_taken w all (Restarted l) r f = refl
+sent_as_taken w all (Refused reason) r f = refl
+
+pub appends_nothing : (a : Option (List ℕ)) (xs : List Sending) → xs ≡ [] → Appends a a (records_text xs)
+appends_nothing a xs e = subst (λ (l : List Sending). Appends a a (records_text l)) (sym e) (Appends-nil a)
+
+pub settled_with : {E : Type 0} (r : Result (Unit {0}) E) (M : Type 0) (a b : Option (List ℕ)) (xs ys : List Sending) → M → xs ≡ ys → OnOk r (Appends a b (records_text xs)) → OnOk r (M × Appends a b (records_text ys))
+settled_with (Ok u) M a b xs ys m e h = (m, subst (λ (l : List Sending). Appends a b (records_text l)) e h)
+settled_with (Err x) M a b xs ys m e h = tt
+
+pub judged_onto : (judge : Judge) (past events : List Said) → Judged judge (onto past events) → Judged judge past
+judged_onto judge past [] h = h
+judged_onto judge past (s ∷ ss) h = (judged_onto judge (s ∷ past) ss h).1
+
+-- so many events were followed, and these are left
+pub record Settling (all : List Record) (k : Cluster) (past events rest : List Said) (qs : List (List Record)) (t : Traffic) (a b : Option (List ℕ)) : Type 0 where
+  pub done : List Said
+  pub is : onto done rest ≡ onto past events
+  pub mirrors : Mirrors all k done qs
+  pub quiet : NoArrivals rest
+  pub first : List Sending
+  pub sent_is : sent t events ≡ first ++ sent t rest
+  pub output : Appends a b (records_text first)
+
+pub settling_none : (all : List Record) (k : Cluster) (past events : List Said) (qs : List (List Record)) (t : Traffic) (a : Option (List ℕ)) → Mirrors all k past qs → NoArrivals events → Settling all k past events events qs t a a
+settling_none all k past events qs t a m n = record { done = past; is = refl; mirrors = m; quiet = n; first = []; sent_is = refl; output = Appends-nil a }
+
+pub can_follow : (all : List Record) (k : Cluster) (past events rest : List Said) (s : Said) (qs ps : List (List Record)) (t : Traffic) (a b : Option (List ℕ)) → CanSettle all k past events ps → length qs ≡ length ps → (g : Settling all k past events (s ∷ rest) qs t a b) → CanFollow all k g.done s qs
+can_follow all k past events rest s qs ps t a b can e g = record {
+  workers = can.workers;
+  room = omega (arith, can.room, e);
+  orderly = can.orderly;
+  judged = judged_onto k.judge (s ∷ g.done) rest (subst (λ (l : List Said). Judged k.judge l) (sym g.is) can.judged);
+  mirrors = g.mirrors;
+}
+
+pub settling_more : (all : List Record) (k : Cluster) (past events rest : List Said) (s : Said) (qs ps : List (List Record)) (t : Traffic) (a b c : Option (List ℕ)) → (g : Settling all k past events (s ∷ rest) qs t a b)
+    → Mirrors all k (s ∷ g.done) ps × Appends b c (records_text (sent_by t s.outcome)) → Settling all k past events rest ps t a c
+settling_more all k past events rest s qs ps t a b c g h = record {
+  done = s ∷ g.done;
+  is = g.is;
+  mirrors = h.0;
+  quiet = g.quiet.1;
+  first = g.first ++ sent_by t s.outcome;
+  sent_is = g.sent_is ∙ sym (append_assoc g.first (sent_by t s.outcome) (sent t rest));
+  output = appends_behind a b c g.first (sent_by t s.outcome) g.output h.1;
+}
+
+pub next_of : (events : List Said) (i : ℕ) (s : Said) → i < length events → s ≡ get_or events i s → drop i events ≡ s ∷ drop (i + 1) events
+next_of events i s lt e = rw (add-one, drop-cons events i s) (ap (λ (x : Said). x ∷ drop (suc i) events) (sym e))
+
+pub settled_all : (all : List Record) (k : Cluster) (past events : List Said) (qs : List (List Record)) (t : Traffic) (a b : Option (List ℕ)) → Settling all k past events [] qs t a b → Mirrors all k (onto past events) qs × Appends a b (records_text (sent t events))
+settled_all all k past events qs t a b g =
+    (subst (λ (l : List Said). Mirrors all k l qs) g.is g.mirrors, subst (λ (l : List Sending). Appends a b (records_text l)) (sym (g.sent_is ∙ append-nil g.first)) g.output)
+
+pub cut_short : (all : List Record) (k : Cluster) (past events rest : List Said) (qs : List (List Record)) (t : Traffic) (a b : Option (List ℕ)) → Settling all k past events rest qs t a b → BeginsWith a b (sent t events)
+cut_short all k past events rest qs t a b g = (g.first, sent t rest, g.sent_is, g.output)
+
+no_serve : (all : List Record) (r : Record) (e : Event) (n w v : ℕ) (b : Bool) → ComesAs all r e → e ≡ Serve n w v b → ⊥
+no_serve all r (Install m u) n w v b c e = c
+no_serve all r (Arrive m i marks) n w v b c e = let bad : Arrive m i marks ≡ Serve n w v b = e in cc
+no_serve all r (Serve m u q f) n w v b c e = c
+no_serve all r (Restart m) n w v b c e = c
+
+-- an arrival sends nothing
+arrival_sends : (all : List Record) (k : Cluster) (past : List Said) (s : Said) (r : Record) (t : Traffic) → Orderly k → Judged k.judge (s ∷ past) → ComesAs all r s.event → sent_by t s.outcome ≡ []
+arrival_sends all k past s r t o j c = nothing_sent t s.outcome (λ n w i x b v e.
+    let f : TakesFirst k past s.event n w i = o.first past s.event s.packet n w i x b v (sym j.0 ∙ e) in
+    no_serve all r s.event n w f.version f.refused c f.event)
+
+pub can_first : (all : List Record) (k : Cluster) (past rest : List Said) (s : Said) (qs : List (List Record)) → CanSettle all k past (s ∷ rest) qs → CanFollow all k past s qs
+can_first all k past rest s qs can = record { workers = can.workers; room = can.room; orderly = can.orderly; judged = judged_onto k.judge (s ∷ past) rest can.judged; mirrors = can.mirrors }
+
+pub can_rest : (all : List Record) (k : Cluster) (past rest : List Said) (s : Said) (qs ps : List (List Record)) → CanSettle all k past (s ∷ rest) qs → length ps ≡ length qs → Mirrors all k (s ∷ past) ps → CanSettle all k (s ∷ past) rest ps
+can_rest all k past rest s qs ps can e m = record { workers = can.workers; room = omega (arith, can.room, e); orderly = can.orderly; judged = can.judged; mirrors = m }
+
+pub all_sent : (all : List Record) (k : Cluster) (past rest : List Said) (s : Said) (r : Record) (qs : List (List Record)) (t : Traffic) → CanSettle all k past (s ∷ rest) qs → ComesAs all r s.event → sent t (s ∷ rest) ≡ sent t rest
+all_sent all k past rest s r qs t can c = ap (λ (l : List Sending). l ++ sent t rest) (arrival_sends all k past s r t can.orderly (judged_onto k.judge (s ∷ past) rest can.judged) c)

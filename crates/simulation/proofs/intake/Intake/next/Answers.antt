@@ -1,0 +1,21 @@
+use Rattle.std.proofs.Common.{refl, subst, sym, ap}
+use Rattle.pcap_file.specs.Format.{packet}
+use Rattle.simulation.specs.Intake.{Taking, Seen}
+use Rattle.simulation.proofs.Intakes.{one_more, at_end, is_none_of}
+use Rattle.simulation.proofs.intake.Intake.next.Goals as goal
+
+pub returns-in-Ok-clause-more : goal.returns-in-Ok-clause-more
+returns-in-Ok-clause-more g c = λ text seen s.
+    let none = is_none_of c.self.inside.ended (sym c.if-is_some.ensures) in
+    let t : Taking = record { head = c.self.inside.head; record_read = packet c.self.inside.frame; given = c.self.inside.given; ended = c.self.inside.ended } in
+    (one_more t text _ _ seen (packet c.read_record_into.new.frame) none (subst (λ (x : Taking). Seen text seen (g.I.Source.left c.args.input.now) x) (sym c.self.view_is) s) c.in-Ok.ensures.gave, none)
+
+pub returns-in-Err : goal.returns-in-Err
+returns-in-Err g c =
+    let none = is_none_of c.self.inside.ended (sym c.if-is_some.ensures) in
+    let t : Taking = record { head = c.self.inside.head; record_read = packet c.self.inside.frame; given = c.self.inside.given; ended = c.self.inside.ended } in
+    record {
+      head = ap (λ (x : Taking). x.head) c.self.view_is;
+      more = λ text seen s. (at_end t text _ _ seen (packet c.read_record_into.new.frame) c.in-Err.ending none (subst (λ (x : Taking). Seen text seen (g.I.Source.left c.args.input.now) x) (sym c.self.view_is) s) c.in-Err.ensures.gave, refl);
+      few = c.self.invariant;
+    }

@@ -1,0 +1,39 @@
+-- A run over a capture on its way.
+use Rattle.std.specs.Prelude.{◌≡◌, ℕ, List, [], ◌∷◌, ◌++◌, reverse, Option}
+use Rattle.std.specs.Io.KnownBytes.{Appends}
+use Rattle.ip_headers.specs.declared.Link.{Link}
+use Rattle.pcap_file.specs.declared.format.Head.{Head}
+use Rattle.pcap_file.specs.Format.{Packet as Record}
+use Rattle.pcap_file.specs.Text.{Passed}
+use Rattle.spreader.specs.Choices.{Choice}
+use Rattle.scenario_steps.specs.declared.Step.{Step}
+use Rattle.cluster_node.specs.declared.events.Said.{Said}
+use Rattle.course.specs.Cluster.{Cluster}
+use Rattle.course.specs.Course.{Course}
+use Rattle.course.specs.Steps.{world_of, run}
+use Rattle.simulation.specs.Plans.{Planned}
+use Rattle.simulation.specs.Sent.{Sending, packets_of, sent, records_text}
+use Rattle.simulation.specs.Simulated.{course_of, traffic_of, sendings}
+
+-- a record with these events behind it, the oldest of them first
+abbrev pub onto : List Said → List Said → List Said
+onto past [] = past
+onto past (s ∷ ss) = onto (s ∷ past) ss
+
+-- to run the steps that are left from here is to run the plan
+abbrev pub Left : Cluster → Choice → Planned → Link → List Record → List Step → Course → Type 0
+Left cluster choice plan link all ss course = run (world_of cluster choice (packets_of link plan.check all)) ss course ≡ course_of cluster choice plan link all
+
+-- behind the header the output got what was sent so far
+abbrev pub SentSoFar : Planned → Link → List Record → Course → Option (List ℕ) → Option (List ℕ) → Type 0
+SentSoFar plan link all course begun out = Appends begun out (records_text (sent (traffic_of plan link all) (reverse course.past)))
+
+-- behind the header the input begins with some records, and the output got a beginning of what is sent of them
+pub record Shortened (cluster : Cluster) (choice : Choice) (plan : Planned) (head : Head) (text begun out : Option (List ℕ)) : Type 0 where
+  pub records : List Record
+  pub left : Option (List ℕ)
+  pub first : List Sending
+  pub others : List Sending
+  pub passed : Passed head text records left
+  pub sent_is : sendings cluster choice plan head.link records ≡ first ++ others
+  pub output_is : Appends begun out (records_text first)

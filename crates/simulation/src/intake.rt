@@ -1,0 +1,76 @@
+//! The records of a capture, read one by one.
+ghost use Rattle.std.specs.Prelude.{◌≡◌, ◌<◌, ◌≤◌, ◌+◌, None, IfOk, IfErr, OnOk, List, ℕ, Option, is_some};
+ghost use Rattle.pcap_file.specs.Format.{Packet as Record, packet, max_records};
+ghost use Rattle.simulation.specs.Intake.{Taking, Seen, SeenMore};
+
+use pcap_file::{Ending, Frame, Head, PcapFault, Source, read_record_into};
+use std::alloc::Global;
+use std::marker::Model;
+use std::mem;
+
+/// The record read last, how many were read, and how the input ended, if it did.
+#[derive(Drop)]
+pub(crate) struct Intake {
+    head: Head,
+    frame: Frame,
+    given: u32,
+    ended: Option<Ending>,
+}
+
+impl Model for Intake {
+    ghost use Rattle.simulation.specs.Intake.{Taking};
+    ghost use Rattle.std.specs.Prelude.{◌≤◌};
+    ghost use Rattle.pcap_file.specs.Format.{packet, max_records};
+
+    ghost Value = { Taking };
+
+    ghost view = { λ i. record { head = i.head; record_read = packet i.frame; given = i.given; ended = i.ended } };
+
+    ghost invariant = { λ i. i.given ≤ max_records };
+}
+
+impl Intake {
+    // Nothing was read behind the header.
+    pub(crate) fn new(alloc: Global, head: Head) -> Intake
+        ensures head { result.head ≡ head }
+        ensures fresh { result.ended ≡ None }
+        ensures none { result.given ≡ 0 }
+    {
+        Intake {
+            head,
+            frame: Frame::empty(alloc),
+            given: 0,
+            ended: None,
+        }
+    }
+
+    // Reads the next record, unless the input has ended.
+    pub(crate) fn next<I: Source>(&mut self, input: &mut I) -> Result<bool, PcapFault>
+        ensures head { self.new.head ≡ self.old.head }
+        ensures more { (text : Option (List ℕ)) (seen : List Record) → Seen text seen (I.left input.old) self.old → IfOk result (λ more. SeenMore more text seen (I.left input.new) self.new) }
+        ensures few { OnOk result (self.new.given ≤ max_records) }
+    {
+        if self.ended.is_some() {
+            return Ok(false);
+        }
+        match read_record_into(input, self.head, self.given, &mut self.frame) {
+            Ok(()) => {
+                self.given += 1;
+                Ok(true)
+            }
+            Err(Ending::Failed(fault)) => Err(fault),
+            Err(ending) => {
+                self.ended = Some(ending);
+                Ok(false)
+            }
+        }
+    }
+
+    // Hands the record read last out, and takes a frame in its place.
+    pub(crate) fn exchange(&mut self, frame: Frame) -> Frame
+        ensures out { packet result ≡ self.old.record_read }
+        ensures rest { self.new ≡ record self.old { record_read = packet frame } }
+    {
+        mem::replace(&mut self.frame, frame)
+    }
+}

@@ -1,0 +1,144 @@
+//! The frames of the packets that wait, and what is sent of them as events come.
+ghost use Rattle.std.specs.Prelude.{◌≡◌, ◌≢◌, ◌*◌, ℕ, List, [], ◌∷◌, length, IfOk, IfErr, OnOk};
+ghost use Rattle.std.specs.Io.KnownBytes.{Appends};
+ghost use Rattle.pcap_file.specs.Format.{Packet as Record, packet};
+ghost use Rattle.cluster_node.specs.declared.events.Said.{Said};
+ghost use Rattle.course.specs.Cluster.{Cluster};
+ghost use Rattle.waiting_frames.specs.Mirrors.{Mirrors, CanFollow, ComesAs, IsNoArrival};
+ghost use Rattle.simulation.specs.Sent.{sent, sent_by, records_text, BeginsWith};
+ghost use Rattle.simulation.specs.Wires.{traffic};
+ghost use Rattle.simulation.specs.Going.{onto};
+ghost use Rattle.simulation.specs.Following.{sent_with, NoArrivals, ArrivesFirst, CanSettle};
+
+use crate::fault::SimulationFault;
+use crate::intake::Intake;
+use crate::sending::{Wire, send_record};
+use cluster_node::{Outcome, Said};
+use pcap_file::{Frame, Sink};
+use std::alloc::{AllocError, Global};
+use std::mem;
+use waiting_frames::Waiting;
+
+/// The frames that wait, and room that is used again.
+#[derive(Drop)]
+pub(crate) struct Relay {
+    waiting: Waiting,
+    spare: Frame,
+    room: Vec<u8>,
+}
+
+// Sends a record on, if the outcome says so.
+#[tactic(auto, unfolding(crate::specs::Following::sent_with))]
+fn send_taken<O: Sink>(
+    alloc: Global,
+    output: &mut O,
+    wire: &Wire<'_>,
+    outcome: &Outcome,
+    frame: &Frame,
+) -> Result<(), SimulationFault>
+    ensures ok { OnOk result (Appends (O.contents output.old) (O.contents output.new) (records_text (sent_with (traffic wire.now []) outcome.now (packet frame.now)))) }
+    ensures kept { IfErr result (λ fault. fault ≢ SimulationFault.Write → O.contents output.new ≡ O.contents output.old) }
+{
+    match outcome {
+        Outcome::Forward { node, backend, .. } => {
+            let read = wire.packet(frame);
+            send_record(alloc, output, wire, *node, backend, frame, &read)
+        }
+        _ => Ok(()),
+    }
+}
+
+impl Relay {
+    // Nothing waits.
+    pub(crate) fn new(alloc: Global, nodes: u16) -> Result<Relay, AllocError>
+        ensures count { IfOk result (λ r. length r.waiting ≡ nodes * 16) }
+        ensures mirrors { IfOk result (λ r. (all : List Record) (k : Cluster) → Mirrors all k [] r.waiting) }
+    {
+        Ok(Relay {
+            waiting: Waiting::new(alloc, nodes)?,
+            spare: Frame::empty(alloc),
+            room: Vec::new(alloc),
+        })
+    }
+
+    // Follows an event that is no arrival, and sends what it sends.
+    fn settle_one<O: Sink>(
+        &mut self,
+        alloc: Global,
+        wire: &Wire<'_>,
+        said: &Said,
+        output: &mut O,
+    ) -> Result<(), SimulationFault>
+        ensures count { length self.new.waiting ≡ length self.old.waiting }
+        ensures settled { (all : List Record) (k : Cluster) (past : List Said) → CanFollow all k past said.now self.old.waiting → IsNoArrival said.now.event →
+            OnOk result (Mirrors all k (said.now ∷ past) self.new.waiting × Appends (O.contents output.old) (O.contents output.new) (records_text (sent_by (traffic wire.now all) said.now.outcome))) }
+        ensures kept { IfErr result (λ fault. fault ≢ SimulationFault.Write → O.contents output.new ≡ O.contents output.old) }
+    {
+        let Some(frame) = self.waiting.settle(said) else {
+            return Ok(());
+        };
+        self.spare = frame;
+        send_taken(alloc, output, wire, &said.outcome, &self.spare)
+    }
+
+    // Follows events that are no arrivals.
+    pub(crate) fn settle_all<O: Sink>(
+        &mut self,
+        alloc: Global,
+        wire: &Wire<'_>,
+        events: &[Said],
+        output: &mut O,
+    ) -> Result<(), SimulationFault>
+        ensures count { length self.new.waiting ≡ length self.old.waiting }
+        ensures settled { (all : List Record) (k : Cluster) (past : List Said) → CanSettle all k past events.now self.old.waiting → NoArrivals events.now →
+            OnOk result (Mirrors all k (onto past events.now) self.new.waiting × Appends (O.contents output.old) (O.contents output.new) (records_text (sent (traffic wire.now all) events.now))) }
+        ensures cut { (all : List Record) (k : Cluster) (past : List Said) → CanSettle all k past events.now self.old.waiting → NoArrivals events.now →
+            IfErr result (λ fault. fault ≢ SimulationFault.Write → BeginsWith (O.contents output.old) (O.contents output.new) (sent (traffic wire.now all) events.now)) }
+    {
+        for said in events {
+            match self.settle_one(alloc, wire, said, output) {
+                Ok(()) => {}
+                Err(fault) => return Err(fault),
+            }
+        }
+        Ok(())
+    }
+
+    // Follows an arrival, whose packet has the record that was read last.
+    fn take_in(&mut self, alloc: Global, said: &Said, intake: &mut Intake) -> Result<(), AllocError>
+        ensures count { length self.new.waiting ≡ length self.old.waiting }
+        ensures taken { (all : List Record) (k : Cluster) (past : List Said) → CanFollow all k past said.now self.old.waiting → ComesAs all intake.old.record_read said.now.event →
+            OnOk result (Mirrors all k (said.now ∷ past) self.new.waiting) }
+        ensures intake { (intake.new.given ≡ intake.old.given) × (intake.new.ended ≡ intake.old.ended) × (intake.new.head ≡ intake.old.head) }
+    {
+        let spare = mem::replace(&mut self.spare, Frame::empty(alloc));
+        let frame = intake.exchange(spare);
+        if let Some(back) = self.waiting.arrive(said, frame)? {
+            self.spare = back;
+        }
+        Ok(())
+    }
+
+    // Follows the events of a packet that was delivered: its arrival, if it arrived, and what came behind it.
+    pub(crate) fn settle_delivered<O: Sink>(
+        &mut self,
+        alloc: Global,
+        wire: &Wire<'_>,
+        events: &[Said],
+        intake: &mut Intake,
+        output: &mut O,
+    ) -> Result<(), SimulationFault>
+        ensures count { length self.new.waiting ≡ length self.old.waiting }
+        ensures intake { (intake.new.given ≡ intake.old.given) × (intake.new.ended ≡ intake.old.ended) × (intake.new.head ≡ intake.old.head) }
+        ensures settled { (all : List Record) (k : Cluster) (past : List Said) → CanSettle all k past events.now self.old.waiting → ArrivesFirst all intake.old.record_read events.now →
+            OnOk result (Mirrors all k (onto past events.now) self.new.waiting × Appends (O.contents output.old) (O.contents output.new) (records_text (sent (traffic wire.now all) events.now))) }
+        ensures cut { (all : List Record) (k : Cluster) (past : List Said) → CanSettle all k past events.now self.old.waiting → ArrivesFirst all intake.old.record_read events.now →
+            IfErr result (λ fault. fault ≢ SimulationFault.Write → BeginsWith (O.contents output.old) (O.contents output.new) (sent (traffic wire.now all) events.now)) }
+    {
+        let Some((first, rest)) = events.split_first() else {
+            return Ok(());
+        };
+        self.take_in(alloc, first, intake)?;
+        self.settle_all(alloc, wire, rest, output)
+    }
+}

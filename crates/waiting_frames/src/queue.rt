@@ -1,0 +1,57 @@
+//! The frames that wait at one worker.
+ghost use Rattle.std.specs.Prelude.{◌≡◌, ◌∷◌, ◌++◌, [], drop, slice_get, option_map, OnOk, OnErr};
+ghost use Rattle.pcap_file.specs.Format.{packet};
+
+use pcap_file::Frame;
+use std::alloc::{AllocError, Global};
+use std::collections::VecDeque;
+use std::marker::Model;
+
+// A worker's queue, the first frame in front.
+#[derive(Drop)]
+pub(crate) struct Queue {
+    frames: VecDeque<Frame>,
+}
+
+impl Model for Queue {
+    ghost use Rattle.std.specs.Prelude.{List, map};
+    ghost use Rattle.pcap_file.specs.Format.{Packet as Record, packet};
+
+    ghost Value = { List Record };
+
+    ghost view = { λ q. map packet q.frames.items };
+}
+
+impl Queue {
+    pub(crate) fn new(alloc: Global) -> Self
+        ensures { result ≡ [] }
+    {
+        Queue {
+            frames: VecDeque::new(alloc),
+        }
+    }
+
+    // Puts a frame at the end.
+    pub(crate) fn put(&mut self, frame: Frame) -> Result<(), AllocError>
+        ensures ok { OnOk result (self.new ≡ self.old ++ packet frame ∷ []) }
+        ensures err { OnErr result (self.new ≡ self.old) }
+    {
+        self.frames.push_back(frame)?;
+        Ok(())
+    }
+
+    // Takes the first frame.
+    pub(crate) fn take(&mut self) -> Option<Frame>
+        ensures taken { option_map packet result ≡ slice_get self.old 0 }
+        ensures after { self.new ≡ drop 1 self.old }
+    {
+        self.frames.pop_front()
+    }
+
+    // Lets all frames go, and keeps the queue's room.
+    pub(crate) fn clear(&mut self)
+        ensures { self.new ≡ [] }
+    {
+        self.frames.clear();
+    }
+}

@@ -1,0 +1,172 @@
+//! The frames that wait at all workers of a cluster.
+ghost use Rattle.std.specs.Prelude.{◌≡◌, ◌*◌, ◌<◌, ◌∷◌, ◌++◌, [], ℕ, List, length, drop, replicate, slice_get, slice_set, option_map, Some, IfOk, OnOk, OnErr, IfSome, IsSomeAnd};
+ghost use Rattle.pcap_file.specs.Format.{Packet as Record, packet};
+ghost use Rattle.cluster_node.specs.declared.events.Said.{Said};
+ghost use Rattle.cluster_node.specs.declared.outcomes.Outcome.TheVariants.{Forward};
+ghost use Rattle.cluster_node.specs.Record.{accepted};
+ghost use Rattle.course.specs.Cluster.{Cluster};
+ghost use Rattle.waiting_frames.specs.Queues.{place_of, Moves, only_at, placed_by, arrived, handed_back, unless_put, settled_by, settled, taken_by, taken_out, changed_at, first_at, emptied};
+ghost use Rattle.waiting_frames.specs.Mirrors.{Mirrors, CanFollow, ComesAs, IsNoArrival};
+
+use crate::queue::Queue;
+use cluster_node::{Event, Outcome, Packet, Said};
+use pcap_file::Frame;
+use std::alloc::{AllocError, Global};
+use std::marker::Model;
+
+const MOST_WORKERS: usize = 16;
+
+/// The frames of the packets that wait, in a queue for each worker of each node.
+#[derive(Drop)]
+pub struct Waiting {
+    queues: Vec<Queue>,
+}
+
+impl Model for Waiting {
+    ghost use Rattle.std.specs.Prelude.{List};
+    ghost use Rattle.pcap_file.specs.Format.{Packet as Record};
+
+    ghost Value = { List (List Record) };
+
+    ghost view = { λ w. w.queues.items };
+}
+
+// Where a worker's queue lies among so many.
+fn place_of(count: usize, node: u16, worker: u16) -> Option<usize>
+    ensures is { result ≡ place_of count node worker }
+    ensures within { IfSome result (λ place. place < count) }
+{
+    let place = node as usize * MOST_WORKERS + worker as usize;
+    if (worker as usize) < MOST_WORKERS && place < count {
+        Some(place)
+    } else {
+        None
+    }
+}
+
+// The node and the worker where an arrival made its packet wait.
+fn placed_by(said: &Said) -> Option<(u16, u16)>
+    ensures { result ≡ placed_by said.now.event said.now.packet said.now.outcome }
+{
+    match (said.event, said.packet, said.outcome) {
+        (Event::Arrive { node, .. }, Some(Packet::Good { .. }), Outcome::Placed { worker, .. }) =>
+            Some((node, worker)),
+        _ => None,
+    }
+}
+
+fn is_accepted(outcome: &Outcome) -> bool
+    ensures { result ≡ accepted outcome.now }
+{
+    !matches!(outcome, Outcome::Refused(_))
+}
+
+fn clear_at(queues: &mut Vec<Queue>, place: usize)
+    ensures { queues.new.items ≡ slice_set queues.old.items place [] }
+{
+    if place < queues.len() {
+        let queue = &mut queues[place];
+        queue.clear();
+    }
+}
+
+// Empties the queues of a node.
+fn clear_from(queues: &mut Vec<Queue>, node: u16)
+    ensures { queues.new.items ≡ emptied (node * 16) 16 queues.old.items }
+{
+    let first = node as usize * MOST_WORKERS;
+    for worker in 0..MOST_WORKERS {
+        clear_at(queues, first + worker);
+    }
+}
+
+impl Waiting {
+    /// Empty queues for so many nodes, of up to 16 workers each.
+    pub fn new(alloc: Global, nodes: u16) -> Result<Self, AllocError>
+        ensures empty { IfOk result (λ w. w ≡ replicate (nodes * 16) []) }
+        ensures mirrors { IfOk result (λ w. (all : List Record) (k : Cluster) → Mirrors all k [] w) }
+    {
+        let mut queues = Vec::new(alloc);
+        for _ in 0..nodes as usize * MOST_WORKERS {
+            queues.push(Queue::new(alloc))?;
+        }
+        Ok(Waiting { queues })
+    }
+
+    fn put(&mut self, node: u16, worker: u16, frame: Frame) -> Result<Option<Frame>, AllocError>
+        ensures queues { OnOk result (self.new ≡ changed_at self.old (place_of (length self.old) node worker) (λ q. q ++ packet frame ∷ [])) }
+        ensures back { IfOk result (λ back. option_map packet back ≡ unless_put (place_of (length self.old) node worker) (packet frame)) }
+        ensures err { OnErr result (self.new ≡ self.old) }
+    {
+        let Some(place) = place_of(self.queues.len(), node, worker) else {
+            return Ok(Some(frame));
+        };
+        let queue = &mut self.queues[place];
+        match queue.put(frame) {
+            Ok(()) => Ok(None),
+            Err(refusal) => Err(refusal),
+        }
+    }
+
+    fn take(&mut self, node: u16, worker: u16) -> Option<Frame>
+        ensures taken { option_map packet result ≡ first_at self.old (place_of (length self.old) node worker) }
+        ensures after { self.new ≡ changed_at self.old (place_of (length self.old) node worker) (drop 1) }
+    {
+        match place_of(self.queues.len(), node, worker) {
+            Some(place) => {
+                let queue = &mut self.queues[place];
+                queue.take()
+            }
+            None => None,
+        }
+    }
+
+    // Follows an event that was accepted.
+    fn settle_by(&mut self, event: &Event) -> Option<Frame>
+        ensures queues { Moves self.old self.new (settled_by event.now) }
+        ensures taken { option_map packet result ≡ taken_by event.now self.old }
+    {
+        match *event {
+            Event::Install { .. } => None,
+            Event::Arrive { .. } => None,
+            Event::Serve { node, worker, .. } => self.take(node, worker),
+            Event::Restart { node } => {
+                clear_from(&mut self.queues, node);
+                None
+            }
+        }
+    }
+
+    /// Follows an arrival, whose packet has this frame. Where the packet waits now, the frame is kept behind those that wait
+    /// at its worker; else it is handed back.
+    pub fn arrive(&mut self, said: &Said, frame: Frame) -> Result<Option<Frame>, AllocError>
+        ensures queues { OnOk result (Moves self.old self.new (arrived said.now (packet frame))) }
+        ensures back { IfOk result (λ back. option_map packet back ≡ handed_back said.now (length self.old) (packet frame)) }
+        ensures err { OnErr result (self.new ≡ self.old) }
+        ensures mirrors { (all : List Record) (k : Cluster) (past : List Said) → CanFollow all k past said.now self.old → ComesAs all (packet frame) said.now.event →
+            OnOk result (Mirrors all k (said.now ∷ past) self.new) }
+    {
+        match placed_by(said) {
+            Some((node, worker)) => self.put(node, worker, frame),
+            None => Ok(Some(frame)),
+        }
+    }
+
+    /// Follows an event that is no arrival. The frame of a packet that was taken out of its queue is handed back.
+    ///
+    /// By the clause `sent` this is, where a packet was sent, that packet's frame.
+    pub fn settle(&mut self, said: &Said) -> Option<Frame>
+        ensures queues { Moves self.old self.new (settled said.now) }
+        ensures taken { option_map packet result ≡ taken_out said.now self.old }
+        ensures mirrors { (all : List Record) (k : Cluster) (past : List Said) → CanFollow all k past said.now self.old → IsNoArrival said.now.event →
+            Mirrors all k (said.now ∷ past) self.new }
+        ensures sent { (all : List Record) (k : Cluster) (past : List Said) → CanFollow all k past said.now self.old →
+            (n w i : ℕ) (x : _) (b : _) (v : ℕ) → said.now.outcome ≡ Forward n w i x b v → IsSomeAnd result (λ frame. slice_get all i ≡ Some (packet frame)) }
+    {
+        if is_accepted(&said.outcome) {
+            self.settle_by(&said.event)
+        } else {
+            None
+        }
+    }
+}
