@@ -12,7 +12,7 @@ use Rattle.cluster_node.specs.declared.outcomes.Outcome.TheVariants.{Refused}
 use Rattle.cluster_node.specs.declared.outcomes.Reason.TheVariants.{NoNode}
 use Rattle.cluster_node.specs.Rules.{Rules}
 use Rattle.cluster_node.specs.declared.events.Said.{Said}
-use Rattle.cluster_node.specs.Record.{node_verdict, node_say, fresh, NodeStands, NodeGoes, ArePrepared, installed_of}
+use Rattle.cluster_node.specs.Record.{node_verdict, node_say, fresh, NodeStands, NodeGoes, ArePrepared, installed_of, newest_of}
 use Rattle.cluster_node.proofs.Records.{stands_none}
 use Rattle.cluster_node.specs.Record.{waits}
 use Rattle.cluster_core.specs.Totals.{came, went, came_of, went_of, came_all, went_all}
@@ -23,7 +23,7 @@ use Rattle.forwarder.specs.Serving.{Pick}
 use Rattle.selection.specs.Readied.{Readied}
 use Rattle.cluster_core.proofs.Preparing.{MorePrepared, still_prepared, none_installed}
 use Rattle.std.proofs.lemmas.Bool.{false≢true}
-use Rattle.cluster_core.specs.Runs.{waiting_in, verdict, packet_of, say, verdicts, RunStands, RunGoes}
+use Rattle.cluster_core.specs.Runs.{waiting_in, verdict, packet_of, say, verdicts, RunStands, RunGoes, newest_at}
 
 get_set : (ws : List NodeView) (w j : ℕ) (u x : NodeView) → slice_get (slice_set ws w u) j ≡ Some x → (((j ≡ w) × (u ≡ x)) ⊎ ((j ≡ w → ⊥) × (slice_get ws j ≡ Some x)))
 get_set [] w j u x h = absurd (cc)
@@ -56,7 +56,7 @@ of_node_le n (s ∷ past) = go (node_of s.event == n) (of_node_le n past)
     go false h = omega arith
 
 -- an event of a node that is there
-pub step_goes : {S : Type 0} (pick_of : S → ℕ → Pick) (rules : Rules) (past : List Said) (run : RunView S) (e : Event) (x : Option Packet) (o : Outcome) (m after : NodeView) (versions : List (Readied S)) → WasRead x → RunStands pick_of rules past run → MorePrepared pick_of rules run.versions versions e → slice_get run.nodes (node_of e) ≡ Some m → NodeGoes rules (of_node (node_of e) past) e x o after → RunGoes pick_of rules past e x o (record { failed = run.failed; nodes = slice_set run.nodes (node_of e) after; versions = versions })
+pub step_goes : {S : Type 0} (pick_of : S → ℕ → Pick) (rules : Rules) (past : List Said) (run : RunView S) (e : Event) (x : Option Packet) (o : Outcome) (m after : NodeView) (versions : List (Readied S)) → WasRead x → RunStands pick_of rules past run → MorePrepared pick_of rules (newest_of (of_node (node_of e) past)) run.versions versions e → slice_get run.nodes (node_of e) ≡ Some m → NodeGoes rules (of_node (node_of e) past) e x o after → RunGoes pick_of rules past e x o (record { failed = run.failed; nodes = slice_set run.nodes (node_of e) after; versions = versions })
 step_goes pick_of rules past run e x o m after versions read st more h g =
     let v : verdict rules past e x ≡ node_verdict rules (of_node (node_of e) past) e x =
     ap (λ (b : Bool). if b then node_verdict rules (of_node (node_of e) past) e x else Refused NoNode)
@@ -107,18 +107,19 @@ no_node pick_of rules past run e x le st =
     )
 
 -- one step of the code
-pub step_said : {S : Type 0} (pick_of : S → ℕ → Pick) (rules : Rules) (past : List Said) (run : RunView S) (e : Event) (x : Option Packet) (o : Outcome) (at : ℕ) (one after : NodeView) (versions : List (Readied S)) → WasRead x → length past < 2 ^ 64 → at ≡ node_of e → at < length run.nodes → one ≡ get_or run.nodes at one → RunStands pick_of rules past run → MorePrepared pick_of rules run.versions versions e
+pub step_said : {S : Type 0} (pick_of : S → ℕ → Pick) (rules : Rules) (past : List Said) (run : RunView S) (e : Event) (x : Option Packet) (o : Outcome) (at newest : ℕ) (one after : NodeView) (versions : List (Readied S)) → WasRead x → length past < 2 ^ 64 → at ≡ node_of e → at < length run.nodes → one ≡ get_or run.nodes at one → newest ≡ newest_at (slice_get run.nodes (node_of e)) → RunStands pick_of rules past run → MorePrepared pick_of rules newest run.versions versions e
     → ((had : List Said) → ArePrepared pick_of rules versions (installed_of had) → length had < 2 ^ 64 → NodeStands rules had one → NodeGoes rules had e x o after) → RunGoes pick_of rules past e x o (record { failed = run.failed; nodes = slice_set run.nodes at after; versions = versions })
-step_said pick_of rules past run e x o at one after versions read few d lt is st more g =
+step_said pick_of rules past run e x o at newest one after versions read few d lt is new st more g =
     subst (λ (k : ℕ). RunGoes pick_of rules past e x o (record { failed = run.failed; nodes = slice_set run.nodes k after; versions = versions })) (sym d)
     (let h : slice_get run.nodes (node_of e) ≡ Some one = subst (λ (k : ℕ). slice_get run.nodes k ≡ Some one) d (get_of_or run.nodes at one lt ∙ ap (λ (m : NodeView). Some m) (sym is)) in
-    step_goes pick_of rules past run e x o one after versions read st more h (g (of_node (node_of e) past) (λ v i. more.kept v (st.prepared (node_of e) v i)) (let a : length (of_node (node_of e) past) ≤ length past = of_node_le (node_of e) past in omega arith) (st.each (node_of e) one h)))
+    let same : newest ≡ newest_of (of_node (node_of e) past) = new ∙ ap newest_at h ∙ (st.each (node_of e) one h).newest in
+    step_goes pick_of rules past run e x o one after versions read st (subst (λ (k : ℕ). MorePrepared pick_of rules k run.versions versions e) same more) h (g (of_node (node_of e) past) (λ v i. more.kept v (st.prepared (node_of e) v i)) (let a : length (of_node (node_of e) past) ≤ length past = of_node_le (node_of e) past in omega arith) (st.each (node_of e) one h)))
 
 -- the same of a result
-pub result_said : {S E : Type 0} (pick_of : S → ℕ → Pick) (rules : Rules) (past : List Said) (run : RunView S) (e : Event) (x : Option Packet) (r : Result Outcome E) (at : ℕ) (one after : NodeView) (versions : List (Readied S)) → WasRead x → length past < 2 ^ 64 → at ≡ node_of e → at < length run.nodes → one ≡ get_or run.nodes at one → RunStands pick_of rules past run → MorePrepared pick_of rules run.versions versions e
+pub result_said : {S E : Type 0} (pick_of : S → ℕ → Pick) (rules : Rules) (past : List Said) (run : RunView S) (e : Event) (x : Option Packet) (r : Result Outcome E) (at newest : ℕ) (one after : NodeView) (versions : List (Readied S)) → WasRead x → length past < 2 ^ 64 → at ≡ node_of e → at < length run.nodes → one ≡ get_or run.nodes at one → newest ≡ newest_at (slice_get run.nodes (node_of e)) → RunStands pick_of rules past run → MorePrepared pick_of rules newest run.versions versions e
     → ((had : List Said) → ArePrepared pick_of rules versions (installed_of had) → length had < 2 ^ 64 → NodeStands rules had one → IfOk r (λ o. NodeGoes rules had e x o after)) → IfOk r (λ o. RunGoes pick_of rules past e x o (record { failed = run.failed; nodes = slice_set run.nodes at after; versions = versions }))
-result_said pick_of rules past run e x (Ok o) at one after versions read few d lt is st more g = step_said pick_of rules past run e x o at one after versions read few d lt is st more g
-result_said pick_of rules past run e x (Err f) at one after versions read few d lt is st more g = tt
+result_said pick_of rules past run e x (Ok o) at newest one after versions read few d lt is new st more g = step_said pick_of rules past run e x o at newest one after versions read few d lt is new st more g
+result_said pick_of rules past run e x (Err f) at newest one after versions read few d lt is new st more g = tt
 
 pub if_ok_map : {A E : Type 0} {P Q : A → Type 0} (r : Result A E) → ((a : A) → P a → Q a) → IfOk r P → IfOk r Q
 if_ok_map (Ok a) f h = f a h

@@ -16,29 +16,37 @@ use Rattle.cluster_node.specs.declared.packets.Packet.{Packet}
 use Rattle.cluster_node.specs.declared.events.Event.{Event}
 use Rattle.cluster_node.specs.declared.events.Event.TheVariants.{Install, Arrive, Serve, Restart}
 use Rattle.cluster_node.specs.declared.outcomes.Outcome.{Outcome}
-use Rattle.cluster_node.specs.declared.outcomes.Outcome.TheVariants.{Refused}
-use Rattle.cluster_node.specs.declared.outcomes.Reason.TheVariants.{NoNode}
+use Rattle.cluster_node.specs.declared.outcomes.Outcome.TheVariants.{Installed, Refused}
+use Rattle.cluster_node.specs.declared.outcomes.Reason.TheVariants.{NoNode, NotNewer}
 use Rattle.cluster_node.specs.Record.{accepted, installed_by, installed_of, newest_of, install_verdict, node_verdict, prepared_at, IsKnown, IsPrepared, ArePrepared}
 use Rattle.cluster_core.specs.Setups.{Fixed, rules_for}
-use Rattle.cluster_core.specs.Runs.{verdict, say, AreGood, prepared_with, prepared_if, prepared_for, is_known_in}
+use Rattle.cluster_core.specs.Runs.{verdict, say, AreGood, prepared_with, prepared_above, prepared_if, prepared_for, is_known_in}
 use Rattle.cluster_node.specs.Records.{node_of, of_node}
 
--- the version that an event installs, if the catalogue has it, is prepared
-abbrev pub NewIsPrepared : {S : Type 0} → (S → ℕ → Pick) → Rules → List (Readied S) → Event → Type 0
-NewIsPrepared pick_of rules versions (Install n v) = rules.known v ≡ true → IsPrepared pick_of rules versions v
-NewIsPrepared pick_of rules versions (Arrive n k marks) = Unit {0}
-NewIsPrepared pick_of rules versions (Serve n w v r) = Unit {0}
-NewIsPrepared pick_of rules versions (Restart n) = Unit {0}
+-- the version that an event installs, if the catalogue has it and it is above the node's newest, is prepared
+abbrev pub NewIsPrepared : {S : Type 0} → (S → ℕ → Pick) → Rules → ℕ → List (Readied S) → Event → Type 0
+NewIsPrepared pick_of rules newest versions (Install n v) = rules.known v ≡ true → nat_lt newest v ≡ true → IsPrepared pick_of rules versions v
+NewIsPrepared pick_of rules newest versions (Arrive n k marks) = Unit {0}
+NewIsPrepared pick_of rules newest versions (Serve n w v r) = Unit {0}
+NewIsPrepared pick_of rules newest versions (Restart n) = Unit {0}
 
--- what an event leaves of the versions prepared
-pub record MorePrepared {S : Type 0} (pick_of : S → ℕ → Pick) (rules : Rules) (had versions : List (Readied S)) (e : Event) : Type 0 where
+-- what an event of a node of this newest version leaves of the versions prepared
+pub record MorePrepared {S : Type 0} (pick_of : S → ℕ → Pick) (rules : Rules) (newest : ℕ) (had versions : List (Readied S)) (e : Event) : Type 0 where
   pub good : AreGood pick_of rules versions
   pub kept : (v : ℕ) → IsPrepared pick_of rules had v → IsPrepared pick_of rules versions v
-  pub new : NewIsPrepared pick_of rules versions e
+  pub new : NewIsPrepared pick_of rules newest versions e
 
 -- an event that prepares nothing
-pub none_more : {S : Type 0} (pick_of : S → ℕ → Pick) (rules : Rules) (had : List (Readied S)) (e : Event) → AreGood pick_of rules had → NewIsPrepared pick_of rules had e → MorePrepared pick_of rules had had e
-none_more pick_of rules had e good new = record { good = good; kept = λ v h. h; new = new }
+pub none_more : {S : Type 0} (pick_of : S → ℕ → Pick) (rules : Rules) (newest : ℕ) (had : List (Readied S)) (e : Event) → AreGood pick_of rules had → NewIsPrepared pick_of rules newest had e → MorePrepared pick_of rules newest had had e
+none_more pick_of rules newest had e good new = record { good = good; kept = λ v h. h; new = new }
+
+newer_if : (b : Bool) → accepted (if b then Installed else Refused NotNewer) ≡ true → b ≡ true
+newer_if true h = refl
+newer_if false h = absurd (false≢true h)
+
+newer_if_accepted : (known : Bool) (newest v : ℕ) → accepted (install_verdict known newest v) ≡ true → nat_lt newest v ≡ true
+newer_if_accepted true newest v h = newer_if (nat_lt newest v) h
+newer_if_accepted false newest v h = absurd (false≢true h)
 
 known_if_accepted : (known : Bool) (newest v : ℕ) → accepted (install_verdict known newest v) ≡ true → known ≡ true
 known_if_accepted true newest v h = refl
@@ -57,8 +65,8 @@ module _ {S : Type 0} (pick_of : S → ℕ → Pick) (rules : Rules) (versions :
   if_more false v vs all here = all
 
   -- the versions installed with one more event of the node
-  by_event : (had : List Said) (e : Event) (x : Option Packet) → NewIsPrepared pick_of rules versions e → ArePrepared pick_of rules versions (installed_of had) → ArePrepared pick_of rules versions (installed_by e (node_verdict rules had e x) (installed_of had))
-  by_event had (Install n v) x new all = if_more (accepted (install_verdict (rules.known v) (newest_of had) v)) v (installed_of had) all (λ h. new (known_if_accepted (rules.known v) (newest_of had) v h))
+  by_event : (had : List Said) (e : Event) (x : Option Packet) → NewIsPrepared pick_of rules (newest_of had) versions e → ArePrepared pick_of rules versions (installed_of had) → ArePrepared pick_of rules versions (installed_by e (node_verdict rules had e x) (installed_of had))
+  by_event had (Install n v) x new all = if_more (accepted (install_verdict (rules.known v) (newest_of had) v)) v (installed_of had) all (λ h. new (known_if_accepted (rules.known v) (newest_of had) v h) (newer_if_accepted (rules.known v) (newest_of had) v h))
   by_event had (Arrive n k marks) x new all = all
   by_event had (Serve n w v r) x new all = all
   by_event had (Restart n) x new all = all
@@ -69,7 +77,7 @@ module _ {S : Type 0} (pick_of : S → ℕ → Pick) (rules : Rules) (versions :
   refused_leaves (Serve n w v r) vs = refl
   refused_leaves (Restart n) vs = refl
 
-  by_verdict : (past : List Said) (e : Event) (x : Option Packet) → NewIsPrepared pick_of rules versions e → ArePrepared pick_of rules versions (installed_of (of_node (node_of e) past)) → (b : Bool) → ArePrepared pick_of rules versions (installed_by e (if b then node_verdict rules (of_node (node_of e) past) e x else Refused NoNode) (installed_of (of_node (node_of e) past)))
+  by_verdict : (past : List Said) (e : Event) (x : Option Packet) → NewIsPrepared pick_of rules (newest_of (of_node (node_of e) past)) versions e → ArePrepared pick_of rules versions (installed_of (of_node (node_of e) past)) → (b : Bool) → ArePrepared pick_of rules versions (installed_by e (if b then node_verdict rules (of_node (node_of e) past) e x else Refused NoNode) (installed_of (of_node (node_of e) past)))
   by_verdict past e x new all true = by_event (of_node (node_of e) past) e x new all
   by_verdict past e x new all false = subst (λ (vs : List ℕ). ArePrepared pick_of rules versions vs) (sym (refused_leaves e (installed_of (of_node (node_of e) past)))) all
 
@@ -77,13 +85,13 @@ module _ {S : Type 0} (pick_of : S → ℕ → Pick) (rules : Rules) (versions :
   of_other past e x n all true own = own refl
   of_other past e x n all false own = all
 
-  said_prepared : (past : List Said) (e : Event) (x : Option Packet) → NewIsPrepared pick_of rules versions e → ((n : ℕ) → ArePrepared pick_of rules versions (installed_of (of_node n past))) → (n : ℕ) → ArePrepared pick_of rules versions (installed_of (of_node n (say rules past e x ∷ past)))
+  said_prepared : (past : List Said) (e : Event) (x : Option Packet) → NewIsPrepared pick_of rules (newest_of (of_node (node_of e) past)) versions e → ((n : ℕ) → ArePrepared pick_of rules versions (installed_of (of_node n past))) → (n : ℕ) → ArePrepared pick_of rules versions (installed_of (of_node n (say rules past e x ∷ past)))
   said_prepared past e x new all n = of_other past e x n (all n) (node_of e == n) (λ h.
       subst (λ (m : ℕ). ArePrepared pick_of rules versions (installed_by e (verdict rules past e x) (installed_of (of_node m past)))) (eqb-true (node_of e) n h)
       (by_verdict past e x new (all (node_of e)) (nat_lt (node_of e) rules.nodes)))
 
 -- all that is installed after an event is prepared
-pub still_prepared : {S : Type 0} (pick_of : S → ℕ → Pick) (rules : Rules) (past : List Said) (had versions : List (Readied S)) (e : Event) (x : Option Packet) → MorePrepared pick_of rules had versions e → ((n : ℕ) → ArePrepared pick_of rules had (installed_of (of_node n past))) → (n : ℕ) → ArePrepared pick_of rules versions (installed_of (of_node n (say rules past e x ∷ past)))
+pub still_prepared : {S : Type 0} (pick_of : S → ℕ → Pick) (rules : Rules) (past : List Said) (had versions : List (Readied S)) (e : Event) (x : Option Packet) → MorePrepared pick_of rules (newest_of (of_node (node_of e) past)) had versions e → ((n : ℕ) → ArePrepared pick_of rules had (installed_of (of_node n past))) → (n : ℕ) → ArePrepared pick_of rules versions (installed_of (of_node n (say rules past e x ∷ past)))
 still_prepared pick_of rules past had versions e x more all n = said_prepared pick_of rules versions past e x more.new (λ m v h. more.kept v (all m v h)) n
 
 -- an event of no node installs nothing
@@ -128,12 +136,16 @@ module _ {S : Type 0} (pick_of : S → ℕ → Pick) (rules : Rules) (scheme : S
   abbrev pub After : List (Readied S)
   After = prepared_with scheme size w had
 
-  pub prepared_more : Fits → AreGood pick_of rules had → (n : ℕ) → MorePrepared pick_of rules had (prepared_with scheme size w had) (Install n w.number)
-  prepared_more fits good n = go (is_some (prepared_at w.number had)) refl
+  pub prepared_more : Fits → AreGood pick_of rules had → (n newest : ℕ) → MorePrepared pick_of rules newest had (prepared_above scheme size newest w had) (Install n w.number)
+  prepared_more fits good n newest = above (nat_lt newest w.number) refl
     where
-      go : (b : Bool) → is_some (prepared_at w.number had) ≡ b → MorePrepared pick_of rules had (if b then had else New ∷ had) (Install n w.number)
-      go true e = record { good = good; kept = λ v h. h; new = λ k. good w.number e }
-      go false e = record { good = new_good fits e good; kept = behind e; new = λ k. first_is fits }
+      go : (b : Bool) → is_some (prepared_at w.number had) ≡ b → MorePrepared pick_of rules newest had (if b then had else New ∷ had) (Install n w.number)
+      go true e = record { good = good; kept = λ v h. h; new = λ k l. good w.number e }
+      go false e = record { good = new_good fits e good; kept = behind e; new = λ k l. first_is fits }
+
+      above : (b : Bool) → nat_lt newest w.number ≡ b → MorePrepared pick_of rules newest had (if b then prepared_with scheme size w had else had) (Install n w.number)
+      above true e = go (is_some (prepared_at w.number had)) refl
+      above false e = none_more pick_of rules newest had (Install n w.number) good (λ k l. absurd (false≢true (sym e ∙ l)))
 
 found_number : (v : ℕ) (ws : List Version) (w : Version) → version_at v ws ≡ Some w → w.number ≡ v
 found_number v [] w h = absurd (cc)
@@ -144,20 +156,20 @@ found_number v (q ∷ ws) w h = go (found_number v ws w) (q.number == v) refl h
     go rest false e k = rest k
 
 -- what an event leaves prepared, of a catalogue
-pub event_prepares : {S H : Type 0} (pick_of : S → ℕ → Pick) (plain_of : H → List ℕ → ℕ) (setup : Fixed S H) (pools : Pools) (scheme : S) (size : ℕ) (e : Event) (had : List (Readied S)) → pick_of scheme size ≡ pick_of setup.scheme setup.size → AreGood pick_of (rules_for pick_of plain_of setup pools) had
-    → MorePrepared pick_of (rules_for pick_of plain_of setup pools) had (prepared_for scheme size pools e had) e
-event_prepares pick_of plain_of setup pools scheme size (Install n v) had same good = go (version_at v pools.versions) refl
+pub event_prepares : {S H : Type 0} (pick_of : S → ℕ → Pick) (plain_of : H → List ℕ → ℕ) (setup : Fixed S H) (pools : Pools) (scheme : S) (size newest : ℕ) (e : Event) (had : List (Readied S)) → pick_of scheme size ≡ pick_of setup.scheme setup.size → AreGood pick_of (rules_for pick_of plain_of setup pools) had
+    → MorePrepared pick_of (rules_for pick_of plain_of setup pools) newest had (prepared_for scheme size pools newest e had) e
+event_prepares pick_of plain_of setup pools scheme size newest (Install n v) had same good = go (version_at v pools.versions) refl
   where
-    go : (o : Option Version) → version_at v pools.versions ≡ o → MorePrepared pick_of (rules_for pick_of plain_of setup pools) had (prepared_if scheme size o had) (Install n v)
-    go None h = none_more pick_of (rules_for pick_of plain_of setup pools) had (Install n v) good (λ k. absurd (false≢true (ap (λ (q : Option Version). is_some q) (sym h) ∙ k)))
+    go : (o : Option Version) → version_at v pools.versions ≡ o → MorePrepared pick_of (rules_for pick_of plain_of setup pools) newest had (prepared_if scheme size newest o had) (Install n v)
+    go None h = none_more pick_of (rules_for pick_of plain_of setup pools) newest had (Install n v) good (λ k l. absurd (false≢true (ap (λ (q : Option Version). is_some q) (sym h) ∙ k)))
     go (Some w) h =
         let e : w.number ≡ v = found_number v pools.versions w h in
-        subst (λ (u : ℕ). MorePrepared pick_of (rules_for pick_of plain_of setup pools) had (prepared_with scheme size w had) (Install n u)) e
+        subst (λ (u : ℕ). MorePrepared pick_of (rules_for pick_of plain_of setup pools) newest had (prepared_above scheme size newest w had) (Install n u)) e
         (prepared_more pick_of (rules_for pick_of plain_of setup pools) scheme size w had
-        (same, λ x. sym (ap (λ (q : Option Version). option_and_then (λ u. ups_under u x) q) (ap (λ (u : ℕ). version_at u pools.versions) e ∙ h))) good n)
-event_prepares pick_of plain_of setup pools scheme size (Arrive n k marks) had same good = none_more pick_of (rules_for pick_of plain_of setup pools) had (Arrive n k marks) good tt
-event_prepares pick_of plain_of setup pools scheme size (Serve n w v r) had same good = none_more pick_of (rules_for pick_of plain_of setup pools) had (Serve n w v r) good tt
-event_prepares pick_of plain_of setup pools scheme size (Restart n) had same good = none_more pick_of (rules_for pick_of plain_of setup pools) had (Restart n) good tt
+        (same, λ x. sym (ap (λ (q : Option Version). option_and_then (λ u. ups_under u x) q) (ap (λ (u : ℕ). version_at u pools.versions) e ∙ h))) good n newest)
+event_prepares pick_of plain_of setup pools scheme size newest (Arrive n k marks) had same good = none_more pick_of (rules_for pick_of plain_of setup pools) newest had (Arrive n k marks) good tt
+event_prepares pick_of plain_of setup pools scheme size newest (Serve n w v r) had same good = none_more pick_of (rules_for pick_of plain_of setup pools) newest had (Serve n w v r) good tt
+event_prepares pick_of plain_of setup pools scheme size newest (Restart n) had same good = none_more pick_of (rules_for pick_of plain_of setup pools) newest had (Restart n) good tt
 
 -- whether the catalogue has the version that an event installs
 pub is_known : {S H : Type 0} (pick_of : S → ℕ → Pick) (plain_of : H → List ℕ → ℕ) (setup : Fixed S H) (pools : Pools) (e : Event) (known : Bool) → known ≡ is_known_in pools e → IsKnown (rules_for pick_of plain_of setup pools) e known

@@ -67,16 +67,20 @@ abbrev pub prepared_with : {S : Type 0} → S → ℕ → Version → List (Read
 prepared_with scheme size version versions =
     if is_some (prepared_at version.number versions) then versions else readied_version scheme size version ∷ versions
 
-abbrev pub prepared_if : {S : Type 0} → S → ℕ → Option Version → List (Readied S) → List (Readied S)
-prepared_if scheme size None versions = versions
-prepared_if scheme size (Some version) versions = prepared_with scheme size version versions
+-- after a version was prepared if it is above a node's newest
+abbrev pub prepared_above : {S : Type 0} → S → ℕ → ℕ → Version → List (Readied S) → List (Readied S)
+prepared_above scheme size newest version versions = if nat_lt newest version.number then prepared_with scheme size version versions else versions
 
--- the versions after the one that an event installs was prepared, if the catalogue has it
-abbrev pub prepared_for : {S : Type 0} → S → ℕ → Pools → Event → List (Readied S) → List (Readied S)
-prepared_for scheme size pools (Install n v) versions = prepared_if scheme size (version_at v pools.versions) versions
-prepared_for scheme size pools (Arrive n k marks) versions = versions
-prepared_for scheme size pools (Serve n w v r) versions = versions
-prepared_for scheme size pools (Restart n) versions = versions
+abbrev pub prepared_if : {S : Type 0} → S → ℕ → ℕ → Option Version → List (Readied S) → List (Readied S)
+prepared_if scheme size newest None versions = versions
+prepared_if scheme size newest (Some version) versions = prepared_above scheme size newest version versions
+
+-- after the one that an event installs on a node of this newest version was, if the catalogue has it
+abbrev pub prepared_for : {S : Type 0} → S → ℕ → Pools → ℕ → Event → List (Readied S) → List (Readied S)
+prepared_for scheme size pools newest (Install n v) versions = prepared_if scheme size newest (version_at v pools.versions) versions
+prepared_for scheme size pools newest (Arrive n k marks) versions = versions
+prepared_for scheme size pools newest (Serve n w v r) versions = versions
+prepared_for scheme size pools newest (Restart n) versions = versions
 
 -- whether an event installs a version that the catalogue has
 abbrev pub is_known_in : Pools → Event → Bool

@@ -7,7 +7,7 @@ ghost use Rattle.cluster_node.specs.declared.events.Said.{Said};
 ghost use Rattle.cluster_node.specs.Record.{fresh, prepared_at, newest_of, lines_of};
 ghost use Rattle.cluster_core.specs.Setups.{Fixed, rules_for};
 ghost use Rattle.cluster_core.specs.RunView.{RunView};
-ghost use Rattle.cluster_core.specs.Runs.{prepared_with, prepared_for, is_known_in, newest_at, waiting_on, newest_said, waiting_said, RunStands, RunGoes};
+ghost use Rattle.cluster_core.specs.Runs.{prepared_with, prepared_above, prepared_for, is_known_in, newest_at, waiting_on, newest_said, waiting_said, RunStands, RunGoes};
 ghost use Rattle.cluster_core.specs.Totals.{came_of, went_of};
 ghost use Rattle.cluster_node.specs.Records.{WasRead, node_of, of_node};
 
@@ -90,22 +90,40 @@ fn prepare<S: Scheme>(
     }
 }
 
-// Prepares the version that an event installs, and says whether the catalogue has it.
+// Prepares a version that is above a node's newest. The others are refused there.
+fn prepare_newer<S: Scheme>(
+    alloc: Global,
+    versions: &mut Vec<PreparedVersion<S>>,
+    scheme: &S,
+    size: TableSize,
+    newest: u32,
+    version: &Version,
+) -> Result<(), AllocError>
+    ensures { OnOk result (versions.new.items ≡ prepared_above scheme.now size newest version.now versions.old.items) }
+{
+    if version.number <= newest {
+        return Ok(());
+    }
+    prepare(alloc, versions, scheme, size, version)
+}
+
+// Prepares the version that an event installs on a node of this newest version, and says whether the catalogue has it.
 fn prepare_for<S: Scheme>(
     alloc: Global,
     versions: &mut Vec<PreparedVersion<S>>,
     scheme: &S,
     size: TableSize,
     catalogue: &Catalogue,
+    newest: u32,
     event: &Event,
 ) -> Result<bool, AllocError>
     ensures known { IfOk result (λ known. known ≡ is_known_in catalogue.now event.now) }
-    ensures after { OnOk result (versions.new.items ≡ prepared_for scheme.now size catalogue.now event.now versions.old.items) }
+    ensures after { OnOk result (versions.new.items ≡ prepared_for scheme.now size catalogue.now newest event.now versions.old.items) }
 {
     match *event {
         Event::Install { version, .. } => match catalogue.get(version) {
             None => Ok(false),
-            Some(found) => match prepare(alloc, versions, scheme, size, found) {
+            Some(found) => match prepare_newer(alloc, versions, scheme, size, newest, found) {
                 Ok(()) => Ok(true),
                 Err(refusal) => Err(refusal),
             },
@@ -229,12 +247,14 @@ impl<S: Scheme, T: ConnTable> Run<S, T> {
         if at >= self.nodes.len() {
             return Ok(Outcome::Refused(Reason::NoNode));
         }
+        let newest = self.newest_of(node_at(event));
         let known = prepare_for(
             self.alloc,
             &mut self.versions,
             &setup.scheme(),
             setup.size(),
             catalogue,
+            newest,
             event,
         )?;
         let one = &mut self.nodes[at];

@@ -442,46 +442,92 @@ fn two_nodes(packet: u32) -> [Event; 6] {
     ]
 }
 
-fn explained(
-    rt: &impl Abort,
-    alloc: Global,
-    port: u16,
-    first: usize,
-    second: usize,
-) -> (&'static str, [u32; 5]) {
-    let setup = setup(rt, alloc, Maglev { hash: SumHash }, 1);
-    let catalogue = catalogue(rt, alloc);
-    let packets = [packet(port)];
-    let outcomes = replay::<Maglev<SumHash>, SumHash, LruTable>(
-        alloc,
-        &setup,
-        &catalogue,
-        &packets,
-        &two_nodes(0),
-    ).expect(rt, "memory");
-    let one = outcomes.get(first).expect(rt, "an outcome");
-    let other = outcomes.get(second).expect(rt, "an outcome");
-    told_of(explain(&setup, &catalogue, one, other))
+// The events of one node, whose entry for the third flow stands until packets of two others were sent.
+fn evicting() -> [Event; 16] {
+    [
+        install(0, 1),
+        arrive(0, THIRD),
+        serve(0, 1),
+        install(0, 2),
+        arrive(0, FIRST),
+        serve(0, 2),
+        arrive(0, FIRST),
+        serve(0, 2),
+        arrive(0, THIRD),
+        serve(0, 2),
+        arrive(0, FIRST),
+        serve(0, 2),
+        arrive(0, SECOND),
+        serve(0, 2),
+        arrive(0, THIRD),
+        serve(0, 2),
+    ]
 }
 
-#[test]
-fn two_sends_are_explained(rt: HostRuntime) {
-    let alloc = rt.alloc();
+// The events of two nodes with one version, of which the first is sent another flow before the third.
+fn in_turns() -> [Event; 8] {
+    [
+        install(0, 1),
+        install(1, 1),
+        arrive(0, FIRST),
+        serve(0, 1),
+        arrive(1, THIRD),
+        serve(1, 1),
+        arrive(0, THIRD),
+        serve(0, 1),
+    ]
+}
+
+fn explained<S: Scheme, T: ConnTable>(
+    rt: &impl Abort,
+    alloc: Global,
+    setup: &Setup<S, SumHash>,
+    events: &[Event],
+    places: (usize, usize),
+) -> (&'static str, [u32; 5])
+    requires { setup.now.size ≡ 7 }
+{
+    let catalogue = catalogue(rt, alloc);
+    let packets = [packet(1000), packet(1001), packet(1006)];
+    let outcomes = replay::<S, SumHash, T>(alloc, setup, &catalogue, &packets, events).expect(
+        rt, "memory",
+    );
+    let one = outcomes.get(places.0).expect(rt, "an outcome");
+    let other = outcomes.get(places.1).expect(rt, "an outcome");
+    told_of(explain(setup, &catalogue, one, other))
+}
+
+// Two nodes with two versions split the third flow, and not the first; an entry that was evicted splits the third flow
+// on one node.
+fn splits_are_explained<T: ConnTable>(rt: &impl Abort, alloc: Global) {
+    let maglev = setup(rt, alloc, Maglev { hash: SumHash }, 1);
     assert_eq!(rt;
-        explained(&rt, alloc, 1006, 3, 5),
+        explained::<Maglev<SumHash>, T>(rt, alloc, &maglev, &two_nodes(THIRD), (3, 5)),
         ("split", [5, 1, 2, 1, 3])
     );
-    assert_eq!(rt; explained(&rt, alloc, 1000, 3, 5), ("same", [0; 5]));
-    assert_eq!(rt; explained(&rt, alloc, 1000, 2, 5), ("not sent", [0; 5]));
+    assert_eq!(rt;
+        explained::<Maglev<SumHash>, T>(rt, alloc, &maglev, &two_nodes(FIRST), (3, 5)),
+        ("same", [0; 5])
+    );
+    assert_eq!(rt;
+        explained::<Maglev<SumHash>, T>(rt, alloc, &maglev, &two_nodes(FIRST), (2, 5)),
+        ("not sent", [0; 5])
+    );
+    assert_eq!(rt;
+        explained::<Maglev<SumHash>, T>(rt, alloc, &maglev, &evicting(), (9, 15)),
+        ("split", [5, 1, 2, 1, 3])
+    );
+    assert_eq!(rt;
+        explained::<Maglev<SumHash>, T>(rt, alloc, &maglev, &evicting(), (9, 5)),
+        ("other flow", [0; 5])
+    );
 }
 
 // By a plain hash one backend takes the flow under both versions. In turns one version sends a flow to two.
-#[test]
-fn other_schemes(rt: HostRuntime) {
-    let alloc = rt.alloc();
-    let plain = setup(&rt, alloc, PlainHash { hash: SumHash }, 1);
-    shows::<PlainHash<SumHash>, LruTable>(
-        &rt,
+fn other_schemes<T: ConnTable>(rt: &impl Abort, alloc: Global) {
+    let plain = setup(rt, alloc, PlainHash { hash: SumHash }, 1);
+    shows::<PlainHash<SumHash>, T>(
+        rt,
         alloc,
         &plain,
         &[
@@ -493,9 +539,13 @@ fn other_schemes(rt: HostRuntime) {
             (serve(1, 2), ("forward", 3, 2)),
         ],
     );
-    let round = setup(&rt, alloc, RoundRobin, 1);
-    shows::<RoundRobin, PlainTable>(
-        &rt,
+    assert_eq!(rt;
+        explained::<PlainHash<SumHash>, T>(rt, alloc, &plain, &two_nodes(FIRST), (3, 5)),
+        ("same", [0; 5])
+    );
+    let round = setup(rt, alloc, RoundRobin, 1);
+    shows::<RoundRobin, T>(
+        rt,
         alloc,
         &round,
         &[
@@ -509,6 +559,22 @@ fn other_schemes(rt: HostRuntime) {
             (serve(0, 1), ("forward", 2, 1)),
         ],
     );
+    assert_eq!(rt;
+        explained::<RoundRobin, T>(rt, alloc, &round, &in_turns(), (7, 5)),
+        ("split", [5, 1, 1, 2, 1])
+    );
+}
+
+#[test]
+fn schemes_with_a_plain_table(rt: HostRuntime) {
+    splits_are_explained::<PlainTable>(&rt, rt.alloc());
+    other_schemes::<PlainTable>(&rt, rt.alloc());
+}
+
+#[test]
+fn schemes_with_a_table_over_links(rt: HostRuntime) {
+    splits_are_explained::<LruTable>(&rt, rt.alloc());
+    other_schemes::<LruTable>(&rt, rt.alloc());
 }
 
 // A datagram of the first flow, in a frame and without its last byte; and what a setup refuses.

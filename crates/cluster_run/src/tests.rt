@@ -1,8 +1,9 @@
 //! Two worked scenarios on both tables.
-ghost use Rattle.std.specs.Prelude.{◌≡◌, ◌<◌, ◌^◌, [], length};
+ghost use Rattle.std.specs.Prelude.{◌≡◌, ◌<◌, ◌^◌, [], length, reverse};
+ghost use Rattle.cluster_run.specs.Ruling.{IsBalanced};
 
 use crate::{Balancers, Rules};
-use cluster_core::Setup;
+use cluster_core::{Setup, Totals, totals_of};
 use cluster_node::{Outcome, Packet};
 use connection_table::{ConnTable, LruTable, PlainTable};
 use course::{Core, Play, Step, all_live};
@@ -78,6 +79,7 @@ fn played_by<C: Core>(
 ) -> Play
     requires stands { C.stands setup.now [] core.old }
     requires few { length steps.now < 2 ^ 32 }
+    ensures { C.stands setup.now result.past core.new }
 {
     let flow = Flow {
         src: 0x0a00_0001,
@@ -96,12 +98,15 @@ fn played_by<C: Core>(
 
 fn played<T: ConnTable>(rt: &impl Abort, alloc: Global, port: u16, steps: &[Step]) -> Play
     requires { length steps.now < 2 ^ 32 }
+    ensures { IsBalanced (reverse result.past) }
 {
     let rules = rules(rt, alloc);
     let mut balancers: Balancers<Sums, SumHash, T> = Balancers::make(alloc, &rules).expect(
         rt, "memory",
     );
-    played_by(rt, alloc, &mut balancers, &rules, port, steps)
+    let play = played_by(rt, alloc, &mut balancers, &rules, port, steps);
+    balancers.keep_balance(&rules);
+    play
 }
 
 // Of a Forward the last byte of the backend's address and the origin.
@@ -152,6 +157,31 @@ fn two_versions<T: ConnTable>(rt: &impl Abort, alloc: Global) {
     shows(rt, &play, &want);
 }
 
+// Two packets are lost at a restart, and one is sent.
+fn totalled<T: ConnTable>(rt: &impl Abort, alloc: Global) {
+    let one = [0].to_vec(alloc).expect(rt, "memory");
+    let steps = [
+        Step::Live(one),
+        Step::Install {
+            node: 0,
+            version: 1,
+        },
+        Step::Hold(0),
+        Step::Take(2),
+        Step::Restart(0),
+        Step::Take(1),
+    ];
+    let play = played::<T>(rt, alloc, 1000, &steps);
+    let want = Totals {
+        received: 3,
+        forwarded: 1,
+        dropped: [0, 0, 0, 0, 0, 0, 0, 0, 0, 0, 0, 0, 2],
+        waiting: 0,
+        refused: 0,
+    };
+    assert_eq!(rt; totals_of(play.history()), want);
+}
+
 // Two packets wait when the node restarts; the next is served at once, and so is what is drained.
 fn held<T: ConnTable>(rt: &impl Abort, alloc: Global) {
     let one = [0].to_vec(alloc).expect(rt, "memory");
@@ -190,12 +220,14 @@ fn held<T: ConnTable>(rt: &impl Abort, alloc: Global) {
 fn scenarios_with_a_plain_table(rt: HostRuntime) {
     two_versions::<PlainTable>(&rt, rt.alloc());
     held::<PlainTable>(&rt, rt.alloc());
+    totalled::<PlainTable>(&rt, rt.alloc());
 }
 
 #[test]
 fn scenarios_with_a_table_over_links(rt: HostRuntime) {
     two_versions::<LruTable>(&rt, rt.alloc());
     held::<LruTable>(&rt, rt.alloc());
+    totalled::<LruTable>(&rt, rt.alloc());
 }
 
 // Tables of two sizes don't fit. What fits is kept as it was.
