@@ -1,5 +1,5 @@
 -- How a run record by record reaches its next record.
-use Rattle.std.proofs.Common.{◌≡◌, ◌≢◌, ℕ, zero, suc, ◌+◌, ◌*◌, ◌≤◌, ◌<◌, Bool, true, false, List, [], ◌∷◌, ◌++◌, length, map, reverse, Option, Some, None, is_some, refl, sym, ap, ◌∙◌, subst, arith, append_assoc, append-nil, length-append, slice_get}
+use Rattle.std.proofs.Common.{◌≡◌, ◌≢◌, ℕ, zero, suc, ◌+◌, ◌-◌, ◌*◌, ◌≤◌, ◌<◌, Bool, true, false, List, [], ◌∷◌, ◌++◌, length, map, reverse, Option, Some, None, is_some, refl, sym, ap, ◌∙◌, subst, arith, append_assoc, append-nil, length-append, slice_get}
 use Rattle.std.proofs.lemmas.List.{map-append}
 use Rattle.std.specs.Io.KnownBytes.{Appends}
 use Rattle.ip_headers.specs.declared.Link.{Link}
@@ -182,3 +182,30 @@ counted_taken given n w p c s d place e f h =
 pub delivered_same : (w : World) (check : Bool) (x : Record) (h i : Head) (m n : ℕ) (s t : Course) → h ≡ i → m ≡ n → s ≡ t → deliver w m (packet_in h.link check x) s ≡ deliver w n (packet_in i.link check x) t
 delivered_same w check x h i m n s t e f k =
     ap (λ (y : Head). deliver w m (packet_in y.link check x) s) e ∙ ap (λ (j : ℕ). deliver w j (packet_in i.link check x) s) f ∙ ap (λ (y : Course). deliver w n (packet_in i.link check x) y) k
+
+-- a step that has nothing left to do is over
+pub reached_turn : (cluster : Cluster) (choice : Choice) (plan : Planned) (text begun : Option (List ℕ)) (step : Step) (ss : List Step) (stage : Stage) (left out : Option (List ℕ)) → Reached cluster choice plan text begun (step ∷ ss) stage left out
+    → ((link : Link) (all : List Record) → Left cluster choice plan link all (step ∷ ss) stage.play → Left cluster choice plan link all ss stage.play) → Reached cluster choice plan text begun ss stage left out
+reached_turn cluster choice plan text begun step ss stage left out r turn = record {
+  seen = r.seen;
+  read = r.read;
+  place = r.place;
+  named = r.named;
+  going = λ more cond.
+      let g : Going cluster choice plan stage.intake.head.link (r.seen ++ more) (step ∷ ss) stage begun out = r.going more cond in
+      record { left = turn stage.intake.head.link (r.seen ++ more) g.left; sound = g.sound; holds = g.holds };
+}
+
+pub no_more_taken : (cluster : Cluster) (choice : Choice) (plan : Planned) (k : ℕ) (ss : List Step) (c : Course) → k ≡ 0 → (link : Link) (all : List Record) → Left cluster choice plan link all (take_of k ∷ ss) c → Left cluster choice plan link all ss c
+no_more_taken cluster choice plan k ss c e link all l = sym (take_zero (world_of cluster choice (packets_of link plan.check all)) k ss c e) ∙ l
+
+pub no_more_lost : (cluster : Cluster) (choice : Choice) (plan : Planned) (k : ℕ) (ss : List Step) (c : Course) → k ≡ 0 → (link : Link) (all : List Record) → Left cluster choice plan link all (lose_of k ∷ ss) c → Left cluster choice plan link all ss c
+no_more_lost cluster choice plan k ss c e link all l = sym (lose_zero (world_of cluster choice (packets_of link plan.check all)) k ss c e) ∙ l
+
+-- one fewer is left
+pub one_fewer : (count i : ℕ) → i < count → count - i ≡ (count - (i + 1)) + 1
+one_fewer count i h = omega (arith, h)
+
+-- the counts after a record was lost
+pub counted_lost : (given n : ℕ) (c d : Course) → d ≡ record c { read = c.read + 1; lost = c.lost + 1 } → Counted given n c → Counted (given + 1) n d
+counted_lost given n c d e h = subst (λ (x : Course). Counted (given + 1) n x) (sym e) (record { read = omega (arith, h.read); nth = omega (arith, h.nth); unrouted = omega (arith, h.unrouted); lost = omega (arith, h.lost); skipped = h.skipped })

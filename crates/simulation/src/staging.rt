@@ -6,7 +6,9 @@ ghost use Rattle.scenario_steps.specs.declared.Step.{Step};
 ghost use Rattle.course.specs.Steps.{World, SameChoice, deliver, after, names_records};
 ghost use Rattle.course.specs.Streams.{take_of, lose_of};
 ghost use Rattle.course.specs.Room.{Counted};
-ghost use Rattle.simulation.specs.Plans.{planned};
+ghost use Rattle.simulation.specs.Plans.{Planned, planned};
+ghost use Rattle.spreader.specs.Choices.{Choice};
+ghost use Rattle.course.specs.Cluster.{Cluster};
 ghost use Rattle.simulation.specs.Sent.{packet_in, sent, BeginsWith};
 ghost use Rattle.simulation.specs.Simulated.{traffic_of};
 ghost use Rattle.simulation.specs.Going.{Shortened};
@@ -173,12 +175,12 @@ impl Stage {
         ensures live { OnOk result (self.new.play.live ≡ self.old.play.live) }
         ensures few { (n : ℕ) → Counted self.old.intake.given n self.old.play → OnOk result (Counted self.new.intake.given n self.new.play) }
         ensures head { self.new.intake.head ≡ self.old.intake.head }
-        ensures reached { (text begun : Option (List ℕ)) (ss : List Step) (k : ℕ) →
-            Reached (C.cluster setup.now) (P.choice spread.now) (planned plan.entry) text begun (take_of (k + 1) ∷ ss) self.old (I.left input.old) (O.contents output.old) →
-            IfOk result (λ more. Reached (C.cluster setup.now) (P.choice spread.now) (planned plan.entry) text begun (still_to_take more k ss) self.new (I.left input.new) (O.contents output.new)) }
-        ensures short { (text begun : Option (List ℕ)) (ss : List Step) (k : ℕ) →
-            Reached (C.cluster setup.now) (P.choice spread.now) (planned plan.entry) text begun (take_of (k + 1) ∷ ss) self.old (I.left input.old) (O.contents output.old) →
-            IfErr result (λ fault. fault ≢ SimulationFault.Write → Shortened (C.cluster setup.now) (P.choice spread.now) (planned plan.entry) self.old.intake.head text begun (O.contents output.new)) }
+        ensures reached { (choice : Choice) (text begun : Option (List ℕ)) (ss : List Step) (k : ℕ) → SameChoice choice (P.choice spread.now) →
+            Reached (C.cluster setup.now) choice (planned plan.entry) text begun (take_of (k + 1) ∷ ss) self.old (I.left input.old) (O.contents output.old) →
+            IfOk result (λ more. Reached (C.cluster setup.now) choice (planned plan.entry) text begun (still_to_take more k ss) self.new (I.left input.new) (O.contents output.new)) }
+        ensures short { (choice : Choice) (text begun : Option (List ℕ)) (ss : List Step) (k : ℕ) → SameChoice choice (P.choice spread.now) →
+            Reached (C.cluster setup.now) choice (planned plan.entry) text begun (take_of (k + 1) ∷ ss) self.old (I.left input.old) (O.contents output.old) →
+            IfErr result (λ fault. fault ≢ SimulationFault.Write → Shortened (C.cluster setup.now) choice (planned plan.entry) self.old.intake.head text begun (O.contents output.new)) }
     {
         match self.read_one(alloc, input) {
             Ok(true) => {}
@@ -190,5 +192,91 @@ impl Stage {
             Ok(()) => Ok(true),
             Err(fault) => Err(fault),
         }
+    }
+
+    // Takes so many records, or those that remain.
+    fn take<C: Core, P: Spread, I: Source, O: Sink>(
+        &mut self,
+        alloc: Global,
+        core: &mut C,
+        setup: &C::Setup,
+        spread: &P,
+        plan: Plan<'_>,
+        count: u32,
+        input: &mut I,
+        output: &mut O,
+    ) -> Result<(), SimulationFault>
+        requires stands { C.stands setup.now self.old.play.past core.old }
+        requires live { P.live spread.now ≡ self.old.play.live }
+        requires few { (n : ℕ) × (n < 2 ^ 32) × Counted self.old.intake.given n self.old.play }
+        ensures stands { OnOk result (C.stands setup.now self.new.play.past core.new) }
+        ensures live { OnOk result (self.new.play.live ≡ self.old.play.live) }
+        ensures few { (n : ℕ) → Counted self.old.intake.given n self.old.play → OnOk result (Counted self.new.intake.given n self.new.play) }
+        ensures head { self.new.intake.head ≡ self.old.intake.head }
+        ensures reached { (choice : Choice) (text begun : Option (List ℕ)) (ss : List Step) → SameChoice choice (P.choice spread.now) →
+            Reached (C.cluster setup.now) choice (planned plan.entry) text begun (take_of count ∷ ss) self.old (I.left input.old) (O.contents output.old) →
+            OnOk result (Reached (C.cluster setup.now) choice (planned plan.entry) text begun ss self.new (I.left input.new) (O.contents output.new)) }
+        ensures short { (choice : Choice) (text begun : Option (List ℕ)) (ss : List Step) → SameChoice choice (P.choice spread.now) →
+            Reached (C.cluster setup.now) choice (planned plan.entry) text begun (take_of count ∷ ss) self.old (I.left input.old) (O.contents output.old) →
+            IfErr result (λ fault. fault ≢ SimulationFault.Write → Shortened (C.cluster setup.now) choice (planned plan.entry) self.old.intake.head text begun (O.contents output.new)) }
+    {
+        for _ in 0..count {
+            match self.take_one(alloc, core, setup, spread, plan, input, output) {
+                Ok(true) => {}
+                Ok(false) => return Ok(()),
+                Err(fault) => return Err(fault),
+            }
+        }
+        Ok(())
+    }
+
+    // Reads the next record and loses it. Says whether there was one.
+    fn lose_one<I: Source>(
+        &mut self,
+        alloc: Global,
+        input: &mut I,
+    ) -> Result<bool, SimulationFault>
+        requires few { (n : ℕ) × (n < 2 ^ 32) × Counted self.old.intake.given n self.old.play }
+        ensures play { OnOk result ((self.new.play.past ≡ self.old.play.past) × (self.new.play.live ≡ self.old.play.live)) }
+        ensures few { (n : ℕ) → Counted self.old.intake.given n self.old.play → OnOk result (Counted self.new.intake.given n self.new.play) }
+        ensures head { self.new.intake.head ≡ self.old.intake.head }
+        ensures reached { (cluster : Cluster) (choice : Choice) (plan : Planned) (text begun out : Option (List ℕ)) (ss : List Step) (k : ℕ) →
+            Reached cluster choice plan text begun (lose_of (k + 1) ∷ ss) self.old (I.left input.old) out →
+            IfOk result (λ more. Reached cluster choice plan text begun (still_to_lose more k ss) self.new (I.left input.new) out) }
+        ensures unwritten { IfErr result (λ fault. fault ≢ SimulationFault.Write) }
+    {
+        match self.read_one(alloc, input) {
+            Ok(true) => {}
+            Ok(false) => return Ok(false),
+            Err(fault) => return Err(fault),
+        }
+        self.play.lose(1);
+        Ok(true)
+    }
+
+    // Loses so many records, or those that remain.
+    fn lose<I: Source>(
+        &mut self,
+        alloc: Global,
+        count: u32,
+        input: &mut I,
+    ) -> Result<(), SimulationFault>
+        requires few { (n : ℕ) × (n < 2 ^ 32) × Counted self.old.intake.given n self.old.play }
+        ensures play { OnOk result ((self.new.play.past ≡ self.old.play.past) × (self.new.play.live ≡ self.old.play.live)) }
+        ensures few { (n : ℕ) → Counted self.old.intake.given n self.old.play → OnOk result (Counted self.new.intake.given n self.new.play) }
+        ensures head { self.new.intake.head ≡ self.old.intake.head }
+        ensures reached { (cluster : Cluster) (choice : Choice) (plan : Planned) (text begun out : Option (List ℕ)) (ss : List Step) →
+            Reached cluster choice plan text begun (lose_of count ∷ ss) self.old (I.left input.old) out →
+            OnOk result (Reached cluster choice plan text begun ss self.new (I.left input.new) out) }
+        ensures unwritten { IfErr result (λ fault. fault ≢ SimulationFault.Write) }
+    {
+        for _ in 0..count {
+            match self.lose_one(alloc, input) {
+                Ok(true) => {}
+                Ok(false) => return Ok(()),
+                Err(fault) => return Err(fault),
+            }
+        }
+        Ok(())
     }
 }

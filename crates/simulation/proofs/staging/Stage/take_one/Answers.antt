@@ -16,15 +16,14 @@ use Rattle.simulation.proofs.Reaching.{short_of, reached_end, took_all, OneMore,
 use Rattle.simulation.proofs.staging.Stage.take_one.Goals as goal
 
 pub returns-in-Ok-false-clause-reached : goal.returns-in-Ok-false-clause-reached
-returns-in-Ok-false-clause-reached g c = λ text begun ss k r.
+returns-in-Ok-false-clause-reached g c = λ choice text begun ss k same r.
     let cluster = g.C.Core.cluster c.args.setup.now in
-    let choice = g.P.Spread.choice c.args.spread.now in
     reached_end cluster choice (planned c.args.plan) text begun (take_of (k + 1)) ss c.args.self.now c.read_one.new.self _ _ _ r (subst (λ (b : Bool). SeenMore b text r.seen (g.I.Source.left c.read_one.new.input) c.read_one.new.self.intake) c.in-Ok-false.field-0-test (c.in-Ok-false.ensures.more text r.seen r.read))
     c.in-Ok-false.ensures.play c.in-Ok-false.ensures.relay (c.in-Ok-false.ensures.none c.in-Ok-false.field-0-test).1 c.in-Ok-false.ensures.head
     (λ link l. took_all cluster choice (planned c.args.plan) link r.seen (k + 1) ss c.args.self.now.play r.place l)
 
 pub returns-in-Err-clause-short : goal.returns-in-Err-clause-short
-returns-in-Err-clause-short g c = λ text begun ss k r n. short_of _ _ (planned c.args.plan) text begun _ c.args.self.now _ _ r
+returns-in-Err-clause-short g c = λ choice text begun ss k same r n. short_of _ _ (planned c.args.plan) text begun _ c.args.self.now _ _ r
 
 pub next_place-place-requires : goal.next_place-place-requires
 next_place-place-requires g c = omega (arith, c.requires.few.2.read, c.in-Ok-true.ensures.few, (c.in-Ok-true.ensures.same c.in-Ok-true.field-0-test).1, ap (λ (x : Course). x.read) c.in-Ok-true.ensures.play)
@@ -38,9 +37,8 @@ returns-in-Ok-clause-few g c = λ n h.
     subst (λ (m : ℕ). Counted m n c.deliver.new.self.play) (sym (c.in-Ok.ensures.intake.0 ∙ (c.in-Ok-true.ensures.same c.in-Ok-true.field-0-test).1)) t
 
 pub returns-in-Ok-clause-reached : goal.returns-in-Ok-clause-reached
-returns-in-Ok-clause-reached g c = λ text begun ss k r.
+returns-in-Ok-clause-reached g c = λ choice text begun ss k same r.
     let cluster = g.C.Core.cluster c.args.setup.now in
-    let choice = g.P.Spread.choice c.args.spread.now in
     let plan = planned c.args.plan in
     let old = c.args.self.now in
     let mid = c.read_one.new.self in
@@ -59,10 +57,10 @@ returns-in-Ok-clause-reached g c = λ text begun ss k r.
       holds = λ all h e. rw c.in-Ok.ensures.kept (c.in-Ok-true.ensures.holds all plan.steps r.named h c.in-Ok-true.field-0-test e);
     } in
     reached_more cluster choice plan text begun (take_of (k + 1) ∷ ss) (take_of k ∷ ss) old new _ _ _ _ x r more
-    (handed_next (world_of cluster choice []) _ old.play s new.play c.next_place-place.result moved (c.in-Ok.ensures.play (world_of cluster choice []) refl (λ live flow nth. refl))).0
+    (handed_next (world_of cluster choice []) _ old.play s new.play c.next_place-place.result moved (c.in-Ok.ensures.play (world_of cluster choice []) refl same)).0
     (λ rest l. let w = world_of cluster choice (packets_of link plan.check (r.seen ++ x ∷ rest)) in
     took cluster choice plan link r.seen rest x k ss old.play new.play r.place
-    (c.in-Ok.ensures.play w refl (λ live flow nth. refl) ∙ delivered_same w plan.check x mid.intake.head old.intake.head c.next_place-place.result old.play.read s (record old.play { read = old.play.read + 1 }) c.in-Ok-true.ensures.head place moved) l)
+    (c.in-Ok.ensures.play w refl same ∙ delivered_same w plan.check x mid.intake.head old.intake.head c.next_place-place.result old.play.read s (record old.play { read = old.play.read + 1 }) c.in-Ok-true.ensures.head place moved) l)
     (λ rest sound. subst (λ (h : Head). Sound cluster plan h.link (r.seen ++ x ∷ rest) new.play new.relay.waiting begun (g.O.Sink.contents c.deliver.new.output)) c.in-Ok-true.ensures.head
     (c.in-Ok.ensures.sound (r.seen ++ x ∷ rest) begun
     (subst (λ (h : Head). Sound cluster plan h.link (r.seen ++ x ∷ rest) s mid.relay.waiting begun (g.O.Sink.contents c.args.output.now)) (sym c.in-Ok-true.ensures.head)
@@ -70,9 +68,8 @@ returns-in-Ok-clause-reached g c = λ text begun ss k r.
     (at_place r.seen rest x c.next_place-place.result (place ∙ r.place))))
 
 pub returns-in-Err-deliver-clause-short : goal.returns-in-Err-deliver-clause-short
-returns-in-Err-deliver-clause-short g c = λ text begun ss k r n.
+returns-in-Err-deliver-clause-short g c = λ choice text begun ss k same r n.
     let cluster = g.C.Core.cluster c.args.setup.now in
-    let choice = g.P.Spread.choice c.args.spread.now in
     let plan = planned c.args.plan in
     let old = c.args.self.now in
     let mid = c.read_one.new.self in
@@ -96,7 +93,7 @@ returns-in-Err-deliver-clause-short g c = λ text begun ss k r n.
     (λ sound. subst (λ (y : Course). BeginsWith begun (g.O.Sink.contents c.deliver.new.output) (sent (traffic_of plan link (r.seen ++ x ∷ [])) (reverse y.past)))
     (delivered_same w plan.check x mid.intake.head old.intake.head c.next_place-place.result old.play.read s (record old.play { read = old.play.read + 1 }) c.in-Ok-true.ensures.head place moved)
     (subst (λ (h : Head). BeginsWith begun (g.O.Sink.contents c.deliver.new.output) (sent (traffic_of plan h.link (r.seen ++ x ∷ [])) (reverse (deliver w c.next_place-place.result (packet_in mid.intake.head.link plan.check x) s).past))) c.in-Ok-true.ensures.head
-    (c.in-Err-deliver.ensures.cut w (r.seen ++ x ∷ []) begun refl (λ live flow nth. refl)
+    (c.in-Err-deliver.ensures.cut w (r.seen ++ x ∷ []) begun refl same
     (subst (λ (h : Head). Sound cluster plan h.link (r.seen ++ x ∷ []) s mid.relay.waiting begun (g.O.Sink.contents c.args.output.now)) (sym c.in-Ok-true.ensures.head)
     (sound_same cluster plan link (r.seen ++ x ∷ []) old.play s old.relay.waiting mid.relay.waiting begun (g.O.Sink.contents c.args.output.now) (ap (λ (y : Course). y.past) moved) (ap (λ y. y.waiting) c.in-Ok-true.ensures.relay) sound))
     (at_place r.seen [] x c.next_place-place.result (place ∙ r.place)) n)))
