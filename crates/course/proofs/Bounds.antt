@@ -1,5 +1,5 @@
 -- The counts of a run, step by step.
-use Rattle.std.proofs.Common.{◌≡◌, ℕ, zero, suc, ◌+◌, ◌<◌, ◌≤◌, ◌^◌, List, [], ◌∷◌, length, drop, take, Option, Some, None, refl, sym, ap, ◌∙◌, arith, length-drop, get_or, drop-cons, add-one}
+use Rattle.std.proofs.Common.{◌≡◌, ℕ, zero, suc, true, false, ◌+◌, ◌<◌, ◌≤◌, ◌^◌, List, [], ◌∷◌, length, drop, take, Option, Some, None, refl, sym, ap, ◌∙◌, arith, length-drop, get_or, drop-cons, add-one}
 use Rattle.std.specs.Prelude.{slice_get}
 use Rattle.cluster_node.specs.declared.packets.Packet.{Packet}
 use Rattle.course.specs.Cluster.{waiting_on}
@@ -7,7 +7,7 @@ use Rattle.scenario_steps.specs.declared.Step.{Step}
 use Rattle.scenario_steps.specs.declared.Step.TheVariants as steps
 use Rattle.course.specs.Course.{Course}
 use Rattle.course.specs.Room.{Room, Counted}
-use Rattle.course.specs.Steps.{World, serve, deliver, take_all, repeat, serve_times, drain_from, release, next_ones, after, run}
+use Rattle.course.specs.Steps.{World, serve, deliver, take_all, repeat, serve_times, drain_from, release, next_ones, names_records, after, run}
 use Rattle.course.proofs.Moves.{Keeps, keeps_same, keeps_both, serve_keeps, Handed, deliver_hands}
 
 times_keeps : (w : World) (n u m : ℕ) (c : Course) → Keeps c (serve_times w n u m c)
@@ -90,3 +90,18 @@ pub run_next : (w : World) (ss : List Step) (i : ℕ) (s : Step) (c d : Course) 
 run_next w ss i s c d h e f =
     let p : drop i ss ≡ get_or ss i s ∷ drop (i + 1) ss = rw (add-one, drop-cons ss i s) refl in
     ap (λ (x : Course). run w (drop (i + 1) ss) x) f ∙ sym (run_cons w s (drop (i + 1) ss) c) ∙ ap (λ (x : Step). run w (x ∷ drop (i + 1) ss) c) e ∙ sym (ap (λ (l : List Step). run w l c) p)
+
+-- a step that names no record keeps the counts
+pub apart_keeps : (w : World) (s : Step) (c : Course) → names_records s ≡ false → Keeps c (after w s c)
+unfolding after
+apart_keeps w (steps.Install m v) c h = record { read = refl; nth = refl; unrouted = refl; lost = refl; skipped = refl }
+apart_keeps w (steps.Live ns) c h = record { read = refl; nth = refl; unrouted = refl; lost = refl; skipped = refl }
+apart_keeps w (steps.Take k) c h = let bad : true ≡ false = h in cc
+apart_keeps w (steps.Lose k) c h = let bad : true ≡ false = h in cc
+apart_keeps w (steps.Again k) c h = let bad : true ≡ false = h in cc
+apart_keeps w (steps.Full m ms) c h = record { read = refl; nth = refl; unrouted = refl; lost = refl; skipped = refl }
+apart_keeps w (steps.Hold m) c h = record { read = refl; nth = refl; unrouted = refl; lost = refl; skipped = refl }
+apart_keeps w (steps.Drain m) c h =
+    let k : Keeps (release m c) (drain_from w m 0 w.cluster.workers (release m c)) = drain_keeps w m 0 w.cluster.workers (release m c) in
+    record { read = k.read; nth = k.nth; unrouted = k.unrouted; lost = k.lost; skipped = k.skipped }
+apart_keeps w (steps.Restart m) c h = record { read = refl; nth = refl; unrouted = refl; lost = refl; skipped = refl }

@@ -183,3 +183,19 @@ lose_zero w k ss c e = ap (λ (m : ℕ). run w (steps.Lose m ∷ ss) c) e ∙ ap
   where
     lost_nothing : (c : Course) → (record c { read = c.read + 0; lost = c.lost + 0 }) ≡ c
     lost_nothing c = ap (λ (m : ℕ). record c { read = m; lost = c.lost + 0 }) (omega arith) ∙ ap (λ (m : ℕ). record c { lost = m }) (omega arith)
+
+pub run_cons : (w : World) (s : Step) (ss : List Step) (c : Course) → run w (s ∷ ss) c ≡ run w ss (after w s c)
+unfolding run
+run_cons w s ss c = refl
+
+pub again_is : (w : World) (k : ℕ) (c : Course) → after w (steps.Again k) c ≡ repeat w k (slice_get (take c.read w.packets) k) c
+unfolding after
+again_is w k c = refl
+
+pub repeat_some : (w : World) (k : ℕ) (p : Packet) (c : Course) → repeat w k (Some p) c ≡ deliver w k p c
+unfolding repeat
+repeat_some w k p c = refl
+
+pub repeat_none : (w : World) (k : ℕ) (c : Course) → repeat w k None c ≡ record c { skipped = c.skipped + 1 }
+unfolding repeat
+repeat_none w k c = refl

@@ -1,6 +1,9 @@
 -- How a run record by record reaches its next record.
-use Rattle.std.proofs.Common.{◌≡◌, ◌≢◌, ℕ, zero, suc, ◌+◌, ◌-◌, ◌*◌, ◌≤◌, ◌<◌, Bool, true, false, List, [], ◌∷◌, ◌++◌, length, map, reverse, Option, Some, None, is_some, refl, sym, ap, ◌∙◌, subst, arith, append_assoc, append-nil, length-append, slice_get}
+use Rattle.std.proofs.Common.{◌≡◌, ◌≢◌, ◌⊎◌, inl, inr, take, ℕ, zero, suc, ◌+◌, ◌-◌, ◌*◌, ◌≤◌, ◌<◌, Bool, true, false, List, [], ◌∷◌, ◌++◌, length, map, reverse, Option, Some, None, is_some, refl, sym, ap, ◌∙◌, subst, arith, append_assoc, append-nil, length-append, slice_get}
 use Rattle.std.proofs.lemmas.List.{map-append}
+use Rattle.std.proofs.lemmas.Option.{slice_get-map}
+use Rattle.std.proofs.lemmas.Bool.{ltb-false, ltb-true}
+use Rattle.std.specs.Prelude.{nat_lt, if◌then◌else◌, option_map, Result, Ok, Err, IfErr}
 use Rattle.std.specs.Io.KnownBytes.{Appends}
 use Rattle.ip_headers.specs.declared.Link.{Link}
 use Rattle.pcap_file.specs.declared.format.Head.{Head}
@@ -15,11 +18,12 @@ use Rattle.cluster_node.specs.Records.{Judged}
 use Rattle.waiting_frames.specs.Mirrors.{Mirrors}
 use Rattle.course.specs.Cluster.{Cluster}
 use Rattle.course.specs.Course.{Course}
-use Rattle.course.specs.Steps.{World, world_of, run, deliver}
-use Rattle.course.specs.Streams.{take_of, lose_of}
+use Rattle.course.specs.Steps.{World, world_of, run, deliver, repeat, after, names_records}
+use Rattle.course.specs.Streams.{take_of, lose_of, again_of}
 use Rattle.course.specs.Room.{Counted}
-use Rattle.course.proofs.Moves.{deliver_hands, handed_next}
-use Rattle.course.proofs.Coming.{take_one, take_ended, take_zero, lose_one, lose_ended, lose_zero}
+use Rattle.course.proofs.Moves.{Keeps, deliver_hands, handed_next}
+use Rattle.course.proofs.Bounds.{apart_keeps}
+use Rattle.course.proofs.Coming.{take_one, take_ended, take_zero, lose_one, lose_ended, lose_zero, run_cons, again_is}
 use Rattle.simulation.specs.Plans.{Planned}
 use Rattle.simulation.specs.Sent.{Sending, packet_in, packets_of, sent, records_text, BeginsWith}
 use Rattle.simulation.specs.Simulated.{course_of, traffic_of}
@@ -209,3 +213,101 @@ one_fewer count i h = omega (arith, h)
 -- the counts after a record was lost
 pub counted_lost : (given n : ℕ) (c d : Course) → d ≡ record c { read = c.read + 1; lost = c.lost + 1 } → Counted given n c → Counted (given + 1) n d
 counted_lost given n c d e h = subst (λ (x : Course). Counted (given + 1) n x) (sym e) (record { read = omega (arith, h.read); nth = omega (arith, h.nth); unrouted = omega (arith, h.unrouted); lost = omega (arith, h.lost); skipped = h.skipped })
+
+taken_at : (n k : ℕ) (l : List Packet) → k < n → slice_get (take n l) k ≡ slice_get l k
+taken_at zero k l h = absurd (omega (arith, h))
+taken_at (suc n) k [] h = refl
+taken_at (suc n) zero (p ∷ l) h = refl
+taken_at (suc n) (suc k) (p ∷ l) h = taken_at n k l (omega (arith, h))
+
+taken_past : (n k : ℕ) (l : List Packet) → n ≤ k → slice_get (take n l) k ≡ None
+taken_past zero k l h = refl
+taken_past (suc n) k [] h = refl
+taken_past (suc n) zero (p ∷ l) h = absurd (omega (arith, h))
+taken_past (suc n) (suc k) (p ∷ l) h = taken_past n k l (omega (arith, h))
+
+-- what a repeat finds
+pub if_some : (a b : ℕ) (o : Option Record) (r : Record) → Some r ≡ (if nat_lt a b then o else None) → (a < b) × (o ≡ Some r)
+if_some a b o r e = go (nat_lt a b) refl e
+  where
+    go : (t : Bool) → nat_lt a b ≡ t → Some r ≡ (if t then o else None) → (a < b) × (o ≡ Some r)
+    go true h k = (ltb-true a b h, sym k)
+    go false h k = let bad : Some r ≡ None = k in cc
+
+pub if_none : (a b : ℕ) (o : Option Record) → None ≡ (if nat_lt a b then o else None) → (b ≤ a) ⊎ ((a < b) × (o ≡ None))
+if_none a b o e = go (nat_lt a b) refl e
+  where
+    go : (t : Bool) → nat_lt a b ≡ t → None ≡ (if t then o else None) → (b ≤ a) ⊎ ((a < b) × (o ≡ None))
+    go true h k = inr (ltb-true a b h, sym k)
+    go false h k = inl (ltb-false a b h)
+
+pub packet_there : (link : Link) (check : Bool) (all : List Record) (place read : ℕ) (o : Option Record) → place < read → slice_get all place ≡ o → slice_get (take read (packets_of link check all)) place ≡ option_map (packet_in link check) o
+packet_there link check all place read o h e = taken_at read place (packets_of link check all) h ∙ slice_get-map (packet_in link check) all place ∙ ap (option_map (packet_in link check)) e
+
+pub packet_none : (link : Link) (check : Bool) (all : List Record) (place read : ℕ) (kept : Option Record) → (read ≤ place) ⊎ ((place < read) × (kept ≡ None)) → (place < read → kept ≡ slice_get all place) → slice_get (take read (packets_of link check all)) place ≡ None
+packet_none link check all place read kept (inl h) f = taken_past read place (packets_of link check all) h
+packet_none link check all place read kept (inr h) f = packet_there link check all place read None h.0 (sym (f h.0) ∙ h.1)
+
+-- a record was repeated, or skipped
+pub repeated : (cluster : Cluster) (choice : Choice) (plan : Planned) (link : Link) (all : List Record) (place : ℕ) (ss : List Step) (c d : Course) (p : Option Packet) → slice_get (take c.read (packets_of link plan.check all)) place ≡ p
+    → d ≡ repeat (world_of cluster choice (packets_of link plan.check all)) place p c → Left cluster choice plan link all (again_of place ∷ ss) c → Left cluster choice plan link all ss d
+repeated cluster choice plan link all place ss c d p h e l =
+    let w = world_of cluster choice (packets_of link plan.check all) in
+    ap (λ (x : Course). run w ss x) (e ∙ ap (λ (o : Option Packet). repeat w place o c) (sym h) ∙ sym (again_is w place c)) ∙ sym (run_cons w (again_of place) ss c) ∙ l
+
+-- no further record was read
+pub reached_same : (cluster : Cluster) (choice : Choice) (plan : Planned) (text begun : Option (List ℕ)) (ss ts : List Step) (old new : Stage) (left out out' : Option (List ℕ)) → (r : Reached cluster choice plan text begun ss old left out)
+    → (new.intake.given ≡ old.intake.given) × (new.intake.ended ≡ old.intake.ended) × (new.intake.head ≡ old.intake.head) → new.play.read ≡ old.play.read → new.kept ≡ old.kept
+    → ((all : List Record) → Holds all plan.steps old.play.read old.kept → Left cluster choice plan old.intake.head.link all ss old.play → Left cluster choice plan old.intake.head.link all ts new.play)
+    → ((all : List Record) → Holds all plan.steps old.play.read old.kept → Sound cluster plan old.intake.head.link all old.play old.relay.waiting begun out → Sound cluster plan old.intake.head.link all new.play new.relay.waiting begun out')
+    → Reached cluster choice plan text begun ts new left out'
+reached_same cluster choice plan text begun ss ts old new left out out' r i n k turn sound = record {
+  seen = r.seen;
+  read = seen_same old.intake new.intake text left r.seen i.2 i.1 i.0 r.read;
+  place = n ∙ r.place;
+  named = subst (λ x. NamesAll plan.steps x) (sym k) r.named;
+  going = λ more cond.
+      let g : Going cluster choice plan old.intake.head.link (r.seen ++ more) ss old begun out = r.going more (λ e. cond (ap is_some i.1 ∙ e)) in
+      subst (λ (h : Head). Going cluster choice plan h.link (r.seen ++ more) ts new begun out') (sym i.2) (record {
+        left = turn (r.seen ++ more) g.holds g.left;
+        sound = sound (r.seen ++ more) g.holds g.sound;
+        holds = subst (λ x. Holds (r.seen ++ more) plan.steps new.play.read x) (sym k) (subst (λ (m : ℕ). Holds (r.seen ++ more) plan.steps m old.kept) (sym n) g.holds);
+      });
+}
+
+pub short_same : (cluster : Cluster) (choice : Choice) (plan : Planned) (text begun : Option (List ℕ)) (ss ts : List Step) (old : Stage) (left out out' : Option (List ℕ)) (d : Course) → (r : Reached cluster choice plan text begun ss old left out)
+    → (Holds r.seen plan.steps old.play.read old.kept → Left cluster choice plan old.intake.head.link r.seen ss old.play → Left cluster choice plan old.intake.head.link r.seen ts d)
+    → (Holds r.seen plan.steps old.play.read old.kept → Sound cluster plan old.intake.head.link r.seen old.play old.relay.waiting begun out → BeginsWith begun out' (sent (traffic_of plan old.intake.head.link r.seen) (reverse d.past)))
+    → Shortened cluster choice plan old.intake.head text begun out'
+short_same cluster choice plan text begun ss ts old left out out' d r turn cut =
+    let g = subst (λ (l : List Record). Going cluster choice plan old.intake.head.link l ss old begun out) (append-nil r.seen) (r.going [] (λ _. refl)) in
+    let p = seen_passed old.intake.head old.intake.ended text left r.seen r.read.has in
+    shortened cluster choice plan old.intake.head text p.0 begun out' r.seen ts d p.1 (turn g.holds g.left) (cut g.holds g.sound)
+
+-- the counts after a repeat
+pub counted_again : (given n : ℕ) (w : World) (p : Packet) (c d : Course) (place : ℕ) → d ≡ deliver w place p c → Counted given n c → Counted given (n + 1) d
+counted_again given n w p c d place e h =
+    let m = deliver_hands w place p c in
+    subst (λ (x : Course). Counted given (n + 1) x) (sym e) (record { read = omega (arith, m.read, h.read); nth = omega (arith, m.read, m.nth, h.nth); unrouted = omega (arith, m.read, m.unrouted, h.unrouted); lost = omega (arith, m.read, m.lost, h.lost); skipped = omega (arith, m.skipped, h.skipped) })
+
+pub counted_skip : (given n : ℕ) (c d : Course) → d ≡ record c { skipped = c.skipped + 1 } → Counted given n c → Counted given (n + 1) d
+counted_skip given n c d e h = subst (λ (x : Course). Counted given (n + 1) x) (sym e) (record { read = h.read; nth = omega (arith, h.nth); unrouted = omega (arith, h.unrouted); lost = h.lost; skipped = omega (arith, h.skipped) })
+
+-- a step that names no record was done
+pub stepped_left : (cluster : Cluster) (choice : Choice) (plan : Planned) (link : Link) (all : List Record) (s : Step) (ss : List Step) (c d : Course) → d ≡ after (world_of cluster choice (packets_of link plan.check all)) s c
+    → Left cluster choice plan link all (s ∷ ss) c → Left cluster choice plan link all ss d
+stepped_left cluster choice plan link all s ss c d e l =
+    let w = world_of cluster choice (packets_of link plan.check all) in
+    ap (λ (x : Course). run w ss x) e ∙ sym (run_cons w s ss c) ∙ l
+
+pub counted_apart : (given n : ℕ) (w : World) (s : Step) (c d : Course) → names_records s ≡ false → d ≡ after w s c → Counted given n c → Counted given (n + 1) d
+counted_apart given n w s c d q e h =
+    let k : Keeps c (after w s c) = apart_keeps w s c q in
+    subst (λ (x : Course). Counted given (n + 1) x) (sym e) (record { read = omega (arith, k.read, h.read); nth = omega (arith, k.nth, k.read, h.nth); unrouted = omega (arith, k.unrouted, k.read, h.unrouted); lost = omega (arith, k.lost, k.read, h.lost); skipped = omega (arith, k.skipped, h.skipped) })
+
+pub read_apart : (w : World) (s : Step) (c d : Course) → names_records s ≡ false → d ≡ after w s c → d.read ≡ c.read
+read_apart w s c d q e = ap (λ (x : Course). x.read) e ∙ (apart_keeps w s c q).read
+
+pub if_err : {T E : Type 0} (r : Result T E) (Q : E → Type 0) (P : Type 0) → P → IfErr r (λ f. Q f → P)
+if_err (Ok x) Q P p = tt
+if_err (Err f) Q P p = λ q. p

@@ -20,6 +20,10 @@ pub record IsAgain (place : ℕ) (ss : List Step) : Type 0 where
   pub index : ℕ
   pub there : slice_get ss index ≡ Some (steps.Again place)
 
+-- a step is one of these
+abbrev pub AmongSteps : Step → List Step → Type 0
+AmongSteps step ss = (index : ℕ) × (slice_get ss index ≡ Some step)
+
 -- all that steps name are to be kept
 abbrev pub NamesAll : List Step → Kept → Type 0
 NamesAll ss k = (place : ℕ) → IsAgain place ss → is_named k place ≡ true

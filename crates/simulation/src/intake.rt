@@ -54,7 +54,8 @@ impl Intake {
 
     // How many were read.
     pub(crate) fn given(&self) -> u32
-        ensures { result ≡ self.now.given }
+        ensures value { result ≡ self.now.given }
+        ensures few { self.now.given ≤ max_records }
     {
         self.given
     }

@@ -16,7 +16,7 @@ pub(crate) struct Kept {
 }
 
 // A record once more.
-fn copy_of(alloc: Global, frame: &Frame) -> Result<Frame, AllocError>
+pub(crate) fn copy_of(alloc: Global, frame: &Frame) -> Result<Frame, AllocError>
     ensures { IfOk result (λ f. packet f ≡ packet frame.now) }
 {
     Ok(Frame {

@@ -1,10 +1,10 @@
 //! A run record by record.
-ghost use Rattle.std.specs.Prelude.{◌≡◌, ◌≢◌, ◌<◌, ◌≤◌, ◌+◌, ◌^◌, ◌∷◌, [], ℕ, List, Option, Some, true, false, length, drop, slice_get, reverse, IfOk, IfErr, OnOk};
+ghost use Rattle.std.specs.Prelude.{◌≡◌, ◌≢◌, ◌<◌, ◌≤◌, ◌+◌, ◌^◌, ◌∷◌, [], ℕ, List, Option, Some, None, true, false, nat_lt, if◌then◌else◌, option_map, length, drop, slice_get, reverse, IfOk, IfErr, OnOk};
 ghost use Rattle.std.specs.Io.KnownBytes.{Appends};
-ghost use Rattle.pcap_file.specs.Format.{Packet as Record, max_records};
+ghost use Rattle.pcap_file.specs.Format.{Packet as Record, packet, max_records};
 ghost use Rattle.scenario_steps.specs.declared.Step.{Step};
 ghost use Rattle.course.specs.Steps.{World, SameChoice, deliver, after, names_records};
-ghost use Rattle.course.specs.Streams.{take_of, lose_of};
+ghost use Rattle.course.specs.Streams.{take_of, lose_of, again_of};
 ghost use Rattle.course.specs.Room.{Counted};
 ghost use Rattle.simulation.specs.Plans.{Planned, planned};
 ghost use Rattle.spreader.specs.Choices.{Choice};
@@ -13,21 +13,21 @@ ghost use Rattle.simulation.specs.Sent.{packet_in, sent, BeginsWith};
 ghost use Rattle.simulation.specs.Simulated.{traffic_of};
 ghost use Rattle.simulation.specs.Going.{Shortened};
 ghost use Rattle.simulation.specs.Intake.{Seen, SeenMore};
-ghost use Rattle.simulation.specs.Keeping.{NamesAll, Holds};
+ghost use Rattle.simulation.specs.Keeping.{IsAgain, AmongSteps, NamesAll, Holds, found};
 ghost use Rattle.simulation.specs.Stages.{Sound, Going, Reached, still_to_take, still_to_lose};
 
 use crate::fault::SimulationFault;
 use crate::intake::Intake;
-use crate::keeping::Kept;
+use crate::keeping::{Kept, copy_of};
 use crate::plan::Plan;
 use crate::relaying::Relay;
 use crate::sending::Wire;
 use cluster_node::Said;
 use course::{Core, Play};
-use pcap_file::{Sink, Source};
+use pcap_file::{Frame, Sink, Source};
 use scenario_steps::Step;
 use spreader::Spread;
-use std::alloc::Global;
+use std::alloc::{AllocError, Global};
 
 /// The course so far, the frames that wait, the records that come again, and those that are read.
 #[derive(Drop)]
@@ -274,6 +274,164 @@ impl Stage {
             match self.lose_one(alloc, input) {
                 Ok(true) => {}
                 Ok(false) => return Ok(()),
+                Err(fault) => return Err(fault),
+            }
+        }
+        Ok(())
+    }
+
+    // The record of a place, if it was read and is kept.
+    fn seen_one(&self, alloc: Global, place: u32) -> Result<Option<Frame>, AllocError>
+        ensures value { IfOk result (λ o. option_map packet o ≡ (if nat_lt place self.now.intake.given then found self.now.kept place else None)) }
+        ensures few { self.now.intake.given ≤ max_records }
+    {
+        if place >= self.intake.given() {
+            return Ok(None);
+        }
+        match self.kept.get(place) {
+            Some(frame) => Ok(Some(copy_of(alloc, frame)?)),
+            None => Ok(None),
+        }
+    }
+
+    // Delivers a record again, or skips it where it wasn't read.
+    fn again<C: Core, P: Spread, O: Sink>(
+        &mut self,
+        alloc: Global,
+        core: &mut C,
+        setup: &C::Setup,
+        spread: &P,
+        plan: Plan<'_>,
+        place: u32,
+        output: &mut O,
+    ) -> Result<(), SimulationFault>
+        requires stands { C.stands setup.now self.old.play.past core.old }
+        requires live { P.live spread.now ≡ self.old.play.live }
+        requires few { (n : ℕ) × (n < 2 ^ 32) × Counted self.old.intake.given n self.old.play }
+        ensures stands { OnOk result (C.stands setup.now self.new.play.past core.new) }
+        ensures live { OnOk result (self.new.play.live ≡ self.old.play.live) }
+        ensures few { (n : ℕ) → Counted self.old.intake.given n self.old.play → OnOk result (Counted self.new.intake.given (n + 1) self.new.play) }
+        ensures head { self.new.intake.head ≡ self.old.intake.head }
+        ensures reached { (choice : Choice) (text begun left : Option (List ℕ)) (ss : List Step) → SameChoice choice (P.choice spread.now) → IsAgain place plan.entry.steps.now →
+            Reached (C.cluster setup.now) choice (planned plan.entry) text begun (again_of place ∷ ss) self.old left (O.contents output.old) →
+            OnOk result (Reached (C.cluster setup.now) choice (planned plan.entry) text begun ss self.new left (O.contents output.new)) }
+        ensures short { (choice : Choice) (text begun left : Option (List ℕ)) (ss : List Step) → SameChoice choice (P.choice spread.now) → IsAgain place plan.entry.steps.now →
+            Reached (C.cluster setup.now) choice (planned plan.entry) text begun (again_of place ∷ ss) self.old left (O.contents output.old) →
+            IfErr result (λ fault. fault ≢ SimulationFault.Write → Shortened (C.cluster setup.now) choice (planned plan.entry) self.old.intake.head text begun (O.contents output.new)) }
+    {
+        match self.seen_one(alloc, place) {
+            Ok(Some(frame)) => {
+                let _ = self.intake.exchange(frame);
+                match self.deliver(alloc, core, setup, spread, plan, place, output) {
+                    Ok(()) => Ok(()),
+                    Err(fault) => Err(fault),
+                }
+            }
+            Ok(None) => match self.play.repeat(core, setup, spread, place, None) {
+                Ok(()) => Ok(()),
+                Err(_) => Err(SimulationFault::Memory),
+            },
+            Err(_) => Err(SimulationFault::Memory),
+        }
+    }
+
+    // A step that names no record, among the others.
+    fn aside<C: Core, P: Spread, O: Sink>(
+        &mut self,
+        alloc: Global,
+        core: &mut C,
+        setup: &C::Setup,
+        spread: &mut P,
+        plan: Plan<'_>,
+        step: &Step,
+        output: &mut O,
+    ) -> Result<(), SimulationFault>
+        requires stands { C.stands setup.now self.old.play.past core.old }
+        requires live { P.live spread.old ≡ self.old.play.live }
+        requires apart { names_records step.now ≡ false }
+        ensures stands { OnOk result (C.stands setup.now self.new.play.past core.new) }
+        ensures live { OnOk result (P.live spread.new ≡ self.new.play.live) }
+        ensures choice { SameChoice (P.choice spread.old) (P.choice spread.new) }
+        ensures few { (n : ℕ) → Counted self.old.intake.given n self.old.play → OnOk result (Counted self.new.intake.given (n + 1) self.new.play) }
+        ensures head { self.new.intake.head ≡ self.old.intake.head }
+        ensures reached { (choice : Choice) (text begun left : Option (List ℕ)) (ss : List Step) →
+            Reached (C.cluster setup.now) choice (planned plan.entry) text begun (step.now ∷ ss) self.old left (O.contents output.old) →
+            OnOk result (Reached (C.cluster setup.now) choice (planned plan.entry) text begun ss self.new left (O.contents output.new)) }
+        ensures short { (choice : Choice) (text begun left : Option (List ℕ)) (ss : List Step) →
+            Reached (C.cluster setup.now) choice (planned plan.entry) text begun (step.now ∷ ss) self.old left (O.contents output.old) →
+            IfErr result (λ fault. fault ≢ SimulationFault.Write → Shortened (C.cluster setup.now) choice (planned plan.entry) self.old.intake.head text begun (O.contents output.new)) }
+    {
+        match self.apart(alloc, core, setup, spread, plan, step, output) {
+            Ok(()) => Ok(()),
+            Err(fault) => Err(fault),
+        }
+    }
+
+    // A step.
+    fn step<C: Core, P: Spread, I: Source, O: Sink>(
+        &mut self,
+        alloc: Global,
+        core: &mut C,
+        setup: &C::Setup,
+        spread: &mut P,
+        plan: Plan<'_>,
+        step: &Step,
+        input: &mut I,
+        output: &mut O,
+    ) -> Result<(), SimulationFault>
+        requires stands { C.stands setup.now self.old.play.past core.old }
+        requires live { P.live spread.old ≡ self.old.play.live }
+        requires few { (n : ℕ) × (n < 2 ^ 32) × Counted self.old.intake.given n self.old.play }
+        ensures stands { OnOk result (C.stands setup.now self.new.play.past core.new) }
+        ensures live { OnOk result (P.live spread.new ≡ self.new.play.live) }
+        ensures choice { SameChoice (P.choice spread.old) (P.choice spread.new) }
+        ensures few { (n : ℕ) → Counted self.old.intake.given n self.old.play → OnOk result (Counted self.new.intake.given (n + 1) self.new.play) }
+        ensures head { self.new.intake.head ≡ self.old.intake.head }
+        ensures reached { (choice : Choice) (text begun : Option (List ℕ)) (ss : List Step) → SameChoice choice (P.choice spread.old) → AmongSteps step.now plan.entry.steps.now →
+            Reached (C.cluster setup.now) choice (planned plan.entry) text begun (step.now ∷ ss) self.old (I.left input.old) (O.contents output.old) →
+            OnOk result (Reached (C.cluster setup.now) choice (planned plan.entry) text begun ss self.new (I.left input.new) (O.contents output.new)) }
+        ensures short { (choice : Choice) (text begun : Option (List ℕ)) (ss : List Step) → SameChoice choice (P.choice spread.old) → AmongSteps step.now plan.entry.steps.now →
+            Reached (C.cluster setup.now) choice (planned plan.entry) text begun (step.now ∷ ss) self.old (I.left input.old) (O.contents output.old) →
+            IfErr result (λ fault. fault ≢ SimulationFault.Write → Shortened (C.cluster setup.now) choice (planned plan.entry) self.old.intake.head text begun (O.contents output.new)) }
+    {
+        match step {
+            Step::Take(count) => self.take(
+                alloc, core, setup, spread, plan, *count, input, output,
+            ),
+            Step::Lose(count) => self.lose(alloc, *count, input),
+            Step::Again(place) => self.again(alloc, core, setup, spread, plan, *place, output),
+            _ => self.aside(alloc, core, setup, spread, plan, step, output),
+        }
+    }
+
+    // All steps.
+    fn steps<C: Core, P: Spread, I: Source, O: Sink>(
+        &mut self,
+        alloc: Global,
+        core: &mut C,
+        setup: &C::Setup,
+        spread: &mut P,
+        plan: Plan<'_>,
+        input: &mut I,
+        output: &mut O,
+    ) -> Result<(), SimulationFault>
+        requires stands { C.stands setup.now self.old.play.past core.old }
+        requires live { P.live spread.old ≡ self.old.play.live }
+        requires fresh { Counted self.old.intake.given 0 self.old.play }
+        requires some { length plan.steps.now ≤ 100000 }
+        ensures stands { OnOk result (C.stands setup.now self.new.play.past core.new) }
+        ensures head { self.new.intake.head ≡ self.old.intake.head }
+        ensures read { OnOk result (self.new.play.read ≤ self.new.intake.given) }
+        ensures reached { (text begun : Option (List ℕ)) →
+            Reached (C.cluster setup.now) (P.choice spread.old) (planned plan.entry) text begun plan.entry.steps.now self.old (I.left input.old) (O.contents output.old) →
+            OnOk result (Reached (C.cluster setup.now) (P.choice spread.old) (planned plan.entry) text begun [] self.new (I.left input.new) (O.contents output.new)) }
+        ensures short { (text begun : Option (List ℕ)) →
+            Reached (C.cluster setup.now) (P.choice spread.old) (planned plan.entry) text begun plan.entry.steps.now self.old (I.left input.old) (O.contents output.old) →
+            IfErr result (λ fault. fault ≢ SimulationFault.Write → Shortened (C.cluster setup.now) (P.choice spread.old) (planned plan.entry) self.old.intake.head text begun (O.contents output.new)) }
+    {
+        for step in plan.steps {
+            match self.step(alloc, core, setup, spread, plan, step, input, output) {
+                Ok(()) => {}
                 Err(fault) => return Err(fault),
             }
         }

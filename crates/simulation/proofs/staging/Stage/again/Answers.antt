@@ -1,0 +1,112 @@
+use Rattle.std.proofs.Common.{◌≡◌, ◌+◌, ◌<◌, ◌∷◌, [], ℕ, List, Option, Some, None, refl, sym, subst, ap, ◌∙◌, arith, reverse, slice_get, option_map}
+use Rattle.pcap_file.specs.Format.{Packet as Record, packet}
+use Rattle.pcap_file.specs.declared.format.Head.{Head}
+use Rattle.course.specs.Course.{Course}
+use Rattle.course.specs.Room.{Counted}
+use Rattle.course.specs.Steps.{World, world_of, deliver, repeat}
+use Rattle.course.specs.Streams.{again_of}
+use Rattle.course.proofs.Moves.{deliver_hands}
+use Rattle.course.proofs.Coming.{repeat_some, repeat_none}
+use Rattle.simulation.specs.Plans.{planned}
+use Rattle.simulation.specs.Intake.{Taking}
+use Rattle.simulation.specs.Sent.{packet_in, packets_of, sent, BeginsWith}
+use Rattle.simulation.specs.Simulated.{traffic_of}
+use Rattle.simulation.specs.Keeping.{Holds, found}
+use Rattle.simulation.specs.Stages.{Sound}
+use Rattle.simulation.specs.declared.staging.Stage.{Stage}
+use Rattle.simulation.proofs.Reaching.{short_of, sound_same, if_some, if_none, packet_there, packet_none, repeated, reached_same, short_same, counted_again, counted_skip, delivered_same}
+use Rattle.simulation.proofs.staging.Stage.again.Goals as goal
+
+pub deliver-requires-clause-room : goal.deliver-requires-clause-room
+deliver-requires-clause-room g c = omega (arith, c.requires.few.1, c.requires.few.2.read, c.requires.few.2.unrouted, c.seen_one.ensures.few)
+
+pub deliver-requires-clause-many : goal.deliver-requires-clause-many
+deliver-requires-clause-many g c = omega (arith, c.requires.few.1, c.requires.few.2.read, c.requires.few.2.nth, c.seen_one.ensures.few)
+
+pub repeat-requires-clause-room : goal.repeat-requires-clause-room
+repeat-requires-clause-room g c = omega (arith, c.requires.few.1, c.requires.few.2.read, c.requires.few.2.unrouted, c.seen_one.ensures.few)
+
+pub repeat-requires-clause-many : goal.repeat-requires-clause-many
+repeat-requires-clause-many g c = omega (arith, c.requires.few.1, c.requires.few.2.read, c.requires.few.2.nth, c.seen_one.ensures.few)
+
+pub returns-in-Err-clause-short : goal.returns-in-Err-clause-short
+returns-in-Err-clause-short g c = λ choice text begun left ss same named r n. short_of _ _ (planned c.args.plan) text begun _ c.args.self.now _ _ r
+
+pub returns-in-Err-repeat-clause-short : goal.returns-in-Err-repeat-clause-short
+returns-in-Err-repeat-clause-short g c = λ choice text begun left ss same named r n. short_of _ _ (planned c.args.plan) text begun _ c.args.self.now _ _ r
+
+pub returns-in-Ok-repeat-clause-few : goal.returns-in-Ok-repeat-clause-few
+returns-in-Ok-repeat-clause-few g c = λ n h.
+    let w0 = world_of (g.C.Core.cluster c.args.setup.now) (g.P.Spread.choice c.args.spread.now) [] in
+    counted_skip c.args.self.now.intake.given n c.args.self.now.play c.repeat.new.self (c.in-Ok-repeat.ensures.after w0 refl (λ live flow nth. refl) ∙ repeat_none w0 c.args.place c.args.self.now.play) h
+
+pub returns-in-Ok-repeat-clause-reached : goal.returns-in-Ok-repeat-clause-reached
+returns-in-Ok-repeat-clause-reached g c = λ choice text begun left ss same named r.
+    let cluster = g.C.Core.cluster c.args.setup.now in
+    let plan = planned c.args.plan in
+    let old = c.args.self.now in
+    let new : Stage = record { play = c.repeat.new.self; relay = old.relay; kept = old.kept; intake = old.intake } in
+    let w0 = world_of cluster choice [] in
+    let skip = c.in-Ok-repeat.ensures.after w0 refl same ∙ repeat_none w0 c.args.place old.play in
+    let given : old.intake.given ≡ old.play.read = r.read.count ∙ sym r.place in
+    let none = if_none c.args.place old.intake.given (found old.kept c.args.place) (sym (ap (λ o. option_map packet o) c.in-Ok-None.field-0-is) ∙ c.in-Ok-None.ensures.value) in
+    reached_same cluster choice plan text begun (again_of c.args.place ∷ ss) ss old new left _ _ r (refl, refl, refl) (ap (λ (x : Course). x.read) skip) refl
+    (λ all h l. let w = world_of cluster choice (packets_of old.intake.head.link plan.check all) in
+        repeated cluster choice plan old.intake.head.link all c.args.place ss old.play new.play None
+        (packet_none old.intake.head.link plan.check all c.args.place old.play.read (found old.kept c.args.place) (rw (sym given) none) (λ lt. h c.args.place named lt))
+        (c.in-Ok-repeat.ensures.after w refl same) l)
+    (λ all h s. sound_same cluster plan old.intake.head.link all old.play new.play old.relay.waiting old.relay.waiting begun _ (ap (λ (x : Course). x.past) skip) refl s)
+
+pub returns-in-Ok-clause-few : goal.returns-in-Ok-clause-few
+returns-in-Ok-clause-few g c = λ n h.
+    let w0 = world_of (g.C.Core.cluster c.args.setup.now) (g.P.Spread.choice c.args.spread.now) [] in
+    let same : c.deliver.new.self.intake.given ≡ c.args.self.now.intake.given = c.in-Ok.ensures.intake.0 ∙ ap (λ (t : Taking). t.given) c.exchange.ensures.rest in
+    subst (λ (m : ℕ). Counted m (n + 1) c.deliver.new.self.play) (sym same)
+    (counted_again c.args.self.now.intake.given n w0 _ c.args.self.now.play c.deliver.new.self.play c.args.place (c.in-Ok.ensures.play w0 refl (λ live flow nth. refl)) h)
+
+pub returns-in-Ok-clause-reached : goal.returns-in-Ok-clause-reached
+returns-in-Ok-clause-reached g c = λ choice text begun left ss same named r.
+    let cluster = g.C.Core.cluster c.args.setup.now in
+    let plan = planned c.args.plan in
+    let old = c.args.self.now in
+    let new = c.deliver.new.self in
+    let link = old.intake.head.link in
+    let x = packet c.in-Ok-Some.frame in
+    let got = if_some c.args.place old.intake.given (found old.kept c.args.place) x (sym (ap (λ o. option_map packet o) c.in-Ok-Some.field-0-is) ∙ c.in-Ok-Some.ensures.value) in
+    let given : old.intake.given ≡ old.play.read = r.read.count ∙ sym r.place in
+    let lt : c.args.place < old.play.read = omega (arith, got.0, given) in
+    let rest = c.exchange.ensures.rest in
+    let w0 = world_of cluster choice [] in
+    reached_same cluster choice plan text begun (again_of c.args.place ∷ ss) ss old new left _ _ r
+    (c.in-Ok.ensures.intake.0 ∙ ap (λ (t : Taking). t.given) rest, c.in-Ok.ensures.intake.1 ∙ ap (λ (t : Taking). t.ended) rest, c.in-Ok.ensures.intake.2 ∙ ap (λ (t : Taking). t.head) rest)
+    (ap (λ (y : Course). y.read) (c.in-Ok.ensures.play w0 refl same) ∙ (deliver_hands w0 c.args.place _ old.play).read) c.in-Ok.ensures.kept
+    (λ all h l. let w = world_of cluster choice (packets_of link plan.check all) in
+        repeated cluster choice plan link all c.args.place ss old.play new.play (Some (packet_in link plan.check x))
+        (packet_there link plan.check all c.args.place old.play.read (Some x) lt (sym (h c.args.place named lt) ∙ got.1))
+        (c.in-Ok.ensures.play w refl same ∙ ap (λ (t : Taking). deliver w c.args.place (packet_in t.head.link plan.check t.record_read) old.play) rest ∙ sym (repeat_some w c.args.place (packet_in link plan.check x) old.play)) l)
+    (λ all h s. subst (λ (t : Taking). Sound cluster plan t.head.link all new.play new.relay.waiting begun (g.O.Sink.contents c.deliver.new.output)) rest
+        (c.in-Ok.ensures.sound all begun
+        (subst (λ (t : Taking). Sound cluster plan t.head.link all old.play old.relay.waiting begun (g.O.Sink.contents c.args.output.now)) (sym rest) s)
+        (sym (h c.args.place named lt) ∙ got.1 ∙ ap (λ (t : Taking). Some t.record_read) (sym rest))))
+
+pub returns-in-Err-deliver-clause-short : goal.returns-in-Err-deliver-clause-short
+returns-in-Err-deliver-clause-short g c = λ choice text begun left ss same named r n.
+    let cluster = g.C.Core.cluster c.args.setup.now in
+    let plan = planned c.args.plan in
+    let old = c.args.self.now in
+    let link = old.intake.head.link in
+    let x = packet c.in-Ok-Some.frame in
+    let got = if_some c.args.place old.intake.given (found old.kept c.args.place) x (sym (ap (λ o. option_map packet o) c.in-Ok-Some.field-0-is) ∙ c.in-Ok-Some.ensures.value) in
+    let given : old.intake.given ≡ old.play.read = r.read.count ∙ sym r.place in
+    let lt : c.args.place < old.play.read = omega (arith, got.0, given) in
+    let rest = c.exchange.ensures.rest in
+    let w = world_of cluster choice (packets_of link plan.check r.seen) in
+    let d : Course = deliver w c.args.place (packet_in link plan.check x) old.play in
+    short_same cluster choice plan text begun (again_of c.args.place ∷ ss) ss old left _ _ d r
+    (λ h l. repeated cluster choice plan link r.seen c.args.place ss old.play d (Some (packet_in link plan.check x))
+        (packet_there link plan.check r.seen c.args.place old.play.read (Some x) lt (sym (h c.args.place named lt) ∙ got.1))
+        (sym (repeat_some w c.args.place (packet_in link plan.check x) old.play)) l)
+    (λ h s. subst (λ (t : Taking). BeginsWith begun (g.O.Sink.contents c.deliver.new.output) (sent (traffic_of plan t.head.link r.seen) (reverse (deliver w c.args.place (packet_in t.head.link plan.check t.record_read) old.play).past))) rest
+        (c.in-Err-deliver.ensures.cut w r.seen begun refl same
+        (subst (λ (t : Taking). Sound cluster plan t.head.link r.seen old.play old.relay.waiting begun (g.O.Sink.contents c.args.output.now)) (sym rest) s)
+        (sym (h c.args.place named lt) ∙ got.1 ∙ ap (λ (t : Taking). Some t.record_read) (sym rest)) n))

@@ -1,0 +1,35 @@
+use Rattle.std.proofs.Common.{◌≡◌, ◌≢◌, ◌∷◌, List, ℕ, Option, Some, subst, ◌∙◌, ap}
+use Rattle.std.specs.Prelude.{slice_get}
+use Rattle.scenario_steps.specs.declared.Step.{Step}
+use Rattle.course.specs.Streams.{take_of, lose_of, again_of}
+use Rattle.simulation.specs.declared.fault.SimulationFault.TheVariants.{Write}
+use Rattle.simulation.specs.Plans.{planned}
+use Rattle.simulation.specs.Keeping.{IsAgain}
+use Rattle.simulation.specs.Stages.{Reached}
+use Rattle.simulation.proofs.Reaching.{short_of, if_err}
+use Rattle.simulation.proofs.staging.Stage.step.Goals as goal
+
+pub returns-in-Take-clause-short : goal.returns-in-Take-clause-short
+returns-in-Take-clause-short g c = λ choice text begun ss same among r.
+    c.take.ensures.short choice text begun ss same
+    (subst (λ (s : Step). Reached (g.C.Core.cluster c.args.setup.now) choice (planned c.args.plan) text begun (s ∷ ss) c.args.self.now (g.I.Source.left c.args.input.now) (g.O.Sink.contents c.args.output.now)) c.in-Take.is r)
+
+pub returns-in-Lose-clause-short : goal.returns-in-Lose-clause-short
+returns-in-Lose-clause-short g c = λ choice text begun ss same among r.
+    if_err c.lose.result (λ f. f ≢ Write) _ (short_of _ _ (planned c.args.plan) text begun _ c.args.self.now _ _ r)
+
+pub returns-in-Again-clause-short : goal.returns-in-Again-clause-short
+returns-in-Again-clause-short g c = λ choice text begun ss same among r.
+    c.again.ensures.short choice text begun _ ss same (record { index = among.0; there = among.1 ∙ ap (λ (s : Step). Some s) c.in-Again.is })
+    (subst (λ (s : Step). Reached (g.C.Core.cluster c.args.setup.now) choice (planned c.args.plan) text begun (s ∷ ss) c.args.self.now (g.I.Source.left c.args.input.now) (g.O.Sink.contents c.args.output.now)) c.in-Again.is r)
+
+pub returns-in_default : goal.returns-in_default
+returns-in_default g c = record {
+  stands = c.aside.ensures.stands;
+  live = c.aside.ensures.live;
+  choice = c.aside.ensures.choice;
+  few = c.aside.ensures.few;
+  head = c.aside.ensures.head;
+  reached = λ choice text begun ss same among r. c.aside.ensures.reached choice text begun _ ss r;
+  short = λ choice text begun ss same among r. c.aside.ensures.short choice text begun _ ss r;
+}
