@@ -1,16 +1,9 @@
 #!/usr/bin/env bash
 # populate.sh: times `populate` alone beside a C program of the common algorithm, at 65537 slots, and prints the ratio of
 # the best runs. Start-up is taken off: each program runs once with few tables and once with many.
-set -eu
-top=$(cd "$(dirname "$(readlink -f "${BASH_SOURCE[0]}")")/.." && pwd)
-(cd "$top/crates/bench_populate" && rt run >/dev/null 2>&1)
-ours=$top/crates/bench_populate/out/bench_populate
-work=$(mktemp -d)
-trap 'rm -rf "$work"' EXIT
+source "$(dirname "$(readlink -f "${BASH_SOURCE[0]}")")/common.sh"
+build bench_populate
 cc -O2 -o "$work/peer" "$top/bench/populate.c"
-best() { # best COMMAND..: the least wall time of five runs, in seconds
-    for _ in 1 2 3 4 5; do { TIMEFORMAT=%R; time "$@" >/dev/null; } 2>&1; done | sort -g | head -n 1
-}
 for names in 3 200 4096; do
     [ "$("$ours" "$names" 1)" = "$("$work/peer" "$names" 1)" ] && same=equal || same=DIFFERENT
     a=$(best "$ours" "$names" 201) b=$(best "$ours" "$names" 1)
