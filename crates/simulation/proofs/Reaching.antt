@@ -1,7 +1,7 @@
 -- How a run record by record reaches its next record.
-use Rattle.std.proofs.Common.{◌≡◌, ◌≢◌, ◌⊎◌, inl, inr, take, ℕ, zero, suc, ◌+◌, ◌-◌, ◌*◌, ◌≤◌, ◌<◌, Bool, true, false, List, [], ◌∷◌, ◌++◌, length, map, reverse, Option, Some, None, is_some, refl, sym, ap, ◌∙◌, subst, arith, append_assoc, append-nil, length-append, slice_get}
+use Rattle.std.proofs.Common.{◌≡◌, ◌≢◌, ◌⊎◌, inl, inr, take, ℕ, zero, suc, ◌+◌, ◌-◌, ◌*◌, ◌≤◌, ◌<◌, Bool, true, false, List, [], ◌∷◌, ◌++◌, length, map, reverse, Option, Some, None, is_some, refl, sym, ap, ◌∙◌, subst, arith, append_assoc, append-nil, length-append, slice_get, get_or, drop, drop-cons, add-one}
 use Rattle.std.proofs.lemmas.List.{map-append}
-use Rattle.std.proofs.lemmas.Option.{slice_get-map}
+use Rattle.std.proofs.lemmas.Option.{slice_get-map, slice_get-get_or}
 use Rattle.std.proofs.lemmas.Bool.{ltb-false, ltb-true}
 use Rattle.std.specs.Prelude.{nat_lt, if◌then◌else◌, option_map, Result, Ok, Err, IfErr}
 use Rattle.std.specs.Io.KnownBytes.{Appends}
@@ -28,7 +28,7 @@ use Rattle.simulation.specs.Plans.{Planned}
 use Rattle.simulation.specs.Sent.{Sending, packet_in, packets_of, sent, records_text, BeginsWith}
 use Rattle.simulation.specs.Simulated.{course_of, traffic_of}
 use Rattle.simulation.specs.Intake.{Taking, HasSeen, Seen}
-use Rattle.simulation.specs.Keeping.{NamesAll, Holds}
+use Rattle.simulation.specs.Keeping.{AmongSteps, NamesAll, Holds}
 use Rattle.simulation.specs.Going.{Left, SentSoFar, Shortened}
 use Rattle.simulation.specs.Stages.{Sound, Going, Reached}
 use Rattle.simulation.specs.declared.staging.Stage.{Stage}
@@ -311,3 +311,9 @@ read_apart w s c d q e = ap (λ (x : Course). x.read) e ∙ (apart_keeps w s c q
 pub if_err : {T E : Type 0} (r : Result T E) (Q : E → Type 0) (P : Type 0) → P → IfErr r (λ f. Q f → P)
 if_err (Ok x) Q P p = tt
 if_err (Err f) Q P p = λ q. p
+
+pub next_step : (ss : List Step) (i : ℕ) (s : Step) → i < length ss → s ≡ get_or ss i s → drop i ss ≡ s ∷ drop (i + 1) ss
+next_step ss i s lt e = rw (add-one, drop-cons ss i s) (ap (λ (x : Step). x ∷ drop (suc i) ss) (sym e))
+
+pub among_steps : (ss : List Step) (i : ℕ) (s : Step) → i < length ss → s ≡ get_or ss i s → AmongSteps s ss
+among_steps ss i s lt e = (i, slice_get-get_or ss i s lt ∙ ap (λ (x : Step). Some x) (sym e))
