@@ -28,3 +28,12 @@ at_end t text left left' seen r ending e s g = record {
 pub is_none_of : (o : Option Ending) → is_some o ≡ false → o ≡ None
 is_none_of None e = refl
 is_none_of (Some x) e = let bad : true ≡ false = e in cc
+
+pub no_end : (o : Option Ending) → o ≡ None → is_some o ≡ true → ⊥
+no_end o e f = let bad : false ≡ true = ap is_some (sym e) ∙ f in cc
+
+-- some records more were read
+pub record Onward (text : Option (List ℕ)) (seen : List Record) (left : Option (List ℕ)) (old new : Taking) : Type 0 where
+  pub more : List Record
+  pub read : Seen text (seen ++ more) left new
+  pub none : is_some old.ended ≡ true → (more ≡ []) × (is_some new.ended ≡ true)

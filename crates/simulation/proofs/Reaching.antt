@@ -5,6 +5,7 @@ use Rattle.std.proofs.lemmas.Option.{slice_get-map, slice_get-get_or}
 use Rattle.std.proofs.lemmas.Bool.{ltb-false, ltb-true}
 use Rattle.std.specs.Prelude.{nat_lt, if◌then◌else◌, option_map, Result, Ok, Err, IfErr}
 use Rattle.std.specs.Io.KnownBytes.{Appends}
+use Rattle.std.proofs.KnownBytes.{Appends-nil}
 use Rattle.ip_headers.specs.declared.Link.{Link}
 use Rattle.pcap_file.specs.declared.format.Head.{Head}
 use Rattle.pcap_file.specs.declared.format.Ending.{Ending}
@@ -16,21 +17,21 @@ use Rattle.cluster_node.specs.declared.packets.Packet.{Packet}
 use Rattle.cluster_node.specs.declared.events.Said.{Said}
 use Rattle.cluster_node.specs.Records.{Judged}
 use Rattle.waiting_frames.specs.Mirrors.{Mirrors}
-use Rattle.course.specs.Cluster.{Cluster}
+use Rattle.course.specs.Cluster.{Cluster, Orderly}
 use Rattle.course.specs.Course.{Course}
-use Rattle.course.specs.Steps.{World, world_of, run, deliver, repeat, after, names_records}
+use Rattle.course.specs.Steps.{World, world_of, run, deliver, repeat, after, names_records, start}
 use Rattle.course.specs.Streams.{take_of, lose_of, again_of}
 use Rattle.course.specs.Room.{Counted}
 use Rattle.course.proofs.Moves.{Keeps, deliver_hands, handed_next}
-use Rattle.course.proofs.Bounds.{apart_keeps}
+use Rattle.course.proofs.Bounds.{apart_keeps, run_none}
 use Rattle.course.proofs.Coming.{take_one, take_ended, take_zero, lose_one, lose_ended, lose_zero, run_cons, again_is}
 use Rattle.simulation.specs.Plans.{Planned}
 use Rattle.simulation.specs.Sent.{Sending, packet_in, packets_of, sent, records_text, BeginsWith}
-use Rattle.simulation.specs.Simulated.{course_of, traffic_of}
-use Rattle.simulation.specs.Intake.{Taking, HasSeen, Seen}
+use Rattle.simulation.specs.Simulated.{course_of, traffic_of, sendings}
+use Rattle.simulation.specs.Intake.{Taking, HasSeen, Seen, ReadOn}
 use Rattle.simulation.specs.Keeping.{AmongSteps, NamesAll, Holds}
 use Rattle.simulation.specs.Going.{Left, SentSoFar, Shortened}
-use Rattle.simulation.specs.Stages.{Sound, Going, Reached}
+use Rattle.simulation.specs.Stages.{Sound, Going, Reached, IsOver}
 use Rattle.simulation.specs.declared.staging.Stage.{Stage}
 use Rattle.simulation.proofs.Going.{seen_passed, shortened, begins_whole}
 
@@ -317,3 +318,52 @@ next_step ss i s lt e = rw (add-one, drop-cons ss i s) (ap (λ (x : Step). x ∷
 
 pub among_steps : (ss : List Step) (i : ℕ) (s : Step) → i < length ss → s ≡ get_or ss i s → AmongSteps s ss
 among_steps ss i s lt e = (i, slice_get-get_or ss i s lt ∙ ap (λ (x : Step). Some x) (sym e))
+
+passed_none : (head : Head) (text : Option (List ℕ)) → Passed head text [] text
+passed_none head None = tt
+passed_none head (Some t) = refl
+
+begun_left : (cluster : Cluster) (choice : Choice) (plan : Planned) (link : Link) (all : List Record) (c : Course) → c ≡ start (length plan.nodes) → Left cluster choice plan link all plan.steps c
+unfolding course_of
+begun_left cluster choice plan link all c e = ap (λ (x : Course). run (world_of cluster choice (packets_of link plan.check all)) plan.steps x) e
+
+-- at the start everything is to be done
+pub reached_start : (cluster : Cluster) (choice : Choice) (plan : Planned) (text out : Option (List ℕ)) (stage : Stage) → cluster.workers ≤ 16 → cluster.nodes ≡ length plan.nodes → length stage.relay.waiting ≡ length plan.nodes * 16 → Orderly cluster
+    → stage.play ≡ start (length plan.nodes) → stage.intake.ended ≡ None → stage.intake.given ≡ 0 → NamesAll plan.steps stage.kept → ((all : List Record) (k : Cluster) → Mirrors all k [] stage.relay.waiting)
+    → Reached cluster choice plan text out plan.steps stage text out
+reached_start cluster choice plan text out stage few nodes room orderly play ended given named mirrors = record {
+  seen = [];
+  read = record { has = subst (λ (o : Option Ending). HasSeen stage.intake.head o text [] text) (sym ended) (passed_none stage.intake.head text); count = given };
+  place = ap (λ (c : Course). c.read) play;
+  named = named;
+  going = λ more cond. record {
+    left = begun_left cluster choice plan stage.intake.head.link more stage.play play;
+    sound = record {
+      workers = few;
+      room = omega (arith, room, nodes);
+      orderly = orderly;
+      judged = subst (λ (l : List Said). Judged cluster.judge l) (sym (ap (λ (c : Course). c.past) play)) tt;
+      mirrors = subst (λ (l : List Said). Mirrors more cluster l stage.relay.waiting) (sym (ap (λ (c : Course). c.past) play)) (mirrors more cluster);
+      sent = subst (λ (l : List Said). Appends out out (records_text (sent (traffic_of plan stage.intake.head.link more) (reverse l)))) (sym (ap (λ (c : Course). c.past) play)) (Appends-nil out);
+    };
+    holds = λ place again lt. absurd (omega (arith, lt, ap (λ (c : Course). c.read) play));
+  };
+}
+
+-- at the end all is done
+pub over_of : (cluster : Cluster) (choice : Choice) (plan : Planned) (text begun : Option (List ℕ)) (stage : Stage) (left out : Option (List ℕ)) (ending : Ending) (new : Taking) → (r : Reached cluster choice plan text begun [] stage left out) → ReadOn text r.seen ending stage.intake new
+    → IsOver cluster choice plan stage.intake.head text begun out stage.play new.given ending
+over_of cluster choice plan text begun stage left out ending new r o =
+    let g : Going cluster choice plan stage.intake.head.link (r.seen ++ o.more) [] stage begun out = r.going o.more o.none in
+    let is : stage.play ≡ course_of cluster choice plan stage.intake.head.link (r.seen ++ o.more) = sym (run_none (world_of cluster choice (packets_of stage.intake.head.link plan.check (r.seen ++ o.more))) stage.play) ∙ g.left in
+    record {
+      records = r.seen ++ o.more;
+      told = o.told;
+      course_is = is;
+      count = o.count;
+      output_is = subst (λ (c : Course). Appends begun out (records_text (sent (traffic_of plan stage.intake.head.link (r.seen ++ o.more)) (reverse c.past)))) is g.sound.sent;
+    }
+
+-- nothing was done yet
+pub short_none : (cluster : Cluster) (choice : Choice) (plan : Planned) (head : Head) (text out : Option (List ℕ)) → Shortened cluster choice plan head text out out
+short_none cluster choice plan head text out = record { records = []; left = text; first = []; others = sendings cluster choice plan head.link []; passed = passed_none head text; sent_is = refl; output_is = Appends-nil out }

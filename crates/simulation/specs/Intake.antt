@@ -26,3 +26,10 @@ pub record Seen (text : Option (List ℕ)) (seen : List Record) (left : Option (
 abbrev pub SeenMore : Bool → Option (List ℕ) → List Record → Option (List ℕ) → Taking → Type 0
 SeenMore true text seen left t = Seen text (seen ++ t.record_read ∷ []) left t × (t.ended ≡ None)
 SeenMore false text seen left t = Seen text seen left t × (is_some t.ended ≡ true)
+
+-- behind the records that were read come these, and then the ending; none where it had ended
+pub record ReadOn (text : Option (List ℕ)) (seen : List Record) (ending : Ending) (old new : Taking) : Type 0 where
+  pub more : List Record
+  pub told : IsTold old.head text (seen ++ more) ending
+  pub count : new.given ≡ length (seen ++ more)
+  pub none : is_some old.ended ≡ true → more ≡ []

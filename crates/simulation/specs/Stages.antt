@@ -1,7 +1,11 @@
 -- A run record by record, between two of its moves.
 use Rattle.std.specs.Prelude.{◌≡◌, ◌≤◌, ℕ, ◌*◌, Bool, true, false, List, [], ◌∷◌, ◌++◌, length, Option, is_some}
 use Rattle.ip_headers.specs.declared.Link.{Link}
+use Rattle.std.specs.Io.KnownBytes.{Appends}
+use Rattle.pcap_file.specs.declared.format.Head.{Head}
+use Rattle.pcap_file.specs.declared.format.Ending.{Ending}
 use Rattle.pcap_file.specs.Format.{Packet as Record}
+use Rattle.pcap_file.specs.Text.{IsTold}
 use Rattle.spreader.specs.Choices.{Choice}
 use Rattle.scenario_steps.specs.declared.Step.{Step}
 use Rattle.cluster_node.specs.Records.{Judged}
@@ -10,6 +14,8 @@ use Rattle.course.specs.Course.{Course}
 use Rattle.course.specs.Streams.{take_of, lose_of}
 use Rattle.waiting_frames.specs.Mirrors.{Mirrors}
 use Rattle.simulation.specs.Plans.{Planned}
+use Rattle.simulation.specs.Sent.{records_text}
+use Rattle.simulation.specs.Simulated.{course_of, sendings}
 use Rattle.simulation.specs.Intake.{Seen}
 use Rattle.simulation.specs.Keeping.{NamesAll, Holds}
 use Rattle.simulation.specs.Going.{Left, SentSoFar}
@@ -48,3 +54,12 @@ still_to_take false k ss = ss
 abbrev pub still_to_lose : Bool → ℕ → List Step → List Step
 still_to_lose true k ss = lose_of k ∷ ss
 still_to_lose false k ss = ss
+
+-- the steps are done and the input was read to its end: the records behind the header are these, the course is the plan's
+-- over them, and the output got all that it sends
+pub record IsOver (cluster : Cluster) (choice : Choice) (plan : Planned) (head : Head) (text begun out : Option (List ℕ)) (course : Course) (packets : ℕ) (ending : Ending) : Type 0 where
+  pub records : List Record
+  pub told : IsTold head text records ending
+  pub course_is : course ≡ course_of cluster choice plan head.link records
+  pub count : packets ≡ length records
+  pub output_is : Appends begun out (records_text (sendings cluster choice plan head.link records))

@@ -1,7 +1,7 @@
 //! The records of a capture, read one by one.
 ghost use Rattle.std.specs.Prelude.{◌≡◌, ◌<◌, ◌≤◌, ◌+◌, true, false, None, IfOk, IfErr, OnOk, List, ℕ, Option, is_some};
 ghost use Rattle.pcap_file.specs.Format.{Packet as Record, packet, max_records};
-ghost use Rattle.simulation.specs.Intake.{Taking, Seen, SeenMore};
+ghost use Rattle.simulation.specs.Intake.{Taking, Seen, SeenMore, ReadOn};
 
 use ip_headers::Link;
 use pcap_file::{Ending, Frame, Head, PcapFault, Source, read_record_into};
@@ -72,7 +72,8 @@ impl Intake {
         ensures head { self.new.head ≡ self.old.head }
         ensures more { (text : Option (List ℕ)) (seen : List Record) → Seen text seen (I.left input.old) self.old → IfOk result (λ more. SeenMore more text seen (I.left input.new) self.new) }
         ensures same { IfOk result (λ more. more ≡ true → (self.new.ended ≡ self.old.ended) × (self.new.given ≡ self.old.given + 1)) }
-        ensures none { IfOk result (λ more. more ≡ false → self.new.given ≡ self.old.given) }
+        ensures none { IfOk result (λ more. more ≡ false → (self.new.given ≡ self.old.given) × (is_some self.new.ended ≡ true)) }
+        ensures end { is_some self.old.ended ≡ true → IfOk result (λ more. (more ≡ false) × (self.new ≡ self.old)) }
         ensures few { self.new.given ≤ max_records }
     {
         if self.ended.is_some() {
@@ -87,6 +88,24 @@ impl Intake {
             Err(ending) => {
                 self.ended = Some(ending);
                 Ok(false)
+            }
+        }
+    }
+
+    // Reads what is left of the input, and says how it ends.
+    pub(crate) fn read_rest<I: Source>(&mut self, input: &mut I) -> Result<Ending, PcapFault>
+        ensures head { self.new.head ≡ self.old.head }
+        ensures told { (text : Option (List ℕ)) (seen : List Record) → Seen text seen (I.left input.old) self.old → IfOk result (λ ending. ReadOn text seen ending self.old self.new) }
+        ensures more { OnOk result (self.old.given ≤ self.new.given) }
+    {
+        loop {
+            match self.next(input) {
+                Ok(true) => {}
+                Ok(false) => match self.ended {
+                    Some(ending) => return Ok(ending),
+                    None => unreachable!(),
+                },
+                Err(fault) => return Err(fault),
             }
         }
     }

@@ -3,28 +3,29 @@ ghost use Rattle.std.specs.Prelude.{◌≡◌, ◌≢◌, ◌<◌, ◌≤◌, �
 ghost use Rattle.std.specs.Io.KnownBytes.{Appends};
 ghost use Rattle.pcap_file.specs.Format.{Packet as Record, packet, max_records};
 ghost use Rattle.scenario_steps.specs.declared.Step.{Step};
-ghost use Rattle.course.specs.Steps.{World, SameChoice, deliver, after, names_records};
+ghost use Rattle.course.specs.Steps.{World, SameChoice, deliver, after, names_records, start, below};
 ghost use Rattle.course.specs.Streams.{take_of, lose_of, again_of};
 ghost use Rattle.course.specs.Room.{Counted};
 ghost use Rattle.simulation.specs.Plans.{Planned, planned};
 ghost use Rattle.spreader.specs.Choices.{Choice};
-ghost use Rattle.course.specs.Cluster.{Cluster};
+ghost use Rattle.course.specs.Cluster.{Cluster, Orderly};
 ghost use Rattle.simulation.specs.Sent.{packet_in, sent, BeginsWith};
 ghost use Rattle.simulation.specs.Simulated.{traffic_of};
 ghost use Rattle.simulation.specs.Going.{Shortened};
 ghost use Rattle.simulation.specs.Intake.{Seen, SeenMore};
 ghost use Rattle.simulation.specs.Keeping.{IsAgain, AmongSteps, NamesAll, Holds, found};
-ghost use Rattle.simulation.specs.Stages.{Sound, Going, Reached, still_to_take, still_to_lose};
+ghost use Rattle.simulation.specs.Stages.{Sound, Going, Reached, IsOver, still_to_take, still_to_lose};
 
 use crate::fault::SimulationFault;
 use crate::intake::Intake;
 use crate::keeping::{Kept, copy_of};
 use crate::plan::Plan;
+use crate::playing::Played;
 use crate::relaying::Relay;
 use crate::sending::Wire;
 use cluster_node::Said;
 use course::{Core, Play};
-use pcap_file::{Frame, Sink, Source};
+use pcap_file::{Frame, Head, Sink, Source};
 use scenario_steps::Step;
 use spreader::Spread;
 use std::alloc::{AllocError, Global};
@@ -46,6 +47,24 @@ fn behind(history: &[Said], count: usize) -> &[Said]
 }
 
 impl Stage {
+    // Nothing was read, and nothing has happened.
+    fn make(alloc: Global, plan: Plan<'_>, head: Head) -> Result<Stage, AllocError>
+        requires { length plan.nodes.now ≤ 64 }
+        ensures fresh { IfOk result (λ s. Counted s.intake.given 0 s.play) }
+        ensures play { IfOk result (λ s. s.play ≡ start (length plan.entry.nodes.now)) }
+        ensures head { IfOk result (λ s. s.intake.head ≡ head) }
+        ensures reached { (cluster : Cluster) (choice : Choice) (text out : Option (List ℕ)) → cluster.workers ≤ 16 → cluster.nodes ≡ length plan.entry.nodes.now → Orderly cluster →
+            IfOk result (λ s. Reached cluster choice (planned plan.entry) text out plan.entry.steps.now s text out) }
+    {
+        let nodes = plan.nodes.len() as u16;
+        Ok(Stage {
+            play: Play::start(alloc, nodes)?,
+            relay: Relay::new(alloc, nodes)?,
+            kept: Kept::of_steps(alloc, plan.steps)?,
+            intake: Intake::new(alloc, head),
+        })
+    }
+
     // How frames are read, and the nodes' addresses.
     fn wire<'a>(&self, plan: Plan<'a>) -> Wire<'a>
         ensures { result ≡ record { nodes = plan.entry.nodes; link = self.now.intake.head.link; check = plan.entry.check } }
@@ -436,5 +455,68 @@ impl Stage {
             }
         }
         Ok(())
+    }
+
+    // Reads what is left of the input. The run is over then.
+    fn finish<I: Source>(self, input: &mut I) -> Result<Played, SimulationFault>
+        requires { self.play.read ≤ self.intake.given }
+        ensures play { IfOk result (λ p. p.play ≡ self.play) }
+        ensures read { IfOk result (λ p. p.play.read ≤ p.packets) }
+        ensures over { (cluster : Cluster) (choice : Choice) (plan : Planned) (text begun out : Option (List ℕ)) →
+            Reached cluster choice plan text begun [] self (I.left input.old) out →
+            IfOk result (λ p. IsOver cluster choice plan self.intake.head text begun out p.play p.packets p.ending) }
+        ensures unwritten { IfErr result (λ fault. fault ≢ SimulationFault.Write) }
+    {
+        let Stage {
+            play,
+            relay: _,
+            kept: _,
+            mut intake,
+        } = self;
+        match intake.read_rest(input) {
+            Ok(ending) => Ok(Played {
+                play,
+                packets: intake.given(),
+                ending,
+            }),
+            Err(fault) => Err(SimulationFault::Capture(fault)),
+        }
+    }
+}
+
+/// Runs the steps over the records behind a file header, record by record.
+pub(crate) fn play_records<C: Core, P: Spread, I: Source, O: Sink>(
+    alloc: Global,
+    plan: Plan<'_>,
+    core: &mut C,
+    setup: &C::Setup,
+    spread: &mut P,
+    head: Head,
+    input: &mut I,
+    output: &mut O,
+) -> Result<Played, SimulationFault>
+    requires fresh { C.stands setup.now [] core.old }
+    requires live { P.live spread.old ≡ below (length plan.nodes.now) }
+    requires nodes { length plan.nodes.now ≤ 64 }
+    requires steps { length plan.steps.now ≤ 100000 }
+    requires workers { (C.cluster setup.now).workers ≤ 16 }
+    requires cluster { (C.cluster setup.now).nodes ≡ length plan.nodes.now }
+    requires orderly { Orderly (C.cluster setup.now) }
+    ensures over { IfOk result (λ p. IsOver (C.cluster setup.now) (P.choice spread.old) (planned plan.entry) head (I.left input.old) (O.contents output.old) (O.contents output.new) p.play p.packets p.ending) }
+    ensures read { IfOk result (λ p. p.play.read ≤ p.packets) }
+    ensures stands { IfOk result (λ p. C.stands setup.now p.play.past core.new) }
+    ensures short { IfErr result (λ fault. fault ≢ SimulationFault.Write → Shortened (C.cluster setup.now) (P.choice spread.old) (planned plan.entry) head (I.left input.old) (O.contents output.old) (O.contents output.new)) }
+{
+    let mut stage = match Stage::make(alloc, plan, head) {
+        Ok(stage) => stage,
+        Err(_) => return Err(SimulationFault::Memory),
+    };
+    match stage.steps(alloc, core, setup, spread, plan, input, output) {
+        Ok(()) => {}
+        Err(fault) => return Err(fault),
+    }
+    match stage.finish(input) {
+        Ok(played) => Ok(played),
+        Err(fault) => Err(fault),
     }
 }

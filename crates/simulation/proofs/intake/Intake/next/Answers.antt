@@ -1,7 +1,7 @@
-use Rattle.std.proofs.Common.{◌≡◌, true, false, refl, subst, sym, ap}
+use Rattle.std.proofs.Common.{is_some, ◌∙◌, ◌≡◌, true, false, refl, subst, sym, ap}
 use Rattle.pcap_file.specs.Format.{packet}
 use Rattle.simulation.specs.Intake.{Taking, Seen}
-use Rattle.simulation.proofs.Intakes.{one_more, at_end, is_none_of}
+use Rattle.simulation.proofs.Intakes.{one_more, at_end, is_none_of, no_end}
 use Rattle.simulation.proofs.intake.Intake.next.Goals as goal
 
 pub returns-in-Ok-clause-more : goal.returns-in-Ok-clause-more
@@ -18,6 +18,7 @@ returns-in-Err g c =
       head = ap (λ (x : Taking). x.head) c.self.view_is;
       more = λ text seen s. (at_end t text _ _ seen (packet c.read_record_into.new.frame) c.in-Err.ending none (subst (λ (x : Taking). Seen text seen (g.I.Source.left c.args.input.now) x) (sym c.self.view_is) s) c.in-Err.ensures.gave, refl);
       same = λ e. let bad : false ≡ true = e in cc;
-      none = λ e. ap (λ (x : Taking). x.given) c.self.view_is;
+      none = λ e. (ap (λ (x : Taking). x.given) c.self.view_is, refl);
+      end = λ e. absurd (no_end c.self.inside.ended none (ap (λ (x : Taking). is_some x.ended) c.self.view_is ∙ e));
       few = c.self.invariant;
     }

@@ -1,0 +1,15 @@
+use Rattle.std.proofs.Common.{◌≡◌, ◌-◌, ◌≤◌, ◌++◌, [], true, is_some, List, ℕ, Option}
+use Rattle.pcap_file.specs.Format.{Packet as Record, max_records}
+use Rattle.simulation.specs.Intake.{Seen}
+use Rattle.simulation.proofs.Intakes.{Onward}
+use Rattle.simulation.proofs.intake.Intake.read_rest.Given as goal
+
+abbrev pub invariant-loop-ending : goal.invariant-loop-ending
+invariant-loop-ending g l = record {
+  head : l.self.head ≡ l.initial.self.head;
+  few : l.initial.self.given ≤ l.self.given;
+  onward : (text : Option (List ℕ)) (seen : List Record) → Seen text seen (g.I.Source.left l.initial.input) l.initial.self → Onward text seen (g.I.Source.left l.input) l.initial.self l.self;
+}
+
+abbrev pub decreases-loop-ending : goal.decreases-loop-ending
+decreases-loop-ending g l = max_records - l.self.given
