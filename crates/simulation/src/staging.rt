@@ -250,11 +250,7 @@ impl Stage {
     }
 
     // Reads the next record and loses it. Says whether there was one.
-    fn lose_one<I: Source>(
-        &mut self,
-        alloc: Global,
-        input: &mut I,
-    ) -> Result<bool, SimulationFault>
+    fn lose_one<I: Source>(&mut self, alloc: Global, input: &mut I) -> Result<bool, SimulationFault>
         requires few { (n : ℕ) × (n < 2 ^ 32) × Counted self.old.intake.given n self.old.play }
         ensures play { OnOk result ((self.new.play.past ≡ self.old.play.past) × (self.new.play.live ≡ self.old.play.live)) }
         ensures few { (n : ℕ) → Counted self.old.intake.given n self.old.play → OnOk result (Counted self.new.intake.given n self.new.play) }
@@ -414,9 +410,7 @@ impl Stage {
             IfErr result (λ fault. fault ≢ SimulationFault.Write → Shortened (C.cluster setup.now) choice (planned plan.entry) self.old.intake.head text begun (O.contents output.new)) }
     {
         match step {
-            Step::Take(count) => self.take(
-                alloc, core, setup, spread, plan, *count, input, output,
-            ),
+            Step::Take(count) => self.take(alloc, core, setup, spread, plan, *count, input, output),
             Step::Lose(count) => self.lose(alloc, *count, input),
             Step::Again(place) => self.again(alloc, core, setup, spread, plan, *place, output),
             _ => self.aside(alloc, core, setup, spread, plan, step, output),

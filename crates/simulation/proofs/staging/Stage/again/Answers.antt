@@ -52,9 +52,9 @@ returns-in-Ok-repeat-clause-reached g c = λ choice text begun left ss same name
     let none = if_none c.args.place old.intake.given (found old.kept c.args.place) (sym (ap (λ o. option_map packet o) c.in-Ok-None.field-0-is) ∙ c.in-Ok-None.ensures.value) in
     reached_same cluster choice plan text begun (again_of c.args.place ∷ ss) ss old new left _ _ r (refl, refl, refl) (ap (λ (x : Course). x.read) skip) refl
     (λ all h l. let w = world_of cluster choice (packets_of old.intake.head.link plan.check all) in
-        repeated cluster choice plan old.intake.head.link all c.args.place ss old.play new.play None
-        (packet_none old.intake.head.link plan.check all c.args.place old.play.read (found old.kept c.args.place) (rw (sym given) none) (λ lt. h c.args.place named lt))
-        (c.in-Ok-repeat.ensures.after w refl same) l)
+    repeated cluster choice plan old.intake.head.link all c.args.place ss old.play new.play None
+    (packet_none old.intake.head.link plan.check all c.args.place old.play.read (found old.kept c.args.place) (rw (sym given) none) (λ lt. h c.args.place named lt))
+    (c.in-Ok-repeat.ensures.after w refl same) l)
     (λ all h s. sound_same cluster plan old.intake.head.link all old.play new.play old.relay.waiting old.relay.waiting begun _ (ap (λ (x : Course). x.past) skip) refl s)
 
 pub returns-in-Ok-clause-few : goal.returns-in-Ok-clause-few
@@ -81,13 +81,13 @@ returns-in-Ok-clause-reached g c = λ choice text begun left ss same named r.
     (c.in-Ok.ensures.intake.0 ∙ ap (λ (t : Taking). t.given) rest, c.in-Ok.ensures.intake.1 ∙ ap (λ (t : Taking). t.ended) rest, c.in-Ok.ensures.intake.2 ∙ ap (λ (t : Taking). t.head) rest)
     (ap (λ (y : Course). y.read) (c.in-Ok.ensures.play w0 refl same) ∙ (deliver_hands w0 c.args.place _ old.play).read) c.in-Ok.ensures.kept
     (λ all h l. let w = world_of cluster choice (packets_of link plan.check all) in
-        repeated cluster choice plan link all c.args.place ss old.play new.play (Some (packet_in link plan.check x))
-        (packet_there link plan.check all c.args.place old.play.read (Some x) lt (sym (h c.args.place named lt) ∙ got.1))
-        (c.in-Ok.ensures.play w refl same ∙ ap (λ (t : Taking). deliver w c.args.place (packet_in t.head.link plan.check t.record_read) old.play) rest ∙ sym (repeat_some w c.args.place (packet_in link plan.check x) old.play)) l)
+    repeated cluster choice plan link all c.args.place ss old.play new.play (Some (packet_in link plan.check x))
+    (packet_there link plan.check all c.args.place old.play.read (Some x) lt (sym (h c.args.place named lt) ∙ got.1))
+    (c.in-Ok.ensures.play w refl same ∙ ap (λ (t : Taking). deliver w c.args.place (packet_in t.head.link plan.check t.record_read) old.play) rest ∙ sym (repeat_some w c.args.place (packet_in link plan.check x) old.play)) l)
     (λ all h s. subst (λ (t : Taking). Sound cluster plan t.head.link all new.play new.relay.waiting begun (g.O.Sink.contents c.deliver.new.output)) rest
-        (c.in-Ok.ensures.sound all begun
-        (subst (λ (t : Taking). Sound cluster plan t.head.link all old.play old.relay.waiting begun (g.O.Sink.contents c.args.output.now)) (sym rest) s)
-        (sym (h c.args.place named lt) ∙ got.1 ∙ ap (λ (t : Taking). Some t.record_read) (sym rest))))
+    (c.in-Ok.ensures.sound all begun
+    (subst (λ (t : Taking). Sound cluster plan t.head.link all old.play old.relay.waiting begun (g.O.Sink.contents c.args.output.now)) (sym rest) s)
+    (sym (h c.args.place named lt) ∙ got.1 ∙ ap (λ (t : Taking). Some t.record_read) (sym rest))))
 
 pub returns-in-Err-deliver-clause-short : goal.returns-in-Err-deliver-clause-short
 returns-in-Err-deliver-clause-short g c = λ choice text begun left ss same named r n.
@@ -104,9 +104,9 @@ returns-in-Err-deliver-clause-short g c = λ choice text begun left ss same name
     let d : Course = deliver w c.args.place (packet_in link plan.check x) old.play in
     short_same cluster choice plan text begun (again_of c.args.place ∷ ss) ss old left _ _ d r
     (λ h l. repeated cluster choice plan link r.seen c.args.place ss old.play d (Some (packet_in link plan.check x))
-        (packet_there link plan.check r.seen c.args.place old.play.read (Some x) lt (sym (h c.args.place named lt) ∙ got.1))
-        (sym (repeat_some w c.args.place (packet_in link plan.check x) old.play)) l)
+    (packet_there link plan.check r.seen c.args.place old.play.read (Some x) lt (sym (h c.args.place named lt) ∙ got.1))
+    (sym (repeat_some w c.args.place (packet_in link plan.check x) old.play)) l)
     (λ h s. subst (λ (t : Taking). BeginsWith begun (g.O.Sink.contents c.deliver.new.output) (sent (traffic_of plan t.head.link r.seen) (reverse (deliver w c.args.place (packet_in t.head.link plan.check t.record_read) old.play).past))) rest
-        (c.in-Err-deliver.ensures.cut w r.seen begun refl same
-        (subst (λ (t : Taking). Sound cluster plan t.head.link r.seen old.play old.relay.waiting begun (g.O.Sink.contents c.args.output.now)) (sym rest) s)
-        (sym (h c.args.place named lt) ∙ got.1 ∙ ap (λ (t : Taking). Some t.record_read) (sym rest)) n))
+    (c.in-Err-deliver.ensures.cut w r.seen begun refl same
+    (subst (λ (t : Taking). Sound cluster plan t.head.link r.seen old.play old.relay.waiting begun (g.O.Sink.contents c.args.output.now)) (sym rest) s)
+    (sym (h c.args.place named lt) ∙ got.1 ∙ ap (λ (t : Taking). Some t.record_read) (sym rest)) n))

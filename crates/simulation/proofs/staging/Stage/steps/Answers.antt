@@ -11,7 +11,7 @@ pub returns-in-Err-clause-short : goal.returns-in-Err-clause-short
 returns-in-Err-clause-short g c = λ text begun r n.
     let i = c.loop-step.step-index in
     let here = subst (λ (l : List Step). Reached (g.C.Core.cluster c.args.setup.now) (g.P.Spread.choice c.args.spread.now) (planned c.args.plan) text begun l c.loop-step.self (g.I.Source.left c.loop-step.input) (g.O.Sink.contents c.loop-step.output))
-        (next_step c.args.plan.steps.now i c.step-item.result (omega arith) c.step-item.is) (c.loop-step.invariant.reached text begun r) in
+    (next_step c.args.plan.steps.now i c.step-item.result (omega arith) c.step-item.is) (c.loop-step.invariant.reached text begun r) in
     subst (λ (h : Head). Shortened (g.C.Core.cluster c.args.setup.now) (g.P.Spread.choice c.args.spread.now) (planned c.args.plan) h text begun (g.O.Sink.contents c.step.new.output)) c.loop-step.invariant.head
     (c.in-Err.ensures.short (g.P.Spread.choice c.args.spread.now) text begun (drop (i + 1) c.args.plan.steps.now) c.loop-step.invariant.same (among_steps c.args.plan.steps.now i c.step-item.result (omega arith) c.step-item.is) here n)
 
@@ -26,6 +26,6 @@ loop-step-preserved g c =
       head = c.in-Ok.ensures.head ∙ c.loop-step.invariant.head;
       reached = λ text begun r.
           let here = subst (λ (l : List Step). Reached (g.C.Core.cluster c.args.setup.now) (g.P.Spread.choice c.args.spread.now) (planned c.args.plan) text begun l c.loop-step.self (g.I.Source.left c.loop-step.input) (g.O.Sink.contents c.loop-step.output))
-              (next_step c.args.plan.steps.now i c.step-item.result (omega arith) c.step-item.is) (c.loop-step.invariant.reached text begun r) in
+          (next_step c.args.plan.steps.now i c.step-item.result (omega arith) c.step-item.is) (c.loop-step.invariant.reached text begun r) in
           c.in-Ok.ensures.reached (g.P.Spread.choice c.args.spread.now) text begun (drop (i + 1) c.args.plan.steps.now) c.loop-step.invariant.same (among_steps c.args.plan.steps.now i c.step-item.result (omega arith) c.step-item.is) here;
     }

@@ -36,7 +36,7 @@ loop-preserved g c = record {
   head = c.in-Ok-true.ensures.head ∙ c.loop.invariant.head;
   reached = λ choice text begun ss same r.
       let cluster = g.C.Core.cluster c.args.setup.now in
-        let k = c.args.count - (c.loop.counter + 1) in
+      let k = c.args.count - (c.loop.counter + 1) in
       let here = subst (λ (m : ℕ). Reached cluster choice (planned c.args.plan) text begun (take_of m ∷ ss) c.loop.self (g.I.Source.left c.loop.input) (g.O.Sink.contents c.loop.output)) (one_fewer c.args.count c.loop.counter (omega arith)) (c.loop.invariant.reached choice text begun ss same r) in
       subst (λ (b : Bool). Reached cluster choice (planned c.args.plan) text begun (still_to_take b k ss) c.take_one.new.self (g.I.Source.left c.take_one.new.input) (g.O.Sink.contents c.take_one.new.output)) c.in-Ok-true.field-0-test (c.in-Ok-true.ensures.reached choice text begun ss k same here);
 }
