@@ -431,6 +431,39 @@ def test_against_the_model():
             check(f"explain {one} {other} of scenario {seed}", answer == (0, line, b""), f"{answer} {line!r}")
 
 
+def commands_of(page):
+    """The commands of a page, as words, each with the lines that it prints."""
+    found = []
+    for line in page.splitlines():
+        text = line.strip()
+        if line.startswith("    ") and text.startswith("$ "):
+            found.append((text.split()[1:], []))
+        elif line.startswith("    ") and found:
+            found[-1][1].append(text)
+    return [(words, "".join(line + "\n" for line in lines)) for words, lines in found]
+
+
+def test_examples():
+    """Each command of the examples' page prints what stands there, which is what the model says."""
+    folder = TOP / "examples"
+    text, data = (folder / "failover.toml").read_text(), (folder / "failover.pcap").read_bytes()
+    expected = model.Run(text, data)
+    commands = commands_of((folder / "README.md").read_text())
+    check("the examples' commands", [words[1] for words, _ in commands] == ["simulate"] + ["explain"] * 4, repr(commands))
+    with tempfile.TemporaryDirectory() as made:
+        for (_, command, *words), printed in commands:
+            out = pathlib.Path(made) / "sent.pcap"
+            prints(f"{command} of the examples", [command, *(str(out) if word == out.name else word for word in words)], printed)
+            if command == "simulate":
+                check("the examples' listing and report", printed == expected.listing() + expected.report(), printed)
+                check("what the example sends", out.read_bytes() == expected.output())
+            else:
+                check("an example explained", printed == expected.explained(int(words[-2]), int(words[-1])), printed)
+        other = pathlib.Path(made) / "in.pcap"
+        subprocess.run([sys.executable, str(folder / "make_capture.py"), str(other)], check=True)
+        check("the example's capture", other.read_bytes() == data)
+
+
 def test_by_tshark():
     """Another reader of captures sees IPv4, GRE and the inner IPv4, with a good outer checksum."""
     if shutil.which("tshark") is None:

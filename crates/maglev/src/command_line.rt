@@ -147,7 +147,7 @@ fn explain<'a>(alloc: Global) -> Result<Command<'a>, Error> {
         .about(
             "Plays a scenario over a capture, and prints why the packets of two events went where they went",
         )
-        .after_help("Example: maglev explain examples/failover.toml examples/failover.pcap 3 9")
+        .after_help("Example: maglev explain examples/failover.toml examples/failover.pcap 13 15")
         .arg(scenario(alloc))?
         .arg(input(alloc))?
         .arg(event(alloc, "one", "I"))?
