@@ -423,8 +423,10 @@ def test_against_the_model():
         expected = model.Run(text, data)
         whole = expected.listing() + expected.report()
         simulates(f"scenario {seed} of the model", text, data, whole, expected.output(), ["--list"])
-        sends = [place for place, event in enumerate(expected.events) if event[1].startswith("forward")] or [0]
-        for one, other in [(source.choice(sends), source.choice(sends)) for _ in range(2)]:
+        sends = {place: event[2][2:4] for place, event in enumerate(expected.events) if event[1].startswith("forward")}
+        places = list(sends) or [0]
+        split = [(a, b) for a in sends for b in sends if sends[a][0] == sends[b][0] and sends[a][1] != sends[b][1]]
+        for one, other in [(source.choice(places), source.choice(places)), *(split and [source.choice(split)])]:
             words = ["explain", "s.toml", "in.pcap", str(one), str(other)]
             answer = with_files(text, data, lambda folder: run(words, cwd=folder))
             line = expected.explained(one, other).encode()
