@@ -1,5 +1,5 @@
 -- The commands that play a scenario over a capture.
-use Rattle.std.specs.Prelude.{◌≡◌, ℕ, List, Option}
+use Rattle.std.specs.Prelude.{◌≡◌, ◌≢◌, ℕ, List, Option}
 use Rattle.std.specs.Io.KnownBytes.{Appends}
 use Rattle.pool_versions.specs.declared.catalogue.PoolFault.{PoolFault}
 use Rattle.pool_versions.specs.declared.catalogue.PoolFault.TheVariants as pool
@@ -61,11 +61,11 @@ pub record ScenarioFails (fault : CliFault) (text : List ℕ) : Type 0 where
   pub named : fault ≡ scenario_fault why
   pub refused : IsRefused text why
 
--- the run of the scenario that the text means stopped by this fault, and the output got nothing or a beginning of what is
--- sent, cut between records
+-- the text means a scenario, and its run stopped by this fault or its answer couldn't be written: unless writing failed the
+-- output got nothing or a beginning of what is sent, cut between records
 pub record RunFails (fault : CliFault) (text : List ℕ) (input output output' : Option (List ℕ)) : Type 0 where
   pub scenario : Scenario
   pub means : Means text scenario
   pub why : SimulationFault
   pub named : fault ≡ run_fault why
-  pub stopped : Stopped (cluster_in scenario) (choice_in scenario) (plan_in scenario) input output output'
+  pub stopped : fault ≢ Write → Stopped (cluster_in scenario) (choice_in scenario) (plan_in scenario) input output output'

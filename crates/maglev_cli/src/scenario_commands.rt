@@ -76,7 +76,7 @@ fn play<I: Source, O: Sink, R: Sink>(
 ) -> Result<(), CliFault>
     ensures played { OnOk result (Plays asked scenario.now (I.left input.old) (O.contents output.old) (O.contents output.new) (R.contents report.old) (R.contents report.new)) }
     ensures silent { IfErr result (λ fault. fault ≢ CliFault.Write → report.new ≡ report.old) }
-    ensures stopped { IfErr result (λ fault. fault ≢ CliFault.Write → (ScenarioFails fault scenario.now × (input.new ≡ input.old) × (output.new ≡ output.old)) ⊎ RunFails fault scenario.now (I.left input.old) (O.contents output.old) (O.contents output.new)) }
+    ensures stopped { IfErr result (λ fault. (ScenarioFails fault scenario.now × (input.new ≡ input.old) × (output.new ≡ output.old)) ⊎ RunFails fault scenario.now (I.left input.old) (O.contents output.old) (O.contents output.new)) }
 {
     let scenario = match read(alloc, scenario) {
         Ok(scenario) => scenario,
@@ -103,7 +103,7 @@ pub fn simulate<I: Source, O: Sink, R: Sink>(
 ) -> Result<(), CliFault>
     ensures played { OnOk result (Plays (Asked.Report list) scenario.now (I.left input.old) (O.contents output.old) (O.contents output.new) (R.contents report.old) (R.contents report.new)) }
     ensures silent { IfErr result (λ fault. fault ≢ CliFault.Write → report.new ≡ report.old) }
-    ensures stopped { IfErr result (λ fault. fault ≢ CliFault.Write → (ScenarioFails fault scenario.now × (input.new ≡ input.old) × (output.new ≡ output.old)) ⊎ RunFails fault scenario.now (I.left input.old) (O.contents output.old) (O.contents output.new)) }
+    ensures stopped { IfErr result (λ fault. (ScenarioFails fault scenario.now × (input.new ≡ input.old) × (output.new ≡ output.old)) ⊎ RunFails fault scenario.now (I.left input.old) (O.contents output.old) (O.contents output.new)) }
 {
     let asked = Asked::Report { list };
     match play(alloc, scenario, asked, input, output, report) {
@@ -124,7 +124,7 @@ pub fn explain_run<I: Source, R: Sink>(
 ) -> Result<(), CliFault>
     ensures played { OnOk result (Plays (Asked.Events one other) scenario.now (I.left input.old) None None (R.contents report.old) (R.contents report.new)) }
     ensures silent { IfErr result (λ fault. fault ≢ CliFault.Write → report.new ≡ report.old) }
-    ensures stopped { IfErr result (λ fault. fault ≢ CliFault.Write → (ScenarioFails fault scenario.now × (input.new ≡ input.old)) ⊎ RunFails fault scenario.now (I.left input.old) None None) }
+    ensures stopped { IfErr result (λ fault. (ScenarioFails fault scenario.now × (input.new ≡ input.old)) ⊎ RunFails fault scenario.now (I.left input.old) None None) }
 {
     let asked = Asked::Events { one, other };
     match play(alloc, scenario, asked, input, &mut Nowhere::new(), report) {
