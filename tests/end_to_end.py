@@ -6,9 +6,14 @@ program's own output.
 """
 import os
 import pathlib
+import random
+import shutil
+import struct
 import subprocess
 import sys
 import tempfile
+
+import model
 
 TOP = pathlib.Path(__file__).resolve().parent.parent
 PROGRAM = str(TOP / "bin" / "maglev")
@@ -49,14 +54,6 @@ def misused(name, arguments):
     """The command line isn't one: status 2, nothing on standard output, a text on standard error."""
     status, out, err = run(arguments)
     check(name, status == 2 and out == b"" and err != b"", f"{status} {out!r} {err!r}")
-
-
-def fnv(data):
-    """FNV-1a of 64 bits."""
-    state = 0xCBF29CE484222325
-    for byte in data:
-        state = (state ^ byte) * 0x100000001B3 % 2**64
-    return state
 
 
 def table_text(size, names, plain):
@@ -101,7 +98,7 @@ def test_table():
     faults("the size before the hash", ["table", "--size", "8", "--hash", "md5", "_"], "BadSize")
     for slots, names in [(13, ["web-1", "web-2"]), (251, ["a", "b", "c.d", "E"]), (65537, ["A", "B", "C"])]:
         words = ["table", "--size", str(slots), "--hash", "fnv", *names]
-        prints(f"table of {slots} slots", words, table_text(slots, names, fnv))
+        prints(f"table of {slots} slots", words, table_text(slots, names, model.fnv))
     status, out, _ = run(["table", "--size", "65537", "--hash", "fnv", "A", "B", "C"])
     check("counts of 65537 slots", status == 0 and out.endswith(b"count A 21846\ncount B 21846\ncount C 21845\n"))
     with tempfile.TemporaryDirectory() as folder:
@@ -152,6 +149,346 @@ def test_compare():
     misused("compare with one list", [*words, "--old", old])
 
 
+ALL = ["A@10.8.0.1", "B@10.8.0.2", "C@10.8.0.3"]
+B_DOWN = ["A@10.8.0.1", "B@10.8.0.2/down", "C@10.8.0.3"]
+A_DOWN = ["A@10.8.0.1/down", "B@10.8.0.2", "C@10.8.0.3"]
+A_MOVED = ["A@10.8.0.9", "B@10.8.0.2", "C@10.8.0.3"]
+HEAD = bytes.fromhex("a1b23c4d0002000400000000000000000000ffff00000065")
+WRITTEN_HEAD = bytes.fromhex("d4c3b2a1020004000000000000000000ffff000065000000")
+P = bytes.fromhex(TCP)
+# P in GRE, from 10.9.0.1 to 10.8.0.1, at 1 second and 999,999 microseconds.
+SENT = bytes.fromhex("4500004000004000402f267d0a0900010a08000100000800") + P
+SENT_RECORD = bytes.fromhex("010000003f420f004000000040000000") + SENT
+
+
+def listed(values):
+    """A TOML array of texts or numbers."""
+    return "[" + ", ".join(f'"{value}"' if isinstance(value, str) else str(value) for value in values) + "]"
+
+
+def scenario(steps, versions=(ALL, B_DOWN), scheme="maglev", workers=1, more=""):
+    """A scenario of a table of 7 slots, two nodes, spreading by turn, and tables of two entries."""
+    text = 'format = 1\nsize = 7\nhash = "sum"\nspread = "turn"\ncapacity = 2\nnodes = ["10.9.0.1", "10.9.0.2"]\n'
+    text += f'scheme = "{scheme}"\nworkers = {workers}\n{more}steps = {listed(steps)}\n'
+    for number, members in enumerate(versions, 1):
+        text += f'[[versions]]\nnumber = {number}\n[[versions.services]]\nvip = "192.0.2.1"\nproto = "tcp"\nport = 80\n'
+        text += f"members = {listed(members)}\n"
+    return text
+
+
+def record(data):
+    """A record at 1 second and 999,999,999 nanoseconds."""
+    return struct.pack(">4I", 1, 999999999, len(data), len(data)) + data
+
+
+def capture(letters):
+    """A packet for each letter: y, z and x are the flows from ports 1000, 1001 and 1006."""
+    ports = {"y": 0xE8, "z": 0xE9, "x": 0xEE}
+    return HEAD + b"".join(record(P[:21] + bytes([ports[letter]]) + P[22:]) for letter in letters)
+
+
+def report(packets, forwarded, received=None, lost=0, unrouted=0, skipped=0, left=0, cut="no", drops="", waiting=0, refused=0):
+    """A report's text."""
+    received = packets if received is None else received
+    head = f"packets {packets}\nlost {lost}\nunrouted {unrouted}\nskipped {skipped}\nleft {left}\ncut {cut}\n"
+    return head + f"received {received}\nforwarded {forwarded}\n{drops}waiting {waiting}\nrefused {refused}\n"
+
+
+def with_files(text, data, use):
+    """Calls with a folder that holds this scenario and this capture."""
+    with tempfile.TemporaryDirectory() as folder:
+        if text is not None:
+            (pathlib.Path(folder) / "s.toml").write_bytes(text if isinstance(text, bytes) else text.encode())
+        if data is not None:
+            (pathlib.Path(folder) / "in.pcap").write_bytes(data)
+        return use(pathlib.Path(folder))
+
+
+def simulated(text, data, words=()):
+    """Status, standard output, standard error and OUTPUT (None where there is none) of `simulate`."""
+
+    def use(folder):
+        answer = run(["simulate", *words, "s.toml", "in.pcap", "out.pcap"], cwd=folder)
+        out = folder / "out.pcap"
+        return (*answer, out.read_bytes() if out.exists() else None)
+
+    return with_files(text, data, use)
+
+
+def simulates(name, text, data, expected, output=None, words=()):
+    """`simulate` prints this text, and where OUTPUT is given writes exactly that."""
+    status, out, err, made = simulated(text, data, words)
+    check(name, (status, out, err) == (0, expected.encode(), b""), f"{status} {out!r} {err!r}")
+    if output is not None:
+        check(name + ", what is written", made == output, repr(made))
+
+
+def lists(name, text, letters, forwards):
+    """The events of `--list` whose outcome is a forward or a drop have these outcomes, by their numbers."""
+    status, out, err, _ = simulated(text, capture(letters), ["--list"])
+    lines = [line.split(" ", 1) for line in out.decode().split("packets ")[0].splitlines()]
+    found = {int(place): line.split(": ")[1] for place, line in lines if ": forward" in line or ": drop" in line}
+    check(name, (status, err) == (0, b"") and found == forwards, f"{status} {found} {err!r}")
+
+
+def stops(name, text, data, fault, output, words=()):
+    """`simulate` ends with this fault and nothing on standard output, and OUTPUT holds this (None: it wasn't made)."""
+    status, out, err, made = simulated(text, data, words)
+    is_right = (status, out, err, made) == (1, b"", f"fault: {fault}\n".encode(), output)
+    check(name, is_right, f"{status} {out!r} {err!r} {made!r}")
+
+
+def explains(name, text, letters, one, other, line):
+    """`explain` prints this line."""
+    words = ["explain", "s.toml", "in.pcap", str(one), str(other)]
+    status, out, err = with_files(text, capture(letters), lambda folder: run(words, cwd=folder))
+    check(name, (status, out, err) == (0, (line + "\n").encode(), b""), f"{status} {out!r} {err!r}")
+
+
+def test_simulate_rows():
+    apart = scenario(["install 0 1", "install 1 2", "take 2"])
+    simulates("two nodes, two versions", apart, capture("xx"), report(2, 2))
+    lists("two nodes, two versions, listed", apart, "xx", {3: "forward A@10.8.0.1 from 1", 5: "forward C@10.8.0.3 from 2"})
+    explains("a split", apart, "xx", 3, 5, "split slot 5 version 1 A@10.8.0.1 version 2 C@10.8.0.3")
+    explains("one backend", apart, "yy", 3, 5, "same")
+    explains("an event that sends nothing", apart, "xx", 2, 5, "not sent")
+    explains("an event that isn't there", apart, "xx", 3, 2**64 - 1, "not sent")
+    explains("two flows", apart, "xy", 3, 5, "other flow")
+    text = scenario(["live 0", "install 0 1", "take 1", "install 0 2", "take 1"])
+    events = """0 install 0 1: installed
+1 arrive 0 0: placed 0
+2 serve 0 0 1: forward B@10.8.0.2 from 1
+3 install 0 2: installed
+4 arrive 0 1: placed 0
+5 serve 0 0 2: forward A@10.8.0.1 from 2
+"""
+    simulates("a listing", text, capture("zz"), events + report(2, 2), words=["--list"])
+    a1, a2, c2 = "forward A@10.8.0.1 from 1", "forward A@10.8.0.1 from 2", "forward C@10.8.0.3 from 2"
+    text = scenario(["live 0", "install 0 1", "take 1", "install 0 2", "take 6"])
+    lists("an entry stands and is dropped", text, "xyyxyzx", {2: a1, 5: a2, 7: a2, 9: a1, 11: a2, 13: a2, 15: c2})
+    explains("why it changed", text, "xyyxyzx", 9, 15, "split slot 5 version 1 A@10.8.0.1 version 2 C@10.8.0.3")
+    text = scenario(["live 0", "install 0 1", "full 0 1", "take 4", "full 0 0 1 2", "take 1"], workers=3)
+    _, out, _, _ = simulated(text, capture("yyyyy"), ["--list"])
+    arrivals = [line.split(": ")[1] for line in out.decode().splitlines() if " arrive " in line]
+    check("full rings", arrivals == ["placed 0", "placed 2", "placed 2", "placed 0", "drop RingsFull"], repr(arrivals))
+    text = scenario(["live 0", "install 0 1", "take 1", "install 0 3", "take 1"], [ALL, B_DOWN, A_MOVED])
+    lists("an address changes under an entry", text, "yy", {2: a1, 5: "forward A@10.8.0.9 from 3"})
+    steps = ["live 0", "install 0 1", "take 1", "install 0 2", "install 0 3", "take 1"]
+    lists("a backend comes back unseen", scenario(steps, [ALL, A_DOWN, ALL]), "yy", {2: a1, 6: a1})
+    steps.insert(4, "take 1")
+    b2 = "forward B@10.8.0.2 from 2"
+    lists("a backend comes back", scenario(steps, [ALL, A_DOWN, ALL]), "yyy", {2: a1, 5: b2, 8: b2})
+    apart = scenario(["install 0 1", "install 1 2", "take 2"], scheme="plain")
+    lists("plain hashing", apart, "yy", {3: "forward C@10.8.0.3 from 1", 5: c2})
+    explains("plain hashing agrees", apart, "yy", 3, 5, "same")
+    text = scenario(["install 0 1", "install 1 1", "take 3"], scheme="round")
+    lists("round robin", text, "yxx", {3: a1, 5: a1, 7: "forward B@10.8.0.2 from 1"})
+    explains("round robin splits", text, "yxx", 7, 5, "split slot 5 version 1 B@10.8.0.2 version 1 A@10.8.0.1")
+
+
+def test_simulate_captures():
+    text = scenario(["install 0 1", "take 1"])
+    output = WRITTEN_HEAD + SENT_RECORD
+    simulates("no record", text, HEAD, report(0, 0), WRITTEN_HEAD)
+    simulates("one record", text, HEAD + record(P), report(1, 1), output)
+    frame = HEAD[:23] + b"\x01" + record(bytes(12) + b"\x08\x00" + P + bytes(6))
+    simulates("an Ethernet frame with padding", text, frame, report(1, 1), output)
+    fragment = P[:6] + b"\x20" + P[7:10] + b"\x8e" + P[11:]
+    simulates("a fragment", text, HEAD + record(fragment), report(1, 0, drops="drop Fragment 1\n"), WRITTEN_HEAD)
+    wrong = P[:11] + b"\xce" + P[12:]
+    simulates("a wrong checksum", text, HEAD + record(wrong), report(1, 0, drops="drop BadChecksum 1\n"), WRITTEN_HEAD)
+    untested = scenario(["install 0 1", "take 1"], more="check = false\n")
+    simulates("a wrong checksum, not tested", untested, HEAD + record(wrong), report(1, 1), output.replace(P, wrong))
+    simulates("a cut record", text, (HEAD + record(P))[:-1], report(0, 0, cut="yes"), WRITTEN_HEAD)
+    simulates("a snapped record", text, HEAD + record(P[:28]), report(1, 0, drops="drop Truncated 1\n"), WRITTEN_HEAD)
+    segment = P[:2] + bytes(2) + P[4:]
+    simulates("a total length of 0", text, HEAD + record(segment), report(1, 0, drops="drop BadHeader 1\n"), WRITTEN_HEAD)
+    held = scenario(["live 0", "install 0 1", "hold 0", "take 2", "restart 0", "take 1"])
+    simulates("lost at a restart", held, capture("yyy"), report(3, 1, drops="drop LostAtRestart 2\n"))
+    odd = scenario(["install 0 1", "again 0", "live", "take 1", "install 0 7"])
+    simulates("counts", odd, capture("yy"), report(2, 0, received=0, unrouted=1, skipped=1, left=1, refused=1), WRITTEN_HEAD)
+    long = struct.pack(">4I", 0, 0, 262145, 262145) + bytes(262145)
+    # What is sent before the fault is found may be written or not, but never half of it.
+    answer = simulated(text, HEAD + record(P) + long)
+    is_right = answer[:3] == (1, b"", b"fault: TooLong\n") and answer[3] in (WRITTEN_HEAD, output)
+    check("a record that is too long", is_right, repr(answer))
+    stops("pcapng", text, bytes.fromhex("0a0d0d0a") + bytes(40), "BadMagic", None)
+    stops("a version that isn't 2.4", text, HEAD[:7] + b"\x03" + HEAD[8:], "BadVersion", None)
+    stops("Linux cooked capture", text, HEAD[:23] + b"\x71", "BadLink", None)
+    stops("an empty file", text, b"", "ShortHeader", None)
+
+
+def test_simulate_faults():
+    good = scenario(["install 0 1", "take 1"])
+    stops("no TOML", "format = ", HEAD, "BadToml", None)
+    stops("no UTF-8", b"format = 1 # \xff\n", HEAD, "BadToml", None)
+    stops("another format", good.replace("format = 1", "format = 2"), HEAD, "BadFormat", None)
+    stops("an unknown key", "color = 1\n" + good, HEAD, "BadKey", None)
+    stops("a member that isn't one", good.replace("10.8.0.1", "10.8.0.01"), HEAD, "BadMember", None)
+    stops("a double name", good.replace("B@", "A@"), HEAD, "DoubleName", None)
+    stops("a double version", scenario([]).replace("number = 2", "number = 1"), HEAD, "NumberTaken", None)
+    stops("a step that isn't one", scenario(["install 0 1", "take 1", "install 2 1"]), HEAD, "BadStep 2", None)
+    stops("a scenario of 1,048,577 bytes", good.ljust(1048577, "\n"), HEAD, "TooLong", None)
+    simulates("a scenario of 1,048,576 bytes", good.ljust(1048576, "\n"), HEAD, report(0, 0), WRITTEN_HEAD)
+    stops("no scenario", None, HEAD, "OpenScenario", None)
+    stops("no scenario and no input", None, None, "OpenScenario", None)
+    stops("no input", good, None, "OpenInput", None)
+    stops("a bad scenario and no input", scenario(["take"]), None, "BadStep 0", None)
+    words = ["explain", "s.toml", "in.pcap", "0", "1"]
+    answer = with_files(good, None, lambda folder: run(words, cwd=folder))
+    check("explain of no input", answer == (1, b"", b"fault: OpenInput\n"), repr(answer))
+
+    def use(folder):
+        simulate = ["simulate", "s.toml", "in.pcap"]
+        faults("a folder as a scenario", ["simulate", ".", "in.pcap", "out"], "ReadScenario", cwd=folder)
+        faults("a folder as an input", ["simulate", "s.toml", ".", "out"], "Read", cwd=folder)
+        check("OUTPUT isn't made", not (folder / "out").exists())
+        faults("a folder as an output", [*simulate, "."], "OpenOutput", cwd=folder)
+        faults("an output in no folder", [*simulate, "none/out"], "OpenOutput", cwd=folder)
+        faults("an output that can't be written", [*simulate, "/dev/full"], "Write", cwd=folder)
+        (folder / "old").write_bytes(b"old")
+        faults("a bad header", ["simulate", "s.toml", "s.toml", "old"], "BadMagic", cwd=folder)
+        check("OUTPUT isn't emptied", (folder / "old").read_bytes() == b"old")
+        for arguments in [[*simulate, "out"], ["explain", "s.toml", "in.pcap", "0", "1"]]:
+            with open("/dev/full", "wb") as full:
+                status, _, err = run(arguments, cwd=folder, stdout=full)
+            check(f"{arguments[0]}: a report that can't be written", (status, err) == (1, b"fault: Write\n"), f"{status} {err!r}")
+        check("OUTPUT stands before the report", (folder / "out").read_bytes() == WRITTEN_HEAD + SENT_RECORD)
+
+    with_files(good, capture("y"), use)
+    misused("explain of a word", ["explain", "s.toml", "in.pcap", "one", "2"])
+    misused("explain of a number that doesn't fit", ["explain", "s.toml", "in.pcap", "0", str(2**64)])
+    misused("explain of one event", ["explain", "s.toml", "in.pcap", "0"])
+    misused("simulate without an output", ["simulate", "s.toml", "in.pcap"])
+
+
+def random_capture(source):
+    """A capture of datagrams of a few flows, some of which are spoiled."""
+    packets = []
+    for _ in range(source.randrange(60)):
+        if source.random() < 0.3:
+            packet = bytearray.fromhex(UDP)
+        else:
+            packet = bytearray(P)
+        packet[21] = source.choice([0xE8, 0xE9, 0xEC, 0xEE, 0xF0])
+        if source.random() < 0.2:
+            packet[source.randrange(len(packet))] ^= 1 << source.randrange(8)
+        packets.append(record(bytes(packet[: source.choice([60, 60, 60, source.randrange(61)])])))
+    data = HEAD + b"".join(packets)
+    return data[: len(data) - source.choice([0, 0, 1, 17])] if packets else data
+
+
+def random_steps(source, nodes, workers):
+    """Steps of every kind."""
+    steps = [f"install {node} 1" for node in range(nodes) if source.random() < 0.8]
+    for _ in range(source.randrange(40)):
+        node = source.randrange(nodes)
+        some = " ".join(str(worker) for worker in source.sample(range(workers), source.randrange(workers + 1)))
+        live = " ".join(str(one) for one in source.sample(range(nodes), source.randrange(nodes + 1)))
+        steps.append(
+            source.choice(
+                [
+                    f"install {node} {source.randrange(6)}", f"take {source.randrange(9)}", f"take {source.randrange(9)}",
+                    f"take {source.randrange(9)}", f"lose {source.randrange(3)}", f"again {source.randrange(20)}",
+                    f"full {node} {some}".strip(), f"live {live}".strip(), f"hold {node}", f"drain {node}", f"restart {node}",
+                ]
+            )
+        )
+    return steps
+
+
+def random_scenario(source):
+    """A scenario with all that a scenario may have."""
+    nodes, workers = source.randrange(1, 4), source.randrange(1, 5)
+    text = f'format = 1\nsize = {source.choice([7, 13, 251])}\nhash = "{source.choice(["fnv", "sha256", "sum"])}"\n'
+    text += f'scheme = "{source.choice(["maglev", "maglev", "plain", "round"])}"\nspread = "{source.choice(["hash", "turn"])}"\n'
+    text += f"workers = {workers}\ncapacity = {source.randrange(1, 5)}\ncheck = {source.choice(['true', 'false'])}\n"
+    text += f"nodes = {listed([f'10.9.0.{node}' for node in range(nodes)])}\nsteps = {listed(random_steps(source, nodes, workers))}\n"
+    for number in range(1, 5):
+        text += f"[[versions]]\nnumber = {number}\nservices = ["
+        for proto, port in [("tcp", 80), ("udp", 53)]:
+            if source.random() < 0.9:
+                names = source.sample("ABCDEFG", source.randrange(8))
+                members = [f"{name}@10.8.{source.randrange(2)}.{ord(name)}{source.choice(['', '', '/down'])}" for name in names]
+                text += f'{{ vip = "192.0.2.1", proto = "{proto}", port = {port}, members = {listed(members)} }}, '
+        text += "]\n"
+    return text
+
+
+def test_against_the_model():
+    """What random scenarios print and write is what the plain model says."""
+    for seed in range(60):
+        source = random.Random(seed)
+        text, data = random_scenario(source), random_capture(source)
+        expected = model.Run(text, data)
+        whole = expected.listing() + expected.report()
+        simulates(f"scenario {seed} of the model", text, data, whole, expected.output(), ["--list"])
+        sends = {place: event[2][2:4] for place, event in enumerate(expected.events) if event[1].startswith("forward")}
+        places = list(sends) or [0]
+        split = [(a, b) for a in sends for b in sends if sends[a][0] == sends[b][0] and sends[a][1] != sends[b][1]]
+        for one, other in [(source.choice(places), source.choice(places)), *(split and [source.choice(split)])]:
+            words = ["explain", "s.toml", "in.pcap", str(one), str(other)]
+            answer = with_files(text, data, lambda folder: run(words, cwd=folder))
+            line = expected.explained(one, other).encode()
+            check(f"explain {one} {other} of scenario {seed}", answer == (0, line, b""), f"{answer} {line!r}")
+
+
+def commands_of(page):
+    """The commands of a page, as words, each with the lines that it prints."""
+    found = []
+    for line in page.splitlines():
+        text = line.strip()
+        if line.startswith("    ") and text.startswith("$ "):
+            found.append((text.split()[1:], []))
+        elif line.startswith("    ") and found:
+            found[-1][1].append(text)
+    return [(words, "".join(line + "\n" for line in lines)) for words, lines in found]
+
+
+def test_examples():
+    """Each command of the examples' page prints what stands there, which is what the model says."""
+    folder = TOP / "examples"
+    text, data = (folder / "failover.toml").read_text(), (folder / "failover.pcap").read_bytes()
+    expected = model.Run(text, data)
+    commands = commands_of((folder / "README.md").read_text())
+    check("the examples' commands", [words[1] for words, _ in commands] == ["simulate"] + ["explain"] * 4, repr(commands))
+    with tempfile.TemporaryDirectory() as made:
+        for (_, command, *words), printed in commands:
+            out = pathlib.Path(made) / "sent.pcap"
+            prints(f"{command} of the examples", [command, *(str(out) if word == out.name else word for word in words)], printed)
+            if command == "simulate":
+                check("the examples' listing and report", printed == expected.listing() + expected.report(), printed)
+                check("what the example sends", out.read_bytes() == expected.output())
+            else:
+                check("an example explained", printed == expected.explained(int(words[-2]), int(words[-1])), printed)
+        other = pathlib.Path(made) / "in.pcap"
+        subprocess.run([sys.executable, str(folder / "make_capture.py"), str(other)], check=True)
+        check("the example's capture", other.read_bytes() == data)
+
+
+def test_by_tshark():
+    """Another reader of captures sees IPv4, GRE and the inner IPv4, with a good outer checksum."""
+    if shutil.which("tshark") is None:
+        print("tshark isn't installed: its reading of OUTPUT is skipped")
+        return
+
+    def use(folder):
+        run(["simulate", "s.toml", "in.pcap", "out.pcap"], cwd=folder)
+        words = ["tshark", "-r", "out.pcap", "-o", "ip.check_checksum:TRUE", "-T", "fields", "-e", "frame.protocols"]
+        words += ["-e", "ip.checksum.status", "-e", "ip.src", "-e", "ip.dst", "-e", "gre.proto", "-e", "ip.len"]
+        return subprocess.run(words, cwd=folder, capture_output=True, timeout=120)
+
+    done = with_files(scenario(["install 0 1", "install 1 2", "take 4"]), capture("yzxy"), use)
+    backends = [("1", "1"), ("2", "1"), ("1", "1"), ("2", "1")]
+    lines = [line.split("\t") for line in done.stdout.decode().splitlines()]
+    seen = [(line[0][:12], *line[1:]) for line in lines]
+    expected = [
+        ("raw:ip:gre:ip", "1,1", f"10.9.0.{node},10.0.0.1", f"10.8.0.{backend},192.0.2.1", "0x0800", "64,40")
+        for node, backend in backends
+    ]
+    check("what tshark sees", seen == [(line[0][:12], *line[1:]) for line in expected], repr(lines))
+
+
 def test_command_line():
     misused("no subcommand", [])
     misused("an unknown subcommand", ["tables"])
@@ -160,7 +497,7 @@ def test_command_line():
     misused("a size that isn't a number", ["table", "--size", "seven", "--hash", "sum", "A"])
     misused("a size that doesn't fit", ["table", "--size", "4294967296", "--hash", "sum", "A"])
     misused("a negative size", ["table", "--size", "-7", "--hash", "sum", "A"])
-    for words in [["--help"], ["table", "--help"], ["pick", "--help"], ["compare", "--help"]]:
+    for words in [["--help"], ["table", "--help"], ["pick", "--help"], ["compare", "--help"], ["simulate", "--help"], ["explain", "--help"]]:
         status, out, err = run(words)
         check(" ".join(words), status == 0 and b"Usage" in out and err == b"", f"{status} {out!r} {err!r}")
 

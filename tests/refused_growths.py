@@ -23,6 +23,29 @@ TABLE = "size 7 backends 3\n0 B\n1 A\n2 B\n3 C\n4 C\n5 A\n6 A\ncount A 3\ncount 
 MOVED = "size 7 old 3 new 2 differ 3\n0 B@10.8.0.2 A@10.8.0.1\n2 B@10.8.0.2 A@10.8.0.1\n5 A@10.8.0.1 C@10.8.0.3\n"
 TCP = b"45000028000100004006aecd0a000001c000020103e8005000000001000000005002200000000000"
 
+SCENARIO = b"""format = 1
+size = 7
+hash = "sum"
+scheme = "maglev"
+spread = "turn"
+workers = 1
+capacity = 2
+nodes = ["10.9.0.1", "10.9.0.2"]
+steps = ["install 0 1", "take 1"]
+[[versions]]
+number = 1
+services = [{ vip = "192.0.2.1", proto = "tcp", port = 80, members = ["A@10.8.0.1", "B@10.8.0.2", "C@10.8.0.3"] }]
+"""
+# One record of the datagram, big-endian and in nanoseconds, and what is sent for it.
+CAPTURE = bytes.fromhex("a1b23c4d0002000400000000000000000000ffff00000065000000013b9ac9ff0000002800000028" + TCP.decode())
+SENT = bytes.fromhex(
+    "d4c3b2a1020004000000000000000000ffff000065000000010000003f420f004000000040000000"
+    "4500004000004000402f267d0a0900010a08000100000800" + TCP.decode()
+)
+EVENTS = "0 install 0 1: installed\n1 arrive 0 0: placed 0\n2 serve 0 0 1: forward A@10.8.0.1 from 1\n"
+REPORT = "packets 1\nlost 0\nunrouted 0\nskipped 0\nleft 0\ncut no\nreceived 1\nforwarded 1\nwaiting 0\nrefused 0\n"
+FILES = {"s.toml": SCENARIO, "in.pcap": CAPTURE}
+
 
 @dataclasses.dataclass
 class Case:
@@ -40,6 +63,9 @@ CASES = [
     Case(["table", "--size", "7", "--hash", "sum", "A", "B", "C"], TABLE),
     Case(["compare", "--size", "7", "--hash", "sum", "--old", THREE, "--new", THREE.replace(".2", ".2/down")], MOVED),
     Case(["pick", "--size", "7", "--hash", "sum", "A", "B", "C"], "tcp 10.0.0.1:1000>192.0.2.1:80 slot 6 backend A\n", TCP),
+    Case(["simulate", "s.toml", "in.pcap", "out.pcap"], REPORT, files=FILES, written={"out.pcap": SENT}),
+    Case(["simulate", "--list", "s.toml", "in.pcap", "out.pcap"], EVENTS + REPORT, files=FILES, written={"out.pcap": SENT}),
+    Case(["explain", "s.toml", "in.pcap", "2", "2"], "same\n", files=FILES),
 ]
 
 

@@ -90,6 +90,71 @@ fn compare<'a>(alloc: Global) -> Result<Command<'a>, Error> {
     Ok(compare)
 }
 
+fn file<'a>(alloc: Global, id: &'a str, name: &'a str, help: &'a str) -> Arg<'a> {
+    Arg::new(alloc, id)
+        .value_name(name)
+        .help(help)
+        .required(true)
+        .action(ArgAction::Set)
+}
+
+fn scenario<'a>(alloc: Global) -> Arg<'a> {
+    let help = "file of the scenario: TOML, at most 1,048,576 bytes";
+    file(alloc, "scenario", "SCENARIO", help)
+}
+
+fn input<'a>(alloc: Global) -> Arg<'a> {
+    let help = "capture that is read: classic pcap of Ethernet or raw IP";
+    file(alloc, "input", "INPUT", help)
+}
+
+fn event<'a>(alloc: Global, id: &'a str, name: &'a str) -> Arg<'a> {
+    Arg::new(alloc, id)
+        .value_name(name)
+        .help("number of an event, from 0, as simulate --list prints it")
+        .required(true)
+        .action(ArgAction::Set)
+        .value_parser(value_parser!(u64))
+}
+
+fn simulate<'a>(alloc: Global) -> Result<Command<'a>, Error> {
+    let list = Arg::new(alloc, "list")
+        .long("list")
+        .help("print each event and what it came to before the report")
+        .action(ArgAction::SetTrue);
+    let output = file(
+        alloc,
+        "output",
+        "OUTPUT",
+        "capture that is written: what the cluster sends, in GRE",
+    );
+    let simulate = Command::new(alloc, "simulate")
+        .about(
+            "Plays a scenario over a capture, writes what the cluster sends, and prints a report",
+        )
+        .after_help(
+            "Example: maglev simulate --list examples/failover.toml examples/failover.pcap sent.pcap",
+        )
+        .arg(list)?
+        .arg(scenario(alloc))?
+        .arg(input(alloc))?
+        .arg(output)?;
+    Ok(simulate)
+}
+
+fn explain<'a>(alloc: Global) -> Result<Command<'a>, Error> {
+    let explain = Command::new(alloc, "explain")
+        .about(
+            "Plays a scenario over a capture, and prints why the packets of two events went where they went",
+        )
+        .after_help("Example: maglev explain examples/failover.toml examples/failover.pcap 13 15")
+        .arg(scenario(alloc))?
+        .arg(input(alloc))?
+        .arg(event(alloc, "one", "I"))?
+        .arg(event(alloc, "other", "J"))?;
+    Ok(explain)
+}
+
 /// The command line of the program.
 pub fn command<'a>(alloc: Global) -> Result<Command<'a>, Error> {
     let whole = Command::new(alloc, "maglev")
@@ -97,6 +162,8 @@ pub fn command<'a>(alloc: Global) -> Result<Command<'a>, Error> {
         .subcommand_required(true)
         .subcommand(table(alloc)?)?
         .subcommand(pick(alloc)?)?
-        .subcommand(compare(alloc)?)?;
+        .subcommand(compare(alloc)?)?
+        .subcommand(simulate(alloc)?)?
+        .subcommand(explain(alloc)?)?;
     Ok(whole)
 }

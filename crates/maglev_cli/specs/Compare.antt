@@ -1,5 +1,5 @@
 -- The command `compare`: the slots that name another backend after a pool change.
-use Rattle.std.specs.Prelude.{◌≡◌, ℕ, ◌++◌, ◌∷◌, [], Bool, true, false, not, ◌||◌, nat_lt, List, map, filter, length, Option, Some, None, is_none, codes, Contains, ◌⊎◌}
+use Rattle.std.specs.Prelude.{◌≡◌, ℕ, ◌++◌, Bool, true, false, not, ◌||◌, nat_lt, List, map, filter, length, Option, Some, None, is_none, codes, Contains, ◌⊎◌}
 use Rattle.std.specs.List.{flat_map, range_with_len}
 use Rattle.std.specs.Fmt.{decimal}
 use Rattle.std.specs.Io.KnownBytes.{Appends}

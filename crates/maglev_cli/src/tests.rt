@@ -1,4 +1,6 @@
 use super::{CliFault, compare, finish, pick, table};
+use pcap_file::PcapFault;
+use pool_versions::PoolFault;
 use std::alloc::Global;
 use std::io::{self, Read, Write};
 use std::process::Abort;
@@ -90,6 +92,12 @@ fn faults_are_shown(rt: HostRuntime) {
         "fault: TooMany\n",
     );
     shown(&rt, rt.alloc(), Err(CliFault::Memory), 1, "fault: Memory\n");
+    let number = CliFault::Pool(PoolFault::NumberTaken);
+    shown(&rt, rt.alloc(), Err(number), 1, "fault: NumberTaken\n");
+    let magic = CliFault::Capture(PcapFault::BadMagic);
+    shown(&rt, rt.alloc(), Err(magic), 1, "fault: BadMagic\n");
+    let step = CliFault::BadStep(99_999);
+    shown(&rt, rt.alloc(), Err(step), 1, "fault: BadStep 99999\n");
     assert_eq!(rt; finish(&Err(CliFault::BadSize), &mut Broken), 1);
 }
 

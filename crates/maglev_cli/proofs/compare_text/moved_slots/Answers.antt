@@ -1,5 +1,4 @@
-use Rattle.std.proofs.Common.{◌≡◌, ◌<◌, ℕ, [], refl, arith, ◌∙◌, sym}
-use Rattle.std.specs.List.{All}
+use Rattle.std.proofs.Common.{◌<◌, ℕ, [], ◌∙◌, sym}
 use Rattle.std.proofs.lemmas.List.Elements.{All-push}
 use Rattle.maglev_table.proofs.Walks.{kept_yes, kept_no}
 use Rattle.maglev_cli.specs.Compare.{is_moved}

@@ -1,4 +1,4 @@
-use Rattle.std.proofs.Common.{◌≡◌, ◌∙◌, sym}
+use Rattle.std.proofs.Common.{◌∙◌, sym}
 use Rattle.std.proofs.lemmas.List.Folds.{list_all-map}
 use Rattle.maglev_table.specs.NameText.{is_name}
 use Rattle.maglev_cli.proofs.names.are_names.Goals as goal

@@ -1,4 +1,4 @@
-use Rattle.std.proofs.Common.{rules, ◌≡◌, ◌<◌, ◌≤◌, ◌-◌, ◌≢◌, ◌∙◌, List, ℕ, suc, get_or, [], Ordering, Less, sym, ap, subst, refl, true, false, not, length, arith}
+use Rattle.std.proofs.Common.{◌≡◌, ◌<◌, ◌-◌, ◌≢◌, ◌∙◌, List, ℕ, suc, get_or, [], Ordering, Less, sym, ap, subst, length, arith}
 use Rattle.std.specs.Cmp.Lexicographic.{slice_cmp}
 use Rattle.std.specs.Ordering.{nat_cmp}
 use Rattle.maglev_cli.proofs.Lines.{read_name, not_less}

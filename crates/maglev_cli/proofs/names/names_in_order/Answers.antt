@@ -1,10 +1,8 @@
-use Rattle.std.proofs.Common.{rules, ◌≡◌, ◌<◌, ◌+◌, ◌≢◌, ◌∙◌, map, List, ℕ, suc, get_or, [], Less, sym, ap, subst, refl, true, false, length, arith, Bor, IsPermutation, add-one}
+use Rattle.std.proofs.Common.{rules, ◌≡◌, ◌<◌, ◌+◌, ◌≢◌, map, List, ℕ, suc, get_or, [], Less, subst, true, false, length, arith, IsPermutation, add-one}
 use Rattle.std.specs.Cmp.Lexicographic.{slice_cmp}
 use Rattle.std.specs.Ordering.{nat_cmp, is_lt}
 use Rattle.std.specs.List.{list_all}
 use Rattle.maglev_table.specs.NameText.{is_name}
-use Rattle.maglev_cli.specs.Text.{IsAscending}
-use Rattle.maglev_cli.specs.Refusals.{AreNames}
 use Rattle.maglev_cli.proofs.Lines.{tie, double_words, distinct_words, all_names}
 use Rattle.maglev_cli.proofs.names.names_in_order.Goals as goal
 

@@ -1,0 +1,105 @@
+//! The commands that play a scenario, over files.
+use crate::files::{InputFile, Kept, OutputFile};
+use maglev_cli::{CliFault, explain_run, simulate};
+use pcap_file::{FromRead, PcapFault, ToWrite};
+use std::fs::File;
+use std::io;
+use std::io::{ErrorKind, Read, Write};
+
+/// The most bytes of a scenario that are read: one more than it may have.
+const MOST: u64 = 1_048_577;
+
+// The text of a scenario's file, up to the bytes that show that it is too long.
+fn scenario_text(rt: &HostRuntime, path: &str) -> Result<Vec<u8>, CliFault> {
+    let Ok(file) = File::open(rt, path) else {
+        return Err(CliFault::OpenScenario);
+    };
+    let mut text = Vec::new(rt.alloc());
+    match file.take(MOST).read_to_end(&mut text) {
+        Ok(_) => Ok(text),
+        Err(error) if error.kind() == ErrorKind::OutOfMemory => Err(CliFault::Memory),
+        Err(_) => Err(CliFault::ReadScenario),
+    }
+}
+
+// A fault of reading, where opening the input may have been refused.
+fn of_input(fault: CliFault, input: &InputFile<'_>) -> CliFault {
+    match fault {
+        CliFault::Capture(PcapFault::Read) => input.fault().unwrap_or(fault),
+        fault => fault,
+    }
+}
+
+// A fault of writing, where opening the output or keeping the report may have been refused.
+fn of_output(fault: CliFault, output: &OutputFile<'_>, report: &Kept) -> CliFault {
+    match fault {
+        CliFault::Write => output.fault().or(report.fault()).unwrap_or(fault),
+        fault => fault,
+    }
+}
+
+// Writes out what the output's buffer holds.
+fn flushed(output: &mut OutputFile<'_>) -> Result<(), CliFault> {
+    match output.flush() {
+        Ok(()) => Ok(()),
+        Err(_) => Err(CliFault::Write),
+    }
+}
+
+fn printed(rt: &HostRuntime, text: &[u8]) -> Result<(), CliFault> {
+    match io::writer(rt).write_all(text) {
+        Ok(()) => Ok(()),
+        Err(_) => Err(CliFault::Write),
+    }
+}
+
+/// The command `simulate` over files. The report is printed once the output is written out.
+pub fn simulate_files(
+    rt: &HostRuntime,
+    scenario: &str,
+    input: &str,
+    output: &str,
+    list: bool,
+) -> Result<(), CliFault> {
+    let text = scenario_text(rt, scenario)?;
+    let mut input = FromRead::new(InputFile::new(rt, input));
+    let mut output = ToWrite::new(OutputFile::new(rt, output));
+    let mut report = ToWrite::new(Kept::new(rt.alloc()));
+    let scenario = text.as_slice();
+    let outcome = simulate(
+        rt.alloc(),
+        scenario,
+        &mut input,
+        &mut output,
+        &mut report,
+        list,
+    );
+    let mut output = output.into_inner();
+    let report = report.into_inner();
+    flushed(&mut output)?;
+    match outcome {
+        Ok(()) => printed(rt, report.text()),
+        Err(fault) => {
+            let fault = of_input(fault, &input.into_inner());
+            Err(of_output(fault, &output, &report))
+        }
+    }
+}
+
+/// The command `explain` over files.
+pub fn explain_files(
+    rt: &HostRuntime,
+    scenario: &str,
+    input: &str,
+    one: u64,
+    other: u64,
+) -> Result<(), CliFault> {
+    let text = scenario_text(rt, scenario)?;
+    let mut input = FromRead::new(InputFile::new(rt, input));
+    let mut report = ToWrite::new(io::writer(rt));
+    let scenario = text.as_slice();
+    match explain_run(rt.alloc(), scenario, &mut input, one, other, &mut report) {
+        Ok(()) => Ok(()),
+        Err(fault) => Err(of_input(fault, &input.into_inner())),
+    }
+}

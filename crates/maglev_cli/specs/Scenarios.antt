@@ -1,0 +1,71 @@
+-- The commands that play a scenario over a capture.
+use Rattle.std.specs.Prelude.{◌≡◌, ◌≢◌, ℕ, List, Option}
+use Rattle.std.specs.Io.KnownBytes.{Appends}
+use Rattle.pool_versions.specs.declared.catalogue.PoolFault.{PoolFault}
+use Rattle.pool_versions.specs.declared.catalogue.PoolFault.TheVariants as pool
+use Rattle.pcap_file.specs.declared.format.PcapFault.{PcapFault}
+use Rattle.pcap_file.specs.declared.format.PcapFault.TheVariants as capture
+use Rattle.hash_laws.specs.Any.{plain_of}
+use Rattle.selection.specs.Picks.{slot_of_flow}
+use Rattle.scenario.specs.declared.fault.ScenarioFault.{ScenarioFault}
+use Rattle.scenario.specs.declared.fault.ScenarioFault.TheVariants as read
+use Rattle.scenario.specs.declared.reading.Scenario.{Scenario}
+use Rattle.scenario.specs.Meaning.{Means, IsRefused}
+use Rattle.simulation.specs.declared.fault.SimulationFault.{SimulationFault}
+use Rattle.simulation.specs.declared.fault.SimulationFault.TheVariants as run
+use Rattle.simulation.specs.Simulated.{Stopped}
+use Rattle.scenario_play.specs.declared.asking.Asked.{Asked}
+use Rattle.scenario_play.specs.Described.{cluster_in, choice_in, plan_in}
+use Rattle.scenario_play.specs.Answers.{Answers}
+use Rattle.maglev_cli.specs.declared.fault.CliFault.{CliFault}
+use Rattle.maglev_cli.specs.declared.fault.CliFault.TheVariants.{Write, TooLong, BadMember, BadToml, BadFormat, BadKey, Pool, BadStep, Capture, Memory}
+
+-- want of memory is one fault, wherever it comes from
+abbrev pub pool_fault : PoolFault → CliFault
+pool_fault pool.Memory = Memory
+pool_fault fault = Pool fault
+
+abbrev pub capture_fault : PcapFault → CliFault
+capture_fault capture.Memory = Memory
+capture_fault fault = Capture fault
+
+-- the fault of a scenario, as the command's
+abbrev pub scenario_fault : ScenarioFault → CliFault
+scenario_fault read.TooLong = TooLong
+scenario_fault read.BadToml = BadToml
+scenario_fault read.BadFormat = BadFormat
+scenario_fault read.BadKey = BadKey
+scenario_fault read.BadMember = BadMember
+scenario_fault (read.Pool fault) = pool_fault fault
+scenario_fault (read.BadStep step) = BadStep step
+scenario_fault read.Memory = Memory
+
+-- the fault of its run
+abbrev pub run_fault : SimulationFault → CliFault
+run_fault (run.Capture fault) = capture_fault fault
+run_fault run.Write = Write
+run_fault run.Memory = Memory
+
+-- the scenario that the text means was played over the input, the output got what was sent, and the report the text that
+-- answers what was asked
+pub record Plays (asked : Asked) (text : List ℕ) (input output output' report report' : Option (List ℕ)) : Type 0 where
+  pub scenario : Scenario
+  pub means : Means text scenario
+  pub answer : List ℕ
+  pub answers : Answers (cluster_in scenario) (choice_in scenario) (plan_in scenario) (λ x. slot_of_flow (plain_of scenario.hash) scenario.size x) asked input output output' answer
+  pub written : Appends report report' answer
+
+-- the text is no scenario, for this fault
+pub record ScenarioFails (fault : CliFault) (text : List ℕ) : Type 0 where
+  pub why : ScenarioFault
+  pub named : fault ≡ scenario_fault why
+  pub refused : IsRefused text why
+
+-- the text means a scenario, and its run stopped by this fault or its answer couldn't be written: unless writing failed the
+-- output got nothing or a beginning of what is sent, cut between records
+pub record RunFails (fault : CliFault) (text : List ℕ) (input output output' : Option (List ℕ)) : Type 0 where
+  pub scenario : Scenario
+  pub means : Means text scenario
+  pub why : SimulationFault
+  pub named : fault ≡ run_fault why
+  pub stopped : fault ≢ Write → Stopped (cluster_in scenario) (choice_in scenario) (plan_in scenario) input output output'

@@ -1,0 +1,30 @@
+//! A device that takes everything and keeps nothing.
+ghost use Rattle.std.specs.Prelude.{None};
+
+use pcap_file::{DeviceFault, Sink};
+
+/// Takes whatever is written, never fails, and tells nothing of it.
+#[derive(Drop)]
+pub(crate) struct Nowhere {
+    calls: u64,
+}
+
+impl Nowhere {
+    /// A device that wasn't called.
+    pub(crate) fn new() -> Nowhere {
+        Nowhere { calls: 0 }
+    }
+}
+
+impl Sink for Nowhere {
+    ghost contents = { λ _. None };
+
+    ghost failures = { λ _. 0 };
+
+    ghost calls = { λ s. s.calls };
+
+    fn write(&mut self, buf: &[u8]) -> Result<usize, DeviceFault> {
+        self.calls = self.calls.wrapping_add(1);
+        Ok(buf.len())
+    }
+}

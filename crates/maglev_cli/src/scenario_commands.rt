@@ -1,0 +1,134 @@
+//! The commands that play a scenario over a capture.
+ghost use Rattle.std.specs.Prelude.{◌≡◌, ◌≢◌, ◌⊎◌, None, IfErr, OnOk};
+ghost use Rattle.std.specs.Io.KnownBytes.{Appends};
+ghost use Rattle.maglev_cli.specs.Scenarios.{Plays, ScenarioFails, RunFails, pool_fault, capture_fault, scenario_fault, run_fault};
+
+use super::fault::CliFault;
+use super::nowhere::Nowhere;
+use pcap_file::{PcapFault, Sink, Source, put_all};
+use pool_versions::PoolFault;
+use scenario::{ScenarioFault, read};
+use scenario_play::{Asked, play_scenario};
+use simulation::SimulationFault;
+use std::alloc::Global;
+
+fn pool_fault(fault: PoolFault) -> CliFault
+    ensures { result ≡ pool_fault fault }
+{
+    match fault {
+        PoolFault::Memory => CliFault::Memory,
+        fault => CliFault::Pool(fault),
+    }
+}
+
+fn capture_fault(fault: PcapFault) -> CliFault
+    ensures { result ≡ capture_fault fault }
+{
+    match fault {
+        PcapFault::Memory => CliFault::Memory,
+        fault => CliFault::Capture(fault),
+    }
+}
+
+fn scenario_fault(fault: ScenarioFault) -> CliFault
+    ensures { result ≡ scenario_fault fault }
+{
+    match fault {
+        ScenarioFault::TooLong => CliFault::TooLong,
+        ScenarioFault::BadToml => CliFault::BadToml,
+        ScenarioFault::BadFormat => CliFault::BadFormat,
+        ScenarioFault::BadKey => CliFault::BadKey,
+        ScenarioFault::BadMember => CliFault::BadMember,
+        ScenarioFault::Pool(fault) => pool_fault(fault),
+        ScenarioFault::BadStep(step) => CliFault::BadStep(step),
+        ScenarioFault::Memory => CliFault::Memory,
+    }
+}
+
+fn run_fault(fault: SimulationFault) -> CliFault
+    ensures { result ≡ run_fault fault }
+{
+    match fault {
+        SimulationFault::Capture(fault) => capture_fault(fault),
+        SimulationFault::Write => CliFault::Write,
+        SimulationFault::Memory => CliFault::Memory,
+    }
+}
+
+fn put_text<R: Sink>(report: &mut R, text: &str) -> Result<(), CliFault>
+    ensures written { OnOk result (Appends (R.contents report.old) (R.contents report.new) text.now) }
+    ensures fault { IfErr result (λ fault. fault ≡ CliFault.Write) }
+{
+    match put_all(report, text.as_bytes()) {
+        Ok(()) => Ok(()),
+        Err(_) => Err(CliFault::Write),
+    }
+}
+
+// Plays the scenario that a text means, and writes what was asked of it.
+fn play<I: Source, O: Sink, R: Sink>(
+    alloc: Global,
+    scenario: &[u8],
+    asked: Asked,
+    input: &mut I,
+    output: &mut O,
+    report: &mut R,
+) -> Result<(), CliFault>
+    ensures played { OnOk result (Plays asked scenario.now (I.left input.old) (O.contents output.old) (O.contents output.new) (R.contents report.old) (R.contents report.new)) }
+    ensures silent { IfErr result (λ fault. fault ≢ CliFault.Write → report.new ≡ report.old) }
+    ensures stopped { IfErr result (λ fault. (ScenarioFails fault scenario.now × (input.new ≡ input.old) × (output.new ≡ output.old)) ⊎ RunFails fault scenario.now (I.left input.old) (O.contents output.old) (O.contents output.new)) }
+{
+    let scenario = match read(alloc, scenario) {
+        Ok(scenario) => scenario,
+        Err(fault) => return Err(scenario_fault(fault)),
+    };
+    match play_scenario(alloc, scenario, asked, input, output) {
+        Ok(text) => put_text(report, text.as_str()),
+        Err(fault) => Err(run_fault(fault)),
+    }
+}
+
+/// The command `simulate`: plays a scenario over a capture, writes what the cluster sends as another capture, and then the
+/// report, with a line for each event before it where `list` holds.
+///
+/// The devices aren't called before the scenario was accepted, and the output isn't before the input's header was. After a
+/// fault that isn't `Write` nothing stands in the report, and the output is cut between records.
+pub fn simulate<I: Source, O: Sink, R: Sink>(
+    alloc: Global,
+    scenario: &[u8],
+    input: &mut I,
+    output: &mut O,
+    report: &mut R,
+    list: bool,
+) -> Result<(), CliFault>
+    ensures played { OnOk result (Plays (Asked.Report list) scenario.now (I.left input.old) (O.contents output.old) (O.contents output.new) (R.contents report.old) (R.contents report.new)) }
+    ensures silent { IfErr result (λ fault. fault ≢ CliFault.Write → report.new ≡ report.old) }
+    ensures stopped { IfErr result (λ fault. (ScenarioFails fault scenario.now × (input.new ≡ input.old) × (output.new ≡ output.old)) ⊎ RunFails fault scenario.now (I.left input.old) (O.contents output.old) (O.contents output.new)) }
+{
+    let asked = Asked::Report { list };
+    match play(alloc, scenario, asked, input, output, report) {
+        Ok(()) => Ok(()),
+        Err(fault) => Err(fault),
+    }
+}
+
+/// The command `explain`: plays a scenario over a capture, and writes why the packets of two of its events, counted from 0,
+/// went where they went. What the cluster sends is kept nowhere.
+pub fn explain_run<I: Source, R: Sink>(
+    alloc: Global,
+    scenario: &[u8],
+    input: &mut I,
+    one: u64,
+    other: u64,
+    report: &mut R,
+) -> Result<(), CliFault>
+    ensures played { OnOk result (Plays (Asked.Events one other) scenario.now (I.left input.old) None None (R.contents report.old) (R.contents report.new)) }
+    ensures silent { IfErr result (λ fault. fault ≢ CliFault.Write → report.new ≡ report.old) }
+    ensures stopped { IfErr result (λ fault. (ScenarioFails fault scenario.now × (input.new ≡ input.old)) ⊎ RunFails fault scenario.now (I.left input.old) None None) }
+{
+    let asked = Asked::Events { one, other };
+    match play(alloc, scenario, asked, input, &mut Nowhere::new(), report) {
+        Ok(()) => Ok(()),
+        Err(fault) => Err(fault),
+    }
+}

@@ -1,0 +1,11 @@
+//! Tests of the commands that play a scenario over a capture, over devices in memory.
+#![tactic(auto)]
+
+#[cfg(test)]
+mod captures;
+#[cfg(test)]
+mod devices;
+#[cfg(test)]
+mod scenarios;
+#[cfg(test)]
+mod tests;

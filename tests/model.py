@@ -1,0 +1,327 @@
+"""A plain model of the cluster: what a scenario does to a capture, worked out in the plainest way.
+
+It shares nothing with the program but the documents: tables are filled turn by turn from written-out lists, connection tables
+are lists, and a capture is read whole. It reads only scenarios and captures that nothing is wrong with.
+"""
+import hashlib
+import struct
+import tomllib
+
+LINKS = {1: "ethernet", 101: "raw", 228: "raw"}
+CAUSES = [
+    "NotIpv4", "Truncated", "BadHeader", "BadChecksum", "Fragment", "NotTcpUdp", "BadTransport", "TooLarge", "NoService",
+    "NoBackend", "NoVersion", "RingsFull", "LostAtRestart",
+]
+
+
+def fnv(data):
+    """FNV-1a of 64 bits."""
+    state = 0xCBF29CE484222325
+    for byte in data:
+        state = (state ^ byte) * 0x100000001B3 % 2**64
+    return state
+
+
+HASHES = {"fnv": fnv, "sha256": lambda data: int.from_bytes(hashlib.sha256(data).digest()[:8], "big"), "sum": sum}
+
+
+def preferences(name, size, plain):
+    """A backend's preference list."""
+    offset = plain(b"o" + name.encode()) % size
+    skip = plain(b"k" + name.encode()) % (size - 1) + 1
+    return [(offset + place * skip) % size for place in range(size)]
+
+
+def filled(names, size, plain):
+    """Which of the names each slot names, the names taking turns in ascending order."""
+    names = sorted(names)
+    lists = {name: iter(preferences(name, size, plain)) for name in names}
+    owner = {}
+    while len(owner) < size:
+        name = names[0]
+        slot = next(slot for slot in lists[name] if slot not in owner)
+        owner[slot] = name
+        names = names[1:] + [name]
+    return owner
+
+
+def address(text):
+    """The bytes of an address."""
+    return bytes(int(part) for part in text.split("."))
+
+
+def dotted(data):
+    return ".".join(str(byte) for byte in data)
+
+
+def folded(data):
+    """The folded sum of 16-bit words."""
+    total = sum(struct.unpack(f">{len(data) // 2}H", data))
+    return (total - 1) % 65535 + 1 if total else 0
+
+
+def read_packet(link, frame, check):
+    """A frame's flow and datagram, or the cause of its drop."""
+    data = frame
+    if link == "ethernet":
+        if len(frame) < 14:
+            return "Truncated", None
+        if frame[12:14] != b"\x08\x00":
+            return "NotIpv4", None
+        data = frame[14:]
+    if data and data[0] >> 4 != 4:
+        return "NotIpv4", None
+    if len(data) < 20:
+        return "Truncated", None
+    head = 4 * (data[0] & 15)
+    total = int.from_bytes(data[2:4], "big")
+    if len(data) < head or len(data) < total:
+        return "Truncated", None
+    if head < 20 or total < head:
+        return "BadHeader", None
+    if check and folded(data[:head]) != 0xFFFF:
+        return "BadChecksum", None
+    if int.from_bytes(data[6:8], "big") & 0x3FFF:
+        return "Fragment", None
+    if data[9] not in (6, 17):
+        return "NotTcpUdp", None
+    payload = data[head:total]
+    if data[9] == 6:
+        if len(payload) < 20 or payload[12] >> 4 < 5 or len(payload) < 4 * (payload[12] >> 4):
+            return "BadTransport", None
+    elif len(payload) < 8 or not 8 <= int.from_bytes(payload[4:6], "big") <= len(payload):
+        return "BadTransport", None
+    if total > 65511:
+        return "TooLarge", None
+    return data[12:20] + payload[:4] + data[9:10], data[:total]
+
+
+def read_capture(data):
+    """The link, the records as (seconds, microseconds, bytes), and whether the input ends inside one."""
+    order = "<" if data[:4] in (bytes.fromhex("d4c3b2a1"), bytes.fromhex("4d3cb2a1")) else ">"
+    divisor = 1000 if data[:4] in (bytes.fromhex("a1b23c4d"), bytes.fromhex("4d3cb2a1")) else 1
+    link = LINKS[struct.unpack(order + "I", data[20:24])[0]]
+    records, at = [], 24
+    while at + 16 <= len(data):
+        seconds, fraction, length, _ = struct.unpack(order + "4I", data[at : at + 16])
+        if at + 16 + length > len(data):
+            break
+        records.append((seconds, fraction // divisor, data[at + 16 : at + 16 + length]))
+        at += 16 + length
+    return link, records, at < len(data)
+
+
+def wrapped(datagram, node, backend):
+    """The datagram in GRE."""
+    head = struct.pack(">BBHHHBBH", 0x45, 0, 24 + len(datagram), 0, 0x4000, 64, 47, 0) + node + backend
+    head = head[:10] + (65535 - folded(head)).to_bytes(2, "big") + head[12:]
+    return head + b"\x00\x00\x08\x00" + datagram
+
+
+def written(records):
+    """A capture of these records."""
+    head = struct.pack("<IHHIIII", 0xA1B2C3D4, 2, 4, 0, 0, 65535, 101)
+    return head + b"".join(struct.pack("<4I", secs, micros, len(data), len(data)) + data for secs, micros, data in records)
+
+
+class Forwarder:
+    """One worker of one node, in one life."""
+
+    def __init__(self):
+        self.entries = []
+        self.turns = 0
+        self.queue = []
+
+
+class Run:
+    """A scenario's run over a capture."""
+
+    def __init__(self, scenario, capture):
+        self.scenario = tomllib.loads(scenario)
+        self.plain = HASHES[self.scenario["hash"]]
+        self.link, self.records, self.cut = read_capture(capture)
+        self.versions = {version["number"]: version for version in self.scenario["versions"]}
+        count = len(self.scenario["nodes"])
+        self.workers = self.scenario["workers"]
+        self.forwarders = [[Forwarder() for _ in range(self.workers)] for _ in range(count)]
+        self.refused_homes = [0] * count
+        self.newest = [None] * count
+        self.live = list(range(count))
+        self.full = [set() for _ in range(count)]
+        self.held = [False] * count
+        self.read = self.spread = self.lost = self.unrouted = self.skipped = 0
+        self.events = []
+        self.tables = {}
+        for step in self.scenario["steps"]:
+            word, *numbers = step.split(" ")
+            getattr(self, "step_" + word)(*(int(number) for number in numbers))
+        self.left = len(self.records) - self.read
+
+    def say(self, event, outcome, sent=None):
+        self.events.append((event, outcome, sent))
+
+    # steps
+
+    def step_install(self, node, number):
+        if number not in self.versions:
+            return self.say(f"install {node} {number}", "refused UnknownVersion")
+        if self.newest[node] is not None and number <= self.newest[node]:
+            return self.say(f"install {node} {number}", "refused NotNewer")
+        self.newest[node] = number
+        return self.say(f"install {node} {number}", "installed")
+
+    def step_take(self, count):
+        for _ in range(min(count, len(self.records) - self.read)):
+            self.read += 1
+            self.deliver(self.read - 1)
+
+    def step_lose(self, count):
+        count = min(count, len(self.records) - self.read)
+        self.read += count
+        self.lost += count
+
+    def step_again(self, place):
+        if place < self.read:
+            self.deliver(place)
+        else:
+            self.skipped += 1
+
+    def step_live(self, *nodes):
+        self.live = list(nodes)
+
+    def step_full(self, node, *workers):
+        self.full[node] = set(workers)
+
+    def step_hold(self, node):
+        self.held[node] = True
+
+    def step_drain(self, node):
+        self.held[node] = False
+        for worker in range(self.workers):
+            while self.forwarders[node][worker].queue:
+                self.serve(node, worker)
+
+    def step_restart(self, node):
+        waiting = sum(len(forwarder.queue) for forwarder in self.forwarders[node])
+        self.forwarders[node] = [Forwarder() for _ in range(self.workers)]
+        self.refused_homes[node] = 0
+        self.held[node] = False
+        self.say(f"restart {node}", f"restarted {waiting}", waiting)
+
+    # deliveries
+
+    def deliver(self, place):
+        flow, _ = read_packet(self.link, self.records[place][2], self.scenario.get("check", True))
+        is_flow = not isinstance(flow, str)
+        nth, self.spread = self.spread, self.spread + 1
+        if not self.live:
+            self.unrouted += 1
+            return
+        if self.scenario["spread"] == "hash" and is_flow:
+            nth = self.plain(b"e" + flow)
+        node = self.live[nth % len(self.live)]
+        event = f"arrive {node} {place}"
+        if not is_flow:
+            return self.say(event, f"drop {flow}")
+        if self.newest[node] is None:
+            return self.say(event, "drop NoVersion")
+        home = self.plain(b"w" + flow) % self.workers
+        tries = [home]
+        if home in self.full[node]:
+            first = self.refused_homes[node] % self.workers
+            self.refused_homes[node] += 1
+            tries = [(first + step) % self.workers for step in range(self.workers)]
+        worker = next((worker for worker in tries if worker not in self.full[node]), None)
+        if worker is None:
+            return self.say(event, "drop RingsFull")
+        self.forwarders[node][worker].queue.append((place, flow))
+        self.say(event, f"placed {worker}")
+        if not self.held[node]:
+            self.serve(node, worker)
+
+    def service(self, number, flow):
+        """The up members of a flow's service, as (name, address), in ascending order."""
+        for service in self.versions[number]["services"]:
+            key = address(service["vip"]), {"tcp": 6, "udp": 17}[service["proto"]], service["port"]
+            if key == (flow[4:8], flow[12], int.from_bytes(flow[10:12], "big")):
+                return sorted(tuple(word.split("@")) for word in service["members"] if not word.endswith("/down"))
+        return None
+
+    def slot(self, flow):
+        return self.plain(b"f" + flow) % self.scenario["size"]
+
+    def chosen(self, ups, flow, turn):
+        scheme = self.scenario["scheme"]
+        if scheme == "round":
+            return ups[turn % len(ups)]
+        if scheme == "plain":
+            return ups[self.plain(b"f" + flow) % len(ups)]
+        key = tuple(ups)
+        if key not in self.tables:
+            self.tables[key] = filled([name for name, _ in ups], self.scenario["size"], self.plain)
+        return next(up for up in ups if up[0] == self.tables[key][self.slot(flow)])
+
+    def serve(self, node, worker):
+        forwarder = self.forwarders[node][worker]
+        place, flow = forwarder.queue.pop(0)
+        number = self.newest[node]
+        event = f"serve {node} {worker} {number}"
+        ups = self.service(number, flow)
+        if ups is None:
+            return self.say(event, "drop NoService")
+        entry = next((entry for entry in forwarder.entries if entry[0] == flow), None)
+        if entry is not None:
+            forwarder.entries.remove(entry)
+            forwarder.entries.insert(0, entry)
+        if entry is None or entry[1] not in ups:
+            turn, forwarder.turns = forwarder.turns, forwarder.turns + 1
+            if not ups:
+                return self.say(event, "drop NoBackend")
+            if entry is not None:
+                forwarder.entries.remove(entry)
+            entry = (flow, self.chosen(ups, flow, turn), number)
+            forwarder.entries.insert(0, entry)
+            del forwarder.entries[self.scenario["capacity"] :]
+        _, backend, origin = entry
+        return self.say(event, f"forward {'@'.join(backend)} from {origin}", (node, place, flow, backend, origin))
+
+    # what is asked
+
+    def sends(self):
+        return [sent for _, outcome, sent in self.events if outcome.startswith("forward")]
+
+    def output(self):
+        records = []
+        for node, place, _, backend, _ in self.sends():
+            secs, micros, frame = self.records[place]
+            _, datagram = read_packet(self.link, frame, self.scenario.get("check", True))
+            records.append((secs, micros, wrapped(datagram, address(self.scenario["nodes"][node]), address(backend[1]))))
+        return written(records)
+
+    def listing(self):
+        return "".join(f"{place} {event}: {outcome}\n" for place, (event, outcome, _) in enumerate(self.events))
+
+    def report(self):
+        outcomes = [outcome for _, outcome, _ in self.events]
+        received = sum(event.startswith("arrive") and not outcome.startswith("refused") for event, outcome, _ in self.events)
+        lost = sum(sent for event, _, sent in self.events if event.startswith("restart"))
+        drops = [sum(outcome == f"drop {cause}" for outcome in outcomes) for cause in CAUSES[:-1]] + [lost]
+        forwarded = len(self.sends())
+        lines = [f"packets {len(self.records)}", f"lost {self.lost}", f"unrouted {self.unrouted}", f"skipped {self.skipped}"]
+        lines += [f"left {self.left}", f"cut {'yes' if self.cut else 'no'}", f"received {received}", f"forwarded {forwarded}"]
+        lines += [f"drop {cause} {count}" for cause, count in zip(CAUSES, drops) if count]
+        lines += [f"waiting {received - forwarded - sum(drops)}"]
+        lines += [f"refused {sum(outcome.startswith('refused') for outcome in outcomes)}"]
+        return "".join(line + "\n" for line in lines)
+
+    def explained(self, one, other):
+        sent = [self.events[place][2] if place < len(self.events) else None for place in (one, other)]
+        if not all(isinstance(part, tuple) for part in sent):
+            return "not sent\n"
+        (_, _, flow, backend1, origin1), (_, _, flow2, backend2, origin2) = sent
+        if flow != flow2:
+            return "other flow\n"
+        if backend1 == backend2:
+            return "same\n"
+        halves = f"version {origin1} {'@'.join(backend1)} version {origin2} {'@'.join(backend2)}"
+        return f"split slot {self.slot(flow)} {halves}\n"
