@@ -37,10 +37,13 @@ fn play_with<S: Scheme, P: Spread, I: Source, O: Sink>(
     requires live { P.live spread.old ≡ below (length plan.nodes.now) }
     requires nodes { length plan.nodes.now ≤ 64 }
     requires steps { length plan.steps.now ≤ 100000 }
+    requires cluster { length rules.now.setup.nodes ≡ length plan.nodes.now }
+    requires workers { rules.now.setup.workers ≤ 16 }
     ensures ok { IfOk result (λ s. Answers (cluster_of (λ s z. S.pick s z) (λ h. plain_of h) rules.now) (P.choice spread.old) (planned plan.entry) (λ x. slot_of_flow (plain_of rules.now.setup.hash) rules.now.setup.size x) asked (I.left input.old) (O.contents output.old) (O.contents output.new) (string_bytes s)) }
     ensures stopped { IfErr result (λ fault. fault ≢ SimulationFault.Write → Stopped (cluster_of (λ s z. S.pick s z) (λ h. plain_of h) rules.now) (P.choice spread.old) (planned plan.entry) (I.left input.old) (O.contents output.old) (O.contents output.new)) }
 {
     let mut balancers = Balancers::<S, AnyHash, LruTable>::make(alloc, rules)?;
+    rules.keep_order();
     match play_capture(alloc, plan, &mut balancers, rules, spread, input, output) {
         Ok(played) => {
             balancers.keep_balance(rules);
@@ -65,6 +68,8 @@ fn play_over<S: Scheme, I: Source, O: Sink>(
 ) -> Result<String, SimulationFault>
     requires nodes { length plan.nodes.now ≤ 64 }
     requires steps { length plan.steps.now ≤ 100000 }
+    requires cluster { length rules.now.setup.nodes ≡ length plan.nodes.now }
+    requires workers { rules.now.setup.workers ≤ 16 }
     ensures ok { IfOk result (λ s. Answers (cluster_of (λ s z. S.pick s z) (λ h. plain_of h) rules.now) (choice_by spread (plain_of rules.now.setup.hash)) (planned plan.entry) (λ x. slot_of_flow (plain_of rules.now.setup.hash) rules.now.setup.size x) asked (I.left input.old) (O.contents output.old) (O.contents output.new) (string_bytes s)) }
     ensures stopped { IfErr result (λ fault. fault ≢ SimulationFault.Write → Stopped (cluster_of (λ s z. S.pick s z) (λ h. plain_of h) rules.now) (choice_by spread (plain_of rules.now.setup.hash)) (planned plan.entry) (I.left input.old) (O.contents output.old) (O.contents output.new)) }
 {
