@@ -30,7 +30,7 @@ pub(crate) struct Relay {
 // Sends a record on, if the outcome says so.
 #[tactic(auto, unfolding(crate::specs::Following::sent_with))]
 fn send_taken<O: Sink>(
-    alloc: Global,
+    room: &mut Vec<u8>,
     output: &mut O,
     wire: &Wire<'_>,
     outcome: &Outcome,
@@ -42,7 +42,7 @@ fn send_taken<O: Sink>(
     match outcome {
         Outcome::Forward { node, backend, .. } => {
             let read = wire.packet(frame);
-            send_record(alloc, output, wire, *node, backend, frame, &read)
+            send_record(room, output, wire, *node, backend, frame, &read)
         }
         _ => Ok(()),
     }
@@ -64,7 +64,6 @@ impl Relay {
     // Follows an event that is no arrival, and sends what it sends.
     fn settle_one<O: Sink>(
         &mut self,
-        alloc: Global,
         wire: &Wire<'_>,
         said: &Said,
         output: &mut O,
@@ -78,13 +77,12 @@ impl Relay {
             return Ok(());
         };
         self.spare = frame;
-        send_taken(alloc, output, wire, &said.outcome, &self.spare)
+        send_taken(&mut self.room, output, wire, &said.outcome, &self.spare)
     }
 
     // Follows events that are no arrivals.
     pub(crate) fn settle_all<O: Sink>(
         &mut self,
-        alloc: Global,
         wire: &Wire<'_>,
         events: &[Said],
         output: &mut O,
@@ -96,7 +94,7 @@ impl Relay {
             IfErr result (λ fault. fault ≢ SimulationFault.Write → BeginsWith (O.contents output.old) (O.contents output.new) (sent (traffic wire.now all) events.now)) }
     {
         for said in events {
-            match self.settle_one(alloc, wire, said, output) {
+            match self.settle_one(wire, said, output) {
                 Ok(()) => {}
                 Err(fault) => return Err(fault),
             }
@@ -139,6 +137,6 @@ impl Relay {
             return Ok(());
         };
         self.take_in(alloc, first, intake)?;
-        self.settle_all(alloc, wire, rest, output)
+        self.settle_all(wire, rest, output)
     }
 }

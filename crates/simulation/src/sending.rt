@@ -9,12 +9,12 @@ ghost use Rattle.simulation.specs.Wires.{traffic};
 
 use crate::fault::SimulationFault;
 use cluster_core::read_packet;
-use cluster_node::{Outcome, Packet, Said};
-use gre_tunnel::wrap;
+use cluster_node::Packet;
+use gre_tunnel::wrap_into;
 use ip_headers::{Link, read_frame};
 use pcap_file::{Frame, Sink, write_record};
 use pool_versions::Backend;
-use std::alloc::{AllocError, Global};
+use std::alloc::AllocError;
 
 /// The nodes' addresses, and how frames are read.
 #[derive(Clone, Copy)]
@@ -53,13 +53,13 @@ fn datagram<'a>(link: Link, packet: &Packet, bytes: &'a [u8]) -> Option<&'a [u8]
 }
 
 // A datagram in a tunnel.
-fn tunnelled(alloc: Global, inner: &[u8], node: u32, backend: u32) -> Result<Vec<u8>, AllocError>
+fn tunnelled(room: &mut Vec<u8>, inner: &[u8], node: u32, backend: u32) -> Result<(), AllocError>
     requires { length inner.now ≤ 65511 }
-    ensures bytes { IfOk result (λ v. v.items ≡ wrapped node backend inner.now) }
-    ensures short { IfOk result (λ v. length v.items ≤ 65535) }
+    ensures bytes { OnOk result (room.new.items ≡ wrapped node backend inner.now) }
+    ensures short { OnOk result (length room.new.items ≤ 65535) }
 {
-    match wrap(alloc, inner, node, backend) {
-        Ok(bytes) => Ok(bytes),
+    match wrap_into(inner, node, backend, room) {
+        Ok(()) => Ok(()),
         Err(_) => Err(AllocError),
     }
 }
@@ -83,7 +83,7 @@ fn put_record<O: Sink>(
 
 // A datagram is wrapped from a node's address to a backend's, and written with its record's time.
 fn put_wrapped<O: Sink>(
-    alloc: Global,
+    room: &mut Vec<u8>,
     output: &mut O,
     node: Option<u32>,
     backend: u32,
@@ -100,14 +100,15 @@ fn put_wrapped<O: Sink>(
     let Some(inner) = inner else {
         return Ok(());
     };
-    let bytes = tunnelled(alloc, inner, node, backend)?;
-    put_record(output, frame.secs, frame.micros, bytes.as_slice())
+    tunnelled(room, inner, node, backend)?;
+    put_record(output, frame.secs, frame.micros, room.as_slice())
 }
 
-/// What a node sends to a backend of a record, which was read as this packet.
+/// What a node sends to a backend of a record, which was read as this packet. The datagram is wrapped in the room, which is
+/// used again.
 #[tactic(auto, unfolding(crate::specs::Sent::datagram_in))]
 pub fn send_record<O: Sink>(
-    alloc: Global,
+    room: &mut Vec<u8>,
     output: &mut O,
     wire: &Wire<'_>,
     node: u16,
@@ -120,12 +121,5 @@ pub fn send_record<O: Sink>(
     ensures kept { IfErr result (λ fault. fault ≢ SimulationFault.Write → O.contents output.new ≡ O.contents output.old) }
 {
     let inner = datagram(wire.link, read, frame.bytes.as_slice());
-    put_wrapped(
-        alloc,
-        output,
-        wire.address(node),
-        backend.addr,
-        frame,
-        inner,
-    )
+    put_wrapped(room, output, wire.address(node), backend.addr, frame, inner)
 }

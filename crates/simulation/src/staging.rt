@@ -148,7 +148,7 @@ impl Stage {
             Err(_) => return Err(SimulationFault::Memory),
         }
         let events = behind(self.play.history(), before);
-        self.relay.settle_all(alloc, &wire, events, output)
+        self.relay.settle_all(&wire, events, output)
     }
 
     // Reads a record, and keeps it where a step delivers it again.
