@@ -20,7 +20,13 @@ pub enum Cause {
     LostAtRestart,
 }
 
-/// Why an event was refused. They are tested in this order. A refused event changes nothing.
+/// Why an event was refused. A refused event changes nothing.
+///
+/// An event has the first of these reasons that holds, in the order of its line:
+/// - Install: `NoNode`, `UnknownVersion` (by the catalogue), `NotNewer`.
+/// - Arrive: `NoNode`, `NoPacket`.
+/// - Serve: `NoNode`, `NoWorker`, `Idle`, `UnknownVersion` (never installed), `VersionRange`.
+/// - Restart: `NoNode`.
 #[derive(Clone, Copy, Debug, PartialEq, Eq)]
 pub enum Reason {
     /// There is no such node.
