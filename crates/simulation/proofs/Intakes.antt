@@ -2,10 +2,12 @@
 use Rattle.std.proofs.Common.{true, false, is_some, ◌≡◌, ℕ, ◌+◌, List, [], ◌∷◌, ◌++◌, length, Option, Some, None, Result, Ok, Err, refl, sym, ap, ◌∙◌, subst, arith, length-append}
 use Rattle.pcap_file.specs.declared.format.Head.{Head}
 use Rattle.pcap_file.specs.declared.format.Ending.{Ending}
+use Rattle.pcap_file.specs.declared.format.Ending.TheVariants.{Failed}
+use Rattle.pcap_file.specs.declared.format.PcapFault.{PcapFault}
 use Rattle.pcap_file.specs.Format.{Packet as Record}
 use Rattle.pcap_file.specs.Reading.{Gave}
-use Rattle.pcap_file.specs.Text.{Passed}
-use Rattle.pcap_file.proofs.Texts.{passed-push, passed-stop}
+use Rattle.pcap_file.specs.Text.{Passed, AllRefused}
+use Rattle.pcap_file.proofs.Texts.{passed-push, passed-stop, gave-named}
 use Rattle.simulation.specs.Intake.{Taking, HasSeen, Seen, SeenMore}
 
 passed : (t : Taking) (text left : Option (List ℕ)) (seen : List Record) → t.ended ≡ None → Seen text seen left t → Passed t.head text seen left
@@ -24,6 +26,9 @@ at_end t text left left' seen r ending e s g = record {
   has = passed-stop t.head t.given text left left' seen ending s.count (passed t text left seen e s) g;
   count = s.count;
 }
+
+pub refused_at : (t : Taking) (text left left' : Option (List ℕ)) (seen : List Record) (fault : PcapFault) → t.ended ≡ None → Seen text seen left t → Gave t.head t.given left left' (Err (Failed fault)) → AllRefused t.head text fault
+refused_at t text left left' seen fault e s g = (gave-named t.head t.given left left' (Failed fault) g, (seen, passed-stop t.head t.given text left left' seen (Failed fault) s.count (passed t text left seen e s) g))
 
 pub is_none_of : (o : Option Ending) → is_some o ≡ false → o ≡ None
 is_none_of None e = refl

@@ -25,9 +25,11 @@ use Rattle.course.specs.Room.{Counted}
 use Rattle.course.proofs.Moves.{Keeps, deliver_hands, handed_next}
 use Rattle.course.proofs.Bounds.{apart_keeps, run_none}
 use Rattle.course.proofs.Coming.{take_one, take_ended, take_zero, lose_one, lose_ended, lose_zero, run_cons, again_is}
+use Rattle.simulation.specs.declared.fault.SimulationFault.{SimulationFault}
+use Rattle.simulation.specs.declared.fault.SimulationFault.TheVariants.{Capture, Write, Memory}
 use Rattle.simulation.specs.Plans.{Planned}
 use Rattle.simulation.specs.Sent.{Sending, packet_in, packets_of, sent, records_text, BeginsWith}
-use Rattle.simulation.specs.Simulated.{course_of, traffic_of, sendings}
+use Rattle.simulation.specs.Simulated.{course_of, traffic_of, sendings, IsOfRun, EndsBy}
 use Rattle.simulation.specs.Intake.{Taking, HasSeen, Seen, ReadOn}
 use Rattle.simulation.specs.Keeping.{AmongSteps, NamesAll, Holds}
 use Rattle.simulation.specs.Going.{Left, SentSoFar, Shortened}
@@ -367,3 +369,13 @@ over_of cluster choice plan text begun stage left out ending new r o =
 -- nothing was done yet
 pub short_none : (cluster : Cluster) (choice : Choice) (plan : Planned) (head : Head) (text out : Option (List ℕ)) → Shortened cluster choice plan head text out out
 short_none cluster choice plan head text out = record { records = []; left = text; first = []; others = sendings cluster choice plan head.link []; passed = passed_none head text; sent_is = refl; output_is = Appends-nil out }
+
+-- a fault that isn't the capture's says nothing of the text
+pub of_run : {T : Type 0} (head : Head) (text : Option (List ℕ)) (r : Result T SimulationFault) → IfErr r IsOfRun → IfErr r (EndsBy head text)
+of_run head text (Ok x) h = tt
+of_run head text (Err f) h = run_fault f h
+  where
+    run_fault : (f : SimulationFault) → IsOfRun f → EndsBy head text f
+    run_fault (Capture fault) h = absurd h
+    run_fault Write h = tt
+    run_fault Memory h = tt

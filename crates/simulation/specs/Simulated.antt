@@ -5,11 +5,14 @@ use Rattle.ip_headers.specs.declared.Link.{Link}
 use Rattle.pcap_file.specs.declared.format.Head.{Head}
 use Rattle.pcap_file.specs.declared.format.Ending.{Ending}
 use Rattle.pcap_file.specs.Format.{Packet as Record, head_answer}
-use Rattle.pcap_file.specs.Text.{Reads, Begins}
+use Rattle.pcap_file.specs.Capture.{HeadRead}
+use Rattle.pcap_file.specs.Text.{Reads, Begins, AllRefused}
 use Rattle.spreader.specs.Choices.{Choice}
 use Rattle.course.specs.Cluster.{Cluster}
 use Rattle.course.specs.Course.{Course}
 use Rattle.course.specs.Steps.{world_of, run, start}
+use Rattle.simulation.specs.declared.fault.SimulationFault.{SimulationFault}
+use Rattle.simulation.specs.declared.fault.SimulationFault.TheVariants.{Capture, Write, Memory}
 use Rattle.simulation.specs.Plans.{Planned}
 use Rattle.simulation.specs.Sent.{Traffic, Sending, packets_of, sent, capture_text}
 
@@ -58,3 +61,21 @@ pub record StopsShort (cluster : Cluster) (choice : Choice) (plan : Planned) (in
 -- nothing was written, or a beginning
 abbrev pub Stopped : Cluster → Choice → Planned → Option (List ℕ) → Option (List ℕ) → Option (List ℕ) → Type 0
 Stopped cluster choice plan input output output' = (output' ≡ output) ⊎ StopsShort cluster choice plan input output output'
+
+-- a fault that isn't the capture's
+abbrev pub IsOfRun : SimulationFault → Type 0
+IsOfRun (Capture fault) = ⊥
+IsOfRun Write = Unit {0}
+IsOfRun Memory = Unit {0}
+
+-- a fault of the capture is that of its text behind some records
+abbrev pub EndsBy : Head → Option (List ℕ) → SimulationFault → Type 0
+EndsBy head text (Capture fault) = AllRefused head text fault
+EndsBy head text Write = Unit {0}
+EndsBy head text Memory = Unit {0}
+
+-- a fault of the capture is its header's, or that of its text behind some records
+abbrev pub CaptureFails : Option (List ℕ) → SimulationFault → Type 0
+CaptureFails input (Capture fault) = ((left : Option (List ℕ)) × HeadRead input left (Err fault)) ⊎ ((head : Head) × (left : Option (List ℕ)) × HeadRead input left (Ok head) × AllRefused head left fault)
+CaptureFails input Write = Unit {0}
+CaptureFails input Memory = Unit {0}

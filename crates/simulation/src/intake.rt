@@ -1,6 +1,7 @@
 //! The records of a capture, read one by one.
 ghost use Rattle.std.specs.Prelude.{◌≡◌, ◌<◌, ◌≤◌, ◌+◌, true, false, None, IfOk, IfErr, OnOk, List, ℕ, Option, is_some};
 ghost use Rattle.pcap_file.specs.Format.{Packet as Record, packet, max_records};
+ghost use Rattle.pcap_file.specs.Text.{AllRefused};
 ghost use Rattle.simulation.specs.Intake.{Taking, Seen, SeenMore, ReadOn};
 
 use ip_headers::Link;
@@ -75,6 +76,7 @@ impl Intake {
         ensures none { IfOk result (λ more. more ≡ false → (self.new.given ≡ self.old.given) × (is_some self.new.ended ≡ true)) }
         ensures end { is_some self.old.ended ≡ true → IfOk result (λ more. (more ≡ false) × (self.new ≡ self.old)) }
         ensures few { self.new.given ≤ max_records }
+        ensures fault { (text : Option (List ℕ)) (seen : List Record) → Seen text seen (I.left input.old) self.old → IfErr result (λ fault. AllRefused self.old.head text fault) }
     {
         if self.ended.is_some() {
             return Ok(false);
@@ -97,6 +99,7 @@ impl Intake {
         ensures head { self.new.head ≡ self.old.head }
         ensures told { (text : Option (List ℕ)) (seen : List Record) → Seen text seen (I.left input.old) self.old → IfOk result (λ ending. ReadOn text seen ending self.old self.new) }
         ensures more { OnOk result (self.old.given ≤ self.new.given) }
+        ensures fault { (text : Option (List ℕ)) (seen : List Record) → Seen text seen (I.left input.old) self.old → IfErr result (λ fault. AllRefused self.old.head text fault) }
     {
         loop {
             match self.next(input) {

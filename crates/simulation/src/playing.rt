@@ -5,7 +5,7 @@ ghost use Rattle.pcap_file.specs.Format.{written_head};
 ghost use Rattle.course.specs.Cluster.{Orderly};
 ghost use Rattle.course.specs.Steps.{below};
 ghost use Rattle.simulation.specs.Plans.{planned};
-ghost use Rattle.simulation.specs.Simulated.{Simulated, Stopped};
+ghost use Rattle.simulation.specs.Simulated.{Simulated, Stopped, CaptureFails};
 
 use crate::fault::SimulationFault;
 use crate::plan::Plan;
@@ -56,6 +56,7 @@ pub fn play_capture<C: Core, P: Spread, I: Source, O: Sink>(
     ensures read { IfOk result (λ p. p.play.read ≤ p.packets) }
     ensures stands { IfOk result (λ p. C.stands setup.now p.play.past core.new) }
     ensures stopped { IfErr result (λ fault. fault ≢ SimulationFault.Write → Stopped (C.cluster setup.now) (P.choice spread.old) (planned plan.entry) (I.left input.old) (O.contents output.old) (O.contents output.new)) }
+    ensures fault { IfErr result (CaptureFails (I.left input.old)) }
 {
     let head = match read_start(input) {
         Ok(head) => head,

@@ -6,6 +6,7 @@ ghost use Rattle.cluster_node.specs.declared.events.Said.{Said};
 ghost use Rattle.course.specs.Cluster.{Cluster};
 ghost use Rattle.waiting_frames.specs.Mirrors.{Mirrors, CanFollow, ComesAs, IsNoArrival};
 ghost use Rattle.simulation.specs.Sent.{sent, sent_by, records_text, BeginsWith};
+ghost use Rattle.simulation.specs.Simulated.{IsOfRun};
 ghost use Rattle.simulation.specs.Wires.{traffic};
 ghost use Rattle.simulation.specs.Going.{onto};
 ghost use Rattle.simulation.specs.Following.{sent_with, NoArrivals, ArrivesFirst, CanSettle};
@@ -37,6 +38,7 @@ fn send_taken<O: Sink>(
     frame: &Frame,
 ) -> Result<(), SimulationFault>
     ensures ok { OnOk result (Appends (O.contents output.old) (O.contents output.new) (records_text (sent_with (traffic wire.now []) outcome.now (packet frame.now)))) }
+    ensures named { IfErr result IsOfRun }
     ensures kept { IfErr result (λ fault. fault ≢ SimulationFault.Write → O.contents output.new ≡ O.contents output.old) }
 {
     match outcome {
@@ -71,6 +73,7 @@ impl Relay {
         ensures count { length self.new.waiting ≡ length self.old.waiting }
         ensures settled { (all : List Record) (k : Cluster) (past : List Said) → CanFollow all k past said.now self.old.waiting → IsNoArrival said.now.event →
             OnOk result (Mirrors all k (said.now ∷ past) self.new.waiting × Appends (O.contents output.old) (O.contents output.new) (records_text (sent_by (traffic wire.now all) said.now.outcome))) }
+        ensures named { IfErr result IsOfRun }
         ensures kept { IfErr result (λ fault. fault ≢ SimulationFault.Write → O.contents output.new ≡ O.contents output.old) }
     {
         let Some(frame) = self.waiting.settle(said) else {
@@ -90,6 +93,7 @@ impl Relay {
         ensures count { length self.new.waiting ≡ length self.old.waiting }
         ensures settled { (all : List Record) (k : Cluster) (past : List Said) → CanSettle all k past events.now self.old.waiting → NoArrivals events.now →
             OnOk result (Mirrors all k (onto past events.now) self.new.waiting × Appends (O.contents output.old) (O.contents output.new) (records_text (sent (traffic wire.now all) events.now))) }
+        ensures named { IfErr result IsOfRun }
         ensures cut { (all : List Record) (k : Cluster) (past : List Said) → CanSettle all k past events.now self.old.waiting → NoArrivals events.now →
             IfErr result (λ fault. fault ≢ SimulationFault.Write → BeginsWith (O.contents output.old) (O.contents output.new) (sent (traffic wire.now all) events.now)) }
     {
@@ -130,6 +134,7 @@ impl Relay {
         ensures intake { (intake.new.given ≡ intake.old.given) × (intake.new.ended ≡ intake.old.ended) × (intake.new.head ≡ intake.old.head) }
         ensures settled { (all : List Record) (k : Cluster) (past : List Said) → CanSettle all k past events.now self.old.waiting → ArrivesFirst all intake.old.record_read events.now →
             OnOk result (Mirrors all k (onto past events.now) self.new.waiting × Appends (O.contents output.old) (O.contents output.new) (records_text (sent (traffic wire.now all) events.now))) }
+        ensures named { IfErr result IsOfRun }
         ensures cut { (all : List Record) (k : Cluster) (past : List Said) → CanSettle all k past events.now self.old.waiting → ArrivesFirst all intake.old.record_read events.now →
             IfErr result (λ fault. fault ≢ SimulationFault.Write → BeginsWith (O.contents output.old) (O.contents output.new) (sent (traffic wire.now all) events.now)) }
     {

@@ -5,6 +5,7 @@ ghost use Rattle.ip_headers.specs.Ipv4.{frame_answer};
 ghost use Rattle.pcap_file.specs.Format.{packet};
 ghost use Rattle.gre_tunnel.specs.Gre.{wrapped};
 ghost use Rattle.simulation.specs.Sent.{packet_in, cut_to, datagram_in, wrapped_as, sent, sent_by, sent_at, records_text, record_text, BeginsWith};
+ghost use Rattle.simulation.specs.Simulated.{IsOfRun};
 ghost use Rattle.simulation.specs.Wires.{traffic};
 
 use crate::fault::SimulationFault;
@@ -92,6 +93,7 @@ fn put_wrapped<O: Sink>(
 ) -> Result<(), SimulationFault>
     requires { IfSome inner (λ d. length d.now ≤ 65511) }
     ensures ok { OnOk result (Appends (O.contents output.old) (O.contents output.new) (records_text (wrapped_as (packet frame.now) node backend (option_map (λ d. d.now) inner.entry)))) }
+    ensures named { IfErr result IsOfRun }
     ensures kept { IfErr result (λ fault. fault ≢ SimulationFault.Write → O.contents output.new ≡ O.contents output.old) }
 {
     let Some(node) = node else {
@@ -118,6 +120,7 @@ pub fn send_record<O: Sink>(
 ) -> Result<(), SimulationFault>
     requires { read.now ≡ packet_in wire.now.link wire.now.check (packet frame.now) }
     ensures ok { OnOk result (Appends (O.contents output.old) (O.contents output.new) (records_text (sent_at (traffic wire.now []) node backend.entry.now (Some (packet frame.now))))) }
+    ensures named { IfErr result IsOfRun }
     ensures kept { IfErr result (λ fault. fault ≢ SimulationFault.Write → O.contents output.new ≡ O.contents output.old) }
 {
     let inner = datagram(wire.link, read, frame.bytes.as_slice());

@@ -10,7 +10,7 @@ ghost use Rattle.simulation.specs.Plans.{Planned, planned};
 ghost use Rattle.spreader.specs.Choices.{Choice};
 ghost use Rattle.course.specs.Cluster.{Cluster, Orderly};
 ghost use Rattle.simulation.specs.Sent.{packet_in, sent, BeginsWith};
-ghost use Rattle.simulation.specs.Simulated.{traffic_of};
+ghost use Rattle.simulation.specs.Simulated.{traffic_of, IsOfRun, EndsBy};
 ghost use Rattle.simulation.specs.Going.{Shortened};
 ghost use Rattle.simulation.specs.Intake.{Seen, SeenMore};
 ghost use Rattle.simulation.specs.Keeping.{IsAgain, AmongSteps, NamesAll, Holds, found};
@@ -99,6 +99,7 @@ impl Stage {
         ensures sound { (all : List Record) (begun : Option (List ℕ)) →
             Sound (C.cluster setup.now) (planned plan.entry) self.old.intake.head.link all self.old.play self.old.relay.waiting begun (O.contents output.old) → slice_get all place ≡ Some self.old.intake.record_read →
             OnOk result (Sound (C.cluster setup.now) (planned plan.entry) self.old.intake.head.link all self.new.play self.new.relay.waiting begun (O.contents output.new)) }
+        ensures named { IfErr result IsOfRun }
         ensures cut { (w : World) (all : List Record) (begun : Option (List ℕ)) → w.cluster ≡ C.cluster setup.now → SameChoice w.choice (P.choice spread.now) →
             Sound (C.cluster setup.now) (planned plan.entry) self.old.intake.head.link all self.old.play self.old.relay.waiting begun (O.contents output.old) → slice_get all place ≡ Some self.old.intake.record_read →
             IfErr result (λ fault. fault ≢ SimulationFault.Write → BeginsWith begun (O.contents output.new) (sent (traffic_of (planned plan.entry) self.old.intake.head.link all) (reverse (deliver w place (packet_in self.old.intake.head.link plan.entry.check self.old.intake.record_read) self.old.play).past))) }
@@ -137,6 +138,7 @@ impl Stage {
         ensures sound { (all : List Record) (begun : Option (List ℕ)) → names_records step.now ≡ false →
             Sound (C.cluster setup.now) (planned plan.entry) self.old.intake.head.link all self.old.play self.old.relay.waiting begun (O.contents output.old) →
             OnOk result (Sound (C.cluster setup.now) (planned plan.entry) self.old.intake.head.link all self.new.play self.new.relay.waiting begun (O.contents output.new)) }
+        ensures named { IfErr result IsOfRun }
         ensures cut { (w : World) (all : List Record) (begun : Option (List ℕ)) → w.cluster ≡ C.cluster setup.now → names_records step.now ≡ false →
             Sound (C.cluster setup.now) (planned plan.entry) self.old.intake.head.link all self.old.play self.old.relay.waiting begun (O.contents output.old) →
             IfErr result (λ fault. fault ≢ SimulationFault.Write → BeginsWith begun (O.contents output.new) (sent (traffic_of (planned plan.entry) self.old.intake.head.link all) (reverse (after w step.now self.old.play).past))) }
@@ -164,6 +166,7 @@ impl Stage {
             IfOk result (λ more. more ≡ true → slice_get all self.old.intake.given ≡ Some self.new.intake.record_read → Holds all ss (self.old.intake.given + 1) self.new.kept) }
         ensures few { self.new.intake.given ≤ max_records }
         ensures unwritten { IfErr result (λ fault. fault ≢ SimulationFault.Write) }
+        ensures fault { (text : Option (List ℕ)) (seen : List Record) → Seen text seen (I.left input.old) self.old.intake → IfErr result (EndsBy self.old.intake.head text) }
     {
         let place = self.intake.given();
         match self.intake.next(input) {
@@ -200,6 +203,8 @@ impl Stage {
         ensures short { (choice : Choice) (text begun : Option (List ℕ)) (ss : List Step) (k : ℕ) → SameChoice choice (P.choice spread.now) →
             Reached (C.cluster setup.now) choice (planned plan.entry) text begun (take_of (k + 1) ∷ ss) self.old (I.left input.old) (O.contents output.old) →
             IfErr result (λ fault. fault ≢ SimulationFault.Write → Shortened (C.cluster setup.now) choice (planned plan.entry) self.old.intake.head text begun (O.contents output.new)) }
+        ensures fault { (choice : Choice) (text begun : Option (List ℕ)) (ss : List Step) →
+            Reached (C.cluster setup.now) choice (planned plan.entry) text begun ss self.old (I.left input.old) (O.contents output.old) → IfErr result (EndsBy self.old.intake.head text) }
     {
         match self.read_one(alloc, input) {
             Ok(true) => {}
@@ -238,6 +243,8 @@ impl Stage {
         ensures short { (choice : Choice) (text begun : Option (List ℕ)) (ss : List Step) → SameChoice choice (P.choice spread.now) →
             Reached (C.cluster setup.now) choice (planned plan.entry) text begun (take_of count ∷ ss) self.old (I.left input.old) (O.contents output.old) →
             IfErr result (λ fault. fault ≢ SimulationFault.Write → Shortened (C.cluster setup.now) choice (planned plan.entry) self.old.intake.head text begun (O.contents output.new)) }
+        ensures fault { (choice : Choice) (text begun : Option (List ℕ)) (ss : List Step) → SameChoice choice (P.choice spread.now) →
+            Reached (C.cluster setup.now) choice (planned plan.entry) text begun (take_of count ∷ ss) self.old (I.left input.old) (O.contents output.old) → IfErr result (EndsBy self.old.intake.head text) }
     {
         for _ in 0..count {
             match self.take_one(alloc, core, setup, spread, plan, input, output) {
@@ -259,6 +266,7 @@ impl Stage {
             Reached cluster choice plan text begun (lose_of (k + 1) ∷ ss) self.old (I.left input.old) out →
             IfOk result (λ more. Reached cluster choice plan text begun (still_to_lose more k ss) self.new (I.left input.new) out) }
         ensures unwritten { IfErr result (λ fault. fault ≢ SimulationFault.Write) }
+        ensures fault { (text : Option (List ℕ)) (seen : List Record) → Seen text seen (I.left input.old) self.old.intake → IfErr result (EndsBy self.old.intake.head text) }
     {
         match self.read_one(alloc, input) {
             Ok(true) => {}
@@ -284,6 +292,8 @@ impl Stage {
             Reached cluster choice plan text begun (lose_of count ∷ ss) self.old (I.left input.old) out →
             OnOk result (Reached cluster choice plan text begun ss self.new (I.left input.new) out) }
         ensures unwritten { IfErr result (λ fault. fault ≢ SimulationFault.Write) }
+        ensures fault { (cluster : Cluster) (choice : Choice) (plan : Planned) (text begun out : Option (List ℕ)) (ss : List Step) →
+            Reached cluster choice plan text begun (lose_of count ∷ ss) self.old (I.left input.old) out → IfErr result (EndsBy self.old.intake.head text) }
     {
         for _ in 0..count {
             match self.lose_one(alloc, input) {
@@ -327,6 +337,7 @@ impl Stage {
         ensures live { OnOk result (self.new.play.live ≡ self.old.play.live) }
         ensures few { (n : ℕ) → Counted self.old.intake.given n self.old.play → OnOk result (Counted self.new.intake.given (n + 1) self.new.play) }
         ensures head { self.new.intake.head ≡ self.old.intake.head }
+        ensures named { IfErr result IsOfRun }
         ensures reached { (choice : Choice) (text begun left : Option (List ℕ)) (ss : List Step) → SameChoice choice (P.choice spread.now) → IsAgain place plan.entry.steps.now →
             Reached (C.cluster setup.now) choice (planned plan.entry) text begun (again_of place ∷ ss) self.old left (O.contents output.old) →
             OnOk result (Reached (C.cluster setup.now) choice (planned plan.entry) text begun ss self.new left (O.contents output.new)) }
@@ -369,6 +380,7 @@ impl Stage {
         ensures choice { SameChoice (P.choice spread.old) (P.choice spread.new) }
         ensures few { (n : ℕ) → Counted self.old.intake.given n self.old.play → OnOk result (Counted self.new.intake.given (n + 1) self.new.play) }
         ensures head { self.new.intake.head ≡ self.old.intake.head }
+        ensures named { IfErr result IsOfRun }
         ensures reached { (choice : Choice) (text begun left : Option (List ℕ)) (ss : List Step) →
             Reached (C.cluster setup.now) choice (planned plan.entry) text begun (step.now ∷ ss) self.old left (O.contents output.old) →
             OnOk result (Reached (C.cluster setup.now) choice (planned plan.entry) text begun ss self.new left (O.contents output.new)) }
@@ -408,6 +420,8 @@ impl Stage {
         ensures short { (choice : Choice) (text begun : Option (List ℕ)) (ss : List Step) → SameChoice choice (P.choice spread.old) → AmongSteps step.now plan.entry.steps.now →
             Reached (C.cluster setup.now) choice (planned plan.entry) text begun (step.now ∷ ss) self.old (I.left input.old) (O.contents output.old) →
             IfErr result (λ fault. fault ≢ SimulationFault.Write → Shortened (C.cluster setup.now) choice (planned plan.entry) self.old.intake.head text begun (O.contents output.new)) }
+        ensures fault { (choice : Choice) (text begun : Option (List ℕ)) (ss : List Step) → SameChoice choice (P.choice spread.old) →
+            Reached (C.cluster setup.now) choice (planned plan.entry) text begun (step.now ∷ ss) self.old (I.left input.old) (O.contents output.old) → IfErr result (EndsBy self.old.intake.head text) }
     {
         match step {
             Step::Take(count) => self.take(alloc, core, setup, spread, plan, *count, input, output),
@@ -441,6 +455,8 @@ impl Stage {
         ensures short { (text begun : Option (List ℕ)) →
             Reached (C.cluster setup.now) (P.choice spread.old) (planned plan.entry) text begun plan.entry.steps.now self.old (I.left input.old) (O.contents output.old) →
             IfErr result (λ fault. fault ≢ SimulationFault.Write → Shortened (C.cluster setup.now) (P.choice spread.old) (planned plan.entry) self.old.intake.head text begun (O.contents output.new)) }
+        ensures fault { (text begun : Option (List ℕ)) →
+            Reached (C.cluster setup.now) (P.choice spread.old) (planned plan.entry) text begun plan.entry.steps.now self.old (I.left input.old) (O.contents output.old) → IfErr result (EndsBy self.old.intake.head text) }
     {
         for step in plan.steps {
             match self.step(alloc, core, setup, spread, plan, step, input, output) {
@@ -460,6 +476,7 @@ impl Stage {
             Reached cluster choice plan text begun [] self (I.left input.old) out →
             IfOk result (λ p. IsOver cluster choice plan self.intake.head text begun out p.play p.packets p.ending) }
         ensures unwritten { IfErr result (λ fault. fault ≢ SimulationFault.Write) }
+        ensures fault { (text : Option (List ℕ)) (seen : List Record) → Seen text seen (I.left input.old) self.intake → IfErr result (EndsBy self.intake.head text) }
     {
         let Stage {
             play,
@@ -500,6 +517,7 @@ pub(crate) fn play_records<C: Core, P: Spread, I: Source, O: Sink>(
     ensures read { IfOk result (λ p. p.play.read ≤ p.packets) }
     ensures stands { IfOk result (λ p. C.stands setup.now p.play.past core.new) }
     ensures short { IfErr result (λ fault. fault ≢ SimulationFault.Write → Shortened (C.cluster setup.now) (P.choice spread.old) (planned plan.entry) head (I.left input.old) (O.contents output.old) (O.contents output.new)) }
+    ensures fault { IfErr result (EndsBy head (I.left input.old)) }
 {
     let mut stage = match Stage::make(alloc, plan, head) {
         Ok(stage) => stage,

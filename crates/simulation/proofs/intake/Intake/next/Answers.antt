@@ -1,7 +1,8 @@
 use Rattle.std.proofs.Common.{is_some, ◌∙◌, ◌≡◌, true, false, refl, subst, sym, ap}
 use Rattle.pcap_file.specs.Format.{packet}
+use Rattle.pcap_file.specs.Text.{AllRefused}
 use Rattle.simulation.specs.Intake.{Taking, Seen}
-use Rattle.simulation.proofs.Intakes.{one_more, at_end, is_none_of, no_end}
+use Rattle.simulation.proofs.Intakes.{one_more, at_end, refused_at, is_none_of, no_end}
 use Rattle.simulation.proofs.intake.Intake.next.Goals as goal
 
 pub returns-in-Ok-clause-more : goal.returns-in-Ok-clause-more
@@ -21,4 +22,12 @@ returns-in-Err g c =
       none = λ e. (ap (λ (x : Taking). x.given) c.self.view_is, refl);
       end = λ e. absurd (no_end c.self.inside.ended none (ap (λ (x : Taking). is_some x.ended) c.self.view_is ∙ e));
       few = c.self.invariant;
+      fault = λ text seen s. tt;
     }
+
+pub returns-in-Err-Failed-clause-fault : goal.returns-in-Err-Failed-clause-fault
+returns-in-Err-Failed-clause-fault g c = λ text seen s.
+    let none = is_none_of c.self.inside.ended (sym c.if-is_some.ensures) in
+    let t : Taking = record { head = c.self.inside.head; record_read = packet c.self.inside.frame; given = c.self.inside.given; ended = c.self.inside.ended } in
+    subst (λ (x : Taking). AllRefused x.head text c.in-Err-Failed.fault) c.self.view_is
+    (refused_at t text _ _ seen c.in-Err-Failed.fault none (subst (λ (x : Taking). Seen text seen (g.I.Source.left c.args.input.now) x) (sym c.self.view_is) s) (rw c.in-Err-Failed.field-0-is at c.in-Err-Failed.ensures.gave))

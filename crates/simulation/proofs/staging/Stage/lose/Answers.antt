@@ -1,5 +1,7 @@
 use Rattle.std.proofs.Common.{Bool, ◌≡◌, ◌+◌, ◌-◌, ◌∷◌, ℕ, List, Option, sym, subst, ◌∙◌, arith}
 use Rattle.course.specs.Streams.{lose_of}
+use Rattle.pcap_file.specs.declared.format.Head.{Head}
+use Rattle.simulation.specs.Simulated.{EndsBy}
 use Rattle.simulation.specs.Stages.{Reached, still_to_lose}
 use Rattle.simulation.proofs.Reaching.{one_fewer, reached_turn, no_more_lost}
 use Rattle.simulation.proofs.staging.Stage.lose.Goals as goal
@@ -32,3 +34,8 @@ pub returns-clause-reached : goal.returns-clause-reached
 returns-clause-reached g c = λ cluster choice plan text begun out ss r.
     reached_turn cluster choice plan text begun (lose_of (c.args.count - c.loop.counter)) ss c.loop.self _ _ (c.loop.invariant.reached cluster choice plan text begun out ss r)
     (no_more_lost cluster choice plan (c.args.count - c.loop.counter) ss c.loop.self.play (omega arith))
+
+pub returns-in-Err-clause-fault : goal.returns-in-Err-clause-fault
+returns-in-Err-clause-fault g c = λ cluster choice plan text begun out ss r.
+    let here = c.loop.invariant.reached cluster choice plan text begun out ss r in
+    subst (λ (h : Head). EndsBy h text c.in-Err.fault) c.loop.invariant.head (c.in-Err.ensures.fault text here.seen here.read)

@@ -6,7 +6,7 @@ use Rattle.simulation.specs.declared.fault.SimulationFault.TheVariants.{Write}
 use Rattle.simulation.specs.Plans.{planned}
 use Rattle.simulation.specs.Keeping.{IsAgain}
 use Rattle.simulation.specs.Stages.{Reached}
-use Rattle.simulation.proofs.Reaching.{short_of, if_err}
+use Rattle.simulation.proofs.Reaching.{short_of, if_err, of_run}
 use Rattle.simulation.proofs.staging.Stage.step.Goals as goal
 
 pub returns-in-Take-clause-short : goal.returns-in-Take-clause-short
@@ -32,4 +32,15 @@ returns-in_default g c = record {
   head = c.aside.ensures.head;
   reached = λ choice text begun ss same among r. c.aside.ensures.reached choice text begun _ ss r;
   short = λ choice text begun ss same among r. c.aside.ensures.short choice text begun _ ss r;
+  fault = λ choice text begun ss same r. of_run c.args.self.now.intake.head text c.aside.result c.aside.ensures.named;
 }
+
+pub returns-in-Take-clause-fault : goal.returns-in-Take-clause-fault
+returns-in-Take-clause-fault g c = λ choice text begun ss same r.
+    c.take.ensures.fault choice text begun ss same
+    (subst (λ (s : Step). Reached (g.C.Core.cluster c.args.setup.now) choice (planned c.args.plan) text begun (s ∷ ss) c.args.self.now (g.I.Source.left c.args.input.now) (g.O.Sink.contents c.args.output.now)) c.in-Take.is r)
+
+pub returns-in-Lose-clause-fault : goal.returns-in-Lose-clause-fault
+returns-in-Lose-clause-fault g c = λ choice text begun ss same r.
+    c.lose.ensures.fault (g.C.Core.cluster c.args.setup.now) choice (planned c.args.plan) text begun (g.O.Sink.contents c.args.output.now) ss
+    (subst (λ (s : Step). Reached (g.C.Core.cluster c.args.setup.now) choice (planned c.args.plan) text begun (s ∷ ss) c.args.self.now (g.I.Source.left c.args.input.now) (g.O.Sink.contents c.args.output.now)) c.in-Lose.is r)

@@ -2,6 +2,7 @@ use Rattle.std.proofs.Common.{◌≡◌, ◌+◌, ◌∷◌, ℕ, List, Option, 
 use Rattle.pcap_file.specs.declared.format.Head.{Head}
 use Rattle.scenario_steps.specs.declared.Step.{Step}
 use Rattle.simulation.specs.Plans.{planned}
+use Rattle.simulation.specs.Simulated.{EndsBy}
 use Rattle.simulation.specs.Going.{Shortened}
 use Rattle.simulation.specs.Stages.{Reached}
 use Rattle.simulation.proofs.Reaching.{next_step, among_steps}
@@ -29,3 +30,10 @@ loop-step-preserved g c =
           (next_step c.args.plan.steps.now i c.step-item.result (omega arith) c.step-item.is) (c.loop-step.invariant.reached text begun r) in
           c.in-Ok.ensures.reached (g.P.Spread.choice c.args.spread.now) text begun (drop (i + 1) c.args.plan.steps.now) c.loop-step.invariant.same (among_steps c.args.plan.steps.now i c.step-item.result (omega arith) c.step-item.is) here;
     }
+
+pub returns-in-Err-clause-fault : goal.returns-in-Err-clause-fault
+returns-in-Err-clause-fault g c = λ text begun r.
+    let i = c.loop-step.step-index in
+    let here = subst (λ (l : List Step). Reached (g.C.Core.cluster c.args.setup.now) (g.P.Spread.choice c.args.spread.now) (planned c.args.plan) text begun l c.loop-step.self (g.I.Source.left c.loop-step.input) (g.O.Sink.contents c.loop-step.output))
+    (next_step c.args.plan.steps.now i c.step-item.result (omega arith) c.step-item.is) (c.loop-step.invariant.reached text begun r) in
+    subst (λ (h : Head). EndsBy h text c.in-Err.fault) c.loop-step.invariant.head (c.in-Err.ensures.fault (g.P.Spread.choice c.args.spread.now) text begun (drop (i + 1) c.args.plan.steps.now) c.loop-step.invariant.same here)

@@ -3,6 +3,7 @@ use Rattle.pcap_file.specs.declared.format.Head.{Head}
 use Rattle.scenario_steps.specs.declared.Step.{Step}
 use Rattle.course.specs.Streams.{take_of}
 use Rattle.simulation.specs.Plans.{planned}
+use Rattle.simulation.specs.Simulated.{EndsBy}
 use Rattle.simulation.specs.Going.{Shortened}
 use Rattle.simulation.specs.Stages.{Reached, still_to_take}
 use Rattle.simulation.proofs.Reaching.{one_fewer, reached_turn, no_more_taken}
@@ -46,3 +47,7 @@ returns-clause-reached g c = λ choice text begun ss same r.
     let cluster = g.C.Core.cluster c.args.setup.now in
     reached_turn cluster choice (planned c.args.plan) text begun (take_of (c.args.count - c.loop.counter)) ss c.loop.self _ _ (c.loop.invariant.reached choice text begun ss same r)
     (no_more_taken cluster choice (planned c.args.plan) (c.args.count - c.loop.counter) ss c.loop.self.play (omega arith))
+
+pub returns-in-Err-clause-fault : goal.returns-in-Err-clause-fault
+returns-in-Err-clause-fault g c = λ choice text begun ss same r.
+    subst (λ (h : Head). EndsBy h text c.in-Err.fault) c.loop.invariant.head (c.in-Err.ensures.fault choice text begun (take_of (c.args.count - c.loop.counter) ∷ ss) (c.loop.invariant.reached choice text begun ss same r))
