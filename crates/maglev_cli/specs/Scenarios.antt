@@ -13,7 +13,7 @@ use Rattle.scenario.specs.declared.reading.Scenario.{Scenario}
 use Rattle.scenario.specs.Meaning.{Means, IsRefused}
 use Rattle.simulation.specs.declared.fault.SimulationFault.{SimulationFault}
 use Rattle.simulation.specs.declared.fault.SimulationFault.TheVariants as run
-use Rattle.simulation.specs.Simulated.{Stopped}
+use Rattle.simulation.specs.Simulated.{Stopped, CaptureFails}
 use Rattle.scenario_play.specs.declared.asking.Asked.{Asked}
 use Rattle.scenario_play.specs.Described.{cluster_in, choice_in, plan_in}
 use Rattle.scenario_play.specs.Answers.{Answers}
@@ -68,4 +68,6 @@ pub record RunFails (fault : CliFault) (text : List ℕ) (input output output' :
   pub means : Means text scenario
   pub why : SimulationFault
   pub named : fault ≡ run_fault why
+  -- a fault of the capture is that of its header, or of its text behind some records
+  pub reason : CaptureFails input why
   pub stopped : fault ≢ Write → Stopped (cluster_in scenario) (choice_in scenario) (plan_in scenario) input output output'

@@ -6,7 +6,7 @@ ghost use Rattle.course.specs.Steps.{below};
 ghost use Rattle.cluster_run.specs.Ruling.{cluster_of};
 ghost use Rattle.scenario.specs.Meaning.{HasLimits};
 ghost use Rattle.simulation.specs.Plans.{planned};
-ghost use Rattle.simulation.specs.Simulated.{Stopped};
+ghost use Rattle.simulation.specs.Simulated.{Stopped, CaptureFails};
 ghost use Rattle.scenario_play.specs.Described.{pick_by, cluster_in, choice_in, choice_by, plan_in};
 ghost use Rattle.scenario_play.specs.Answers.{Answers};
 
@@ -41,6 +41,7 @@ fn play_with<S: Scheme, P: Spread, I: Source, O: Sink>(
     requires workers { rules.now.setup.workers ≤ 16 }
     ensures ok { IfOk result (λ s. Answers (cluster_of (λ s z. S.pick s z) (λ h. plain_of h) rules.now) (P.choice spread.old) (planned plan.entry) (λ x. slot_of_flow (plain_of rules.now.setup.hash) rules.now.setup.size x) asked (I.left input.old) (O.contents output.old) (O.contents output.new) (string_bytes s)) }
     ensures stopped { IfErr result (λ fault. fault ≢ SimulationFault.Write → Stopped (cluster_of (λ s z. S.pick s z) (λ h. plain_of h) rules.now) (P.choice spread.old) (planned plan.entry) (I.left input.old) (O.contents output.old) (O.contents output.new)) }
+    ensures fault { IfErr result (CaptureFails (I.left input.old)) }
 {
     let mut balancers = Balancers::<S, AnyHash, LruTable>::make(alloc, rules)?;
     rules.keep_order();
@@ -72,6 +73,7 @@ fn play_over<S: Scheme, I: Source, O: Sink>(
     requires workers { rules.now.setup.workers ≤ 16 }
     ensures ok { IfOk result (λ s. Answers (cluster_of (λ s z. S.pick s z) (λ h. plain_of h) rules.now) (choice_by spread (plain_of rules.now.setup.hash)) (planned plan.entry) (λ x. slot_of_flow (plain_of rules.now.setup.hash) rules.now.setup.size x) asked (I.left input.old) (O.contents output.old) (O.contents output.new) (string_bytes s)) }
     ensures stopped { IfErr result (λ fault. fault ≢ SimulationFault.Write → Stopped (cluster_of (λ s z. S.pick s z) (λ h. plain_of h) rules.now) (choice_by spread (plain_of rules.now.setup.hash)) (planned plan.entry) (I.left input.old) (O.contents output.old) (O.contents output.new)) }
+    ensures fault { IfErr result (CaptureFails (I.left input.old)) }
 {
     let live = all_live(alloc, plan.nodes.len() as u16)?;
     match spread {
@@ -100,6 +102,7 @@ fn play_by<S: Scheme, I: Source, O: Sink>(
     requires picks { S.pick scheme scenario.size ≡ pick_by scenario.scheme (plain_of scenario.hash) scenario.size }
     ensures ok { IfOk result (λ s. Answers (cluster_in scenario) (choice_in scenario) (plan_in scenario) (λ x. slot_of_flow (plain_of scenario.hash) scenario.size x) asked (I.left input.old) (O.contents output.old) (O.contents output.new) (string_bytes s)) }
     ensures stopped { IfErr result (λ fault. fault ≢ SimulationFault.Write → Stopped (cluster_in scenario) (choice_in scenario) (plan_in scenario) (I.left input.old) (O.contents output.old) (O.contents output.new)) }
+    ensures fault { IfErr result (CaptureFails (I.left input.old)) }
 {
     let Scenario {
         size,
@@ -145,6 +148,7 @@ pub fn play_scenario<I: Source, O: Sink>(
     requires size { scenario.catalogue.size ≡ scenario.size }
     ensures ok { IfOk result (λ s. Answers (cluster_in scenario) (choice_in scenario) (plan_in scenario) (λ x. slot_of_flow (plain_of scenario.hash) scenario.size x) asked (I.left input.old) (O.contents output.old) (O.contents output.new) (string_bytes s)) }
     ensures stopped { IfErr result (λ fault. fault ≢ SimulationFault.Write → Stopped (cluster_in scenario) (choice_in scenario) (plan_in scenario) (I.left input.old) (O.contents output.old) (O.contents output.new)) }
+    ensures fault { IfErr result (CaptureFails (I.left input.old)) }
 {
     let hash = scenario.hash;
     match scenario.scheme {

@@ -29,6 +29,7 @@ returns-in-Ok-play_scenario-clause-stopped g c =
       means = c.in-Ok.ensures.means;
       why = run.Write;
       named = is;
+      reason = tt;
       stopped = λ other. absurd (other is);
     }))
     c.put_text.ensures.fault
@@ -40,5 +41,6 @@ returns-in-Err-play_scenario-clause-stopped g c =
       means = c.in-Ok.ensures.means;
       why = c.in-Err-play_scenario.fault;
       named = c.run_fault.ensures;
+      reason = c.in-Err-play_scenario.ensures.fault;
       stopped = λ other. c.in-Err-play_scenario.ensures.stopped (λ is. other (c.run_fault.ensures ∙ ap run_fault is));
     })
