@@ -1,5 +1,5 @@
 -- What a run that reads its records one by one rests on.
-use Rattle.std.proofs.Common.{◌≡◌, ℕ, zero, suc, ◌+◌, ◌-◌, ◌<◌, Bool, true, false, List, [], ◌∷◌, ◌++◌, length, take, Option, Some, None, refl, sym, ap, ◌∙◌, subst, arith, append_assoc, drop_at, take_at, length-append}
+use Rattle.std.proofs.Common.{◌≡◌, ℕ, zero, suc, ◌+◌, Bool, true, false, List, [], ◌∷◌, ◌++◌, length, take, Option, Some, None, refl, sym, ap, ◌∙◌, arith, append_assoc, drop_at, take_at, length-append}
 use Rattle.std.specs.Prelude.{if◌then◌else◌, slice_get}
 use Rattle.cluster_node.specs.declared.events.Said.{Said}
 use Rattle.cluster_node.specs.declared.events.Event.{Event}
@@ -130,22 +130,6 @@ take_ended cluster choice seen k ss c e w i =
 pub take_zero : (w : World) (k : ℕ) (ss : List Step) (c : Course) → k ≡ 0 → run w (steps.Take k ∷ ss) c ≡ run w ss c
 unfolding run after take_all
 take_zero w k ss c e = ap (λ (m : ℕ). run w (steps.Take m ∷ ss) c) e
-
--- one record more, whatever comes behind it
-pub come_one : (cluster : Cluster) (choice : Choice) (seen seen' more : List Packet) (p : Packet) (count i : ℕ) (ss : List Step) (c s n first : Course) (place : ℕ) → i < count → c.read ≡ length seen → seen' ≡ seen ++ p ∷ []
-    → place ≡ c.read → s ≡ record c { read = c.read + 1 } → n ≡ deliver (world_of cluster choice (seen ++ p ∷ more)) place p s
-    → run (world_of cluster choice (seen ++ p ∷ more)) (steps.Take (count - i) ∷ ss) c ≡ run (world_of cluster choice (seen ++ p ∷ more)) (steps.Take count ∷ ss) first
-    → run (world_of cluster choice (seen' ++ more)) (steps.Take (count - (i + 1)) ∷ ss) n ≡ run (world_of cluster choice (seen' ++ more)) (steps.Take count ∷ ss) first
-come_one cluster choice seen seen' more p count i ss c s n first place lt e f g h k inv =
-    let w : World = world_of cluster choice (seen ++ p ∷ more) in
-    let same : seen ++ p ∷ more ≡ seen' ++ more = sym (append_assoc seen (p ∷ []) more) ∙ ap (λ (l : List Packet). l ++ more) (sym f) in
-    let d : n ≡ deliver w c.read p (record c { read = c.read + 1 }) = k ∙ ap (λ (m : ℕ). deliver w m p s) g ∙ ap (λ (x : Course). deliver w c.read p x) h in
-    let one : count - i ≡ suc (count - (i + 1)) = omega arith in
-    subst (λ (l : List Packet). run (world_of cluster choice l) (steps.Take (count - (i + 1)) ∷ ss) n ≡ run (world_of cluster choice l) (steps.Take count ∷ ss) first) same
-    (ap (λ (x : Course). run w (steps.Take (count - (i + 1)) ∷ ss) x) d
-    ∙ sym (take_one cluster choice seen more p (count - (i + 1)) ss c e w refl)
-    ∙ ap (λ (m : ℕ). run w (steps.Take m ∷ ss) c) (sym one)
-    ∙ inv)
 
 -- a record that is lost, and one fewer is to be lost
 pub lose_one : (cluster : Cluster) (choice : Choice) (seen more : List Packet) (p : Packet) (k : ℕ) (ss : List Step) (c : Course) → c.read ≡ length seen

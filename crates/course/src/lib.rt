@@ -7,9 +7,7 @@
 
 mod machine;
 mod play;
-mod stream;
 
 pub use machine::Core;
 pub use play::{Play, Tally, all_live};
 pub use scenario_steps::Step;
-pub use stream::{Records, take_as_they_come};

@@ -1,17 +1,14 @@
 -- The setup that is made of a scenario is what the scenario describes.
-use Rattle.std.proofs.Common.{◌≡◌, ℕ, Bool, List, refl, sym, ap, ◌∙◌, subst, Option, length}
+use Rattle.std.proofs.Common.{◌≡◌, ℕ, List, ap, ◌∙◌, subst, Option, length}
 use Rattle.std.specs.Prelude.{is_some}
 use Rattle.hash_laws.specs.declared.any.AnyHash.{AnyHash}
 use Rattle.hash_laws.specs.Any.{plain_of}
-use Rattle.five_tuple.specs.declared.Flow.{Flow}
 use Rattle.forwarder.specs.Serving.{Pick}
 use Rattle.selection.specs.Picks.{slot_of_flow}
-use Rattle.pool_versions.specs.Pool.{Pools, version_at, up_of}
-use Rattle.spreader.specs.Choices.{Choice}
+use Rattle.pool_versions.specs.Pool.{version_at, up_of}
 use Rattle.cluster_node.specs.Rules.{Rules}
 use Rattle.cluster_core.specs.Setups.{Fixed}
 use Rattle.cluster_run.specs.Ruling.{Ruling, rules_of, cluster_by}
-use Rattle.course.specs.Cluster.{Cluster}
 use Rattle.scenario_steps.specs.declared.Step.{Step}
 use Rattle.scenario.specs.declared.reading.Scenario.{Scenario}
 use Rattle.simulation.specs.Plans.{Planned}

@@ -1,6 +1,6 @@
 -- What a run that came to its end is.
-use Rattle.std.proofs.Common.{◌≡◌, ℕ, suc, Bool, List, [], ◌∷◌, ◌++◌, drop, length, refl, sym, ap, ◌∙◌, subst, append-nil, Option, Some, None, Result, Ok, Err, inr}
-use Rattle.std.specs.Prelude.{IfOk, string_bytes}
+use Rattle.std.proofs.Common.{◌≡◌, ℕ, suc, Bool, List, [], ◌∷◌, drop, length, refl, sym, subst, append-nil, Option, Some, None, Result, inr}
+use Rattle.std.specs.Prelude.{IfOk}
 use Rattle.std.specs.declared.alloc.AllocError.{AllocError}
 use Rattle.pcap_file.specs.declared.format.Head.{Head}
 use Rattle.pcap_file.specs.declared.format.Ending.{Ending}
@@ -16,8 +16,8 @@ use Rattle.course.specs.declared.play.Tally.{Tally}
 use Rattle.course.proofs.Told.{run_told}
 use Rattle.listing.specs.Report.{report_text}
 use Rattle.simulation.specs.Plans.{Planned}
-use Rattle.simulation.specs.Sent.{Sending, packets_of, capture_text}
-use Rattle.simulation.specs.Simulated.{InputIs, InputBegins, course_of, sendings, Simulated, StopsShort, Stopped}
+use Rattle.simulation.specs.Sent.{packets_of}
+use Rattle.simulation.specs.Simulated.{InputIs, InputBegins, course_of, sendings, Simulated, Stopped}
 
 course_told : (cluster : Cluster) (choice : Choice) (plan : Planned) (link : _) (records : List Record) → Judged cluster.judge (course_of cluster choice plan link records).past
 unfolding course_of

@@ -1,9 +1,8 @@
 -- What is asked of a scenario's run, and the text that answers it.
-use Rattle.std.specs.Prelude.{◌≡◌, ℕ, ◌-◌, Bool, true, false, List, [], ◌∷◌, ◌++◌, reverse, Option, Some, None, option_and_then, if◌then◌else◌, slice_get}
+use Rattle.std.specs.Prelude.{◌≡◌, ℕ, ◌-◌, Bool, true, false, List, [], ◌∷◌, ◌++◌, reverse, Option, option_and_then, slice_get}
 use Rattle.five_tuple.specs.declared.Flow.{Flow}
 use Rattle.pcap_file.specs.declared.format.Ending.{Ending}
 use Rattle.pcap_file.specs.declared.format.Ending.TheVariants.{End, Cut, Failed}
-use Rattle.selection.specs.Picks.{slot_of_flow}
 use Rattle.spreader.specs.Choices.{Choice}
 use Rattle.cluster_node.specs.declared.events.Said.{Said}
 use Rattle.cluster_node.specs.declared.outcomes.Outcome.{Outcome}

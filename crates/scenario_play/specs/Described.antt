@@ -1,7 +1,6 @@
 -- The cluster that a scenario describes.
 use Rattle.std.specs.Prelude.{ℕ, List, length, is_some}
 use Rattle.hash_laws.specs.Any.{plain_of}
-use Rattle.five_tuple.specs.declared.Flow.{Flow}
 use Rattle.pool_versions.specs.Pool.{version_at, up_of}
 use Rattle.selection.specs.Picks.{pick_at, flow_hash, table_pick}
 use Rattle.forwarder.specs.Serving.{Pick}

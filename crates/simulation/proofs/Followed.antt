@@ -1,8 +1,8 @@
 -- What is sent as events come.
-use Rattle.std.proofs.Common.{◌≡◌, ℕ, ◌+◌, ◌<◌, Bool, List, [], ◌∷◌, ◌++◌, length, drop, get_or, Option, Some, None, Result, Ok, Err, refl, sym, ap, ◌∙◌, subst, arith, append_assoc, drop-cons, add-one, suc, slice_get, append-nil}
-use Rattle.std.specs.Prelude.{OnOk, IfErr, ◌≢◌}
+use Rattle.std.proofs.Common.{◌≡◌, ℕ, ◌+◌, ◌<◌, Bool, List, [], ◌∷◌, ◌++◌, length, drop, get_or, Option, Some, Result, Ok, Err, refl, sym, ap, ◌∙◌, subst, arith, append_assoc, drop-cons, add-one, suc, slice_get, append-nil}
+use Rattle.std.specs.Prelude.{OnOk}
 use Rattle.std.specs.Io.KnownBytes.{Appends}
-use Rattle.std.proofs.KnownBytes.{Appends-trans, Appends-nil}
+use Rattle.std.proofs.KnownBytes.{Appends-nil}
 use Rattle.five_tuple.specs.declared.Flow.{Flow}
 use Rattle.pool_versions.specs.declared.backend.Backend.{Backend}
 use Rattle.pcap_file.specs.Format.{Packet as Record}
@@ -13,13 +13,13 @@ use Rattle.cluster_node.specs.declared.events.Event.TheVariants.{Install, Arrive
 use Rattle.cluster_node.specs.declared.events.Said.{Said}
 use Rattle.cluster_node.specs.Records.{Judge, Judged}
 use Rattle.course.specs.Cluster.{Cluster, TakesFirst, Orderly}
-use Rattle.waiting_frames.specs.Mirrors.{Mirrors, CanFollow, ComesAs, IsNoArrival}
+use Rattle.waiting_frames.specs.Mirrors.{Mirrors, CanFollow, ComesAs}
 use Rattle.simulation.specs.declared.sending.Wire.{Wire}
 use Rattle.simulation.specs.Sent.{Traffic, Sending, sent, sent_by, sent_at, records_text, BeginsWith}
 use Rattle.simulation.specs.Wires.{traffic}
 use Rattle.simulation.specs.Following.{sent_with, NoArrivals, CanSettle}
 use Rattle.simulation.specs.Going.{onto}
-use Rattle.simulation.proofs.Going.{begins_whole, appends_behind}
+use Rattle.simulation.proofs.Going.{appends_behind}
 
 pub nothing_sent : (t : Traffic) (o : Outcome) → ((n w i : ℕ) (x : Flow) (b : Backend) (v : ℕ) → o ≡ Forward n w i x b v → ⊥) → sent_by t o ≡ []
 unfolding sent_by

@@ -1,9 +1,8 @@
 -- How a run goes on, and what its output is where it stops.
-use Rattle.std.proofs.Common.{◌≡◌, ℕ, zero, suc, ◌+◌, ◌<◌, List, [], ◌∷◌, ◌++◌, length, drop, reverse, get_or, Option, Some, None, refl, sym, ap, ◌∙◌, subst, arith, append_assoc, drop-cons, add-one, append-nil}
-use Rattle.std.proofs.lemmas.List.{reverse-append, reverse-reverse}
+use Rattle.std.proofs.Common.{◌≡◌, ℕ, suc, List, [], ◌∷◌, ◌++◌, reverse, Option, Some, None, refl, sym, ap, ◌∙◌, subst, append_assoc, append-nil}
+use Rattle.std.proofs.lemmas.List.{reverse-append}
 use Rattle.std.specs.Io.KnownBytes.{Appends}
 use Rattle.std.proofs.KnownBytes.{Appends-trans}
-use Rattle.ip_headers.specs.declared.Link.{Link}
 use Rattle.pcap_file.specs.declared.format.Head.{Head}
 use Rattle.pcap_file.specs.declared.format.Ending.{Ending}
 use Rattle.pcap_file.specs.Format.{Packet as Record}
@@ -19,7 +18,7 @@ use Rattle.simulation.specs.Plans.{Planned}
 use Rattle.simulation.specs.Intake.{HasSeen}
 use Rattle.simulation.specs.Sent.{Sending, packets_of, sent, records_text, BeginsWith}
 use Rattle.simulation.specs.Simulated.{course_of, traffic_of, sendings}
-use Rattle.simulation.specs.Going.{onto, Left, SentSoFar, Shortened}
+use Rattle.simulation.specs.Going.{onto, Left, Shortened}
 use Rattle.simulation.proofs.Sends.{text_append, sent_append}
 
 reads_begins : (head : Head) (n : ℕ) (text : List ℕ) (rs : List Record) (e : Ending) → Reads head n text rs e → (rest : List ℕ) × Begins head n text rs rest

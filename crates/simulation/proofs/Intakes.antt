@@ -1,6 +1,5 @@
 -- One record more, or the ending.
-use Rattle.std.proofs.Common.{true, false, is_some, ◌≡◌, ℕ, ◌+◌, List, [], ◌∷◌, ◌++◌, length, Option, Some, None, Result, Ok, Err, refl, sym, ap, ◌∙◌, subst, arith, length-append}
-use Rattle.pcap_file.specs.declared.format.Head.{Head}
+use Rattle.std.proofs.Common.{true, false, is_some, ◌≡◌, ℕ, ◌+◌, List, [], ◌∷◌, ◌++◌, Option, Some, None, Ok, Err, refl, sym, ap, ◌∙◌, subst, arith, length-append}
 use Rattle.pcap_file.specs.declared.format.Ending.{Ending}
 use Rattle.pcap_file.specs.declared.format.Ending.TheVariants.{Failed}
 use Rattle.pcap_file.specs.declared.format.PcapFault.{PcapFault}
@@ -8,7 +7,7 @@ use Rattle.pcap_file.specs.Format.{Packet as Record}
 use Rattle.pcap_file.specs.Reading.{Gave}
 use Rattle.pcap_file.specs.Text.{Passed, AllRefused}
 use Rattle.pcap_file.proofs.Texts.{passed-push, passed-stop, gave-named}
-use Rattle.simulation.specs.Intake.{Taking, HasSeen, Seen, SeenMore}
+use Rattle.simulation.specs.Intake.{Taking, HasSeen, Seen}
 
 passed : (t : Taking) (text left : Option (List ℕ)) (seen : List Record) → t.ended ≡ None → Seen text seen left t → Passed t.head text seen left
 passed t text left seen e s = subst (λ (o : Option Ending). HasSeen t.head o text seen left) e s.has

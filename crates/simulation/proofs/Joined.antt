@@ -1,29 +1,20 @@
 -- The parts of a run over a capture, put together.
-use Rattle.std.proofs.Common.{◌≡◌, ℕ, zero, suc, ◌+◌, Bool, List, [], ◌∷◌, ◌++◌, length, drop, map, refl, sym, ap, ◌∙◌, subst, append-nil, Option, Some, None, Result, Ok, Err, inr, slice_get}
-use Rattle.std.proofs.lemmas.Option.{none-some}
-use Rattle.std.specs.Prelude.{OnOk, IfErr, ◌≢◌}
+use Rattle.std.proofs.Common.{ℕ, List, subst, Option, Some, None, Ok, inr}
 use Rattle.std.specs.Io.KnownBytes.{Appends}
 use Rattle.std.proofs.KnownBytes.{Appends-trans}
-use Rattle.ip_headers.specs.declared.Link.{Link}
 use Rattle.pcap_file.specs.declared.format.Head.{Head}
-use Rattle.pcap_file.specs.declared.format.Frame.{Frame}
 use Rattle.pcap_file.specs.declared.format.Ending.{Ending}
-use Rattle.pcap_file.specs.Format.{Packet as Record, packet, written_head}
+use Rattle.pcap_file.specs.Format.{Packet as Record, written_head}
 use Rattle.pcap_file.specs.Capture.{HeadRead}
 use Rattle.pcap_file.specs.Text.{Reads, Begins, Passed, IsTold}
 use Rattle.spreader.specs.Choices.{Choice}
-use Rattle.cluster_node.specs.declared.packets.Packet.{Packet}
-use Rattle.cluster_node.specs.Records.{WasRead}
-use Rattle.cluster_core.proofs.Frames.{was_read}
-use Rattle.scenario_steps.specs.declared.Step.{Step}
-use Rattle.course.specs.Cluster.{Cluster, WereRead}
+use Rattle.course.specs.Cluster.{Cluster}
 use Rattle.course.specs.Course.{Course}
-use Rattle.course.specs.Steps.{World, world_of, run, start}
 use Rattle.simulation.specs.Plans.{Planned}
-use Rattle.simulation.specs.Sent.{Sending, packet_in, packets_of, records_text, capture_text, BeginsWith}
+use Rattle.simulation.specs.Sent.{records_text}
 use Rattle.simulation.specs.Going.{Shortened}
 use Rattle.simulation.specs.Stages.{IsOver}
-use Rattle.simulation.specs.Simulated.{InputIs, InputBegins, course_of, sendings, Simulated, StopsShort, Stopped}
+use Rattle.simulation.specs.Simulated.{InputIs, InputBegins, sendings, Simulated, Stopped}
 
 input_is : (left mid : Option (List ℕ)) (head : Head) (rs : List Record) (e : Ending) → HeadRead left mid (Ok head) → IsTold head mid rs e → InputIs left head rs e
 input_is None mid head rs e h t = tt

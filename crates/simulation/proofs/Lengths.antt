@@ -1,5 +1,5 @@
 -- A packet that can be balanced is short enough to be wrapped.
-use Rattle.std.proofs.Common.{◌≡◌, ◌≤◌, ◌<◌, ℕ, zero, suc, [], ◌∷◌, Bor, option_map, Bool, true, false, List, Result, Ok, Err, Option, Some, None, refl, sym, ap, ◌∙◌, subst, arith, take, length}
+use Rattle.std.proofs.Common.{◌≡◌, ◌≤◌, ℕ, zero, suc, [], ◌∷◌, Bor, option_map, Bool, true, false, List, Result, Ok, Err, Option, Some, None, refl, sym, subst, arith, take, length}
 use Rattle.std.proofs.lemmas.Bool.{ltb-false}
 use Rattle.std.specs.Prelude.{nat_lt, if◌then◌else◌, IfSome}
 use Rattle.ip_headers.specs.Ipv4.{Datagram, frame_answer, ipv4_answer}

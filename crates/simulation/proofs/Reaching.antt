@@ -1,5 +1,5 @@
 -- How a run record by record reaches its next record.
-use Rattle.std.proofs.Common.{◌≡◌, ◌≢◌, ◌⊎◌, inl, inr, take, ℕ, zero, suc, ◌+◌, ◌-◌, ◌*◌, ◌≤◌, ◌<◌, Bool, true, false, List, [], ◌∷◌, ◌++◌, length, map, reverse, Option, Some, None, is_some, refl, sym, ap, ◌∙◌, subst, arith, append_assoc, append-nil, length-append, slice_get, get_or, drop, drop-cons, add-one}
+use Rattle.std.proofs.Common.{◌≡◌, ◌⊎◌, inl, inr, take, ℕ, zero, suc, ◌+◌, ◌-◌, ◌*◌, ◌≤◌, ◌<◌, Bool, true, false, List, [], ◌∷◌, ◌++◌, length, reverse, Option, Some, None, is_some, refl, sym, ap, ◌∙◌, subst, arith, append_assoc, append-nil, length-append, slice_get, get_or, drop, drop-cons, add-one}
 use Rattle.std.proofs.lemmas.List.{map-append}
 use Rattle.std.proofs.lemmas.Option.{slice_get-map, slice_get-get_or}
 use Rattle.std.proofs.lemmas.Bool.{ltb-false, ltb-true}
@@ -28,11 +28,11 @@ use Rattle.course.proofs.Coming.{take_one, take_ended, take_zero, lose_one, lose
 use Rattle.simulation.specs.declared.fault.SimulationFault.{SimulationFault}
 use Rattle.simulation.specs.declared.fault.SimulationFault.TheVariants.{Capture, Write, Memory}
 use Rattle.simulation.specs.Plans.{Planned}
-use Rattle.simulation.specs.Sent.{Sending, packet_in, packets_of, sent, records_text, BeginsWith}
+use Rattle.simulation.specs.Sent.{packet_in, packets_of, sent, records_text, BeginsWith}
 use Rattle.simulation.specs.Simulated.{course_of, traffic_of, sendings, IsOfRun, EndsBy}
 use Rattle.simulation.specs.Intake.{Taking, HasSeen, Seen, ReadOn}
 use Rattle.simulation.specs.Keeping.{AmongSteps, NamesAll, Holds}
-use Rattle.simulation.specs.Going.{Left, SentSoFar, Shortened}
+use Rattle.simulation.specs.Going.{Left, Shortened}
 use Rattle.simulation.specs.Stages.{Sound, Going, Reached, IsOver}
 use Rattle.simulation.specs.declared.staging.Stage.{Stage}
 use Rattle.simulation.proofs.Going.{seen_passed, shortened, begins_whole}

@@ -1,5 +1,5 @@
 -- The records of a capture that are read one by one.
-use Rattle.std.specs.Prelude.{◌≡◌, ℕ, ◌+◌, Bool, true, false, List, [], ◌∷◌, ◌++◌, length, Option, Some, None, is_some}
+use Rattle.std.specs.Prelude.{◌≡◌, ℕ, Bool, true, false, List, [], ◌∷◌, ◌++◌, length, Option, Some, None, is_some}
 use Rattle.pcap_file.specs.declared.format.Head.{Head}
 use Rattle.pcap_file.specs.declared.format.Ending.{Ending}
 use Rattle.pcap_file.specs.Format.{Packet as Record}

@@ -1,6 +1,5 @@
-use Rattle.std.proofs.Common.{subst, sym, List, ℕ}
+use Rattle.std.proofs.Common.{subst, sym}
 use Rattle.cluster_node.specs.Rules.{Rules}
-use Rattle.selection.specs.Picks.{slot_of_flow}
 use Rattle.cluster_core.specs.Explain.{PickedSend, send_of}
 use Rattle.cluster_run.specs.Ruling.{rules_of}
 use Rattle.scenario_play.proofs.Asks.{picked_at, both_sent, same_rules, same_slots}

@@ -1,5 +1,4 @@
 use Rattle.std.proofs.Common.{ap, ◌∙◌}
-use Rattle.simulation.specs.Plans.{planned}
 use Rattle.scenario_play.proofs.Carries.{answers, stops, ruled, planned_as}
 use Rattle.scenario_play.proofs.playing.play_by.Goals as goal
 

@@ -1,4 +1,4 @@
-use Rattle.std.proofs.Common.{◌≡◌, ◌-◌, ◌≤◌, ◌++◌, [], true, is_some, List, ℕ, Option}
+use Rattle.std.proofs.Common.{◌≡◌, ◌-◌, ◌≤◌, List, ℕ, Option}
 use Rattle.pcap_file.specs.Format.{Packet as Record, max_records}
 use Rattle.simulation.specs.Intake.{Seen}
 use Rattle.simulation.proofs.Intakes.{Onward}

@@ -1,9 +1,7 @@
-use Rattle.std.proofs.Common.{◌≡◌, ◌∷◌, ℕ, List, Option, length, ◌∙◌, sym, subst, ap}
+use Rattle.std.proofs.Common.{◌≡◌, ◌∷◌, List, ◌∙◌, sym, subst, ap}
 use Rattle.std.specs.Prelude.{OnOk, IfErr, ◌≢◌}
 use Rattle.std.specs.Io.KnownBytes.{Appends}
-use Rattle.pcap_file.specs.Format.{Packet as Record}
 use Rattle.cluster_node.specs.declared.events.Said.{Said}
-use Rattle.course.specs.Cluster.{Cluster}
 use Rattle.waiting_frames.specs.Mirrors.{Mirrors}
 use Rattle.simulation.specs.declared.fault.SimulationFault.TheVariants.{Write}
 use Rattle.simulation.specs.Sent.{Sending, sent, records_text, BeginsWith}

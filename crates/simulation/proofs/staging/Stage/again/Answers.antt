@@ -1,9 +1,8 @@
-use Rattle.std.proofs.Common.{◌≡◌, ◌+◌, ◌<◌, ◌∷◌, [], ℕ, List, Option, Some, None, refl, sym, subst, ap, ◌∙◌, arith, reverse, slice_get, option_map}
-use Rattle.pcap_file.specs.Format.{Packet as Record, packet}
-use Rattle.pcap_file.specs.declared.format.Head.{Head}
+use Rattle.std.proofs.Common.{◌≡◌, ◌+◌, ◌<◌, ◌∷◌, [], ℕ, Some, None, refl, sym, subst, ap, ◌∙◌, arith, reverse, option_map}
+use Rattle.pcap_file.specs.Format.{packet}
 use Rattle.course.specs.Course.{Course}
 use Rattle.course.specs.Room.{Counted}
-use Rattle.course.specs.Steps.{World, world_of, deliver, repeat}
+use Rattle.course.specs.Steps.{world_of, deliver}
 use Rattle.course.specs.Streams.{again_of}
 use Rattle.course.proofs.Moves.{deliver_hands}
 use Rattle.course.proofs.Coming.{repeat_some, repeat_none}
@@ -11,10 +10,10 @@ use Rattle.simulation.specs.Plans.{planned}
 use Rattle.simulation.specs.Intake.{Taking}
 use Rattle.simulation.specs.Sent.{packet_in, packets_of, sent, BeginsWith}
 use Rattle.simulation.specs.Simulated.{traffic_of}
-use Rattle.simulation.specs.Keeping.{Holds, found}
+use Rattle.simulation.specs.Keeping.{found}
 use Rattle.simulation.specs.Stages.{Sound}
 use Rattle.simulation.specs.declared.staging.Stage.{Stage}
-use Rattle.simulation.proofs.Reaching.{short_of, sound_same, if_some, if_none, packet_there, packet_none, repeated, reached_same, short_same, counted_again, counted_skip, delivered_same}
+use Rattle.simulation.proofs.Reaching.{short_of, sound_same, if_some, if_none, packet_there, packet_none, repeated, reached_same, short_same, counted_again, counted_skip}
 use Rattle.simulation.proofs.staging.Stage.again.Goals as goal
 
 pub deliver-requires-clause-room : goal.deliver-requires-clause-room

@@ -1,8 +1,7 @@
-use Rattle.std.proofs.Common.{◌≡◌, ◌∙◌, List, Option, length, refl, sym, subst, ap, OnOk, IfErr, ◌≢◌, [], reverse}
+use Rattle.std.proofs.Common.{◌∙◌, length, refl, sym, subst, OnOk, IfErr, ◌≢◌, [], reverse}
 use Rattle.std.specs.Io.KnownBytes.{Appends}
-use Rattle.cluster_node.specs.declared.events.Said.{Said}
 use Rattle.course.specs.Course.{Course}
-use Rattle.course.specs.Steps.{World, world_of, after}
+use Rattle.course.specs.Steps.{world_of, after}
 use Rattle.waiting_frames.specs.Mirrors.{Mirrors}
 use Rattle.simulation.specs.declared.sending.Wire.{Wire}
 use Rattle.simulation.specs.declared.fault.SimulationFault.TheVariants.{Write}
@@ -12,7 +11,7 @@ use Rattle.simulation.specs.Simulated.{traffic_of}
 use Rattle.simulation.specs.Wires.{traffic}
 use Rattle.simulation.specs.Going.{onto}
 use Rattle.simulation.specs.Following.{NoArrivals}
-use Rattle.simulation.proofs.Staged.{Moved, Quietly, stepped, stepped_told, events_of, can_settle, sound_after, cut_before, cut_after}
+use Rattle.simulation.proofs.Staged.{Quietly, stepped, stepped_told, events_of, can_settle, sound_after, cut_before, cut_after}
 use Rattle.simulation.proofs.staging.Stage.apart.Goals as goal
 
 pub returns-in-Err-clause-cut : goal.returns-in-Err-clause-cut

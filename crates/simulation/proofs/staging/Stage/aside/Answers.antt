@@ -1,7 +1,7 @@
-use Rattle.std.proofs.Common.{◌≡◌, ◌+◌, ◌∷◌, [], ℕ, List, Option, refl, sym, subst, ap, ◌∙◌}
+use Rattle.std.proofs.Common.{◌+◌, ◌∷◌, [], refl, sym, subst, ap}
 use Rattle.course.specs.Course.{Course}
 use Rattle.course.specs.Room.{Counted}
-use Rattle.course.specs.Steps.{World, world_of, after}
+use Rattle.course.specs.Steps.{world_of, after}
 use Rattle.simulation.specs.Plans.{planned}
 use Rattle.simulation.specs.Intake.{Taking}
 use Rattle.simulation.specs.Sent.{packets_of}

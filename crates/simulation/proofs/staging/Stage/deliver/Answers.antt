@@ -1,4 +1,4 @@
-use Rattle.std.proofs.Common.{◌≡◌, ◌∙◌, List, Option, Some, length, refl, sym, subst, ap, OnOk, IfErr, ◌≢◌, [], reverse}
+use Rattle.std.proofs.Common.{◌∙◌, List, Some, length, refl, sym, subst, ap, OnOk, IfErr, ◌≢◌, [], reverse}
 use Rattle.std.specs.Io.KnownBytes.{Appends}
 use Rattle.pcap_file.specs.Format.{Packet as Record, packet}
 use Rattle.cluster_node.specs.declared.events.Said.{Said}
@@ -6,7 +6,7 @@ use Rattle.cluster_node.specs.declared.packets.Packet.{Packet}
 use Rattle.cluster_node.specs.Records.{WasRead}
 use Rattle.cluster_core.proofs.Frames.{was_read}
 use Rattle.course.specs.Course.{Course}
-use Rattle.course.specs.Steps.{World, world_of, deliver}
+use Rattle.course.specs.Steps.{world_of, deliver}
 use Rattle.waiting_frames.specs.Mirrors.{Mirrors}
 use Rattle.simulation.specs.declared.sending.Wire.{Wire}
 use Rattle.simulation.specs.declared.fault.SimulationFault.TheVariants.{Write}
@@ -16,7 +16,7 @@ use Rattle.simulation.specs.Simulated.{traffic_of}
 use Rattle.simulation.specs.Wires.{traffic}
 use Rattle.simulation.specs.Going.{onto}
 use Rattle.simulation.specs.Following.{ArrivesFirst}
-use Rattle.simulation.proofs.Staged.{Moved, Arriving, delivered, delivered_told, events_of, can_settle, sound_after, cut_before, cut_after}
+use Rattle.simulation.proofs.Staged.{Arriving, delivered, delivered_told, events_of, can_settle, sound_after, cut_before, cut_after}
 use Rattle.simulation.proofs.staging.Stage.deliver.Goals as goal
 
 pub deliver-requires-clause-read : goal.deliver-requires-clause-read

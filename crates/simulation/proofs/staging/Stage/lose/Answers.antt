@@ -1,4 +1,4 @@
-use Rattle.std.proofs.Common.{Bool, ◌≡◌, ◌+◌, ◌-◌, ◌∷◌, ℕ, List, Option, sym, subst, ◌∙◌, arith}
+use Rattle.std.proofs.Common.{Bool, ◌+◌, ◌-◌, ◌∷◌, ℕ, subst, ◌∙◌, arith}
 use Rattle.course.specs.Streams.{lose_of}
 use Rattle.pcap_file.specs.declared.format.Head.{Head}
 use Rattle.simulation.specs.Simulated.{EndsBy}

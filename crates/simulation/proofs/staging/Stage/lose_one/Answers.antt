@@ -1,4 +1,4 @@
-use Rattle.std.proofs.Common.{Bool, ◌≡◌, ◌+◌, ◌∷◌, ◌++◌, [], ℕ, List, Option, true, refl, sym, subst, ap, ◌∙◌}
+use Rattle.std.proofs.Common.{Bool, ◌≡◌, ◌+◌, ◌∷◌, ◌++◌, sym, subst, ap, ◌∙◌}
 use Rattle.course.specs.Course.{Course}
 use Rattle.course.specs.Streams.{lose_of}
 use Rattle.simulation.specs.Intake.{SeenMore}

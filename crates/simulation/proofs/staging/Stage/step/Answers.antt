@@ -1,10 +1,7 @@
-use Rattle.std.proofs.Common.{◌≡◌, ◌≢◌, ◌∷◌, List, ℕ, Option, Some, subst, ◌∙◌, ap}
-use Rattle.std.specs.Prelude.{slice_get}
+use Rattle.std.proofs.Common.{◌≢◌, ◌∷◌, Some, subst, ◌∙◌, ap}
 use Rattle.scenario_steps.specs.declared.Step.{Step}
-use Rattle.course.specs.Streams.{take_of, lose_of, again_of}
 use Rattle.simulation.specs.declared.fault.SimulationFault.TheVariants.{Write}
 use Rattle.simulation.specs.Plans.{planned}
-use Rattle.simulation.specs.Keeping.{IsAgain}
 use Rattle.simulation.specs.Stages.{Reached}
 use Rattle.simulation.proofs.Reaching.{short_of, if_err, of_run}
 use Rattle.simulation.proofs.staging.Stage.step.Goals as goal

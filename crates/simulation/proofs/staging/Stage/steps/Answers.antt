@@ -1,4 +1,4 @@
-use Rattle.std.proofs.Common.{◌≡◌, ◌+◌, ◌∷◌, ℕ, List, Option, Some, drop, length, sym, subst, ap, ◌∙◌, arith}
+use Rattle.std.proofs.Common.{◌+◌, List, drop, subst, ◌∙◌, arith}
 use Rattle.pcap_file.specs.declared.format.Head.{Head}
 use Rattle.scenario_steps.specs.declared.Step.{Step}
 use Rattle.simulation.specs.Plans.{planned}

@@ -1,17 +1,15 @@
-use Rattle.std.proofs.Common.{Bool, ◌≡◌, ◌+◌, ◌∷◌, ◌++◌, [], ℕ, List, Option, Some, None, true, refl, sym, subst, ap, ◌∙◌, arith, slice_get, reverse}
-use Rattle.pcap_file.specs.Format.{Packet as Record}
+use Rattle.std.proofs.Common.{Bool, ◌≡◌, ◌+◌, ◌∷◌, ◌++◌, [], ℕ, refl, sym, subst, ap, ◌∙◌, arith, reverse}
 use Rattle.pcap_file.specs.declared.format.Head.{Head}
 use Rattle.course.specs.Course.{Course}
 use Rattle.course.proofs.Moves.{handed_next}
 use Rattle.course.specs.Room.{Counted}
-use Rattle.course.specs.Steps.{World, world_of, deliver}
+use Rattle.course.specs.Steps.{world_of, deliver}
 use Rattle.course.specs.Streams.{take_of}
 use Rattle.simulation.specs.Plans.{planned}
 use Rattle.simulation.specs.Sent.{packet_in, packets_of, sent, BeginsWith}
 use Rattle.simulation.specs.Simulated.{traffic_of}
 use Rattle.simulation.specs.Intake.{SeenMore}
 use Rattle.simulation.specs.Stages.{Sound}
-use Rattle.simulation.specs.declared.staging.Stage.{Stage}
 use Rattle.simulation.proofs.Reaching.{short_of, reached_end, took_all, OneMore, seen_same, reached_more, short_more, took, at_place, sound_same, counted_taken, delivered_same}
 use Rattle.simulation.proofs.staging.Stage.take_one.Goals as goal
 
