@@ -1,7 +1,9 @@
 -- Servings of different workers may be written worker by worker.
 use Rattle.std.proofs.Common.{◌≡◌, ℕ, ◌<◌, Bool, List, [], ◌∷◌, ◌++◌, Option, None, refl, ap, ◌∙◌}
 use Rattle.std.specs.Prelude.{if◌then◌else◌}
-use Rattle.std.proofs.lemmas.Bool.{lt-ltb, eq-eqb}
+use Rattle.std.proofs.lemmas.Bool.{lt-ltb, eq-eqb, ne_eqb}
+use Rattle.std.specs.List.{All}
+use Rattle.std.proofs.lemmas.List.Elements.{All-head, All-tail}
 use Rattle.cluster_node.specs.Book.{Line}
 use Rattle.cluster_node.specs.declared.packets.Packet.{Packet}
 use Rattle.cluster_node.specs.declared.events.Event.{Event}
@@ -11,8 +13,9 @@ use Rattle.cluster_node.specs.declared.outcomes.Outcome.TheVariants.{Refused}
 use Rattle.cluster_node.specs.declared.outcomes.Reason.TheVariants.{NoNode}
 use Rattle.cluster_node.specs.Rules.{Rules}
 use Rattle.cluster_node.specs.declared.events.Said.{Said}
-use Rattle.cluster_node.specs.Record.{installed_of, lines_of, by_lines, serve_verdict}
-use Rattle.cluster_core.specs.Runs.{verdict, say, verdicts}
+use Rattle.cluster_node.specs.Record.{installed_of, lines_of, by_lines, serve_verdict, newest_of, refusals_of, placed_count}
+use Rattle.cluster_core.specs.Laws.{record_after, LeavesArrivals}
+use Rattle.cluster_core.specs.Runs.{verdict, say, verdicts, packet_of}
 use Rattle.cluster_node.specs.Records.{lines_at, node_of, of_node}
 use Rattle.cluster_core.specs.Blocks.{Ask, serves, lines_after, own, past_after}
 use Rattle.cluster_core.proofs.Apart.{serve_leaves}
@@ -58,3 +61,22 @@ module _ (rules : Rules) (n w : ℕ) (there : n < rules.nodes) where
   pub block_installed : (past : List Said) (asks : List Ask) → installed_of (of_node n (past_after rules past n w asks)) ≡ installed_of (of_node n past)
   block_installed past [] = refl
   block_installed past (a ∷ asks) = block_installed (say rules past (Serve n w a.version a.refused) None ∷ past) asks ∙ installed_kept past a
+
+-- events of other nodes leave a node's record
+pub events_leave : (rules : Rules) (packets : List Packet) (m : ℕ) (past : List Said) (es : List Event) → All (λ e. node_of e ≡ m → ⊥) es → of_node m (record_after rules past packets es) ≡ of_node m past
+events_leave rules packets m past [] h = refl
+events_leave rules packets m past (e ∷ es) h = events_leave rules packets m (say rules past e (packet_of packets e) ∷ past) es (All-tail (λ e. node_of e ≡ m → ⊥) e es h)
+    ∙ ap (λ (b : Bool). if b then say rules past e (packet_of packets e) ∷ of_node m past else of_node m past) (ne_eqb (node_of e) m (All-head (λ e. node_of e ≡ m → ⊥) e es h))
+
+-- what a node's record has after one serving more
+serving_leaves : (rules : Rules) (n w v : ℕ) (r : Bool) (past : List Said) → LeavesArrivals rules (of_node n past) (of_node n (say rules past (Serve n w v r) None ∷ past))
+serving_leaves rules n w v r past =
+    let same : of_node n (say rules past (Serve n w v r) None ∷ past) ≡ say rules past (Serve n w v r) None ∷ of_node n past = same_node n (say rules past (Serve n w v r) None) past refl in
+    record { newest = ap newest_of same; cursor = ap (refusals_of rules) same; placed = ap placed_count same }
+
+pub block_arrivals : (rules : Rules) (n w : ℕ) (past : List Said) (asks : List Ask) → LeavesArrivals rules (of_node n past) (of_node n (past_after rules past n w asks))
+block_arrivals rules n w past [] = record { newest = refl; cursor = refl; placed = refl }
+block_arrivals rules n w past (a ∷ asks) =
+    let rest : LeavesArrivals rules (of_node n (say rules past (Serve n w a.version a.refused) None ∷ past)) (of_node n (past_after rules past n w (a ∷ asks))) = block_arrivals rules n w (say rules past (Serve n w a.version a.refused) None ∷ past) asks in
+    let one : LeavesArrivals rules (of_node n past) (of_node n (say rules past (Serve n w a.version a.refused) None ∷ past)) = serving_leaves rules n w a.version a.refused past in
+    record { newest = rest.newest ∙ one.newest; cursor = rest.cursor ∙ one.cursor; placed = rest.placed ∙ one.placed }

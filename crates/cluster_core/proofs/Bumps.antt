@@ -6,12 +6,13 @@ use Rattle.cluster_node.specs.declared.outcomes.Outcome.{Outcome}
 use Rattle.cluster_node.specs.declared.outcomes.Outcome.TheVariants.{Installed, Placed, Forward, Dropped, Restarted, Refused}
 use Rattle.cluster_node.specs.declared.outcomes.Cause.{Cause}
 use Rattle.cluster_node.specs.declared.outcomes.Cause.TheVariants.{NotIpv4, Truncated, BadHeader, BadChecksum, Fragment, NotTcpUdp, BadTransport, TooLarge, NoService, NoBackend, NoVersion, RingsFull, LostAtRestart}
-use Rattle.cluster_core.specs.Tally.{number, is_arrival, is_forward, is_placed, is_refused, lost_of, lost_all, how_many, drops, drops_all, dropped}
+use Rattle.cluster_core.specs.Tally.{number, is_arrival, is_forward, is_placed, is_refused, lost_of, lost_all, how_many, drops, drops_all, dropped, drop_counts}
 use Rattle.cluster_core.specs.Totals.{came_all, went_all}
 use Rattle.cluster_node.specs.declared.events.Said.{Said}
 use Rattle.cluster_core.specs.Histories.{outcomes_of}
 use Rattle.cluster_core.specs.Counting.{kind, bumped, bumped_all, zeros, Leads, Fits}
-use Rattle.cluster_core.proofs.Law.{Counts, counts}
+use Rattle.std.specs.List.{sum}
+use Rattle.cluster_core.proofs.Law.{Counts, counts, last_fits, drops_add_up}
 
 number_le : (c : Cause) → number c ≤ 13
 number_le NotIpv4 = omega arith
@@ -205,6 +206,15 @@ module _ (all : List Outcome) (ns : List ℕ) (r l : ℕ) (h : Leads [] all ns r
 pub fitting : (all : List Outcome) → length all < 2 ^ 64 → went_all all ≤ came_all all → Fits all
 fitting all few b = let c : Counts all = counts all in record { few = few; lost = omega (arith, few, b, c.placed, c.went, c.few) }
 
+-- there is room for the last count
+pub last_room : (all : List Outcome) (ns : List ℕ) (r l : ℕ) → Fits all → went_all all ≤ came_all all → Leads [] all ns r l → get_or ns 13 0 + l < 2 ^ 64
+last_room all ns r l fits b h =
+    let a : get_or ns 13 0 ≡ drops_all 13 all = of_drops all ns r l h 13 (omega arith) (omega arith) in
+    let d : l ≡ lost_all all = of_lost all ns r l h in
+    let e : drops_all 13 all + lost_all all ≤ length all = last_fits all b in
+    let few : length all < 2 ^ 64 = fits.few in
+    omega arith
+
 -- what waits
 pub record Waits (all : List Outcome) (ns : List ℕ) (l : ℕ) : Type 0 where
   pub went : ((get_or ns 15 0 + get_or ns 9 0) + get_or ns 10 0) + l ≡ went_all all
@@ -224,21 +234,21 @@ waits all ns r l h =
 cons_alike : (a b : ℕ) (xs ys : List ℕ) → a ≡ b → xs ≡ ys → a ∷ xs ≡ b ∷ ys
 cons_alike a b xs ys e f = ap (λ (n : ℕ). n ∷ xs) e ∙ ap (λ (l : List ℕ). b ∷ l) f
 
-pub all_drops : (all : List Outcome) (ns : List ℕ) (r l : ℕ) → Leads [] all ns r l → get_or ns 1 0 ∷ get_or ns 2 0 ∷ get_or ns 3 0 ∷ get_or ns 4 0 ∷ get_or ns 5 0 ∷ get_or ns 6 0 ∷ get_or ns 7 0 ∷ get_or ns 8 0 ∷ get_or ns 9 0 ∷ get_or ns 10 0 ∷ get_or ns 11 0 ∷ get_or ns 12 0 ∷ l ∷ []
-    ≡ drops_all 1 all ∷ drops_all 2 all ∷ drops_all 3 all ∷ drops_all 4 all ∷ drops_all 5 all ∷ drops_all 6 all ∷ drops_all 7 all ∷ drops_all 8 all ∷ drops_all 9 all ∷ drops_all 10 all ∷ drops_all 11 all ∷ drops_all 12 all ∷ lost_all all ∷ []
+pub all_drops : (all : List Outcome) (ns : List ℕ) (r l : ℕ) → Leads [] all ns r l → get_or ns 1 0 ∷ get_or ns 2 0 ∷ get_or ns 3 0 ∷ get_or ns 4 0 ∷ get_or ns 5 0 ∷ get_or ns 6 0 ∷ get_or ns 7 0 ∷ get_or ns 8 0 ∷ get_or ns 9 0 ∷ get_or ns 10 0 ∷ get_or ns 11 0 ∷ get_or ns 12 0 ∷ (get_or ns 13 0 + l) ∷ [] ≡ drop_counts all
 all_drops all ns r l h =
     let at : (k : ℕ) → 0 < k → k < 14 → get_or ns k 0 ≡ drops_all k all = of_drops all ns r l h in
     cons_alike _ _ _ _ (at 1 (omega arith) (omega arith)) (cons_alike _ _ _ _ (at 2 (omega arith) (omega arith)) (cons_alike _ _ _ _ (at 3 (omega arith) (omega arith)) (cons_alike _ _ _ _ (at 4 (omega arith) (omega arith))
     (cons_alike _ _ _ _ (at 5 (omega arith) (omega arith)) (cons_alike _ _ _ _ (at 6 (omega arith) (omega arith)) (cons_alike _ _ _ _ (at 7 (omega arith) (omega arith)) (cons_alike _ _ _ _ (at 8 (omega arith) (omega arith))
     (cons_alike _ _ _ _ (at 9 (omega arith) (omega arith)) (cons_alike _ _ _ _ (at 10 (omega arith) (omega arith)) (cons_alike _ _ _ _ (at 11 (omega arith) (omega arith)) (cons_alike _ _ _ _ (at 12 (omega arith) (omega arith))
-    (ap (λ (n : ℕ). n ∷ []) (of_lost all ns r l h)))))))))))))
+    (ap (λ (n : ℕ). n ∷ []) (ap (λ (n : ℕ). n + l) (at 13 (omega arith) (omega arith)) ∙ ap (λ (n : ℕ). drops_all 13 all + n) (of_lost all ns r l h))))))))))))))
 
 -- the law of totals
-pub lawful : (all : List Outcome) (t f w : ℕ) → t ≡ how_many (λ o. is_arrival o) all → f ≡ how_many (λ o. is_forward o) all → w + went_all all ≡ came_all all → t ≡ f + ((dropped all + lost_all all) + w)
-lawful all t f w d e g =
+pub lawful : (all : List Outcome) (t f w : ℕ) (ds : List ℕ) → t ≡ how_many (λ o. is_arrival o) all → f ≡ how_many (λ o. is_forward o) all → ds ≡ drop_counts all → w + went_all all ≡ came_all all → t ≡ f + (sum ds + w)
+lawful all t f w ds d e dropped_are g =
     let c : Counts all = counts all in
     let le : went_all all ≤ came_all all = omega arith in
     let law : how_many (λ o. is_arrival o) all ≡ how_many (λ o. is_forward o) all + ((dropped all + lost_all all) + (came_all all - went_all all)) = c.law le in
+    let s : sum ds ≡ dropped all + lost_all all = ap sum dropped_are ∙ drops_add_up all in
     omega arith
 
 -- the loops' steps

@@ -63,7 +63,7 @@ node_keeps : (rules : Rules) (past : List Said) (n w v : ℕ) (r : Bool) (x : Op
 node_keeps rules past n w v r x i e true a h st up = serve_keeps rules (of_node n past) n w v r i e up h st a
 node_keeps rules past n w v r x i e false a h st up = absurd (false≢true a)
 
-keeps : (rules : Rules) (past : List Said) (e : Event) (x : Option Packet) → Keeps rules past e (verdict rules past e x)
+pub keeps : (rules : Rules) (past : List Said) (e : Event) (x : Option Packet) → Keeps rules past e (verdict rules past e x)
 keeps rules past (Install n v) x = tt
 keeps rules past (Arrive n k marks) x = tt
 keeps rules past (Restart n) x = tt

@@ -1,12 +1,13 @@
 -- What was received was forwarded, dropped or waits.
 use Rattle.std.proofs.Common.{◌≡◌, ℕ, ◌+◌, ◌-◌, ◌≤◌, Bool, true, false, List, [], ◌∷◌, length, suc, refl, arith}
-use Rattle.std.specs.Prelude.{if◌then◌else◌}
+use Rattle.std.specs.Prelude.{◌==◌, if◌then◌else◌}
 use Rattle.cluster_node.specs.declared.outcomes.Outcome.{Outcome}
 use Rattle.cluster_node.specs.declared.outcomes.Outcome.TheVariants.{Installed, Placed, Forward, Dropped, Restarted, Refused}
 use Rattle.cluster_node.specs.declared.outcomes.Cause.{Cause}
 use Rattle.cluster_node.specs.declared.outcomes.Cause.TheVariants.{NotIpv4, Truncated, BadHeader, BadChecksum, Fragment, NotTcpUdp, BadTransport, TooLarge, NoService, NoBackend, NoVersion, RingsFull, LostAtRestart}
 use Rattle.cluster_core.specs.Totals.{came_all, went_all}
-use Rattle.cluster_core.specs.Tally.{is_arrival, is_forward, lost_all, how_many, drops_all, dropped, is_placed}
+use Rattle.std.specs.List.{sum}
+use Rattle.cluster_core.specs.Tally.{number, is_arrival, is_forward, lost_all, how_many, drops_all, dropped, drop_counts, is_placed}
 
 abbrev pub Balanced : List Outcome → Type 0
 Balanced os = how_many (λ o. is_arrival o) os + went_all os ≡ came_all os + (how_many (λ o. is_forward o) os + (dropped os + lost_all os))
@@ -92,3 +93,28 @@ pub record Counts (os : List Outcome) : Type 0 where
 
 pub counts : (os : List Outcome) → Counts os
 counts os = record { placed = placed_came os; went = went_is os; few = many_le (λ o. is_placed o) os; law = all_told os }
+
+-- a drop for the last cause is no placing
+last_few : (os : List Outcome) → drops_all 13 os + how_many (λ o. is_placed o) os ≤ length os
+last_few [] = omega arith
+last_few (Installed ∷ os) = let h : drops_all 13 os + how_many (λ o. is_placed o) os ≤ length os = last_few os in omega arith
+last_few (Placed w f ∷ os) = let h : drops_all 13 os + how_many (λ o. is_placed o) os ≤ length os = last_few os in omega arith
+last_few (Forward n w k x b v ∷ os) = let h : drops_all 13 os + how_many (λ o. is_placed o) os ≤ length os = last_few os in omega arith
+last_few (Dropped k c ∷ os) = go (number c == 13) (last_few os)
+  where
+    go : (b : Bool) → drops_all 13 os + how_many (λ o. is_placed o) os ≤ length os → (if b then 1 + drops_all 13 os else drops_all 13 os) + how_many (λ o. is_placed o) os ≤ suc (length os)
+    go true h = omega arith
+    go false h = omega arith
+last_few (Restarted l ∷ os) = let h : drops_all 13 os + how_many (λ o. is_placed o) os ≤ length os = last_few os in omega arith
+last_few (Refused r ∷ os) = let h : drops_all 13 os + how_many (λ o. is_placed o) os ≤ length os = last_few os in omega arith
+
+-- the last count is no more than all outcomes
+pub last_fits : (os : List Outcome) → went_all os ≤ came_all os → drops_all 13 os + lost_all os ≤ length os
+last_fits os h =
+    let c : Counts os = counts os in
+    let l : drops_all 13 os + how_many (λ o. is_placed o) os ≤ length os = last_few os in
+    omega (arith, c.placed, c.went)
+
+-- the counts of drops add up
+pub drops_add_up : (os : List Outcome) → sum (drop_counts os) ≡ dropped os + lost_all os
+drops_add_up os = omega arith

@@ -16,3 +16,4 @@ pub mod Asked
 pub mod Bumps
 pub mod Order
 pub mod Told
+pub mod Promised

@@ -108,13 +108,6 @@ module _ (rules : Rules) where
   pick_chosen : ((ups : Candidates) (x : Flow) (t u : ℕ) → rules.pick ups x t ≡ rules.pick ups x u) → (x : Flow) (b : Backend) (v : ℕ) → Chosen rules.pick Ups x b v → pick_under rules v x ≡ Some b
   pick_chosen steady x b v c = ap (λ (o : Option Candidates). picked rules.pick x o) c.here ∙ steady c.ups x 0 c.turn ∙ c.picked
 
-  pub agreement : ((ups : Candidates) (x : Flow) (t u : ℕ) → rules.pick ups x t ≡ rules.pick ups x u) → (packets : List Packet) (es : List Event) → Agreement rules (verdicts rules [] packets es)
-  agreement steady packets es x b₁ b₂ v₁ v₂ s t d =
-      let p : pick_under rules v₁ x ≡ Some b₁ = pick_chosen steady x b₁ v₁ (verdicts_pick [] packets es s.place (Forward s.node s.worker s.packet x b₁ v₁) s.there) in
-      let q : pick_under rules v₂ x ≡ Some b₂ = pick_chosen steady x b₂ v₂ (verdicts_pick [] packets es t.place (Forward t.node t.worker t.packet x b₂ v₂) t.there) in
-      let n : pick_under rules v₁ x ≡ pick_under rules v₂ x → ⊥ = λ e. d (let f : Some b₁ ≡ Some b₂ = sym p ∙ e ∙ q in cc) in
-      (p, q, n, λ e. n (ap (λ (v : ℕ). pick_under rules v x) e))
-
 pub picked_send : (rules : Rules) → ((ups : Candidates) (x : Flow) (t u : ℕ) → rules.pick ups x t ≡ rules.pick ups x u) → (o : Outcome) → GoesToPick rules o → PickedSend rules (send_of o)
 picked_send rules steady Installed h = tt
 picked_send rules steady (Placed w f) h = tt
@@ -125,3 +118,14 @@ picked_send rules steady (Refused r) h = tt
 
 pub picked_sends : (rules : Rules) → ((ups : Candidates) (x : Flow) (t u : ℕ) → rules.pick ups x t ≡ rules.pick ups x u) → (packets : List Packet) (es : List Event) → PickedSends rules (verdicts rules [] packets es)
 picked_sends rules steady packets es k o h = picked_send rules steady o (verdicts_pick rules [] packets es k o h)
+
+-- where each packet was sent to the pick under its origin, two that were sent to different backends chose under versions that differ
+pub agreement_of_picks : (rules : Rules) (outs : List Outcome) → PickedSends rules outs → Agreement rules outs
+agreement_of_picks rules outs picked x b₁ b₂ v₁ v₂ s t d =
+    let p : pick_under rules v₁ x ≡ Some b₁ = picked s.place (Forward s.node s.worker s.packet x b₁ v₁) s.there in
+    let q : pick_under rules v₂ x ≡ Some b₂ = picked t.place (Forward t.node t.worker t.packet x b₂ v₂) t.there in
+    let n : pick_under rules v₁ x ≡ pick_under rules v₂ x → ⊥ = λ e. d (let f : Some b₁ ≡ Some b₂ = sym p ∙ e ∙ q in cc) in
+    (p, q, n, λ e. n (ap (λ (v : ℕ). pick_under rules v x) e))
+
+pub agreement : (rules : Rules) → ((ups : Candidates) (x : Flow) (t u : ℕ) → rules.pick ups x t ≡ rules.pick ups x u) → (packets : List Packet) (es : List Event) → Agreement rules (verdicts rules [] packets es)
+agreement rules steady packets es = agreement_of_picks rules (verdicts rules [] packets es) (picked_sends rules steady packets es)

@@ -1,9 +1,9 @@
 -- How outcomes are counted: by their kinds, in one pass.
-use Rattle.std.specs.Prelude.{◌≡◌, ℕ, ◌+◌, ◌<◌, ◌^◌, List, [], ◌∷◌, length, replicate, get_or, slice_set}
+use Rattle.std.specs.Prelude.{◌≡◌, ℕ, ◌+◌, ◌<◌, ◌^◌, List, [], ◌∷◌, length, replicate, get_or, slice_set, sum}
 use Rattle.cluster_node.specs.declared.outcomes.Outcome.{Outcome}
 use Rattle.cluster_node.specs.declared.outcomes.Outcome.TheVariants.{Installed, Placed, Forward, Dropped, Restarted, Refused}
 use Rattle.cluster_core.specs.declared.counts.Totals.{Totals}
-use Rattle.cluster_core.specs.Tally.{number, is_arrival, is_forward, is_refused, lost_all, how_many, drops_all, dropped}
+use Rattle.cluster_core.specs.Tally.{number, is_arrival, is_forward, is_refused, lost_all, how_many, drop_counts}
 use Rattle.cluster_core.specs.Totals.{came_all, went_all}
 
 -- drops are told apart by their causes
@@ -42,7 +42,7 @@ pub record Fits (all : List Outcome) : Type 0 where
 pub record Totalled (t : Totals) (os : List Outcome) : Type 0 where
   pub received : t.received ≡ how_many (λ o. is_arrival o) os
   pub forwarded : t.forwarded ≡ how_many (λ o. is_forward o) os
-  pub drops : t.dropped ≡ drops_all 1 os ∷ drops_all 2 os ∷ drops_all 3 os ∷ drops_all 4 os ∷ drops_all 5 os ∷ drops_all 6 os ∷ drops_all 7 os ∷ drops_all 8 os ∷ drops_all 9 os ∷ drops_all 10 os ∷ drops_all 11 os ∷ drops_all 12 os ∷ lost_all os ∷ []
+  pub drops : t.dropped ≡ drop_counts os
   pub waiting : t.waiting + went_all os ≡ came_all os
-  pub law : t.received ≡ t.forwarded + ((dropped os + lost_all os) + t.waiting)
+  pub law : t.received ≡ t.forwarded + (sum t.dropped + t.waiting)
   pub refused : t.refused ≡ how_many (λ o. is_refused o) os

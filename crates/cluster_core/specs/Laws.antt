@@ -1,5 +1,6 @@
 -- What a worker's servings depend on.
-use Rattle.std.specs.Prelude.{◌≡◌, ℕ, ◌<◌, ◌||◌, Bool, List, ◌++◌, length, map, Some, if◌then◌else◌, nat_lt, slice_get}
+use Rattle.std.specs.List.{All}
+use Rattle.std.specs.Prelude.{◌≡◌, ℕ, ◌<◌, ◌||◌, Bool, List, [], ◌∷◌, ◌++◌, length, map, Some, if◌then◌else◌, nat_lt, slice_get}
 use Rattle.forwarder.specs.Serving.{told, told_after}
 use Rattle.cluster_node.specs.declared.serving.Item.{Item}
 use Rattle.cluster_node.specs.declared.serving.Taken.TheVariants.{Behind, Done}
@@ -8,9 +9,9 @@ use Rattle.cluster_node.specs.declared.events.Event.{Event}
 use Rattle.cluster_node.specs.declared.events.Said.{Said}
 use Rattle.cluster_node.specs.Rules.{Rules}
 use Rattle.cluster_node.specs.Book.{serving_under, taken}
-use Rattle.cluster_node.specs.Record.{installed_of, lines_of, serve_verdict}
-use Rattle.cluster_core.specs.Runs.{verdicts}
-use Rattle.cluster_node.specs.Records.{lines_at, of_node}
+use Rattle.cluster_node.specs.Record.{installed_of, lines_of, serve_verdict, newest_of, refusals_of, placed_count}
+use Rattle.cluster_core.specs.Runs.{verdicts, say, packet_of}
+use Rattle.cluster_node.specs.Records.{lines_at, node_of, of_node}
 use Rattle.cluster_core.specs.Apart.{Served, Popped, serving, greatest, settled}
 use Rattle.cluster_core.specs.Blocks.{Ask, serves, own, past_after}
 
@@ -27,6 +28,26 @@ ServesStandInBlocks = (rules : Rules) (n w : ℕ) → n < rules.nodes → (packe
 abbrev pub BlocksLeaveOthers : Type 0
 BlocksLeaveOthers = (rules : Rules) (n w : ℕ) → n < rules.nodes → (u : ℕ) → (w ≡ u → ⊥) → (past : List Said) (asks : List Ask) →
     (lines_at (past_after rules past n w asks) n u ≡ lines_at past n u) × (installed_of (of_node n (past_after rules past n w asks)) ≡ installed_of (of_node n past))
+
+-- the record after some events
+abbrev pub record_after : Rules → List Said → List Packet → List Event → List Said
+record_after rules past packets [] = past
+record_after rules past packets (e ∷ es) = record_after rules (say rules past e (packet_of packets e) ∷ past) packets es
+
+-- events leave the record of every node that none of them names, and with it all that is read off it: the newest version,
+-- the lives, the cursor of steering, and how many packets were placed and served
+abbrev pub EventsLeaveOtherNodes : Type 0
+EventsLeaveOtherNodes = (rules : Rules) (packets : List Packet) (m : ℕ) (past : List Said) (es : List Event) → All (λ e. node_of e ≡ m → ⊥) es →
+    of_node m (record_after rules past packets es) ≡ of_node m past
+
+-- servings of one worker leave what arrivals and installations of its node are judged by
+pub record LeavesArrivals (rules : Rules) (had has : List Said) : Type 0 where
+  pub newest : newest_of has ≡ newest_of had
+  pub cursor : refusals_of rules has ≡ refusals_of rules had
+  pub placed : placed_count has ≡ placed_count had
+
+abbrev pub BlocksLeaveArrivals : Type 0
+BlocksLeaveArrivals = (rules : Rules) (n w : ℕ) (past : List Said) (asks : List Ask) → LeavesArrivals rules (of_node n past) (of_node n (past_after rules past n w asks))
 
 -- with all packets placed before all servings, the next serving of a worker that popped the first packets in order comes
 -- to what its forwarder answers after its own servings

@@ -12,3 +12,4 @@ pub mod Blocks
 pub mod Laws
 pub mod Histories
 pub mod Counting
+pub mod Promises

@@ -1,9 +1,15 @@
 -- The promises over any list of events for Maglev, in terms of the tables' slots.
-use Rattle.std.specs.Prelude.{◌≡◌, ℕ, List, [], Option, Some, None}
+use Rattle.std.specs.Prelude.{◌≡◌, ℕ, true, List, [], Option, Some, None}
+use Rattle.std.specs.List.{Contains}
+use Rattle.maglev_table.specs.Sizes.{is_table_size}
 use Rattle.five_tuple.specs.declared.Flow.{Flow}
 use Rattle.pool_versions.specs.declared.backend.Backend.{Backend}
-use Rattle.pool_versions.specs.Pool.{Pools, up_of}
-use Rattle.selection.specs.Picks.{slot_of_flow, slot_names, table_slots, table_of_ups, IsEvenTable}
+use Rattle.pool_versions.specs.declared.service.Service.{Service}
+use Rattle.pool_versions.specs.declared.service.Version.{Version}
+use Rattle.pool_versions.specs.Pool.{Pools, up_of, ups}
+use Rattle.selection.specs.Picks.{slot_of_flow, slot_names, table_slots, table_pick, table_of_ups, IsEvenTable}
+use Rattle.forwarder.specs.Serving.{Candidates}
+use Rattle.cluster_node.specs.Rules.{Rules}
 use Rattle.cluster_node.specs.declared.outcomes.Outcome.{Outcome}
 use Rattle.cluster_core.specs.Headline.{Sent}
 
@@ -22,7 +28,14 @@ abbrev pub TablesDiffer : (List ℕ → ℕ) → ℕ → Pools → List Outcome 
 TablesDiffer plain size pools outs = (x : Flow) (b₁ b₂ : Backend) (v₁ v₂ : ℕ) → Sent outs x b₁ v₁ → Sent outs x b₂ v₂ → (b₁ ≡ b₂ → ⊥) →
     (named_under plain size pools v₁ x ≡ Some b₁) × (named_under plain size pools v₂ x ≡ Some b₂) × (v₁ ≡ v₂ → ⊥)
 
--- SLOTS. In the table of each service of each version in which somebody is up, every slot names an up backend, and the
--- backends' slot counts differ by at most one.
+-- SLOTS. In the table of each service of each version in which somebody is up, also of one that an earlier service hides,
+-- every slot names an up backend, and the backends' slot counts differ by at most one.
 abbrev pub TablesAreEven : (List ℕ → ℕ) → ℕ → Pools → Type 0
-TablesAreEven plain size pools = (v : ℕ) (x : Flow) (ups : List Backend) → up_of pools v x ≡ Some ups → (ups ≡ [] → ⊥) → IsEvenTable (table_of_ups plain size ups)
+TablesAreEven plain size pools = (v : Version) (s : Service) → Contains pools.versions v → Contains v.services.items s →
+    (ups s.members.items ≡ [] → ⊥) → IsEvenTable (table_of_ups plain size (ups s.members.items))
+
+-- the rules are those of Maglev over these pools, with tables of a listed size
+pub record AreMaglevs (plain : List ℕ → ℕ) (size : ℕ) (pools : Pools) (rules : Rules) : Type 0 where
+  pub listed : is_table_size size ≡ true
+  pub pick : (candidates : Candidates) (x : Flow) (turn : ℕ) → rules.pick candidates x turn ≡ table_pick plain size candidates x
+  pub ups : (v : ℕ) (x : Flow) → rules.ups v x ≡ up_of pools v x

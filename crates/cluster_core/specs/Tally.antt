@@ -81,9 +81,13 @@ how_many p (o ∷ os) = if p o then 1 + how_many p os else how_many p os
 abbrev pub drops_all : ℕ → List Outcome → ℕ
 drops_all k os = how_many (λ o. drops k o) os
 
--- all drops but those at restarts
+-- all drops but those that a restart counts
 abbrev pub dropped : List Outcome → ℕ
 dropped os = drops_all 1 os + (drops_all 2 os + (drops_all 3 os + (drops_all 4 os + (drops_all 5 os + (drops_all 6 os + (drops_all 7 os + (drops_all 8 os + (drops_all 9 os + (drops_all 10 os + (drops_all 11 os + (drops_all 12 os + drops_all 13 os)))))))))))
+
+-- how many packets were dropped for each cause, by the causes' numbers; with the last cause also those lost at restarts
+abbrev pub drop_counts : List Outcome → List ℕ
+drop_counts os = drops_all 1 os ∷ drops_all 2 os ∷ drops_all 3 os ∷ drops_all 4 os ∷ drops_all 5 os ∷ drops_all 6 os ∷ drops_all 7 os ∷ drops_all 8 os ∷ drops_all 9 os ∷ drops_all 10 os ∷ drops_all 11 os ∷ drops_all 12 os ∷ (drops_all 13 os + lost_all os) ∷ []
 
 abbrev pub is_placed : Outcome → Bool
 is_placed Installed = false

@@ -1,7 +1,7 @@
 //! Totals of outcomes, in one pass.
-ghost use Rattle.std.specs.Prelude.{◌≡◌, ◌≤◌, ◌<◌, ◌+◌, ◌^◌, ◌∷◌, [], ℕ, List, length, get_or, if◌then◌else◌};
+ghost use Rattle.std.specs.Prelude.{◌≡◌, ◌≤◌, ◌<◌, ◌+◌, ◌^◌, ◌∷◌, [], ℕ, List, length, get_or, sum, if◌then◌else◌};
 ghost use Rattle.cluster_node.specs.declared.outcomes.Outcome.{Outcome};
-ghost use Rattle.cluster_core.specs.Tally.{number, at_serving, is_arrival, is_forward, lost_of, lost_all, drops_all, dropped, how_many, is_refused};
+ghost use Rattle.cluster_core.specs.Tally.{number, at_serving, is_arrival, is_forward, lost_of, drop_counts, how_many, is_refused};
 ghost use Rattle.cluster_core.specs.Totals.{came_all, went_all};
 ghost use Rattle.cluster_core.specs.Histories.{outcomes_of};
 ghost use Rattle.cluster_core.specs.Counting.{kind, bumped, Leads, Fits, Totalled};
@@ -134,6 +134,28 @@ impl Counter {
         self.of(PLACED) - (self.of(FORWARDED) + self.of(9) + self.of(10) + self.lost)
     }
 
+    // How many packets were dropped for each cause. Those lost at restarts count with the last cause.
+    fn drops(&self) -> [u64; 13]
+        requires { (all : List Outcome) × Fits all × (went_all all ≤ came_all all) × Leads [] all self.now.kinds self.now.received self.now.lost }
+        ensures { (all : List Outcome) → Leads [] all self.now.kinds self.now.received self.now.lost → result ≡ drop_counts all }
+    {
+        [
+            self.of(1),
+            self.of(2),
+            self.of(3),
+            self.of(4),
+            self.of(5),
+            self.of(6),
+            self.of(7),
+            self.of(8),
+            self.of(9),
+            self.of(10),
+            self.of(11),
+            self.of(12),
+            self.of(13) + self.lost,
+        ]
+    }
+
     fn totals(&self) -> Totals
         requires { (all : List Outcome) × Fits all × (went_all all ≤ came_all all) × Leads [] all self.now.kinds self.now.received self.now.lost }
         ensures { (all : List Outcome) → Leads [] all self.now.kinds self.now.received self.now.lost → Totalled result all }
@@ -141,21 +163,7 @@ impl Counter {
         Totals {
             received: self.received,
             forwarded: self.of(FORWARDED),
-            dropped: [
-                self.of(1),
-                self.of(2),
-                self.of(3),
-                self.of(4),
-                self.of(5),
-                self.of(6),
-                self.of(7),
-                self.of(8),
-                self.of(9),
-                self.of(10),
-                self.of(11),
-                self.of(12),
-                self.lost,
-            ],
+            dropped: self.drops(),
             waiting: self.waiting(),
             refused: self.of(REFUSED),
         }
@@ -202,9 +210,9 @@ pub fn totals(outcomes: &[Outcome]) -> Totals
     requires { went_all outcomes.now ≤ came_all outcomes.now }
     ensures received { result.received ≡ how_many (λ o. is_arrival o) outcomes.now }
     ensures forwarded { result.forwarded ≡ how_many (λ o. is_forward o) outcomes.now }
-    ensures dropped { result.dropped ≡ drops_all 1 outcomes.now ∷ drops_all 2 outcomes.now ∷ drops_all 3 outcomes.now ∷ drops_all 4 outcomes.now ∷ drops_all 5 outcomes.now ∷ drops_all 6 outcomes.now ∷ drops_all 7 outcomes.now ∷ drops_all 8 outcomes.now ∷ drops_all 9 outcomes.now ∷ drops_all 10 outcomes.now ∷ drops_all 11 outcomes.now ∷ drops_all 12 outcomes.now ∷ lost_all outcomes.now ∷ [] }
+    ensures dropped { result.dropped ≡ drop_counts outcomes.now }
     ensures waiting { result.waiting + went_all outcomes.now ≡ came_all outcomes.now }
-    ensures law { result.received ≡ result.forwarded + ((dropped outcomes.now + lost_all outcomes.now) + result.waiting) }
+    ensures law { result.received ≡ result.forwarded + (sum result.dropped + result.waiting) }
     ensures refused { result.refused ≡ how_many (λ o. is_refused o) outcomes.now }
 {
     let _length = length_of(outcomes);
@@ -216,10 +224,9 @@ pub fn totals_of(history: &[Said]) -> Totals
     requires { let outcomes = outcomes_of history.now in went_all outcomes ≤ came_all outcomes }
     ensures received { result.received ≡ how_many (λ o. is_arrival o) (outcomes_of history.now) }
     ensures forwarded { result.forwarded ≡ how_many (λ o. is_forward o) (outcomes_of history.now) }
-    ensures dropped { let outcomes = outcomes_of history.now in
-        result.dropped ≡ drops_all 1 outcomes ∷ drops_all 2 outcomes ∷ drops_all 3 outcomes ∷ drops_all 4 outcomes ∷ drops_all 5 outcomes ∷ drops_all 6 outcomes ∷ drops_all 7 outcomes ∷ drops_all 8 outcomes ∷ drops_all 9 outcomes ∷ drops_all 10 outcomes ∷ drops_all 11 outcomes ∷ drops_all 12 outcomes ∷ lost_all outcomes ∷ [] }
+    ensures dropped { result.dropped ≡ drop_counts (outcomes_of history.now) }
     ensures waiting { result.waiting + went_all (outcomes_of history.now) ≡ came_all (outcomes_of history.now) }
-    ensures law { result.received ≡ result.forwarded + ((dropped (outcomes_of history.now) + lost_all (outcomes_of history.now)) + result.waiting) }
+    ensures law { result.received ≡ result.forwarded + (sum result.dropped + result.waiting) }
     ensures refused { result.refused ≡ how_many (λ o. is_refused o) (outcomes_of history.now) }
 {
     let _length = length_of_history(history);

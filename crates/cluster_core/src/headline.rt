@@ -1,5 +1,5 @@
 //! The promises for Maglev, in terms of its tables.
-ghost use Rattle.std.specs.Prelude.{◌≡◌, ℕ, [], true, Some, IfOk, slice_get};
+ghost use Rattle.std.specs.Prelude.{◌≡◌, ◌≤◌, ℕ, [], true, Some, IfOk, slice_get};
 ghost use Rattle.selection.specs.Picks.{table_pick};
 ghost use Rattle.cluster_node.specs.Rules.{Rules};
 ghost use Rattle.cluster_node.specs.declared.packets.Packet.{Packet};
@@ -8,6 +8,8 @@ ghost use Rattle.cluster_core.specs.Runs.{verdicts};
 ghost use Rattle.cluster_core.specs.Headline.{Keeping};
 ghost use Rattle.cluster_node.specs.Records.{WasRead};
 ghost use Rattle.cluster_core.specs.Tables.{TablesDiffer, TablesAreEven};
+ghost use Rattle.cluster_core.specs.Totals.{came_all, went_all};
+ghost use Rattle.cluster_core.specs.Explain.{PickedSends};
 
 use crate::fixed::Setup;
 use crate::replaying::replay;
@@ -40,7 +42,10 @@ pub fn replay_maglev<H: FlowHash, T: ConnTable>(
     ensures keeping { let rules = rules_for (λ s z ups x t. table_pick (H.plain s.hash) z ups x) (λ h. H.plain h) setup.now catalogue.now in
         IfOk result (λ v. Keeping rules [] packets.now events.now v.items) }
     ensures slots { TablesAreEven (H.plain setup.now.hash) setup.now.size catalogue.now }
+    // what `totals` and `explain` ask of outcomes
+    ensures balance { IfOk result (λ v. went_all v.items ≤ came_all v.items) }
+    ensures picked { let rules = rules_for (λ s z ups x t. table_pick (H.plain s.hash) z ups x) (λ h. H.plain h) setup.now catalogue.now in
+        IfOk result (λ v. PickedSends rules v.items) }
 {
-    let _slots = setup.size().slots();
     replay::<Maglev<H>, H, T>(alloc, setup, catalogue, packets, events)
 }

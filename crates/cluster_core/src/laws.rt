@@ -1,15 +1,18 @@
 //! What a worker's servings depend on: its own packets and servings, and the versions installed on its node. So the
 //! servings of different workers may be written one worker after another. The clauses are the laws; the bodies do nothing.
-ghost use Rattle.cluster_core.specs.Laws.{ServesDependOnOwnLines, ServesStandInBlocks, BlocksLeaveOthers, ServesFollowPackets};
+ghost use Rattle.cluster_core.specs.Laws.{ServesDependOnOwnLines, ServesStandInBlocks, BlocksLeaveOthers, BlocksLeaveArrivals, EventsLeaveOtherNodes, ServesFollowPackets};
+ghost use Rattle.cluster_core.specs.Promises.{HistoriesKeepPromises, MaglevKeepsPromises, ListsKeepPromises};
 ghost use Rattle.cluster_core.specs.Histories.{ServesWhatWasPlaced, SendsWhatWaitsFirst, SendsFollowPicks, HistoriesCount};
 
 /// The outcome of a serving is the same after every two records with the same lines of that worker and the same versions
-/// installed on its node; servings of one worker after one another come to what its own lines say; and they leave the
-/// lines of every other worker.
+/// installed on its node; servings of one worker after one another come to what its own lines say; they leave the lines of
+/// every other worker and what arrivals are judged by; and events leave the record of every node that none of them names.
 pub fn servings_stand_apart()
     ensures own { ServesDependOnOwnLines }
     ensures blocks { ServesStandInBlocks }
     ensures others { BlocksLeaveOthers }
+    ensures arrivals { BlocksLeaveArrivals }
+    ensures nodes { EventsLeaveOtherNodes }
 {}
 
 /// With all packets of a life placed before all of its servings, a worker that took the first packets in order answers as
@@ -31,4 +34,15 @@ pub fn queues_are_in_order()
 pub fn histories_are_told()
     ensures picked { SendsFollowPicks }
     ensures counts { HistoriesCount }
+{}
+
+/// The promises hold of every record whose outcomes are the verdicts, and of every list of events. For a scheme to which
+/// the turn doesn't matter, two packets of one flow that were sent to different backends were chosen under versions that
+/// pick these backends, and so under versions that differ for the flow; for Maglev, versions whose tables name them at the
+/// flow's slot. A forwarder keeps a flow's backend while its entry stands and the backend is up. Every slot of Maglev's
+/// tables names an up backend, and backends' slot counts differ by at most one.
+pub fn promises_are_kept()
+    ensures histories { HistoriesKeepPromises }
+    ensures maglev { MaglevKeepsPromises }
+    ensures lists { ListsKeepPromises }
 {}

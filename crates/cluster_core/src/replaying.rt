@@ -7,6 +7,7 @@ ghost use Rattle.cluster_core.specs.Headline.{Agreement, Keeping};
 ghost use Rattle.cluster_core.specs.Totals.{came_all, went_all};
 ghost use Rattle.cluster_node.specs.Records.{WasRead};
 ghost use Rattle.cluster_core.specs.Explain.{PickedSends};
+ghost use Rattle.cluster_core.specs.Tables.{TablesAreEven};
 
 use crate::fixed::Setup;
 use crate::running::Run;
@@ -39,7 +40,8 @@ fn count_of(events: &[Event]) -> usize
 /// one flow that were sent to different backends, by any workers of any nodes in any lives, were chosen under versions
 /// that pick these backends, and so under versions that differ for the flow (`agreement`). A worker keeps a flow's backend
 /// while the flow's entry stands and the backend is up (`keeping`). What left the queues is no more than what was placed
-/// (`balance`).
+/// (`balance`). Whatever the scheme is, every slot of the table that Maglev makes of a service of the catalogue names an up
+/// backend, and backends' slot counts differ by at most one (`slots`).
 pub fn replay<S: Scheme, H: FlowHash, T: ConnTable>(
     alloc: Global,
     setup: &Setup<S, H>,
@@ -59,7 +61,9 @@ pub fn replay<S: Scheme, H: FlowHash, T: ConnTable>(
     ensures balance { IfOk result (λ v. went_all v.items ≤ came_all v.items) }
     ensures picked { let rules = rules_for (λ s z. S.pick s z) (λ h. H.plain h) setup.now catalogue.now in
         S.STEADY ≡ true → IfOk result (λ v. PickedSends rules v.items) }
+    ensures slots { TablesAreEven (H.plain setup.now.hash) setup.now.size catalogue.now }
 {
+    let _slots = setup.size().slots();
     replay_all::<S, H, T>(alloc, setup, catalogue, packets, events)
 }
 

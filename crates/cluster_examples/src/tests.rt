@@ -3,7 +3,8 @@ ghost use Rattle.std.specs.Prelude.{◌≡◌, Some};
 ghost use Rattle.cluster_node.specs.Records.{WasRead};
 
 use cluster_core::{
-    Cause, Event, Outcome, Packet, Reason, Run, Setup, Verdict, explain, replay, totals,
+    Cause, Event, Outcome, Packet, Reason, Run, Setup, Verdict, explain, replay, replay_maglev,
+    totals,
 };
 use connection_table::{ConnTable, LruTable, PlainTable};
 use five_tuple::Flow;
@@ -77,7 +78,8 @@ fn catalogue(rt: &impl Abort, alloc: Global) -> Catalogue
 }
 
 fn setup<S: Scheme>(rt: &impl Abort, alloc: Global, scheme: S, workers: u16) -> Setup<S, SumHash>
-    ensures { result.size ≡ 7 }
+    ensures size { result.size ≡ 7 }
+    ensures scheme { result.scheme ≡ scheme }
 {
     let nodes = Vec::from_slice(alloc, &[0x0a090001, 0x0a090002]).expect(rt, "memory");
     Setup::new(SumHash, scheme, seven(rt), nodes, workers, 2).expect(rt, "a setup")
@@ -328,6 +330,7 @@ fn examples_with_a_plain_table(rt: HostRuntime) {
     refuses_in_order::<PlainTable>(&rt, rt.alloc());
     goes_round::<PlainTable>(&rt, rt.alloc());
     splits_and_evicts::<PlainTable>(&rt, rt.alloc());
+    stays_after_a_change::<PlainTable>(&rt, rt.alloc());
     counts::<PlainTable>(&rt, rt.alloc());
 }
 
@@ -337,6 +340,7 @@ fn examples_with_a_table_over_links(rt: HostRuntime) {
     refuses_in_order::<LruTable>(&rt, rt.alloc());
     goes_round::<LruTable>(&rt, rt.alloc());
     splits_and_evicts::<LruTable>(&rt, rt.alloc());
+    stays_after_a_change::<LruTable>(&rt, rt.alloc());
     counts::<LruTable>(&rt, rt.alloc());
 }
 
@@ -397,6 +401,45 @@ fn splits_and_evicts<T: ConnTable>(rt: &impl Abort, alloc: Global) {
     );
 }
 
+// The backend that is taken when the first is down is kept when the first is up again.
+fn stays_after_a_change<T: ConnTable>(rt: &impl Abort, alloc: Global) {
+    let setup = setup(rt, alloc, Maglev { hash: SumHash }, 1);
+    shows::<Maglev<SumHash>, T>(
+        rt,
+        alloc,
+        &setup,
+        &[
+            (install(0, 1), ("installed", 0, 0)),
+            (arrive(0, FIRST), ("placed", 0, 1)),
+            (serve(0, 1), ("forward", 1, 1)),
+            (install(0, 4), ("installed", 0, 0)),
+            (arrive(0, FIRST), ("placed", 0, 4)),
+            (serve(0, 4), ("forward", 2, 4)),
+            (install(0, 5), ("installed", 0, 0)),
+            (arrive(0, FIRST), ("placed", 0, 5)),
+            (serve(0, 5), ("forward", 2, 4)),
+        ],
+    );
+}
+
+// A list of outcomes that no run has: what was received was forwarded, dropped for one of the causes, or waits.
+#[test]
+fn every_drop_is_counted(rt: HostRuntime) {
+    let outcomes = [
+        Outcome::Dropped {
+            packet: 0,
+            cause: Cause::LostAtRestart,
+        },
+        Outcome::Dropped {
+            packet: 1,
+            cause: Cause::TooLarge,
+        },
+    ];
+    let totals = totals(&outcomes);
+    assert_eq!(rt; (totals.received, totals.forwarded, totals.waiting), (2, 0, 0));
+    assert_eq!(rt; totals.dropped, [0, 0, 0, 0, 0, 0, 0, 1, 0, 0, 0, 0, 1]);
+}
+
 // Two packets wait when the node restarts.
 fn counts<T: ConnTable>(rt: &impl Abort, alloc: Global) {
     let setup = setup(rt, alloc, Maglev { hash: SumHash }, 1);
@@ -410,7 +453,7 @@ fn counts<T: ConnTable>(rt: &impl Abort, alloc: Global) {
         serve(0, 1),
         serve(0, 1),
     ];
-    let outcomes = replay::<Maglev<SumHash>, SumHash, T>(
+    let outcomes = replay_maglev::<SumHash, T>(
         alloc,
         &setup,
         &catalogue(rt, alloc),

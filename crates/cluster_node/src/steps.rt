@@ -1,5 +1,5 @@
 //! One node: its versions, its steerer and its workers.
-ghost use Rattle.std.specs.Prelude.{◌≡◌, ◌≤◌, ◌<◌, ◌%◌, ◌^◌, ◌==◌, ◌∷◌, [], ℕ, Bool, List, length, map, Option, Some, None, IfOk, OnOk, slice_get, slice_set, replicate};
+ghost use Rattle.std.specs.Prelude.{◌≡◌, ◌≤◌, ◌<◌, ◌%◌, ◌^◌, ◌==◌, ◌∷◌, [], ℕ, Bool, List, length, map, Option, Some, None, IfOk, OnOk, OnErr, slice_get, slice_set, replicate};
 ghost use Rattle.std.specs.List.{list_any};
 ghost use Rattle.std.specs.Option.{option_copied};
 ghost use Rattle.cluster_node.specs.Rules.{Rules};
@@ -169,6 +169,7 @@ impl<S: Scheme, T: ConnTable> Node<S, T> {
     fn install(&mut self, known: bool, version: u32) -> Result<Outcome, AllocError>
         ensures outcome { IfOk result (λ o. o ≡ (install_step known self.old version).outcome) }
         ensures after { OnOk result (self.new ≡ (install_step known self.old version).after) }
+        ensures kept { OnErr result ((self.new.newest ≡ self.old.newest) × (self.new.installed ≡ self.old.installed)) }
     {
         if !known {
             return Ok(Outcome::Refused(Reason::UnknownVersion));
@@ -190,6 +191,7 @@ impl<S: Scheme, T: ConnTable> Node<S, T> {
     ) -> Result<Outcome, AllocError>
         ensures outcome { IfOk result (λ o. o ≡ (arrive_step (H.plain hash.now) self.old packet refused.now body).outcome) }
         ensures after { OnOk result (self.new ≡ (arrive_step (H.plain hash.now) self.old packet refused.now body).after) }
+        ensures kept { OnErr result ((self.new.newest ≡ self.old.newest) × (self.new.installed ≡ self.old.installed)) }
     {
         let flow = match body {
             None => return Ok(Outcome::Refused(Reason::NoPacket)),
@@ -232,6 +234,7 @@ impl<S: Scheme, T: ConnTable> Node<S, T> {
     ) -> Result<Outcome, AllocError>
         ensures outcome { IfOk result (λ o. o ≡ (serve_step (λ s z. S.pick s z) versions.now self.old node worker version refused).outcome) }
         ensures after { OnOk result (self.new ≡ (serve_step (λ s z. S.pick s z) versions.now self.old node worker version refused).after) }
+        ensures kept { OnErr result ((self.new.newest ≡ self.old.newest) × (self.new.installed ≡ self.old.installed)) }
     {
         let at = worker as usize;
         if at >= self.workers.len() {
@@ -261,7 +264,8 @@ impl<S: Scheme, T: ConnTable> Node<S, T> {
     /// that an installation names; all versions that were installed are among the prepared ones.
     ///
     /// By the clause `verdict` the outcome is the one that the record of all events before it gives, for every record
-    /// shorter than 2^64 for which the node stands, and the node stands for the record with this event.
+    /// shorter than 2^64 for which the node stands, and the node stands for the record with this event. Where memory was
+    /// refused the versions installed are as they were (`kept`); nothing is said of the queues, and a run ends there.
     pub fn step<H: FlowHash>(
         &mut self,
         hash: &H,
@@ -276,6 +280,7 @@ impl<S: Scheme, T: ConnTable> Node<S, T> {
             length past < 2 ^ 64 →
             NodeStands rules past self.old →
             IfOk result (λ o. NodeGoes rules past event packet o self.new) }
+        ensures kept { OnErr result ((self.new.newest ≡ self.old.newest) × (self.new.installed ≡ self.old.installed)) }
     {
         match event {
             Event::Install { version, .. } => self.install(known, version),

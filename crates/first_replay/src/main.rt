@@ -6,7 +6,7 @@
 ghost use Rattle.std.specs.Prelude.{◌≡◌, IfOk, Some};
 ghost use Rattle.cluster_node.specs.Records.{WasRead};
 
-use cluster_core::{Event, Outcome, Packet, Setup, replay};
+use cluster_core::{Event, Outcome, Packet, Setup, replay_maglev};
 use connection_table::{ConnTable, LruTable, PlainTable};
 use five_tuple::Flow;
 use hash_laws::SumHash;
@@ -105,11 +105,10 @@ fn events(alloc: Global) -> Result<Vec<Event>, AllocError> {
     Ok(events)
 }
 
-type Sums = Maglev<SumHash>;
-
 /// Two nodes of one worker, whose table keeps two entries.
-fn setup(alloc: Global, size: TableSize) -> Result<Setup<Sums, SumHash>, AllocError>
-    ensures { IfOk result (λ s. s.size ≡ size) }
+fn setup(alloc: Global, size: TableSize) -> Result<Setup<Maglev<SumHash>, SumHash>, AllocError>
+    ensures size { IfOk result (λ s. s.size ≡ size) }
+    ensures hash { IfOk result (λ s. s.scheme.hash ≡ s.hash) }
 {
     let mut nodes = Vec::new(alloc);
     nodes.push(0x0a09_0001)?;
@@ -125,7 +124,7 @@ fn replayed<T: ConnTable>(alloc: Global, size: TableSize) -> Result<Vec<Outcome>
     let catalogue = catalogue(alloc, size)?;
     let packets = [packet(1000), packet(1001), packet(1006)];
     let events = events(alloc)?;
-    replay::<Sums, SumHash, T>(alloc, &setup, &catalogue, &packets, events.as_slice())
+    replay_maglev::<SumHash, T>(alloc, &setup, &catalogue, &packets, events.as_slice())
 }
 
 /// What both tables answer, the plain one first.

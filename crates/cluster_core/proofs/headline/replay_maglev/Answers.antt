@@ -1,9 +1,8 @@
-use Rattle.std.proofs.Common.{◌≡◌, ℕ, true, refl, ap, subst}
-use Rattle.maglev_table.specs.Sizes.{is_table_size}
+use Rattle.std.proofs.Common.{refl, ap}
 use Rattle.selection.specs.Picks.{table_pick}
 use Rattle.cluster_core.specs.Setups.{rules_for}
 use Rattle.cluster_core.proofs.Nodes.{if_ok_map}
-use Rattle.cluster_core.proofs.Slots.{tables_differ, tables_are_even}
+use Rattle.cluster_core.proofs.Slots.{tables_differ}
 use Rattle.cluster_core.proofs.headline.replay_maglev.Goals as goal
 
 pub returns-clause-agreement : goal.returns-clause-agreement
@@ -13,6 +12,5 @@ returns-clause-agreement g c = if_ok_map c.replay.result
     (λ ups x. ap (λ (h : g.row.H.Denot). table_pick (g.H.FlowHash.plain h) c.args.setup.now.size ups x) c.requires.hash) (λ v x. refl) h)
     (c.replay.ensures.agreement refl)
 
-pub returns-clause-slots : goal.returns-clause-slots
-returns-clause-slots g c = tables_are_even (g.H.FlowHash.plain c.args.setup.now.hash) c.args.setup.now.size c.args.catalogue.now
-    (subst (λ (z : ℕ). is_table_size z ≡ true) c.size.ensures c.slots-slots.ensures.listed)
+pub returns-clause-picked : goal.returns-clause-picked
+returns-clause-picked g c = c.replay.ensures.picked refl

@@ -1,5 +1,5 @@
-use Rattle.std.proofs.Common.{sym, subst, List, Result, Ok, Err, []}
-use Rattle.std.specs.Prelude.{IfOk}
+use Rattle.std.proofs.Common.{◌≡◌, ℕ, true, sym, subst, List, []}
+use Rattle.maglev_table.specs.Sizes.{is_table_size}
 use Rattle.cluster_node.specs.Rules.{Rules}
 use Rattle.cluster_node.specs.declared.outcomes.Outcome.{Outcome}
 use Rattle.cluster_core.specs.Setups.{rules_for}
@@ -7,11 +7,9 @@ use Rattle.cluster_core.specs.Headline.{Agreement, Keeping}
 use Rattle.cluster_core.specs.Explain.{PickedSends}
 use Rattle.cluster_core.proofs.Sends.{agreement, picked_sends}
 use Rattle.cluster_core.proofs.Keeps.{keeping}
+use Rattle.cluster_core.proofs.Nodes.{if_ok_map}
+use Rattle.cluster_core.proofs.Slots.{tables_are_even}
 use Rattle.cluster_core.proofs.replaying.replay.Goals as goal
-
-if_ok_map : {A E : Type 0} {P Q : A → Type 0} (r : Result A E) → ((a : A) → P a → Q a) → IfOk r P → IfOk r Q
-if_ok_map (Ok a) f h = f a h
-if_ok_map (Err e) f h = tt
 
 pub returns-clause-agreement : goal.returns-clause-agreement
 returns-clause-agreement g c = λ steady.
@@ -27,3 +25,7 @@ pub returns-clause-picked : goal.returns-clause-picked
 returns-clause-picked g c = λ steady.
     let rules : Rules = rules_for (λ s z. g.S.Scheme.pick s z) (λ h. g.H.FlowHash.plain h) c.args.setup.now c.args.catalogue.now in
     if_ok_map c.replay_all.result (λ v h. subst (λ (os : List Outcome). PickedSends rules os) (sym h) (picked_sends rules (g.met.S.Scheme.pick_is_steady steady c.args.setup.now.scheme c.args.setup.now.size) c.args.packets.now c.args.events.now)) c.replay_all.ensures.verdicts
+
+pub returns-clause-slots : goal.returns-clause-slots
+returns-clause-slots g c = tables_are_even (g.H.FlowHash.plain c.args.setup.now.hash) c.args.setup.now.size c.args.catalogue.now
+    (subst (λ (z : ℕ). is_table_size z ≡ true) c.size.ensures c.slots-slots.ensures.listed)

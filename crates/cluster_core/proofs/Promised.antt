@@ -1,0 +1,44 @@
+-- Every judged record keeps the promises.
+use Rattle.std.proofs.Common.{◌≡◌, ℕ, List, [], ◌∷◌, reverse, sym, ◌∙◌, subst}
+use Rattle.five_tuple.specs.declared.Flow.{Flow}
+use Rattle.forwarder.specs.Serving.{Candidates}
+use Rattle.pool_versions.specs.Pool.{Pools}
+use Rattle.cluster_node.specs.declared.events.Said.{Said}
+use Rattle.cluster_node.specs.declared.outcomes.Outcome.{Outcome}
+use Rattle.cluster_node.specs.Records.{Judged}
+use Rattle.cluster_node.specs.Rules.{Rules}
+use Rattle.cluster_core.specs.Runs.{verdict}
+use Rattle.cluster_core.specs.Headline.{Keeps}
+use Rattle.cluster_core.specs.Tables.{AreMaglevs}
+use Rattle.cluster_core.specs.Histories.{IsSteady, outcomes_of}
+use Rattle.cluster_core.specs.Promises.{KeptThroughout, Promises, MaglevPromises, HistoriesKeepPromises, MaglevKeepsPromises, ListsKeepPromises}
+use Rattle.cluster_core.proofs.Keeps.{keeps, keeping}
+use Rattle.cluster_core.proofs.Sends.{agreement, agreement_of_picks}
+use Rattle.cluster_core.proofs.Slots.{tables_differ, tables_are_even}
+use Rattle.cluster_core.proofs.Told.{sends_told}
+
+kept_throughout : (rules : Rules) (past : List Said) → Judged (verdict rules) past → KeptThroughout rules past
+kept_throughout rules [] j = tt
+kept_throughout rules (s ∷ past) j = (subst (λ (o : Outcome). Keeps rules past s.event o) (sym j.0) (keeps rules past s.event s.packet), kept_throughout rules past j.1)
+
+pub histories_keep : HistoriesKeepPromises
+histories_keep rules history j = record {
+  agreement = λ steady. agreement_of_picks rules (outcomes_of history) (sends_told rules history steady j);
+  keeping = kept_throughout rules (reverse history) j;
+}
+
+-- Maglev doesn't look at the turn
+maglev_steady : (plain : List ℕ → ℕ) (size : ℕ) (pools : Pools) (rules : Rules) → AreMaglevs plain size pools rules → IsSteady rules
+maglev_steady plain size pools rules m candidates x t u = m.pick candidates x t ∙ sym (m.pick candidates x u)
+
+pub maglev_keeps : MaglevKeepsPromises
+maglev_keeps plain size pools rules history m j =
+    let p : Promises rules history = histories_keep rules history j in
+    record {
+      agreement = tables_differ rules plain size pools (outcomes_of history) (λ candidates x. m.pick candidates x 0) m.ups (p.agreement (maglev_steady plain size pools rules m));
+      keeping = p.keeping;
+      slots = tables_are_even plain size pools m.listed;
+    }
+
+pub lists_keep : ListsKeepPromises
+lists_keep rules packets events = record { agreement = λ steady. agreement rules steady packets events; keeping = keeping rules [] packets events }
