@@ -1,3 +1,4 @@
 pub mod Standing
 pub mod Places
 pub mod Links
+pub mod Once

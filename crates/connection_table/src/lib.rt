@@ -5,10 +5,12 @@
 //! keeps a vector, `LruTable` a hash map with links; both keep one law, that of `ConnTable`.
 #![tactic(auto)]
 
+mod laws;
 mod lru_table;
 mod plain;
 mod table;
 
+pub use laws::tables_stay_tables;
 pub use lru_table::LruTable;
 pub use plain::PlainTable;
 pub use table::{ConnTable, Entry};

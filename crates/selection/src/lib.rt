@@ -4,6 +4,7 @@
 //! [`RoundRobin`] by turns. A scheme of one's own is a type that meets the laws of [`Scheme`].
 #![tactic(auto)]
 
+mod laws;
 mod maglev;
 mod plain;
 mod prepared;
@@ -11,6 +12,7 @@ mod ready;
 mod round;
 mod scheme;
 
+pub use laws::maglev_and_plain_hash_are_steady;
 pub use maglev::{Maglev, MaglevTable};
 pub use plain::PlainHash;
 pub use prepared::PreparedVersion;

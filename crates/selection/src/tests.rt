@@ -1,4 +1,7 @@
-use super::{Maglev, PlainHash, PrepareFault, PreparedVersion, RoundRobin, Scheme};
+use super::{
+    Maglev, PlainHash, PrepareFault, PreparedVersion, RoundRobin, Scheme,
+    maglev_and_plain_hash_are_steady,
+};
 use five_tuple::Flow;
 use hash_laws::{Fnv, SumHash};
 use maglev_table::{Name, TableSize};
@@ -161,7 +164,7 @@ fn each_scheme_chooses(rt: HostRuntime) {
     assert_eq!(rt; chosen(&rt, alloc, maglev, nobody, 1000), [None; 3]);
     assert_eq!(rt; chosen(&rt, alloc, plain, nobody, 1000), [None; 3]);
     assert_eq!(rt; chosen(&rt, alloc, RoundRobin, nobody, 1000), [None; 3]);
-    assert!(rt; Maglev::<Fnv>::STEADY && PlainHash::<Fnv>::STEADY && !RoundRobin::STEADY);
+    assert!(rt; maglev_and_plain_hash_are_steady::<Fnv>() && !RoundRobin::STEADY);
 }
 
 #[test]
