@@ -17,3 +17,4 @@ pub mod Bumps
 pub mod Order
 pub mod Told
 pub mod Promised
+pub mod Balanced

@@ -1,5 +1,5 @@
 -- What is true of every record whose outcomes are the verdicts. A record has the newest event in front, a history the oldest.
-use Rattle.std.specs.Prelude.{◌≡◌, ◌≤◌, ◌<◌, ℕ, Bool, List, length, map, reverse, Option, Some}
+use Rattle.std.specs.Prelude.{◌≡◌, ◌≤◌, ◌<◌, ℕ, Bool, List, [], ◌∷◌, length, map, reverse, Option, Some, slice_get}
 use Rattle.five_tuple.specs.declared.Flow.{Flow}
 use Rattle.pool_versions.specs.declared.backend.Backend.{Backend}
 use Rattle.forwarder.specs.Serving.{Candidates}
@@ -12,8 +12,8 @@ use Rattle.cluster_node.specs.declared.outcomes.Outcome.{Outcome}
 use Rattle.cluster_node.specs.declared.outcomes.Outcome.TheVariants.{Forward}
 use Rattle.cluster_node.specs.Rules.{Rules}
 use Rattle.cluster_node.specs.Book.{placed, taken_count, next_item}
-use Rattle.cluster_node.specs.Records.{Judged, lines_at}
-use Rattle.cluster_core.specs.Runs.{verdict}
+use Rattle.cluster_node.specs.Records.{Judged, WasRead, lines_at}
+use Rattle.cluster_core.specs.Runs.{verdict, verdicts}
 use Rattle.cluster_core.specs.Totals.{came_all, went_all, came_of, went_of}
 use Rattle.cluster_core.specs.Explain.{PickedSends}
 
@@ -50,3 +50,17 @@ SendsFollowPicks = (rules : Rules) (history : List Said) → IsSteady rules → 
 -- a history's outcomes put into the queues, and take out, what its record says
 abbrev pub HistoriesCount : Type 0
 HistoriesCount = (history : List Said) → (came_all (outcomes_of history) ≡ came_of (reverse history)) × (went_all (outcomes_of history) ≡ went_of (reverse history))
+
+-- the packets of a record were read
+abbrev pub AllRead : List Said → Type 0
+AllRead [] = Unit {0}
+AllRead (s ∷ past) = WasRead s.packet × AllRead past
+
+-- what left the queues is no more than what came into them
+abbrev pub RecordsAreBalanced : Type 0
+RecordsAreBalanced = (rules : Rules) (past : List Said) → Judged (verdict rules) past → AllRead past → went_of past ≤ came_of past
+
+-- the same of a list of events, as `totals` asks
+abbrev pub ListsAreBalanced : Type 0
+ListsAreBalanced = (rules : Rules) (packets : List Packet) (events : List Event) → ((k : ℕ) (p : Packet) → slice_get packets k ≡ Some p → WasRead (Some p)) →
+    went_all (verdicts rules [] packets events) ≤ came_all (verdicts rules [] packets events)

@@ -2,7 +2,7 @@
 //! servings of different workers may be written one worker after another. The clauses are the laws; the bodies do nothing.
 ghost use Rattle.cluster_core.specs.Laws.{ServesDependOnOwnLines, ServesStandInBlocks, BlocksLeaveOthers, BlocksLeaveArrivals, EventsLeaveOtherNodes, ServesFollowPackets};
 ghost use Rattle.cluster_core.specs.Promises.{HistoriesKeepPromises, MaglevKeepsPromises, ListsKeepPromises};
-ghost use Rattle.cluster_core.specs.Histories.{ServesWhatWasPlaced, SendsWhatWaitsFirst, SendsFollowPicks, HistoriesCount};
+ghost use Rattle.cluster_core.specs.Histories.{ServesWhatWasPlaced, SendsWhatWaitsFirst, SendsFollowPicks, HistoriesCount, RecordsAreBalanced, ListsAreBalanced};
 
 /// The outcome of a serving is the same after every two records with the same lines of that worker and the same versions
 /// installed on its node; servings of one worker after one another come to what its own lines say; they leave the lines of
@@ -45,4 +45,11 @@ pub fn promises_are_kept()
     ensures histories { HistoriesKeepPromises }
     ensures maglev { MaglevKeepsPromises }
     ensures lists { ListsKeepPromises }
+{}
+
+/// In every record whose outcomes are the verdicts, and in every list of events, what left the queues is no more than what
+/// came into them, as `totals` asks.
+pub fn queues_are_balanced()
+    ensures records { RecordsAreBalanced }
+    ensures lists { ListsAreBalanced }
 {}

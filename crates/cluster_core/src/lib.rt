@@ -24,8 +24,8 @@ pub use explaining::{Verdict, explain};
 pub use fixed::{Setup, SetupFault};
 pub use headline::replay_maglev;
 pub use laws::{
-    histories_are_told, promises_are_kept, queues_are_in_order, servings_follow_packets,
-    servings_stand_apart,
+    histories_are_told, promises_are_kept, queues_are_balanced, queues_are_in_order,
+    servings_follow_packets, servings_stand_apart,
 };
 pub use reading::read_packet;
 pub use replaying::replay;
