@@ -1,6 +1,6 @@
 -- The end of a life: what the workers handled, beside what was placed on them, and what is written of it.
 use Rattle.std.proofs.Common.{◌≡◌, ℕ, ◌+◌, ◌-◌, ◌<◌, ◌≤◌, ◌%◌, ◌^◌, Bool, true, false, List, [], ◌∷◌, ◌++◌, length, map, take, drop, get_or, suc, zero, Some, refl, sym, ap, ◌∙◌, subst, arith}
-use Rattle.std.specs.Prelude.{◌==◌, slice_get, ◌&&◌}
+use Rattle.std.specs.Prelude.{◌==◌, slice_get}
 use Rattle.std.specs.List.{list_any, list_all}
 use Rattle.std.proofs.lemmas.Bool.{and_parts, true≢false}
 use Rattle.std.proofs.lemmas.List.{take_all, take_more, length-map, length-take-le, get_or-map}
@@ -92,13 +92,13 @@ module _ (rules : Rules) (packets : List Packet) (w left : ℕ) (hs : List Handl
       let a : At hs n h rest = stands_at hs n h rest e in
       let z : n + 1 + length rest ≡ n + length (h ∷ rest) = omega arith in
       let used : list_any (λ u. u == h.version) k.installed ≡ true =
-          ap (λ (l : List ℕ). list_any (λ u. u == h.version) l) s.installed
-          ∙ ap (λ (g : Handled). list_any (λ u. u == g.version) j.installed) a.here
-          ∙ installed_at j.installed hs n h known a.within in
+      ap (λ (l : List ℕ). list_any (λ u. u == h.version) l) s.installed
+      ∙ ap (λ (g : Handled). list_any (λ u. u == g.version) j.installed) a.here
+      ∙ installed_at j.installed hs n h known a.within in
       let taken : slice_get (placed_on k.placed w) n ≡ Some h.item =
-          ap (λ (l : List (List Item)). slice_get (placed_on l w) n) s.placed
-          ∙ slice_at hs (placed_on j.placed w) n h next a.within
-          ∙ ap (λ (g : Handled). Some g.item) (sym a.here) in
+      ap (λ (l : List (List Item)). slice_get (placed_on l w) n) s.placed
+      ∙ slice_at hs (placed_on j.placed w) n h next a.within
+      ∙ ap (λ (g : Handled). Some g.item) (sym a.here) in
       subst (λ (m : ℕ). Closes rules packets w (newest_first (take m hs)) left (with_serves w rest (with_serve w h k))) z
       (serves_from rest (n + 1) (with_serve w h k) a.behind (served_more j k (with_serve w h k) w h refl s)
       (close_more rules packets w left hs n h k c fit below a.within a.here used taken))

@@ -1,4 +1,4 @@
-use Rattle.std.proofs.Common.{◌≡◌, true, false, map, ap, ◌∙◌, sym}
+use Rattle.std.proofs.Common.{true, false, map, ap, ◌∙◌, sym}
 use Rattle.std.proofs.lemmas.Bool.{true≢false}
 use Rattle.node_records.specs.Journals.{JournalView}
 use Rattle.node_records.specs.Ends.{all_handled}

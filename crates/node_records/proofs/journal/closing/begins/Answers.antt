@@ -1,5 +1,5 @@
 use Rattle.std.proofs.Common.{arith}
-use Rattle.node_records.proofs.Ends.{begins_short, item_at}
+use Rattle.node_records.proofs.Ends.{begins_short}
 use Rattle.node_records.proofs.journal.closing.begins.Goals as goal
 
 pub returns-then-handled-placed : goal.returns-then-handled-placed
