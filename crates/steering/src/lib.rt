@@ -7,6 +7,7 @@
 
 ghost use Rattle.std.specs.Prelude.{◌≡◌, ◌≤◌, ◌<◌, ◌+◌, ◌∷◌, ℕ, List, [], true, false};
 ghost use Rattle.steering.specs.Steering.{Steering, home_of, ring_from, but, others, refuses, first_taker, place_for, cursor_after, next_of, rest_of, IsBelow, is_free};
+ghost use Rattle.steering.specs.Laws.{TriesArePlacings};
 
 use five_tuple::Flow;
 use hash_laws::FlowHash;
@@ -173,3 +174,9 @@ impl Steerer {
         Placed::RingsFull
     }
 }
+
+/// A law: with the marks of the workers that refused one after another, `begin` with `next_try` names the worker that
+/// `place` names, and leaves the cursor that `place` leaves.
+pub fn tries_are_placings()
+    ensures { TriesArePlacings }
+{}
