@@ -11,21 +11,22 @@ ghost use Rattle.node_records.specs.Histories.{past_of, NoneWaits};
 ghost use Rattle.node_records.specs.Journals.{JournalView, Tells, Drives, IsServed};
 ghost use Rattle.node_threads.specs.Going.{Going, IsDriven, IsEnded};
 
-use crate::drive::{Drove, drive};
+use crate::drive::drive;
 use crate::fault::{RunFault, fault_of};
 use crate::gate::Gate;
 use crate::mux::gather;
+use crate::plan::{Plan, Progress};
 use crate::post::{Desk, Post};
 use crate::promise::OfRun;
-use crate::ring::{Inputs, Message, Output};
-use crate::work::work;
+use crate::ring::{Inputs, Output};
+use crate::work::{Outfit, work};
 use cluster_core::Setup;
 use cluster_node::{Outcome, Packet};
 use connection_table::ConnTable;
 use hash_laws::FlowHash;
 use node_records::{Command, Journal, WorkerRecord};
 use pool_versions::Catalogue;
-use rtrb::{Consumer, Producer, RingBuffer};
+use rtrb::{Consumer, RingBuffer};
 use selection::{PreparedVersion, Scheme};
 use std::alloc::{AllocError, Global};
 use std::sync::Wait;
@@ -33,45 +34,42 @@ use std::thread;
 use std::thread::{PromisedHandle, Scope, Threads};
 use version_board::{Watcher, WordBoard};
 
-/// What a worker's thread owns.
-#[derive(Drop)]
-pub struct Outfit<'a> {
-    pub post: Post<'a>,
-    pub ring: Consumer<Message>,
-    pub out: Producer<Output>,
-    pub number: u16,
-}
+// What a worker's thread answers: its record, or that memory was refused.
+type Answer<'e, S, T> = Result<WorkerRecord<'e, S, T>, AllocError>;
 
-/// The driver's ends and the mux's ends of the rings, beside the outfits.
+/// The rings of a life: what its workers own, the driver's ends and the mux's ends.
 #[derive(Drop)]
 pub struct Laid<'a> {
+    /// One for each worker.
     pub outfits: Vec<Outfit<'a>>,
+    /// The driver's ends.
     pub inputs: Inputs,
+    /// The mux's ends.
     pub outputs: Vec<Consumer<Output>>,
 }
 
 /// What a life leaves.
 #[derive(Drop)]
 pub struct LifeRun {
-    pub drove: Drove,
+    /// How far the node got.
+    pub progress: Progress,
+    /// What was sent, as the mux gathered it.
     pub sent: Vec<Outcome>,
 }
 
-/// The workers' threads, and why not all were started.
+// The workers' threads, and why not all were started.
 #[derive(Drop)]
-pub struct Started<'v, 'e, S: Scheme, H: FlowHash, T: ConnTable> {
-    pub handles: Vec<
-        PromisedHandle<Result<WorkerRecord<'v, S, T>, AllocError>, OfRun<'e, 'e, S, H>>,
-    >,
-    pub fault: Option<RunFault>,
+struct Started<'e, S: Scheme, H: FlowHash, T: ConnTable> {
+    handles: Vec<PromisedHandle<Answer<'e, S, T>, OfRun<'e, 'e, S, H>>>,
+    fault: Option<RunFault>,
 }
 
-/// The rings of a life, and what its workers own.
+/// The rings of a life, each of so many places, and what its workers own.
 pub fn lay<'a>(
     alloc: Global,
     board: &'a WordBoard,
     seats: Vec<Watcher>,
-    ring: u32,
+    places: u32,
 ) -> Result<Laid<'a>, AllocError>
     requires { All (λ w. IsWatcherOf board.now w) seats.items }
 {
@@ -80,13 +78,13 @@ pub fn lay<'a>(
     let mut outputs = Vec::new(alloc);
     let mut number = 0u16;
     for seat in seats {
-        let (input, from) = RingBuffer::new(alloc, ring as usize)?;
-        let (out, output) = RingBuffer::new(alloc, ring as usize)?;
+        let (input, ring) = RingBuffer::new(alloc, places as usize)?;
+        let (out, output) = RingBuffer::new(alloc, places as usize)?;
         rings.push(input)?;
         outputs.push(output)?;
         outfits.push(Outfit {
             post: Post::new(board, seat),
-            ring: from,
+            ring,
             out,
             number,
         })?;
@@ -112,50 +110,35 @@ fn start<
     scope: &Scope<'s, &'e ()>,
     rt: &'e R,
     alloc: Global,
-    setup: &'e Setup<S, H>,
-    catalogue: &'e Catalogue,
-    versions: &'e [PreparedVersion<S>],
-    node: u16,
-    gate: &'e G,
+    plan: Plan<'e, S, H, G>,
     outfits: Vec<Outfit<'e>>,
-) -> Started<'e, 'e, S, H, T>
+) -> Started<'e, S, H, T>
 where
     S::Prepared: Send + Sync,
-    requires { AreGood (λ s z. S.pick s z) (rules_for (λ s z. S.pick s z) (λ h. H.plain h) setup.now catalogue.now) versions.now }
-    ensures { All (λ h. (h.promise.setup.now ≡ setup.now) × (h.promise.catalogue.now ≡ catalogue.now)) result.handles.items }
+    requires { AreGood (λ s z. S.pick s z) (rules_for (λ s z. S.pick s z) (λ h. H.plain h) plan.setup.now plan.catalogue.now) plan.versions.now }
+    ensures { All (λ h. (h.promise.setup.now ≡ plan.entry.setup.now) × (h.promise.catalogue.now ≡ plan.entry.catalogue.now)) result.handles.items }
 {
     let mut handles = Vec::new(alloc);
     for outfit in outfits {
-        let Outfit {
-            post,
-            ring,
-            out,
-            number,
-        } = outfit;
         if handles.reserve(1).is_err() {
-            return Started {
-                handles,
-                fault: Some(RunFault::Memory),
-            };
+            let fault = Some(RunFault::Memory);
+            return Started { handles, fault };
         }
-        let promise = OfRun { setup, catalogue };
+        let promise = OfRun {
+            setup: plan.setup,
+            catalogue: plan.catalogue,
+        };
         match scope.spawn_with(
             promise,
             move || -> Result<WorkerRecord<'_, S, T>, AllocError>
-                requires { AreGood (λ s z. S.pick s z) (rules_for (λ s z. S.pick s z) (λ h. H.plain h) setup.now catalogue.now) versions.now }
-                ensures { IfOk result (λ w. IsOf (λ s z. S.pick s z) (rules_for (λ s z. S.pick s z) (λ h. H.plain h) setup.entry.now catalogue.entry.now) w) }
-            {
-                work(
-                    rt, alloc, setup, catalogue, versions, node, number, gate, post, ring, out,
-                )
-            },
+                requires { AreGood (λ s z. S.pick s z) (rules_for (λ s z. S.pick s z) (λ h. H.plain h) plan.setup.now plan.catalogue.now) plan.versions.now }
+                ensures { IfOk result (λ w. IsOf (λ s z. S.pick s z) (rules_for (λ s z. S.pick s z) (λ h. H.plain h) plan.entry.setup.now plan.entry.catalogue.now) w) }
+            { work(rt, alloc, plan, outfit) },
         ) {
             Ok(handle) => handles.push_reserved(handle),
             Err(_) => {
-                return Started {
-                    handles,
-                    fault: Some(RunFault::ThreadLost),
-                };
+                let fault = Some(RunFault::ThreadLost);
+                return Started { handles, fault };
             }
         }
     }
@@ -210,6 +193,25 @@ fn join_all<'v, 'e, S: Scheme, H: FlowHash, T: ConnTable, R: Threads>(
     Ok(workers)
 }
 
+// Not all threads of a life could be started: those that were end, with nothing offered.
+fn give_up<'v, 'e, S: Scheme, H: FlowHash, T: ConnTable, R: Threads + Wait>(
+    rt: &R,
+    alloc: Global,
+    setup: &Setup<S, H>,
+    catalogue: &Catalogue,
+    inputs: &mut Inputs,
+    handles: Vec<PromisedHandle<Result<WorkerRecord<'v, S, T>, AllocError>, OfRun<'e, 'e, S, H>>>,
+    fault: RunFault,
+) -> RunFault
+    requires { All (λ h. (h.promise.setup.now ≡ setup.now) × (h.promise.catalogue.now ≡ catalogue.now)) handles.items }
+{
+    inputs.close(rt);
+    match join_all(rt, alloc, setup, catalogue, handles) {
+        Ok(_) => fault,
+        Err(_) => RunFault::Memory,
+    }
+}
+
 // A life ended with a restart.
 fn end_life<S: Scheme, H: FlowHash, T: ConnTable>(
     journal: &mut Journal,
@@ -249,42 +251,38 @@ fn end<S: Scheme, H: FlowHash, T: ConnTable>(
     }
 }
 
-// A life that was driven ends as its commands say.
-fn end_driven<S: Scheme, H: FlowHash, T: ConnTable>(
-    setup: &Setup<S, H>,
-    catalogue: &Catalogue,
-    packets: &[Packet],
-    node: u16,
-    commands: &[Command],
-    places: u32,
+// A life that was driven ends as its commands say: the workers' records are compared with what was placed on them, and
+// written behind the driver's steps.
+fn end_driven<S: Scheme, H: FlowHash, T: ConnTable, G>(
+    plan: Plan<'_, S, H, G>,
     from: usize,
-    drove: Drove,
+    driven: Progress,
     workers: &[WorkerRecord<'_, S, T>],
-) -> Result<Drove, RunFault>
-    requires driven { let rules = rules_for (λ s z. S.pick s z) (λ h. H.plain h) setup.now catalogue.now in IsDriven rules packets.now commands.now node places from drove.stopped drove.journal }
-    requires of { All (λ w. IsOf (λ s z. S.pick s z) (rules_for (λ s z. S.pick s z) (λ h. H.plain h) setup.now catalogue.now) w) workers.now }
-    ensures { let rules = rules_for (λ s z. S.pick s z) (λ h. H.plain h) setup.now catalogue.now in IfOk result (λ d. IsEnded rules packets.now commands.now node places from d.stopped d.journal) }
+) -> Result<Progress, RunFault>
+    requires driven { let rules = rules_for (λ s z. S.pick s z) (λ h. H.plain h) plan.setup.now plan.catalogue.now in IsDriven rules plan.packets.now plan.commands.now plan.node plan.ring from driven.at driven.journal }
+    requires of { All (λ w. IsOf (λ s z. S.pick s z) (rules_for (λ s z. S.pick s z) (λ h. H.plain h) plan.setup.now plan.catalogue.now) w) workers.now }
+    ensures { let rules = rules_for (λ s z. S.pick s z) (λ h. H.plain h) plan.entry.setup.now plan.entry.catalogue.now in IfOk result (λ d. IsEnded rules plan.entry.packets.now plan.entry.commands.now plan.entry.node plan.entry.ring from d.at d.journal) }
 {
-    let _ = (packets.len(), node, places, from);
-    let Drove {
+    let _ = from;
+    let Progress {
         journal,
         newest,
-        stopped,
-    } = drove;
+        at,
+    } = driven;
     let mut journal = journal;
-    if stopped < commands.len() {
-        end_life(&mut journal, setup, catalogue, workers)?;
-        return Ok(Drove {
+    if at < plan.commands.len() {
+        end_life(&mut journal, plan.setup, plan.catalogue, workers)?;
+        return Ok(Progress {
             journal,
             newest,
-            stopped,
+            at,
         });
     }
-    end(&mut journal, setup, catalogue, workers)?;
-    Ok(Drove {
+    end(&mut journal, plan.setup, plan.catalogue, workers)?;
+    Ok(Progress {
         journal,
         newest,
-        stopped,
+        at,
     })
 }
 
@@ -301,26 +299,17 @@ fn run_threads<
     scope: &Scope<'s, &'e ()>,
     rt: &'e R,
     alloc: Global,
-    setup: &'e Setup<S, H>,
-    catalogue: &'e Catalogue,
-    versions: &'e [PreparedVersion<S>],
-    packets: &'e [Packet],
-    node: u16,
-    commands: &'e [Command],
-    places: u32,
-    gate: &'e G,
+    plan: Plan<'e, S, H, G>,
     laid: Laid<'e>,
     desk: Desk<'e>,
-    journal: Journal,
-    from: usize,
-    newest: u32,
+    progress: Progress,
 ) -> Result<LifeRun, RunFault>
 where
     S::Prepared: Send + Sync,
-    requires good { AreGood (λ s z. S.pick s z) (rules_for (λ s z. S.pick s z) (λ h. H.plain h) setup.now catalogue.now) versions.now }
-    requires within { from ≤ length commands.now }
-    requires going { let rules = rules_for (λ s z. S.pick s z) (λ h. H.plain h) setup.now catalogue.now in Going rules packets.now (take from commands.now) node places journal }
-    ensures { let rules = rules_for (λ s z. S.pick s z) (λ h. H.plain h) setup.now catalogue.now in IfOk result (λ r. IsEnded rules packets.now commands.now node places from r.drove.stopped r.drove.journal) }
+    requires good { AreGood (λ s z. S.pick s z) (rules_for (λ s z. S.pick s z) (λ h. H.plain h) plan.setup.now plan.catalogue.now) plan.versions.now }
+    requires within { progress.at ≤ length plan.commands.now }
+    requires going { let rules = rules_for (λ s z. S.pick s z) (λ h. H.plain h) plan.setup.now plan.catalogue.now in Going rules plan.packets.now (take progress.at plan.commands.now) plan.node plan.ring progress.journal }
+    ensures { let rules = rules_for (λ s z. S.pick s z) (λ h. H.plain h) plan.entry.setup.now plan.entry.catalogue.now in IfOk result (λ r. IsEnded rules plan.entry.packets.now plan.entry.commands.now plan.entry.node plan.entry.ring progress.at r.progress.at r.progress.journal) }
 {
     let Laid {
         outfits,
@@ -329,54 +318,45 @@ where
     } = laid;
     let mut inputs = inputs;
     let mut desk = desk;
-    let started: Started<'e, 'e, S, H, T> = start(
-        scope, rt, alloc, setup, catalogue, versions, node, gate, outfits,
-    );
+    let from = progress.at;
+    let started: Started<'e, S, H, T> = start(scope, rt, alloc, plan, outfits);
     let Started { handles, fault } = started;
     if let Some(fault) = fault {
-        inputs.close(rt);
-        return match join_all(rt, alloc, setup, catalogue, handles) {
-            Ok(_) => Err(fault),
-            Err(_) => Err(RunFault::Memory),
-        };
+        return Err(give_up(
+            rt,
+            alloc,
+            plan.setup,
+            plan.catalogue,
+            &mut inputs,
+            handles,
+            fault,
+        ));
     }
     let Ok(mux) = scope.spawn(move || gather(rt, alloc, outputs)) else {
-        inputs.close(rt);
-        return match join_all(rt, alloc, setup, catalogue, handles) {
-            Ok(_) => Err(RunFault::ThreadLost),
-            Err(_) => Err(RunFault::Memory),
-        };
+        return Err(give_up(
+            rt,
+            alloc,
+            plan.setup,
+            plan.catalogue,
+            &mut inputs,
+            handles,
+            RunFault::ThreadLost,
+        ));
     };
-    let drove = drive(
-        journal,
-        setup,
-        catalogue,
-        packets,
-        node,
-        places,
-        commands,
-        from,
-        newest,
-        &mut desk,
-        &mut inputs,
-    );
+    let driven = drive(plan, progress, &mut desk, &mut inputs);
     inputs.close(rt);
-    let workers = join_all(rt, alloc, setup, catalogue, handles);
+    let workers = join_all(rt, alloc, plan.setup, plan.catalogue, handles);
     let sent = mux.join(rt);
-    let Ok(workers) = workers else {
-        return Err(RunFault::Memory);
-    };
-    let Ok(sent) = sent else {
-        return Err(RunFault::Memory);
-    };
-    let drove = drove?;
-    let drove = end_driven(
-        setup, catalogue, packets, node, commands, places, from, drove, workers.as_slice(),
-    )?;
-    Ok(LifeRun { drove, sent })
+    let workers = workers?;
+    let sent = sent?;
+    let progress = end_driven(plan, from, driven?, workers.as_slice())?;
+    Ok(LifeRun { progress, sent })
 }
 
 /// One life, on a board that holds the newest version: rings, threads, and the commands from one place on.
+///
+/// Nothing is answered before all threads are joined. Memory comes before ThreadLost, and both before what the records
+/// are compared for.
 pub fn run_life<
     'e,
     S: Scheme + Send + Sync + 'e,
@@ -391,36 +371,39 @@ pub fn run_life<
     catalogue: &'e Catalogue,
     versions: &'e [PreparedVersion<S>],
     packets: &'e [Packet],
-    node: u16,
     commands: &'e [Command],
-    places: u32,
     gate: &'e G,
+    node: u16,
+    ring: u32,
     laid: Laid<'e>,
     desk: Desk<'e>,
-    journal: Journal,
-    from: usize,
-    newest: u32,
+    progress: Progress,
 ) -> Result<LifeRun, RunFault>
 where
     S::Prepared: Send + Sync,
     requires good { AreGood (λ s z. S.pick s z) (rules_for (λ s z. S.pick s z) (λ h. H.plain h) setup.now catalogue.now) versions.now }
-    requires within { from ≤ length commands.now }
-    requires going { let rules = rules_for (λ s z. S.pick s z) (λ h. H.plain h) setup.now catalogue.now in Going rules packets.now (take from commands.now) node places journal }
-    ensures { let rules = rules_for (λ s z. S.pick s z) (λ h. H.plain h) setup.now catalogue.now in IfOk result (λ r. IsEnded rules packets.now commands.now node places from r.drove.stopped r.drove.journal) }
+    requires within { progress.at ≤ length commands.now }
+    requires going { let rules = rules_for (λ s z. S.pick s z) (λ h. H.plain h) setup.now catalogue.now in Going rules packets.now (take progress.at commands.now) node ring progress.journal }
+    ensures { let rules = rules_for (λ s z. S.pick s z) (λ h. H.plain h) setup.now catalogue.now in IfOk result (λ r. IsEnded rules packets.now commands.now node ring progress.at r.progress.at r.progress.journal) }
 {
+    let plan = Plan {
+        setup,
+        catalogue,
+        versions,
+        packets,
+        commands,
+        gate,
+        node,
+        ring,
+    };
     thread::scope(
         thread::scope_env(),
         rt,
         move |scope| -> Result<LifeRun, RunFault>
-            requires good { AreGood (λ s z. S.pick s z) (rules_for (λ s z. S.pick s z) (λ h. H.plain h) setup.now catalogue.now) versions.now }
-            requires within { from ≤ length commands.now }
-            requires going { Going (rules_for (λ s z. S.pick s z) (λ h. H.plain h) setup.now catalogue.now) packets.now (take from commands.now) node places journal }
-            ensures { IfOk result (λ r. IsEnded (rules_for (λ s z. S.pick s z) (λ h. H.plain h) setup.entry.now catalogue.entry.now) packets.entry.now commands.entry.now node places from r.drove.stopped r.drove.journal) }
-        {
-            run_threads::<S, H, T, G, R>(
-                scope, rt, alloc, setup, catalogue, versions, packets, node, commands, places, gate,
-                laid, desk, journal, from, newest,
-            )
-        },
+            requires good { AreGood (λ s z. S.pick s z) (rules_for (λ s z. S.pick s z) (λ h. H.plain h) plan.setup.now plan.catalogue.now) plan.versions.now }
+            requires within { progress.at ≤ length plan.commands.now }
+            requires going { Going (rules_for (λ s z. S.pick s z) (λ h. H.plain h) plan.setup.now plan.catalogue.now) plan.packets.now (take progress.at plan.commands.now) plan.node plan.ring progress.journal }
+            ensures { IfOk result (λ r. IsEnded (rules_for (λ s z. S.pick s z) (λ h. H.plain h) plan.entry.setup.now plan.entry.catalogue.now) plan.entry.packets.now plan.entry.commands.now plan.entry.node plan.entry.ring progress.at r.progress.at r.progress.journal) }
+        { run_threads::<S, H, T, G, R>(scope, rt, alloc, plan, laid, desk, progress) },
     )
 }

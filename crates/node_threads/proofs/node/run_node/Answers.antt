@@ -7,14 +7,14 @@ use Rattle.node_records.specs.Histories.{commands_of}
 use Rattle.node_records.specs.Journals.{JournalView}
 use Rattle.node_threads.proofs.node.run_node.Goals as goal
 
-pub loop-sent-init : goal.loop-sent-init
-loop-sent-init g c =
+pub loop-progress-init : goal.loop-progress-init
+loop-progress-init g c =
     let rules : Rules = rules_for (λ s z. g.S.Scheme.pick s z) (λ h. g.H.FlowHash.plain h) c.args.setup.now c.args.catalogue.now in
-    let fresh = c.in_ok-journal.ensures.fresh in
+    let fresh = c.in_ok-new.ensures.fresh in
     record {
       within = omega arith;
       going = record {
-        drives = c.in_ok-journal.ensures.drives rules c.args.packets.now c.requires.node c.workers.ensures.workers;
+        drives = c.in_ok-new.ensures.drives rules c.args.packets.now c.requires.node c.workers.ensures.workers;
         obeyed = ap (λ (j : JournalView). commands_of j.events) fresh;
         own = ap (λ (j : JournalView). j.node) fresh;
         ring = ap (λ (j : JournalView). j.ring) fresh;
