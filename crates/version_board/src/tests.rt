@@ -1,0 +1,45 @@
+ghost use Rattle.version_board.specs.Seats.{IsPublisherOf, IsWatcherOf};
+
+use crate::{NotNewer, Publisher, VersionBoard, Watcher, WordBoard};
+use std::process::Abort;
+use std::test::Fail;
+
+fn publish_beside(
+    rt: &impl Abort,
+    board: &WordBoard,
+    publisher: &mut Publisher,
+    watcher: &mut Watcher,
+)
+    requires publisher { IsPublisherOf board.now publisher.old }
+    requires watcher { IsWatcherOf board.now watcher.old }
+{
+    assert_eq!(rt; board.look(watcher), 0);
+    assert_eq!(rt; board.publish(publisher, 2), Ok(()));
+    assert_eq!(rt; board.look(watcher), 2);
+    assert_eq!(rt; board.publish(publisher, 2), Err(NotNewer));
+    assert_eq!(rt; board.look(watcher), 2);
+    assert_eq!(rt; board.publish(publisher, 4_294_967_295), Ok(()));
+    assert_eq!(rt; board.look(watcher), 4_294_967_295);
+}
+
+// What one seat publishes, another of the same thread sees at its next look. A number that isn't newer is refused, and
+// the board stays as it was.
+#[test]
+fn a_look_sees_what_was_published(rt: HostRuntime) -> Result<(), Fail> {
+    let (board, mut publisher, mut watchers) = WordBoard::new(rt.alloc(), 1, 0)?;
+    let mut watcher = watchers.pop().expect(&rt, "a seat");
+    publish_beside(&rt, &board, &mut publisher, &mut watcher);
+    Ok(())
+}
+
+// A board may begin with a number, which each seat has seen.
+#[test]
+fn a_board_begins_with_its_first_number(rt: HostRuntime) -> Result<(), Fail> {
+    let (board, mut publisher, mut watchers) = WordBoard::new(rt.alloc(), 16, 7)?;
+    assert_eq!(rt; watchers.len(), 16);
+    assert_eq!(rt; board.publish(&mut publisher, 7), Err(NotNewer));
+    let mut watcher = watchers.pop().expect(&rt, "a seat");
+    assert_eq!(rt; board.look(&mut watcher), 7);
+    board.gather(&mut publisher, watcher);
+    Ok(())
+}
