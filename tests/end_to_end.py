@@ -96,13 +96,21 @@ def test_table():
     faults("a name of 33 bytes", [*seven, "a" * 33], "BadName")
     faults("a name that isn't ASCII", [*seven, "é"], "BadName")
     faults("the size before the hash", ["table", "--size", "8", "--hash", "md5", "_"], "BadSize")
-    for slots, names in [(13, ["web-1", "web-2"]), (251, ["a", "b", "c.d", "E"]), (65537, ["A", "B", "C"])]:
+    rows = "size 7 backends 2\n0 B\n1 B\n2 B\n3 C\n4 C\n5 C\n6 B\ncount B 4\ncount C 3\n"
+    prints("table of two names", [*seven, "B", "C"], rows)
+    for slots, names in [
+        (13, ["web-1", "web-2"]),
+        (251, ["a", "b", "c.d", "E"]),
+        (1021, ["web-1", "web-2", "web-3"]),
+        (8191, [f"web-{number}" for number in range(1, 101)]),
+        (65537, ["A", "B", "C"]),
+    ]:
         words = ["table", "--size", str(slots), "--hash", "fnv", *names]
         prints(f"table of {slots} slots", words, table_text(slots, names, model.fnv))
     status, out, _ = run(["table", "--size", "65537", "--hash", "fnv", "A", "B", "C"])
     check("counts of 65537 slots", status == 0 and out.endswith(b"count A 21846\ncount B 21846\ncount C 21845\n"))
     with tempfile.TemporaryDirectory() as folder:
-        prints("table from another folder", [*seven, "A", "B", "C"], rows, cwd=folder)
+        prints("table from another folder", [*seven, "B", "C"], rows, cwd=folder)
     with open("/dev/full", "wb") as full:
         status, _, err = run([*seven, "A", "B", "C"], stdout=full)
         check("an output that can't be written", (status, err) == (1, b"fault: Write\n"), f"{status} {err!r}")
@@ -284,6 +292,48 @@ def test_simulate_rows():
     text = scenario(["install 0 1", "install 1 1", "take 3"], scheme="round")
     lists("round robin", text, "yxx", {3: a1, 5: a1, 7: "forward B@10.8.0.2 from 1"})
     explains("round robin splits", text, "yxx", 7, 5, "split slot 5 version 1 B@10.8.0.2 version 1 A@10.8.0.1")
+    test_spreading_and_waiting()
+
+
+def test_spreading_and_waiting():
+    # Under the sum hash y goes to the first of two live nodes, and z to the second.
+    text = scenario(["install 0 1", "install 1 1", "take 3"]).replace('"turn"', '"hash"')
+    events = """0 install 0 1: installed
+1 install 1 1: installed
+2 arrive 1 0: placed 0
+3 serve 1 0 1: forward B@10.8.0.2 from 1
+4 arrive 0 1: placed 0
+5 serve 0 0 1: forward A@10.8.0.1 from 1
+6 arrive 1 2: placed 0
+7 serve 1 0 1: forward B@10.8.0.2 from 1
+"""
+    simulates("spread by hash", text, capture("zyz"), events + report(3, 3), words=["--list"])
+    # A held node serves what waits when it is drained, worker 0's packets first, under the newest version.
+    text = scenario(["live 0", "install 0 1", "hold 0", "take 3", "install 0 2", "drain 0", "take 1"], workers=2)
+    events = """0 install 0 1: installed
+1 arrive 0 0: placed 1
+2 arrive 0 1: placed 0
+3 arrive 0 2: placed 1
+4 install 0 2: installed
+5 serve 0 0 2: forward A@10.8.0.1 from 2
+6 serve 0 1 2: forward A@10.8.0.1 from 2
+7 serve 0 1 2: forward A@10.8.0.1 from 2
+8 arrive 0 3: placed 0
+9 serve 0 0 2: forward C@10.8.0.3 from 2
+"""
+    simulates("a hold and a drain", text, capture("zyzx"), events + report(4, 4), words=["--list"])
+    # Lost records use up numbers, and may be delivered again.
+    text = scenario(["live 0", "install 0 1", "lose 1", "take 1", "lose 9", "again 0", "again 2"])
+    events = """0 install 0 1: installed
+1 arrive 0 1: placed 0
+2 serve 0 0 1: forward B@10.8.0.2 from 1
+3 arrive 0 0: placed 0
+4 serve 0 0 1: forward A@10.8.0.1 from 1
+5 arrive 0 2: placed 0
+6 serve 0 0 1: forward A@10.8.0.1 from 1
+"""
+    counts = report(3, 3, received=3, lost=2)
+    simulates("lost records", text, capture("yzx"), events + counts, words=["--list"])
 
 
 def test_simulate_captures():
@@ -312,6 +362,17 @@ def test_simulate_captures():
     answer = simulated(text, HEAD + record(P) + long)
     is_right = answer[:3] == (1, b"", b"fault: TooLong\n") and answer[3] in (WRITTEN_HEAD, output)
     check("a record that is too long", is_right, repr(answer))
+    two = scenario(["install 0 1", "take 2"])
+    stops("a header of a record that is too long", two, HEAD + record(P) + long[:16], "TooLong", output)
+    # Either byte order, microseconds or nanoseconds.
+    for name, order, magic, fraction in [
+        ("big-endian, microseconds", ">", 0xA1B2C3D4, 999999),
+        ("little-endian, microseconds", "<", 0xA1B2C3D4, 999999),
+        ("little-endian, nanoseconds", "<", 0xA1B23C4D, 999999000),
+    ]:
+        head = struct.pack(order + "IHHiIII", magic, 2, 4, 0, 0, 65535, 101)
+        data = head + struct.pack(order + "4I", 1, fraction, len(P), len(P)) + P
+        simulates(name, text, data, report(1, 1), output)
     stops("pcapng", text, bytes.fromhex("0a0d0d0a") + bytes(40), "BadMagic", None)
     stops("a version that isn't 2.4", text, HEAD[:7] + b"\x03" + HEAD[8:], "BadVersion", None)
     stops("Linux cooked capture", text, HEAD[:23] + b"\x71", "BadLink", None)
