@@ -5,7 +5,7 @@ use Rattle.std.specs.List.Sorted.{IsPermutation}
 use Rattle.std.proofs.lemmas.Bool.{or_parts, ltb-false, cases_Bool}
 use Rattle.std.proofs.lemmas.List.Elements.{All-nil, All-cons, All-head, All-tail, All-push}
 use Rattle.five_tuple.specs.declared.Flow.{Flow}
-use Rattle.pool_versions.specs.Pool.{Pools, has_too_many, is_over, services_fault, fault_of, has_double, same_service, has_double_name, HasFewMembers, IsWithinLimits, version_at, find_service, serves, AscendsByName, up_backends, HasUps}
+use Rattle.pool_versions.specs.Pool.{Pools, has_too_many, is_over, services_fault, fault_of, has_double, same_service, has_double_name, HasFewMembers, IsWithinLimits, same_number, AreSound, version_at, find_service, serves, AscendsByName, up_backends, HasUps}
 use Rattle.pool_versions.specs.declared.backend.Backend.{Backend}
 use Rattle.pool_versions.specs.declared.service.Service.{Service}
 use Rattle.pool_versions.specs.declared.service.Version.{Version}
@@ -23,12 +23,12 @@ few_in_all size (s ∷ ss) h =
     let parts = or_parts (has_too_many size s) (list_any (has_too_many size) ss) h in
     All-cons (HasFewMembers size) s ss (few_members size s parts.0) (few_in_all size ss parts.1)
 
-within_limits : (c : Pools) (v : Version) → is_over c v.services.items ≡ false → IsWithinLimits c.size v
+within_limits : (c : Pools) (v : Version) → is_over c v.services.items ≡ false → has_double same_service v.services.items ≡ false → list_any has_double_name v.services.items ≡ false → IsWithinLimits c.size v
 unfolding is_over
-within_limits c v h =
+within_limits c v h apart named =
     let parts = or_parts (nat_lt 1023 (length c.versions) || nat_lt 256 (length v.services.items)) (list_any (has_too_many c.size) v.services.items) h in
     let counts = or_parts (nat_lt 1023 (length c.versions)) (nat_lt 256 (length v.services.items)) parts.0 in
-    record { services = ltb-false _ _ counts.1; members = few_in_all c.size v.services.items parts.1 }
+    record { services = ltb-false _ _ counts.1; members = few_in_all c.size v.services.items parts.1; apart = apart; named = named }
 
 -- what a chain of tests says where it found nothing
 passed : (b : Bool) (f : PoolFault) (o : Option PoolFault) → cond b (Some f) o ≡ None → (b ≡ false) × (o ≡ None)
@@ -40,7 +40,7 @@ unfolding services_fault
 services_within c v h =
     let one_each = passed (has_double same_service v.services.items) fault.DoubleService (if list_any has_double_name v.services.items then Some fault.DoubleName else if is_over c v.services.items then Some fault.TooMany else None) h in
     let named = passed (list_any has_double_name v.services.items) fault.DoubleName (if is_over c v.services.items then Some fault.TooMany else None) one_each.1 in
-    within_limits c v (passed (is_over c v.services.items) fault.TooMany None named.1).0
+    within_limits c v (passed (is_over c v.services.items) fault.TooMany None named.1).0 one_each.0 named.0
 
 -- a version without a fault keeps the limits
 pub judged_within : (c : Pools) (v : Version) → fault_of c v ≡ None → IsWithinLimits c.size v
@@ -49,11 +49,49 @@ judged_within c v h =
     let numbered = passed (v.number == 0) fault.BadNumber (if is_some (version_at v.number c.versions) then Some fault.NumberTaken else services_fault c v.services.items) h in
     services_within c v (passed (is_some (version_at v.number c.versions)) fault.NumberTaken (services_fault c v.services.items) numbered.1).1
 
--- one more version without a fault, or none, in a list whose versions keep the limits
-pub taken_keeps : (c : Pools) (v : Version) (taken : Bool) → All (IsWithinLimits c.size) c.versions → (o : Option PoolFault) → o ≡ fault_of c v → ((f : PoolFault) → o ≡ Some f → ⊥) →
-    All (IsWithinLimits c.size) (if taken then c.versions ++ v ∷ [] else c.versions)
+-- a version without a fault has a number of its own
+judged_new : (c : Pools) (v : Version) → fault_of c v ≡ None → is_some (version_at v.number c.versions) ≡ false
+unfolding fault_of
+judged_new c v h =
+    let numbered = passed (v.number == 0) fault.BadNumber (if is_some (version_at v.number c.versions) then Some fault.NumberTaken else services_fault c v.services.items) h in
+    (passed (is_some (version_at v.number c.versions)) fault.NumberTaken (services_fault c v.services.items) numbered.1).0
+
+-- a number that isn't there yet comes last
+none_alike : (x v : Version) (xs : List Version) → list_any (same_number x) xs ≡ false → same_number x v ≡ false → list_any (same_number x) (xs ++ v ∷ []) ≡ false
+none_alike x v [] h k = go (same_number x v) k
+  where
+    go : (b : Bool) → b ≡ false → (b || false) ≡ false
+    go true e = e
+    go false e = refl
+none_alike x v (y ∷ ys) h k = go (same_number x y) h (none_alike x v ys)
+  where
+    go : (b : Bool) → (b || list_any (same_number x) ys) ≡ false → (list_any (same_number x) ys ≡ false → same_number x v ≡ false → list_any (same_number x) (ys ++ v ∷ []) ≡ false) → (b || list_any (same_number x) (ys ++ v ∷ [])) ≡ false
+    go true e i = e
+    go false e i = i e k
+
+numbers_push : (v : Version) (xs : List Version) → has_double same_number xs ≡ false → is_some (version_at v.number xs) ≡ false → has_double same_number (xs ++ v ∷ []) ≡ false
+numbers_push v [] h k = refl
+numbers_push v (x ∷ xs) h k = go (same_number x v) refl k (or_parts (list_any (same_number x) xs) (has_double same_number xs) h) (numbers_push v xs)
+  where
+    both : (a b : Bool) → a ≡ false → b ≡ false → (a || b) ≡ false
+    both true b e f = e
+    both false b e f = f
+
+    go : (b : Bool) → same_number x v ≡ b → is_some (if b then Some x else version_at v.number xs) ≡ false → (list_any (same_number x) xs ≡ false) × (has_double same_number xs ≡ false) → (has_double same_number xs ≡ false → is_some (version_at v.number xs) ≡ false → has_double same_number (xs ++ v ∷ []) ≡ false) → (list_any (same_number x) (xs ++ v ∷ []) || has_double same_number (xs ++ v ∷ [])) ≡ false
+    go true e n p i = absurd cc
+    go false e n p i = both (list_any (same_number x) (xs ++ v ∷ [])) (has_double same_number (xs ++ v ∷ [])) (none_alike x v xs p.0 e) (i p.1 n)
+
+pub none_sound : (size : ℕ) → AreSound (record { size = size; versions = [] })
+none_sound size = record { limits = All-nil (IsWithinLimits size); numbers = refl }
+
+-- one more version without a fault, or none
+pub taken_keeps : (c : Pools) (v : Version) (taken : Bool) → AreSound c → (o : Option PoolFault) → o ≡ fault_of c v → ((f : PoolFault) → o ≡ Some f → ⊥) →
+    AreSound (record { size = c.size; versions = if taken then c.versions ++ v ∷ [] else c.versions })
 taken_keeps c v false kept o e none = kept
-taken_keeps c v true kept None e none = All-push (IsWithinLimits c.size) c.versions v kept (judged_within c v (sym e))
+taken_keeps c v true kept None e none = record {
+  limits = All-push (IsWithinLimits c.size) c.versions v kept.limits (judged_within c v (sym e));
+  numbers = numbers_push v c.versions kept.numbers (judged_new c v (sym e));
+}
 taken_keeps c v true kept (Some f) e none = absurd (none f refl)
 
 -- what holds of all holds of what is found

@@ -80,10 +80,22 @@ pub record HasFewMembers (size : ℕ) (s : Service) : Type 0 where
   pub few : length s.members.items ≤ 4096
   pub fit : length s.members.items ≤ size
 
--- a version keeps the limits that do not depend on the other versions
+-- a version keeps the limits that do not depend on the other versions: it has few services, no two of which are for the same
+-- flows, each with few members, no two of which have one name
 pub record IsWithinLimits (size : ℕ) (v : Version) : Type 0 where
   pub services : length v.services.items ≤ 256
   pub members : All (HasFewMembers size) v.services.items
+  pub apart : has_double same_service v.services.items ≡ false
+  pub named : list_any has_double_name v.services.items ≡ false
+
+-- two versions have one number
+abbrev pub same_number : Version → Version → Bool
+same_number a b = a.number == b.number
+
+-- the versions of a catalogue keep the limits, and no two have one number
+pub record AreSound (c : Pools) : Type 0 where
+  pub limits : All (IsWithinLimits c.size) c.versions
+  pub numbers : has_double same_number c.versions ≡ false
 
 -- the flow is the service's
 abbrev pub serves : Flow → Service → Bool

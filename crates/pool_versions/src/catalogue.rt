@@ -1,7 +1,7 @@
 //! The catalogue of versions.
 ghost use Rattle.std.specs.Prelude.{◌≡◌, ◌++◌, ◌∷◌, [], OnOk, OnErr, IfOk, IfSome, option_map, option_copied};
 ghost use Rattle.std.specs.List.{list_any};
-ghost use Rattle.pool_versions.specs.Pool.{Pools, services_fault, fault_of, Judged, version_at, up_of, is_over, has_too_many, has_double_name, HasUps, IsWithinLimits};
+ghost use Rattle.pool_versions.specs.Pool.{Pools, services_fault, fault_of, Judged, version_at, up_of, is_over, has_too_many, has_double_name, HasUps, IsWithinLimits, AreSound};
 
 use crate::backend::Backend;
 use crate::doubles::{has_double_name, has_double_service};
@@ -42,14 +42,13 @@ pub struct Catalogue {
 }
 
 impl Model for Catalogue {
-    ghost use Rattle.std.specs.List.{All};
-    ghost use Rattle.pool_versions.specs.Pool.{Pools, IsWithinLimits};
+    ghost use Rattle.pool_versions.specs.Pool.{Pools, AreSound};
 
     ghost Value = { Pools };
 
     ghost view = { λ c. record { size = c.size; versions = c.versions.items } };
 
-    ghost invariant = { λ c. All (IsWithinLimits c.size) c.versions.items };
+    ghost invariant = { λ c. AreSound (record { size = c.size; versions = c.versions.items }) };
 }
 
 // Whether a service has more members than a service may have, or than there are slots.
@@ -84,6 +83,14 @@ impl Catalogue {
         ensures { result ≡ self.now.size }
     {
         self.size
+    }
+
+    /// No two versions have one number; within a version no two services are for the same flows, and within a service no
+    /// two members have one name. The clause is the invariant.
+    pub fn keeps_doubles_out(&self)
+        ensures { AreSound self.now }
+    {
+        let _versions = &self.versions;
     }
 
     /// The version of a number. It keeps the limits of a version.

@@ -95,6 +95,7 @@ fn versions_are_found_by_number(rt: HostRuntime) {
     assert!(rt; catalogue.get(4_294_967_295).is_some());
     assert!(rt; catalogue.get(1).is_none());
     assert!(rt; catalogue.get(0).is_none());
+    catalogue.keeps_doubles_out();
 }
 
 #[test]

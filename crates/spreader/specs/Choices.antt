@@ -30,3 +30,8 @@ ChoosesWhereLive choice = (node : ℕ) (live : List ℕ) (flow : Option Flow) (n
 
 abbrev pub ChoosesNoneOfNone : Choice → Type 0
 ChoosesNoneOfNone choice = (flow : Option Flow) (nth : ℕ) → choice [] flow nth ≡ None
+
+-- a spreader by hash as contracts see it
+pub record HashSpreading (H : Type 0) : Type 0 where
+  pub hash : H
+  pub live : List ℕ

@@ -12,6 +12,7 @@ ghost use Rattle.spreader.specs.Laws.{by_turn_live, by_turn_some, by_hash_live, 
 
 use five_tuple::Flow;
 use hash_laws::FlowHash;
+use std::marker::Model;
 
 /// Chooses a node for each packet, from a list of live nodes.
 ///
@@ -20,7 +21,8 @@ pub trait Spread {
     /// The live nodes.
     ghost live: { Self → List ℕ };
 
-    /// What it chooses from live nodes. It doesn't change with them.
+    /// What it chooses from live nodes, for a packet and a count of packets. It doesn't change with them, so that what a
+    /// scenario's steps deliver is a function of the steps and the records alone.
     ghost choice: { Self → Choice };
 
     /// Takes these as the live nodes, in this order, from now on.
@@ -55,17 +57,25 @@ pub struct TurnSpread {
     live: Vec<u16>,
 }
 
+impl Model for TurnSpread {
+    ghost use Rattle.std.specs.Prelude.{List, ℕ};
+
+    ghost Value = { List ℕ };
+
+    ghost view = { λ s. s.live.items };
+}
+
 impl TurnSpread {
     /// A spreader over these live nodes, in this order.
     pub fn new(live: Vec<u16>) -> Self
-        ensures { result.live.items ≡ live.items }
+        ensures { result ≡ live.items }
     {
         TurnSpread { live }
     }
 }
 
 impl Spread for TurnSpread {
-    ghost live = { λ s. s.live.items };
+    ghost live = { λ s. s };
 
     ghost choice = { λ s. node_by_turn };
 
@@ -91,18 +101,25 @@ pub struct HashSpread<H: FlowHash> {
     live: Vec<u16>,
 }
 
+impl<H: FlowHash> Model for HashSpread<H> {
+    ghost use Rattle.spreader.specs.Choices.{HashSpreading};
+
+    ghost Value = { HashSpreading H };
+
+    ghost view = { λ s. record { hash = s.hash; live = s.live.items } };
+}
+
 impl<H: FlowHash> HashSpread<H> {
     /// A spreader by this hash over these live nodes, in this order.
     pub fn new(hash: H, live: Vec<u16>) -> Self
-        ensures hash { result.hash ≡ hash }
-        ensures live { result.live.items ≡ live.items }
+        ensures { result ≡ record { hash = hash; live = live.items } }
     {
         HashSpread { hash, live }
     }
 }
 
 impl<H: FlowHash> Spread for HashSpread<H> {
-    ghost live = { λ s. s.live.items };
+    ghost live = { λ s. s.live };
 
     ghost choice = { λ s. node_by_hash (H.plain s.hash) };
 
