@@ -1,0 +1,303 @@
+//! A node's run on one thread, in one of the orders that its threads might take: its records are those that threads make,
+//! and what it promises is what a run on threads promises. The tests compare it with the replay of its history, and play
+//! the worked examples step by step.
+#![tactic(auto)]
+
+ghost use Rattle.std.specs.Prelude.{◌≡◌, ◌<◌, ◌++◌, ◌∷◌, [], ℕ, List, true, length, IfOk, OnOk, IsTrue, All, is_some};
+ghost use Rattle.pool_versions.specs.Pool.{version_at};
+ghost use Rattle.cluster_core.specs.Setups.{Fixed, rules_for};
+ghost use Rattle.cluster_core.specs.Runs.{AreGood};
+ghost use Rattle.node_records.specs.declared.command.Command.{Command};
+ghost use Rattle.node_records.specs.declared.command.Command.TheVariants.{Publish, Offer, Restart};
+ghost use Rattle.cluster_node.specs.declared.packets.Packet.{Packet};
+ghost use Rattle.node_records.specs.Histories.{commands_of, past_of, NoneWaits};
+ghost use Rattle.node_records.specs.Journals.{JournalView, Tells, Drives, IsServed};
+ghost use Rattle.node_rehearsal.specs.Going.{Going};
+ghost use Rattle.node_records.specs.Works.{WorkView, IsOf};
+ghost use Rattle.node_records.specs.Runs.{IsRunOf};
+
+use cluster_core::Setup;
+use cluster_node::{Item, Outcome, Packet};
+use connection_table::ConnTable;
+use forwarder::Choice;
+use hash_laws::FlowHash;
+use node_records::{
+    Command, Handled, Journal, LifeFault, NodeRecord, Rings, WorkerRecord, prepare_all,
+};
+use pool_versions::Catalogue;
+use selection::{PreparedVersion, Scheme};
+use std::alloc::{AllocError, Global};
+
+#[cfg(test)]
+mod tests;
+
+/// A queue of so many places for each worker, the oldest packet in front.
+#[derive(Drop)]
+pub struct Queues {
+    lists: Vec<Vec<Item>>,
+    places: usize,
+}
+
+impl Rings for Queues {
+    fn offer(&mut self, worker: u16, item: Item) -> bool {
+        let at = worker as usize;
+        if at >= self.lists.len() {
+            return false;
+        }
+        if self.lists[at].len() >= self.places {
+            return false;
+        }
+        let one = &mut self.lists[at];
+        match one.push(item) {
+            Ok(()) => true,
+            Err(_) => false,
+        }
+    }
+}
+
+fn empty_queues(alloc: Global, workers: u16, places: u32) -> Result<Queues, AllocError> {
+    let mut lists = Vec::new(alloc);
+    for _ in 0..workers {
+        lists.push(Vec::new(alloc))?;
+    }
+    Ok(Queues {
+        lists,
+        places: places as usize,
+    })
+}
+
+fn knows(catalogue: &Catalogue, number: u32) -> bool
+    ensures { result ≡ is_some (version_at number catalogue.now.versions) }
+{
+    catalogue.get(number).is_some()
+}
+
+// What a worker sent.
+fn gather(
+    sent: &mut Vec<Outcome>,
+    node: u16,
+    worker: u16,
+    handled: &[Handled],
+) -> Result<(), AllocError> {
+    for one in handled {
+        if let Choice::Forward { backend, origin } = one.choice {
+            sent.push(Outcome::Forward {
+                node,
+                worker,
+                packet: one.item.packet,
+                flow: one.item.flow,
+                backend,
+                origin,
+            })?;
+        }
+    }
+    Ok(())
+}
+
+// A worker serves what is in its queue.
+fn serve<'v, S: Scheme, H: FlowHash, T: ConnTable>(
+    alloc: Global,
+    setup: &Setup<S, H>,
+    catalogue: &Catalogue,
+    versions: &'v [PreparedVersion<S>],
+    newest: u32,
+    items: &[Item],
+) -> Result<WorkerRecord<'v, S, T>, AllocError>
+    requires { AreGood (λ s z. S.pick s z) (rules_for (λ s z. S.pick s z) (λ h. H.plain h) setup.now catalogue.now) versions.now }
+    ensures { IfOk result (λ w. IsOf (λ s z. S.pick s z) (rules_for (λ s z. S.pick s z) (λ h. H.plain h) setup.now catalogue.now) w) }
+{
+    let mut worker = WorkerRecord::make(alloc, setup, catalogue, versions)?;
+    for item in items {
+        let _ = worker.handle(newest, item)?;
+    }
+    Ok(worker)
+}
+
+// All workers serve what is in their queues.
+fn serve_all<'v, S: Scheme, H: FlowHash, T: ConnTable>(
+    alloc: Global,
+    setup: &Setup<S, H>,
+    catalogue: &Catalogue,
+    versions: &'v [PreparedVersion<S>],
+    newest: u32,
+    queues: &Queues,
+) -> Result<Vec<WorkerRecord<'v, S, T>>, AllocError>
+    requires { AreGood (λ s z. S.pick s z) (rules_for (λ s z. S.pick s z) (λ h. H.plain h) setup.now catalogue.now) versions.now }
+    ensures { IfOk result (λ v. All (λ w. IsOf (λ s z. S.pick s z) (rules_for (λ s z. S.pick s z) (λ h. H.plain h) setup.now catalogue.now) w) v.items) }
+{
+    let mut workers = Vec::new(alloc);
+    for list in &queues.lists {
+        workers.push(serve(alloc, setup, catalogue, versions, newest, list.as_slice())?)?;
+    }
+    Ok(workers)
+}
+
+fn gather_all<S: Scheme, T: ConnTable>(
+    alloc: Global,
+    node: u16,
+    workers: &[WorkerRecord<'_, S, T>],
+) -> Result<Vec<Outcome>, AllocError> {
+    let mut sent = Vec::new(alloc);
+    let mut number = 0u16;
+    for worker in workers {
+        gather(&mut sent, node, number, worker.handled())?;
+        number = number.wrapping_add(1);
+    }
+    Ok(sent)
+}
+
+fn keep(lists: &mut Vec<Vec<Outcome>>, list: Vec<Outcome>) -> Result<(), AllocError> {
+    match lists.push(list) {
+        Ok(()) => Ok(()),
+        Err(_) => Err(AllocError),
+    }
+}
+
+// A version is installed. The answer is the newest one then.
+fn publish<S: Scheme, H: FlowHash>(
+    journal: &mut Journal,
+    setup: &Setup<S, H>,
+    catalogue: &Catalogue,
+    newest: u32,
+    number: u32,
+) -> Result<u32, LifeFault>
+    ensures going { let rules = rules_for (λ s z. S.pick s z) (λ h. H.plain h) setup.now catalogue.now in
+        (packets : List Packet) (cs : List Command) → Going rules packets cs journal.old → OnOk result (Going rules packets (cs ++ Publish number ∷ []) journal.new) }
+    ensures kept { OnOk result ((journal.new.node ≡ journal.old.node) × (journal.new.ring ≡ journal.old.ring)) }
+{
+    let _ = setup.workers();
+    match journal.install(knows(catalogue, number), number) {
+        Ok(Outcome::Installed) => Ok(number),
+        Ok(_) => Ok(newest),
+        Err(_) => Err(LifeFault::Memory),
+    }
+}
+
+// A packet arrives.
+fn offer<S: Scheme, H: FlowHash>(
+    journal: &mut Journal,
+    setup: &Setup<S, H>,
+    catalogue: &Catalogue,
+    packets: &[Packet],
+    queue: &mut Queues,
+    packet: u32,
+) -> Result<(), LifeFault>
+    ensures going { let rules = rules_for (λ s z. S.pick s z) (λ h. H.plain h) setup.now catalogue.now in
+        (cs : List Command) → Going rules packets.now cs journal.old → OnOk result (Going rules packets.now (cs ++ Offer packet ∷ []) journal.new) }
+    ensures kept { OnOk result ((journal.new.node ≡ journal.old.node) × (journal.new.ring ≡ journal.old.ring)) }
+{
+    let _ = catalogue.size();
+    match journal.arrive(&setup.hash(), packets, packet, queue) {
+        Ok(_) => Ok(()),
+        Err(_) => Err(LifeFault::Memory),
+    }
+}
+
+// A life ends, and another begins. The answer is what was sent.
+fn restart<S: Scheme, H: FlowHash, T: ConnTable>(
+    alloc: Global,
+    journal: &mut Journal,
+    setup: &Setup<S, H>,
+    catalogue: &Catalogue,
+    versions: &[PreparedVersion<S>],
+    newest: u32,
+    queue: &Queues,
+    node: u16,
+) -> Result<Vec<Outcome>, LifeFault>
+    requires { AreGood (λ s z. S.pick s z) (rules_for (λ s z. S.pick s z) (λ h. H.plain h) setup.now catalogue.now) versions.now }
+    ensures going { let rules = rules_for (λ s z. S.pick s z) (λ h. H.plain h) setup.now catalogue.now in
+        (packets : List Packet) (cs : List Command) → Going rules packets cs journal.old → OnOk result (Going rules packets (cs ++ Restart ∷ []) journal.new) }
+    ensures kept { OnOk result ((journal.new.node ≡ journal.old.node) × (journal.new.ring ≡ journal.old.ring)) }
+{
+    let workers: Vec<WorkerRecord<S, T>> = serve_all(
+        alloc, setup, catalogue, versions, newest, queue,
+    )?;
+    let sent = gather_all(alloc, node, workers.as_slice())?;
+    match journal.end_life(workers.as_slice(), true) {
+        Ok(()) => Ok(sent),
+        Err(fault) => Err(fault),
+    }
+}
+
+// The last life ends. The answer is what was sent.
+fn end<S: Scheme, H: FlowHash, T: ConnTable>(
+    alloc: Global,
+    journal: &mut Journal,
+    setup: &Setup<S, H>,
+    catalogue: &Catalogue,
+    versions: &[PreparedVersion<S>],
+    newest: u32,
+    queue: &Queues,
+    node: u16,
+) -> Result<Vec<Outcome>, LifeFault>
+    requires { AreGood (λ s z. S.pick s z) (rules_for (λ s z. S.pick s z) (λ h. H.plain h) setup.now catalogue.now) versions.now }
+    ensures ended { let rules = rules_for (λ s z. S.pick s z) (λ h. H.plain h) setup.now catalogue.now in
+        (packets : List Packet) → Drives rules packets journal.old → OnOk result (Tells rules packets journal.new × NoneWaits (past_of rules packets journal.new.node journal.new.events)) }
+    ensures served { OnOk result (IsServed journal.old journal.new) }
+{
+    let workers: Vec<WorkerRecord<S, T>> = serve_all(
+        alloc, setup, catalogue, versions, newest, queue,
+    )?;
+    let sent = gather_all(alloc, node, workers.as_slice())?;
+    match journal.end(workers.as_slice(), true) {
+        Ok(_) => Ok(sent),
+        Err(fault) => Err(fault),
+    }
+}
+
+/// A node's run: its commands in order, and at the end of each life all servings under the newest version.
+pub fn rehearse<S: Scheme, H: FlowHash, T: ConnTable>(
+    alloc: Global,
+    setup: &Setup<S, H>,
+    catalogue: &Catalogue,
+    packets: &[Packet],
+    node: u16,
+    commands: &[Command],
+    ring: u32,
+) -> Result<NodeRecord, LifeFault>
+    requires { node < length setup.now.nodes }
+    ensures { let rules = rules_for (λ s z. S.pick s z) (λ h. H.plain h) setup.now catalogue.now in IfOk result (λ r. IsRunOf rules packets.now node ring commands.now r) }
+{
+    let versions = prepare_all(alloc, setup, catalogue, commands)?;
+    let count = setup.workers();
+    let mut journal = Journal::new(alloc, node, ring, count)?;
+    let mut queue = empty_queues(alloc, count, ring)?;
+    let mut sent = Vec::new(alloc);
+    let mut newest = 0;
+    for command in commands {
+        match *command {
+            Command::Publish(number) => {
+                newest = publish(&mut journal, setup, catalogue, newest, number)?;
+            }
+            Command::Offer(packet) => {
+                offer(&mut journal, setup, catalogue, packets, &mut queue, packet)?;
+            }
+            Command::Restart => {
+                let list = restart::<S, H, T>(
+                    alloc,
+                    &mut journal,
+                    setup,
+                    catalogue,
+                    versions.as_slice(),
+                    newest,
+                    &queue,
+                    node,
+                )?;
+                keep(&mut sent, list)?;
+                queue = empty_queues(alloc, count, ring)?;
+            }
+        }
+    }
+    let list = end::<S, H, T>(
+        alloc,
+        &mut journal,
+        setup,
+        catalogue,
+        versions.as_slice(),
+        newest,
+        &queue,
+        node,
+    )?;
+    keep(&mut sent, list)?;
+    journal.finish(sent)
+}
