@@ -22,4 +22,4 @@ loop-progress-init g c =
     }
 
 pub run_life-requires-clause-good : goal.run_life-requires-clause-good
-run_life-requires-clause-good g c = λ lives within. subst (λ (ps : List (Readied g.row.S.Denot)). AreGood (λ s z. g.S.Scheme.pick s z) (rules_for (λ s z. g.S.Scheme.pick s z) (λ h. g.H.FlowHash.plain h) c.args.setup.now c.args.catalogue.now) ps) (sym c.as_slice.ensures.value) c.in_ok-versions.ensures
+run_life-requires-clause-good g c = λ lives within. subst (λ (ps : List (Readied g.row.S.Denot)). AreGood (λ s z. g.S.Scheme.pick s z) (rules_for (λ s z. g.S.Scheme.pick s z) (λ h. g.H.FlowHash.plain h) c.args.setup.now c.args.catalogue.now) ps) (sym c.as_slice.ensures.value) c.in_ok-versions.ensures.good

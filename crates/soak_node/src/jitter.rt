@@ -1,0 +1,29 @@
+//! A gate that gives the processor up at random.
+use crate::dice::Dice;
+use node_threads::Gate;
+use std::thread::yield_now;
+
+/// Before and after each serving it yields up to three times, by its seed and what is served.
+#[derive(Drop)]
+pub struct Jitter {
+    pub seed: u64,
+}
+
+impl Jitter {
+    fn pause(&self, worker: u16, nth: u64) {
+        let seed = self.seed ^ nth.wrapping_mul(31) ^ u64::from(worker).wrapping_mul(65_537);
+        for _ in 0..Dice::new(seed).below(4) {
+            yield_now();
+        }
+    }
+}
+
+impl Gate for Jitter {
+    fn before(&self, _node: u16, worker: u16, nth: u64) {
+        self.pause(worker, nth);
+    }
+
+    fn after(&self, _node: u16, worker: u16, nth: u64) {
+        self.pause(worker, nth.wrapping_add(7));
+    }
+}

@@ -1,0 +1,105 @@
+//! What a run's record is held to, apart from the contract of the run.
+use cluster_node::{Event, Outcome};
+use node_records::{Command, NodeRecord};
+use std::alloc::{AllocError, Global};
+
+// The event is the node's own step for this command.
+fn obeys(event: &Event, command: &Command, at: u16) -> bool {
+    match (*event, *command) {
+        (Event::Install { node, version }, Command::Publish(number)) => node == at
+            && version == number,
+        (Event::Arrive { node, packet, .. }, Command::Offer(number)) => node == at
+            && packet == number,
+        (Event::Restart { node }, Command::Restart) => node == at,
+        _ => false,
+    }
+}
+
+/// Without its servings the history is the commands in order, and no serving is refused or hindered.
+pub fn is_obeyed(record: &NodeRecord, commands: &[Command], node: u16) -> bool {
+    let mut next = 0usize;
+    for (event, outcome) in record.events.iter().zip(record.outcomes.iter()) {
+        if let Event::Serve { refused, .. } = *event {
+            if refused || matches!(*outcome, Outcome::Refused(_)) {
+                return false;
+            }
+            continue;
+        }
+        match commands.get(next) {
+            Some(command) if obeys(event, command, node) => next = next.wrapping_add(1),
+            _ => return false,
+        }
+    }
+    next == commands.len()
+}
+
+// What a worker sent, in order.
+fn sends_of(alloc: Global, outcomes: &[Outcome], by: u16) -> Result<Vec<Outcome>, AllocError> {
+    let mut sent = Vec::new(alloc);
+    for outcome in outcomes {
+        if matches!(*outcome, Outcome::Forward { worker, .. } if worker == by) {
+            sent.push(*outcome)?;
+        }
+    }
+    Ok(sent)
+}
+
+// What each life came to.
+fn lives(alloc: Global, outcomes: &[Outcome]) -> Result<Vec<Vec<Outcome>>, AllocError> {
+    let mut lives = Vec::new(alloc);
+    let mut life = Vec::new(alloc);
+    for outcome in outcomes {
+        if let Outcome::Restarted { .. } = *outcome {
+            lives.push(life)?;
+            life = Vec::new(alloc);
+        } else {
+            life.push(*outcome)?;
+        }
+    }
+    lives.push(life)?;
+    Ok(lives)
+}
+
+// A life's list has for each worker what it sent, in its order, and nothing else.
+fn is_merge(alloc: Global, sent: &[Outcome], life: &[Outcome]) -> Result<bool, AllocError> {
+    let mut count = 0usize;
+    for worker in 0..16 {
+        let gathered = sends_of(alloc, sent, worker)?;
+        if gathered.as_slice() != sends_of(alloc, life, worker)?.as_slice() {
+            return Ok(false);
+        }
+        count = count.wrapping_add(gathered.len());
+    }
+    Ok(count == sent.len())
+}
+
+/// For each life what was sent is a merge of what its workers sent.
+pub fn are_merges(alloc: Global, record: &NodeRecord) -> Result<bool, AllocError> {
+    let lives = lives(alloc, record.outcomes.as_slice())?;
+    if lives.len() != record.sent.len() {
+        return Ok(false);
+    }
+    for (sent, life) in record.sent.iter().zip(lives.iter()) {
+        if !is_merge(alloc, sent.as_slice(), life.as_slice())? {
+            return Ok(false);
+        }
+    }
+    Ok(true)
+}
+
+/// What was placed was served, and nothing was lost.
+pub fn is_kept(record: &NodeRecord) -> bool {
+    let mut placed = 0u64;
+    let mut served = 0u64;
+    for (event, outcome) in record.events.iter().zip(record.outcomes.iter()) {
+        match *outcome {
+            Outcome::Placed { .. } => placed = placed.wrapping_add(1),
+            Outcome::Restarted { lost } if lost > 0 => return false,
+            _ => (),
+        }
+        if let Event::Serve { .. } = *event {
+            served = served.wrapping_add(1);
+        }
+    }
+    placed == served
+}

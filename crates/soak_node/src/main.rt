@@ -1,0 +1,187 @@
+//! A soak program: many short runs of a node on threads, each thrown from a seed and judged afterwards.
+//!
+//! Arguments: a seed, and how many runs. Each run's history is replayed on both connection tables and compared with what
+//! the run told, and each list of what was sent is compared with what the workers sent. Prints how many runs and commands
+//! there were, how many runs had a fault, and how many differed from what was replayed: the last two are 0.
+#![tactic(auto)]
+
+ghost use Rattle.std.specs.Prelude.{◌≡◌, ◌<◌, ◌≤◌, ℕ, Some, length, slice_get};
+ghost use Rattle.cluster_node.specs.declared.packets.Packet.{Packet};
+ghost use Rattle.cluster_node.specs.Records.{WasRead};
+
+mod dice;
+mod jitter;
+mod judging;
+mod scene;
+
+use crate::dice::Dice;
+use crate::jitter::Jitter;
+use crate::judging::{are_merges, is_kept, is_obeyed};
+use crate::scene::{Throw, catalogue, packets, setup, thrown};
+use cluster_core::{Setup, replay};
+use cluster_node::Packet;
+use connection_table::{ConnTable, LruTable, PlainTable};
+use hash_laws::Fnv;
+use maglev_table::TableSize;
+use node_records::NodeRecord;
+use node_threads::run_node;
+use pool_versions::Catalogue;
+use selection::{Maglev, RoundRobin, Scheme};
+use std::alloc::{AllocError, Global};
+use std::env;
+use std::sync::Wait;
+use std::thread::Threads;
+
+/// What the runs came to.
+#[derive(Clone, Copy, Drop)]
+struct Tally {
+    runs: u64,
+    commands: u64,
+    faults: u64,
+    differ: u64,
+}
+
+// Whether a replay on this table comes to what the run told.
+fn replays<S: Scheme, T: ConnTable>(
+    alloc: Global,
+    setup: &Setup<S, Fnv>,
+    catalogue: &Catalogue,
+    packets: &[Packet],
+    record: &NodeRecord,
+) -> Result<bool, AllocError>
+    requires size { catalogue.now.size ≡ setup.now.size }
+    requires read { (k : ℕ) (p : Packet) → slice_get packets.now k ≡ Some p → WasRead (Some p) }
+{
+    let outcomes = replay::<S, Fnv, T>(alloc, setup, catalogue, packets, record.events.as_slice())?;
+    Ok(outcomes.as_slice() == record.outcomes.as_slice())
+}
+
+// Whether a record is all that it should be.
+fn agrees<S: Scheme>(
+    alloc: Global,
+    setup: &Setup<S, Fnv>,
+    catalogue: &Catalogue,
+    packets: &[Packet],
+    throw: &Throw,
+    record: &NodeRecord,
+) -> Result<bool, AllocError>
+    requires size { catalogue.now.size ≡ setup.now.size }
+    requires read { (k : ℕ) (p : Packet) → slice_get packets.now k ≡ Some p → WasRead (Some p) }
+{
+    Ok(
+        is_obeyed(record, throw.commands.as_slice(), throw.node)
+            && is_kept(record)
+            && are_merges(alloc, record)?
+            && replays::<S, PlainTable>(alloc, setup, catalogue, packets, record)?
+            && replays::<S, LruTable>(alloc, setup, catalogue, packets, record)?,
+    )
+}
+
+// One run on this table, judged.
+fn soak_on<S: Scheme + Send + Sync, T: ConnTable + Send, R: Threads + Wait + Sync>(
+    rt: &R,
+    alloc: Global,
+    setup: &Setup<S, Fnv>,
+    catalogue: &Catalogue,
+    throw: &Throw,
+    tally: &mut Tally,
+) -> Result<(), AllocError>
+where
+    S::Prepared: Send + Sync,
+    requires size { catalogue.now.size ≡ setup.now.size }
+    requires nodes { length setup.now.nodes ≡ 3 }
+    requires node { throw.now.node < 3 }
+    requires some { 0 < throw.now.ring }
+    requires limit { throw.now.ring ≤ 64 }
+{
+    let packets = packets();
+    let gate = Jitter { seed: throw.gate };
+    let run = run_node::<S, Fnv, T, Jitter, R>(
+        rt,
+        alloc,
+        setup,
+        catalogue,
+        &packets,
+        throw.node,
+        throw.commands.as_slice(),
+        throw.ring,
+        &gate,
+    );
+    match run {
+        Ok(record) => {
+            if !agrees(alloc, setup, catalogue, &packets, throw, &record)? {
+                tally.differ = tally.differ.wrapping_add(1);
+            }
+        }
+        Err(_) => tally.faults = tally.faults.wrapping_add(1),
+    }
+    tally.runs = tally.runs.wrapping_add(1);
+    tally.commands = tally.commands.wrapping_add(throw.commands.len() as u64);
+    Ok(())
+}
+
+// One cluster and one throw, run on both tables.
+fn soak<S: Scheme + Send + Sync, R: Threads + Wait + Sync>(
+    rt: &R,
+    alloc: Global,
+    scheme: S,
+    size: TableSize,
+    dice: &mut Dice,
+    tally: &mut Tally,
+) -> Result<(), AllocError>
+where
+    S::Prepared: Send + Sync,
+{
+    let setup = setup(alloc, scheme, size, dice)?;
+    let catalogue = catalogue(alloc, size, dice)?;
+    let throw = thrown(alloc, dice)?;
+    soak_on::<S, PlainTable, R>(rt, alloc, &setup, &catalogue, &throw, tally)?;
+    soak_on::<S, LruTable, R>(rt, alloc, &setup, &catalogue, &throw, tally)
+}
+
+fn soak_all<R: Threads + Wait + Sync>(
+    rt: &R,
+    alloc: Global,
+    size: TableSize,
+    seed: u64,
+    count: u64,
+) -> Result<Tally, AllocError> {
+    let mut tally = Tally {
+        runs: 0,
+        commands: 0,
+        faults: 0,
+        differ: 0,
+    };
+    for number in 0..count {
+        let mut dice = Dice::new(seed.wrapping_add(number));
+        if dice.once_in(3) {
+            soak(rt, alloc, RoundRobin, size, &mut dice, &mut tally)?;
+        } else {
+            soak(rt, alloc, Maglev { hash: Fnv }, size, &mut dice, &mut tally)?;
+        }
+    }
+    Ok(tally)
+}
+
+fn number_at(words: &[String], place: usize, default: u64) -> u64 {
+    match words.get(place) {
+        Some(word) => word.as_str().parse::<u64>().unwrap_or(default),
+        None => default,
+    }
+}
+
+fn main(rt: HostRuntime) -> anyhow::Result<()> {
+    let alloc = rt.alloc();
+    let words: Vec<String> = env::args(&rt)?.collect(alloc)?;
+    let seed = number_at(words.as_slice(), 1, 1);
+    let count = number_at(words.as_slice(), 2, 100);
+    let Some(size) = TableSize::new(13) else {
+        return Ok(());
+    };
+    let tally = soak_all(&rt, alloc, size, seed, count)?;
+    println!(rt; "runs {}", tally.runs)?;
+    println!(rt; "commands {}", tally.commands)?;
+    println!(rt; "faults {}", tally.faults)?;
+    println!(rt; "differ {}", tally.differ)?;
+    Ok(())
+}
