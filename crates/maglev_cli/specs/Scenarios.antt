@@ -1,8 +1,9 @@
 -- The commands that play a scenario over a capture.
-use Rattle.std.specs.Prelude.{◌≡◌, ◌≢◌, ℕ, List, Option}
+use Rattle.std.specs.Prelude.{◌≡◌, ℕ, List, None}
 use Rattle.std.specs.Io.KnownBytes.{Appends}
 use Rattle.pool_versions.specs.declared.catalogue.PoolFault.{PoolFault}
 use Rattle.pool_versions.specs.declared.catalogue.PoolFault.TheVariants as pool
+use Rattle.pcap_file.specs.Device.{Tape, Unfailed, PutRefused}
 use Rattle.pcap_file.specs.declared.format.PcapFault.{PcapFault}
 use Rattle.pcap_file.specs.declared.format.PcapFault.TheVariants as capture
 use Rattle.hash_laws.specs.Any.{plain_of}
@@ -13,7 +14,7 @@ use Rattle.scenario.specs.declared.reading.Scenario.{Scenario}
 use Rattle.scenario.specs.Meaning.{Means, IsRefused}
 use Rattle.simulation.specs.declared.fault.SimulationFault.{SimulationFault}
 use Rattle.simulation.specs.declared.fault.SimulationFault.TheVariants as run
-use Rattle.simulation.specs.Simulated.{Stopped, CaptureFails}
+use Rattle.simulation.specs.Simulated.{Stopped}
 use Rattle.scenario_play.specs.declared.asking.Asked.{Asked}
 use Rattle.scenario_play.specs.Described.{cluster_in, choice_in, plan_in}
 use Rattle.scenario_play.specs.Answers.{Answers}
@@ -48,12 +49,13 @@ run_fault run.Memory = Memory
 
 -- the scenario that the text means was played over the input, the output got what was sent, and the report the text that
 -- answers what was asked
-pub record Plays (asked : Asked) (text : List ℕ) (input output output' report report' : Option (List ℕ)) : Type 0 where
+pub record Plays (asked : Asked) (text : List ℕ) (input input' output output' report report' : Tape) : Type 0 where
   pub scenario : Scenario
   pub means : Means text scenario
   pub answer : List ℕ
-  pub answers : Answers (cluster_in scenario) (choice_in scenario) (plan_in scenario) (λ x. slot_of_flow (plain_of scenario.hash) scenario.size x) asked input output output' answer
-  pub written : Appends report report' answer
+  pub answers : Answers (cluster_in scenario) (choice_in scenario) (plan_in scenario) (λ x. slot_of_flow (plain_of scenario.hash) scenario.size x) asked input input' output output' answer
+  pub written : Appends report.bytes report'.bytes answer
+  pub unfailed : Unfailed report report'
 
 -- the text is no scenario, for this fault
 pub record ScenarioFails (fault : CliFault) (text : List ℕ) : Type 0 where
@@ -61,13 +63,23 @@ pub record ScenarioFails (fault : CliFault) (text : List ℕ) : Type 0 where
   pub named : fault ≡ scenario_fault why
   pub refused : IsRefused text why
 
--- the text means a scenario, and its run stopped by this fault or its answer couldn't be written: unless writing failed the
--- output got nothing or a beginning of what is sent, cut between records
-pub record RunFails (fault : CliFault) (text : List ℕ) (input output output' : Option (List ℕ)) : Type 0 where
+-- the text means a scenario, and its run stopped by this fault
+pub record RunFails (fault : CliFault) (text : List ℕ) (input input' output output' : Tape) : Type 0 where
   pub scenario : Scenario
   pub means : Means text scenario
   pub why : SimulationFault
   pub named : fault ≡ run_fault why
-  -- a fault of the capture is that of its header, or of its text behind some records
-  pub reason : CaptureFails input why
-  pub stopped : fault ≢ Write → Stopped (cluster_in scenario) (choice_in scenario) (plan_in scenario) input output output'
+  pub stopped : Stopped (cluster_in scenario) (choice_in scenario) (plan_in scenario) input input' output output' why
+
+-- the same as when the scenario was played, but the report was given up
+pub record ReportFails (fault : CliFault) (asked : Asked) (text : List ℕ) (input input' output output' report report' : Tape) : Type 0 where
+  pub scenario : Scenario
+  pub means : Means text scenario
+  pub answer : List ℕ
+  pub answers : Answers (cluster_in scenario) (choice_in scenario) (plan_in scenario) (λ x. slot_of_flow (plain_of scenario.hash) scenario.size x) asked input input' output output' answer
+  pub named : fault ≡ Write
+  pub refused : PutRefused answer report report'
+
+-- the output of a command that keeps none, after so many calls: it tells no bytes, and never fails
+abbrev pub unkept : ℕ → Tape
+unkept calls = record { bytes = None; failures = 0; interruptions = 0; calls = calls }

@@ -1,11 +1,11 @@
 //! The commands that play a scenario over a capture.
-ghost use Rattle.std.specs.Prelude.{◌≡◌, ◌≢◌, ◌⊎◌, None, IfErr, OnOk};
-ghost use Rattle.std.specs.Io.KnownBytes.{Appends};
-ghost use Rattle.maglev_cli.specs.Scenarios.{Plays, ScenarioFails, RunFails, pool_fault, capture_fault, scenario_fault, run_fault};
+ghost use Rattle.std.specs.Prelude.{◌≡◌, ◌≢◌, ◌⊎◌, ℕ, IfErr, OnOk};
+ghost use Rattle.maglev_cli.specs.Scenarios.{Plays, ScenarioFails, RunFails, ReportFails, unkept, pool_fault, capture_fault, scenario_fault, run_fault};
 
 use super::fault::CliFault;
 use super::nowhere::Nowhere;
-use pcap_file::{PcapFault, Sink, Source, put_all};
+use super::writing::put_text;
+use pcap_file::{PcapFault, Sink, Source};
 use pool_versions::PoolFault;
 use scenario::{ScenarioFault, read};
 use scenario_play::{Asked, play_scenario};
@@ -55,16 +55,6 @@ fn run_fault(fault: SimulationFault) -> CliFault
     }
 }
 
-fn put_text<R: Sink>(report: &mut R, text: &str) -> Result<(), CliFault>
-    ensures written { OnOk result (Appends (R.contents report.old) (R.contents report.new) text.now) }
-    ensures fault { IfErr result (λ fault. fault ≡ CliFault.Write) }
-{
-    match put_all(report, text.as_bytes()) {
-        Ok(()) => Ok(()),
-        Err(_) => Err(CliFault::Write),
-    }
-}
-
 // Plays the scenario that a text means, and writes what was asked of it.
 fn play<I: Source, O: Sink, R: Sink>(
     alloc: Global,
@@ -74,9 +64,11 @@ fn play<I: Source, O: Sink, R: Sink>(
     output: &mut O,
     report: &mut R,
 ) -> Result<(), CliFault>
-    ensures played { OnOk result (Plays asked scenario.now (I.left input.old) (O.contents output.old) (O.contents output.new) (R.contents report.old) (R.contents report.new)) }
-    ensures silent { IfErr result (λ fault. fault ≢ CliFault.Write → report.new ≡ report.old) }
-    ensures stopped { IfErr result (λ fault. (ScenarioFails fault scenario.now × (input.new ≡ input.old) × (output.new ≡ output.old)) ⊎ RunFails fault scenario.now (I.left input.old) (O.contents output.old) (O.contents output.new)) }
+    ensures played { OnOk result (Plays asked scenario.now (I.tape input.old) (I.tape input.new) (O.tape output.old) (O.tape output.new) (R.tape report.old) (R.tape report.new)) }
+    ensures stopped { IfErr result (λ fault.
+        (ScenarioFails fault scenario.now × (input.new ≡ input.old) × (output.new ≡ output.old) × (report.new ≡ report.old))
+        ⊎ ((RunFails fault scenario.now (I.tape input.old) (I.tape input.new) (O.tape output.old) (O.tape output.new) × (report.new ≡ report.old))
+        ⊎ ReportFails fault asked scenario.now (I.tape input.old) (I.tape input.new) (O.tape output.old) (O.tape output.new) (R.tape report.old) (R.tape report.new))) }
 {
     let scenario = match read(alloc, scenario) {
         Ok(scenario) => scenario,
@@ -101,9 +93,11 @@ pub fn simulate<I: Source, O: Sink, R: Sink>(
     report: &mut R,
     list: bool,
 ) -> Result<(), CliFault>
-    ensures played { OnOk result (Plays (Asked.Report list) scenario.now (I.left input.old) (O.contents output.old) (O.contents output.new) (R.contents report.old) (R.contents report.new)) }
-    ensures silent { IfErr result (λ fault. fault ≢ CliFault.Write → report.new ≡ report.old) }
-    ensures stopped { IfErr result (λ fault. (ScenarioFails fault scenario.now × (input.new ≡ input.old) × (output.new ≡ output.old)) ⊎ RunFails fault scenario.now (I.left input.old) (O.contents output.old) (O.contents output.new)) }
+    ensures played { OnOk result (Plays (Asked.Report list) scenario.now (I.tape input.old) (I.tape input.new) (O.tape output.old) (O.tape output.new) (R.tape report.old) (R.tape report.new)) }
+    ensures stopped { IfErr result (λ fault.
+        (ScenarioFails fault scenario.now × (input.new ≡ input.old) × (output.new ≡ output.old) × (report.new ≡ report.old))
+        ⊎ ((RunFails fault scenario.now (I.tape input.old) (I.tape input.new) (O.tape output.old) (O.tape output.new) × (report.new ≡ report.old))
+        ⊎ ReportFails fault (Asked.Report list) scenario.now (I.tape input.old) (I.tape input.new) (O.tape output.old) (O.tape output.new) (R.tape report.old) (R.tape report.new))) }
 {
     let asked = Asked::Report { list };
     match play(alloc, scenario, asked, input, output, report) {
@@ -122,12 +116,15 @@ pub fn explain_run<I: Source, R: Sink>(
     other: u64,
     report: &mut R,
 ) -> Result<(), CliFault>
-    ensures played { OnOk result (Plays (Asked.Events one other) scenario.now (I.left input.old) None None (R.contents report.old) (R.contents report.new)) }
-    ensures silent { IfErr result (λ fault. fault ≢ CliFault.Write → report.new ≡ report.old) }
-    ensures stopped { IfErr result (λ fault. (ScenarioFails fault scenario.now × (input.new ≡ input.old)) ⊎ RunFails fault scenario.now (I.left input.old) None None) }
+    ensures played { OnOk result ((calls : ℕ) × Plays (Asked.Events one other) scenario.now (I.tape input.old) (I.tape input.new) (unkept 0) (unkept calls) (R.tape report.old) (R.tape report.new)) }
+    ensures stopped { IfErr result (λ fault.
+        (ScenarioFails fault scenario.now × (input.new ≡ input.old) × (report.new ≡ report.old))
+        ⊎ (((calls : ℕ) × RunFails fault scenario.now (I.tape input.old) (I.tape input.new) (unkept 0) (unkept calls) × (fault ≢ CliFault.Write) × (report.new ≡ report.old))
+        ⊎ ((calls : ℕ) × ReportFails fault (Asked.Events one other) scenario.now (I.tape input.old) (I.tape input.new) (unkept 0) (unkept calls) (R.tape report.old) (R.tape report.new)))) }
 {
     let asked = Asked::Events { one, other };
-    match play(alloc, scenario, asked, input, &mut Nowhere::new(), report) {
+    let mut output = Nowhere::new();
+    match play(alloc, scenario, asked, input, &mut output, report) {
         Ok(()) => Ok(()),
         Err(fault) => Err(fault),
     }

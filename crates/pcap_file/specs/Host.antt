@@ -1,16 +1,12 @@
 -- What a reader or a writer tells as a device.
 use Rattle.std.specs.Prelude.{ℕ, List, Option}
-use Rattle.pcap_file.specs.declared.host.FromRead.{FromRead}
-use Rattle.pcap_file.specs.declared.host.ToWrite.{ToWrite}
+use Rattle.pcap_file.specs.declared.counts.CallCounts.{CallCounts}
+use Rattle.pcap_file.specs.Device.{Tape}
 
-abbrev pub source_left : {R : Type 0} → (R → Option (List ℕ)) → FromRead R → Option (List ℕ)
-source_left remaining s = remaining s.reader
+-- a device with these bytes and these counts
+abbrev pub taped : Option (List ℕ) → CallCounts → Tape
+taped bytes counts = record { bytes = bytes; failures = counts.failures; interruptions = counts.interruptions; calls = counts.calls }
 
-abbrev pub source_failures : {R : Type 0} → FromRead R → ℕ
-source_failures s = s.failures
-
-abbrev pub sink_contents : {W : Type 0} → (W → Option (List ℕ)) → ToWrite W → Option (List ℕ)
-sink_contents contents s = contents s.writer
-
-abbrev pub sink_failures : {W : Type 0} → ToWrite W → ℕ
-sink_failures s = s.failures
+-- a device with these bytes that wasn't called
+abbrev pub uncalled : Option (List ℕ) → Tape
+uncalled bytes = record { bytes = bytes; failures = 0; interruptions = 0; calls = 0 }

@@ -1,7 +1,7 @@
 // The standard library's readers and writers as devices.
-ghost use Rattle.std.specs.Prelude.{◌≡◌, ◌<◌, ◌^◌};
-ghost use Rattle.pcap_file.specs.Device.{fault_counted};
+ghost use Rattle.std.specs.Prelude.{◌≡◌};
 
+use crate::counts::CallCounts;
 use crate::device::{DeviceFault, Sink, Source};
 use std::io::{ErrorKind, Read, Write};
 
@@ -9,58 +9,40 @@ use std::io::{ErrorKind, Read, Write};
 #[derive(Drop)]
 pub struct FromRead<R> {
     reader: R,
-    failures: u64,
-    calls: u64,
-}
-
-// Counts a failure, unless the count is at its greatest.
-fn fault_of(is_interrupted: bool, failures: &mut u64) -> DeviceFault
-    ensures counted { failures.new ≡ fault_counted failures.old result }
-    ensures few { failures.new < 2 ^ 64 }
-{
-    if *failures == u64::MAX || is_interrupted {
-        return DeviceFault::Interrupted;
-    }
-    *failures += 1;
-    DeviceFault::Failed
+    counts: CallCounts,
 }
 
 impl<R: Read> FromRead<R> {
-    ghost use Rattle.pcap_file.specs.Host.{source_left, source_failures};
+    ghost use Rattle.pcap_file.specs.Host.{uncalled};
 
-    /// The reader, with no failure counted.
+    /// The reader, with nothing counted.
     pub fn new(reader: R) -> FromRead<R>
-        ensures left { source_left R.remaining result ≡ R.remaining reader }
-        ensures failures { source_failures result ≡ 0 }
+        ensures { ⟦<FromRead<R> as Source>⟧.tape result ≡ uncalled (R.remaining reader) }
     {
         FromRead {
             reader,
-            failures: 0,
-            calls: 0,
+            counts: CallCounts::none(),
         }
     }
 
     /// The reader back.
     pub fn into_inner(self) -> R
-        ensures { R.remaining result ≡ source_left R.remaining self }
+        ensures { R.remaining result ≡ (⟦<FromRead<R> as Source>⟧.tape self).bytes }
     {
         self.reader
     }
 }
 
 impl<R: Read> Source for FromRead<R> {
-    ghost left = { λ s. R.remaining s.reader };
+    ghost use Rattle.pcap_file.specs.Host.{taped};
 
-    ghost failures = { λ s. s.failures };
-
-    ghost calls = { λ s. s.calls };
+    ghost tape = { λ s. taped (R.remaining s.reader) s.counts };
 
     fn read(&mut self, buf: &mut [u8]) -> Result<usize, DeviceFault> {
-        let _failures = self.failures;
-        self.calls = self.calls.wrapping_add(1);
+        self.counts.call();
         match self.reader.read(buf) {
             Ok(n) => Ok(n),
-            Err(e) => Err(fault_of(e.kind() == ErrorKind::Interrupted, &mut self.failures)),
+            Err(e) => Err(self.counts.fault(e.kind() == ErrorKind::Interrupted)),
         }
     }
 }
@@ -70,47 +52,41 @@ impl<R: Read> Source for FromRead<R> {
 #[derive(Drop)]
 pub struct ToWrite<W> {
     writer: W,
-    failures: u64,
-    calls: u64,
+    counts: CallCounts,
 }
 
 impl<W: Write> ToWrite<W> {
-    ghost use Rattle.pcap_file.specs.Host.{sink_contents, sink_failures};
+    ghost use Rattle.pcap_file.specs.Host.{uncalled};
 
-    /// The writer, with no failure counted.
+    /// The writer, with nothing counted.
     pub fn new(writer: W) -> ToWrite<W>
-        ensures contents { sink_contents W.contents result ≡ W.contents writer }
-        ensures failures { sink_failures result ≡ 0 }
+        ensures { ⟦<ToWrite<W> as Sink>⟧.tape result ≡ uncalled (W.contents writer) }
     {
         ToWrite {
             writer,
-            failures: 0,
-            calls: 0,
+            counts: CallCounts::none(),
         }
     }
 
     /// The writer back.
     pub fn into_inner(self) -> W
-        ensures { W.contents result ≡ sink_contents W.contents self }
+        ensures { W.contents result ≡ (⟦<ToWrite<W> as Sink>⟧.tape self).bytes }
     {
         self.writer
     }
 }
 
 impl<W: Write> Sink for ToWrite<W> {
-    ghost contents = { λ s. W.contents s.writer };
+    ghost use Rattle.pcap_file.specs.Host.{taped};
 
-    ghost failures = { λ s. s.failures };
-
-    ghost calls = { λ s. s.calls };
+    ghost tape = { λ s. taped (W.contents s.writer) s.counts };
 
     fn write(&mut self, buf: &[u8]) -> Result<usize, DeviceFault> {
-        let _failures = self.failures;
-        self.calls = self.calls.wrapping_add(1);
+        self.counts.call();
         match self.writer.write(buf) {
-            Ok(0) if !buf.is_empty() => Err(fault_of(false, &mut self.failures)),
+            Ok(0) if !buf.is_empty() => Err(self.counts.fault(false)),
             Ok(n) => Ok(n),
-            Err(e) => Err(fault_of(e.kind() == ErrorKind::Interrupted, &mut self.failures)),
+            Err(e) => Err(self.counts.fault(e.kind() == ErrorKind::Interrupted)),
         }
     }
 }

@@ -1,5 +1,5 @@
 -- The setup that is made of a scenario is what the scenario describes.
-use Rattle.std.proofs.Common.{◌≡◌, ℕ, List, ap, ◌∙◌, subst, Option, length}
+use Rattle.std.proofs.Common.{◌≡◌, ℕ, List, ap, ◌∙◌, subst, length}
 use Rattle.std.specs.Prelude.{is_some}
 use Rattle.hash_laws.specs.declared.any.AnyHash.{AnyHash}
 use Rattle.hash_laws.specs.Any.{plain_of}
@@ -11,6 +11,8 @@ use Rattle.cluster_core.specs.Setups.{Fixed}
 use Rattle.cluster_run.specs.Ruling.{Ruling, rules_of, cluster_by}
 use Rattle.scenario_steps.specs.declared.Step.{Step}
 use Rattle.scenario.specs.declared.reading.Scenario.{Scenario}
+use Rattle.pcap_file.specs.Device.{Tape}
+use Rattle.simulation.specs.declared.fault.SimulationFault.{SimulationFault}
 use Rattle.simulation.specs.Plans.{Planned}
 use Rattle.simulation.specs.Simulated.{Stopped}
 use Rattle.scenario_play.specs.declared.asking.Asked.{Asked}
@@ -37,23 +39,23 @@ described pick_of scheme s e = ap (λ (p : Pick). record {
   capacity = s.capacity;
 }) e
 
-pub answers : {S : Type 0} (pick_of : S → ℕ → Pick) (scheme : S) (s : Scenario) (r : Ruling S AnyHash) (plan : Planned) (asked : Asked) (i o o' : Option (List ℕ)) (text : List ℕ)
+pub answers : {S : Type 0} (pick_of : S → ℕ → Pick) (scheme : S) (s : Scenario) (r : Ruling S AnyHash) (plan : Planned) (asked : Asked) (i i' o o' : Tape) (text : List ℕ)
     → pick_of scheme s.size ≡ pick_by s.scheme (plain_of s.hash) s.size → r ≡ ruling_of scheme s → plan ≡ plan_in s
-    → Answers (cluster_by (rules_of pick_of plain_of r)) (choice_by s.spread (plain_of r.setup.hash)) plan (λ x. slot_of_flow (plain_of r.setup.hash) r.setup.size x) asked i o o' text
-    → Answers (cluster_in s) (choice_in s) (plan_in s) (λ x. slot_of_flow (plain_of s.hash) s.size x) asked i o o' text
-answers {S} pick_of scheme s r plan asked i o o' text e f g h =
-    subst (λ (rules : Rules). Answers (cluster_by rules) (choice_in s) (plan_in s) (λ x. slot_of_flow (plain_of s.hash) s.size x) asked i o o' text) (described pick_of scheme s e)
-    (subst (λ (q : Ruling S AnyHash). Answers (cluster_by (rules_of pick_of plain_of q)) (choice_by s.spread (plain_of q.setup.hash)) (plan_in s) (λ x. slot_of_flow (plain_of q.setup.hash) q.setup.size x) asked i o o' text) f
-    (subst (λ (p : Planned). Answers (cluster_by (rules_of pick_of plain_of r)) (choice_by s.spread (plain_of r.setup.hash)) p (λ x. slot_of_flow (plain_of r.setup.hash) r.setup.size x) asked i o o' text) g h))
+    → Answers (cluster_by (rules_of pick_of plain_of r)) (choice_by s.spread (plain_of r.setup.hash)) plan (λ x. slot_of_flow (plain_of r.setup.hash) r.setup.size x) asked i i' o o' text
+    → Answers (cluster_in s) (choice_in s) (plan_in s) (λ x. slot_of_flow (plain_of s.hash) s.size x) asked i i' o o' text
+answers {S} pick_of scheme s r plan asked i i' o o' text e f g h =
+    subst (λ (rules : Rules). Answers (cluster_by rules) (choice_in s) (plan_in s) (λ x. slot_of_flow (plain_of s.hash) s.size x) asked i i' o o' text) (described pick_of scheme s e)
+    (subst (λ (q : Ruling S AnyHash). Answers (cluster_by (rules_of pick_of plain_of q)) (choice_by s.spread (plain_of q.setup.hash)) (plan_in s) (λ x. slot_of_flow (plain_of q.setup.hash) q.setup.size x) asked i i' o o' text) f
+    (subst (λ (p : Planned). Answers (cluster_by (rules_of pick_of plain_of r)) (choice_by s.spread (plain_of r.setup.hash)) p (λ x. slot_of_flow (plain_of r.setup.hash) r.setup.size x) asked i i' o o' text) g h))
 
-pub stops : {S : Type 0} (pick_of : S → ℕ → Pick) (scheme : S) (s : Scenario) (r : Ruling S AnyHash) (plan : Planned) (i o o' : Option (List ℕ))
+pub stops : {S : Type 0} (pick_of : S → ℕ → Pick) (scheme : S) (s : Scenario) (r : Ruling S AnyHash) (plan : Planned) (i i' o o' : Tape) (fault : SimulationFault)
     → pick_of scheme s.size ≡ pick_by s.scheme (plain_of s.hash) s.size → r ≡ ruling_of scheme s → plan ≡ plan_in s
-    → Stopped (cluster_by (rules_of pick_of plain_of r)) (choice_by s.spread (plain_of r.setup.hash)) plan i o o'
-    → Stopped (cluster_in s) (choice_in s) (plan_in s) i o o'
-stops {S} pick_of scheme s r plan i o o' e f g h =
-    subst (λ (rules : Rules). Stopped (cluster_by rules) (choice_in s) (plan_in s) i o o') (described pick_of scheme s e)
-    (subst (λ (q : Ruling S AnyHash). Stopped (cluster_by (rules_of pick_of plain_of q)) (choice_by s.spread (plain_of q.setup.hash)) (plan_in s) i o o') f
-    (subst (λ (p : Planned). Stopped (cluster_by (rules_of pick_of plain_of r)) (choice_by s.spread (plain_of r.setup.hash)) p i o o') g h))
+    → Stopped (cluster_by (rules_of pick_of plain_of r)) (choice_by s.spread (plain_of r.setup.hash)) plan i i' o o' fault
+    → Stopped (cluster_in s) (choice_in s) (plan_in s) i i' o o' fault
+stops {S} pick_of scheme s r plan i i' o o' fault e f g h =
+    subst (λ (rules : Rules). Stopped (cluster_by rules) (choice_in s) (plan_in s) i i' o o' fault) (described pick_of scheme s e)
+    (subst (λ (q : Ruling S AnyHash). Stopped (cluster_by (rules_of pick_of plain_of q)) (choice_by s.spread (plain_of q.setup.hash)) (plan_in s) i i' o o' fault) f
+    (subst (λ (p : Planned). Stopped (cluster_by (rules_of pick_of plain_of r)) (choice_by s.spread (plain_of r.setup.hash)) p i i' o o' fault) g h))
 
 pub planned_as : (s : Scenario) (ns : List ℕ) (steps : List Step) → ns ≡ s.nodes.items → steps ≡ s.steps.items → record { nodes = ns; check = s.check; steps = steps } ≡ plan_in s
 planned_as s ns steps e f = ap (λ (l : List ℕ). record { nodes = l; check = s.check; steps = steps }) e ∙ ap (λ (l : List Step). record { nodes = s.nodes.items; check = s.check; steps = l }) f

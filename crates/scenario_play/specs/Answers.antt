@@ -1,8 +1,9 @@
 -- What is asked of a scenario's run, and the text that answers it.
 use Rattle.std.specs.Prelude.{◌≡◌, ℕ, ◌-◌, Bool, true, false, List, [], ◌∷◌, ◌++◌, reverse, Option, option_and_then, slice_get}
 use Rattle.five_tuple.specs.declared.Flow.{Flow}
-use Rattle.pcap_file.specs.declared.format.Ending.{Ending}
-use Rattle.pcap_file.specs.declared.format.Ending.TheVariants.{End, Cut, Failed}
+use Rattle.pcap_file.specs.declared.format.InputEnd.{InputEnd}
+use Rattle.pcap_file.specs.declared.format.InputEnd.TheVariants.{End, Cut}
+use Rattle.pcap_file.specs.Device.{Tape}
 use Rattle.spreader.specs.Choices.{Choice}
 use Rattle.cluster_node.specs.declared.events.Said.{Said}
 use Rattle.cluster_node.specs.declared.outcomes.Outcome.{Outcome}
@@ -33,17 +34,16 @@ totals_in outs = record {
 }
 
 -- the input ended inside a record
-abbrev pub is_cut : Ending → Bool
+abbrev pub is_cut : InputEnd → Bool
 is_cut End = false
 is_cut Cut = true
-is_cut (Failed fault) = false
 
 -- the report of a run over so many records
-abbrev pub plain_report : Course → ℕ → Ending → List ℕ
+abbrev pub plain_report : Course → ℕ → InputEnd → List ℕ
 plain_report course packets ending = report_text (tally_of packets course) (totals_in (outcomes_of (reverse course.past))) (is_cut ending)
 
 -- the same, with a line for each event before it where they are asked for
-abbrev pub report_of : Bool → Course → ℕ → Ending → List ℕ
+abbrev pub report_of : Bool → Course → ℕ → InputEnd → List ℕ
 report_of true course packets ending = listing (reverse course.past) ++ plain_report course packets ending
 report_of false course packets ending = plain_report course packets ending
 
@@ -55,14 +55,14 @@ send_at history k = option_and_then (λ s. send_of s.outcome) (slice_get history
 abbrev pub line_of : (Flow → ℕ) → Course → ℕ → ℕ → List ℕ
 line_of slot course one other = verdict_text (explained slot (send_at (reverse course.past) one) (send_at (reverse course.past) other))
 
-abbrev pub answer_of : (Flow → ℕ) → Asked → Course → ℕ → Ending → List ℕ
+abbrev pub answer_of : (Flow → ℕ) → Asked → Course → ℕ → InputEnd → List ℕ
 answer_of slot (Report list) course packets ending = report_of list course packets ending
 answer_of slot (Events one other) course packets ending = line_of slot course one other
 
 -- the scenario ran over the whole input, the output got what was sent, and the text answers what was asked
-pub record Answers (cluster : Cluster) (choice : Choice) (plan : Planned) (slot : Flow → ℕ) (asked : Asked) (input output output' : Option (List ℕ)) (text : List ℕ) : Type 0 where
+pub record Answers (cluster : Cluster) (choice : Choice) (plan : Planned) (slot : Flow → ℕ) (asked : Asked) (input input' output output' : Tape) (text : List ℕ) : Type 0 where
   pub course : Course
   pub packets : ℕ
-  pub ending : Ending
-  pub simulated : Simulated cluster choice plan input output output' course packets ending
+  pub ending : InputEnd
+  pub simulated : Simulated cluster choice plan input input' output output' course packets ending
   pub answer : text ≡ answer_of slot asked course packets ending

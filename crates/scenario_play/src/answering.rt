@@ -16,7 +16,7 @@ use cluster_node::Said;
 use cluster_run::Rules;
 use hash_laws::FlowHash;
 use listing::{listing_text, report_text, verdict_text};
-use pcap_file::Ending;
+use pcap_file::InputEnd;
 use selection::Scheme;
 use simulation::Played;
 use std::alloc::{AllocError, Global};
@@ -28,12 +28,12 @@ fn totals(history: &[Said]) -> Totals
     totals_of(history)
 }
 
-fn is_cut(ending: Ending) -> bool
+fn is_cut(ending: InputEnd) -> bool
     ensures { result ≡ is_cut ending }
 {
     match ending {
-        Ending::Cut => true,
-        _ => false,
+        InputEnd::End => false,
+        InputEnd::Cut => true,
     }
 }
 

@@ -1,12 +1,12 @@
 //! A scenario is played.
-ghost use Rattle.std.specs.Prelude.{◌≡◌, ◌≢◌, ◌≤◌, [], IfOk, IfErr, string_bytes, length, reverse};
+ghost use Rattle.std.specs.Prelude.{◌≡◌, ◌≤◌, [], IfOk, IfErr, string_bytes, length, reverse};
 ghost use Rattle.hash_laws.specs.Any.{plain_of};
 ghost use Rattle.selection.specs.Picks.{slot_of_flow};
 ghost use Rattle.course.specs.Steps.{below};
 ghost use Rattle.cluster_run.specs.Ruling.{cluster_of};
 ghost use Rattle.scenario.specs.Meaning.{HasLimits};
 ghost use Rattle.simulation.specs.Plans.{planned};
-ghost use Rattle.simulation.specs.Simulated.{Stopped, CaptureFails};
+ghost use Rattle.simulation.specs.Simulated.{Stopped};
 ghost use Rattle.scenario_play.specs.Described.{pick_by, cluster_in, choice_in, choice_by, plan_in};
 ghost use Rattle.scenario_play.specs.Answers.{Answers};
 
@@ -39,9 +39,8 @@ fn play_with<S: Scheme, P: Spread, I: Source, O: Sink>(
     requires steps { length plan.steps.now ≤ 100000 }
     requires cluster { length rules.now.setup.nodes ≡ length plan.nodes.now }
     requires workers { rules.now.setup.workers ≤ 16 }
-    ensures ok { IfOk result (λ s. Answers (cluster_of (λ s z. S.pick s z) (λ h. plain_of h) rules.now) (P.choice spread.old) (planned plan.entry) (λ x. slot_of_flow (plain_of rules.now.setup.hash) rules.now.setup.size x) asked (I.left input.old) (O.contents output.old) (O.contents output.new) (string_bytes s)) }
-    ensures stopped { IfErr result (λ fault. fault ≢ SimulationFault.Write → Stopped (cluster_of (λ s z. S.pick s z) (λ h. plain_of h) rules.now) (P.choice spread.old) (planned plan.entry) (I.left input.old) (O.contents output.old) (O.contents output.new)) }
-    ensures fault { IfErr result (CaptureFails (I.left input.old)) }
+    ensures ok { IfOk result (λ s. Answers (cluster_of (λ s z. S.pick s z) (λ h. plain_of h) rules.now) (P.choice spread.old) (planned plan.entry) (λ x. slot_of_flow (plain_of rules.now.setup.hash) rules.now.setup.size x) asked (I.tape input.old) (I.tape input.new) (O.tape output.old) (O.tape output.new) (string_bytes s)) }
+    ensures stopped { IfErr result (Stopped (cluster_of (λ s z. S.pick s z) (λ h. plain_of h) rules.now) (P.choice spread.old) (planned plan.entry) (I.tape input.old) (I.tape input.new) (O.tape output.old) (O.tape output.new)) }
 {
     let mut balancers = Balancers::<S, AnyHash, LruTable>::make(alloc, rules)?;
     rules.keep_order();
@@ -71,9 +70,8 @@ fn play_over<S: Scheme, I: Source, O: Sink>(
     requires steps { length plan.steps.now ≤ 100000 }
     requires cluster { length rules.now.setup.nodes ≡ length plan.nodes.now }
     requires workers { rules.now.setup.workers ≤ 16 }
-    ensures ok { IfOk result (λ s. Answers (cluster_of (λ s z. S.pick s z) (λ h. plain_of h) rules.now) (choice_by spread (plain_of rules.now.setup.hash)) (planned plan.entry) (λ x. slot_of_flow (plain_of rules.now.setup.hash) rules.now.setup.size x) asked (I.left input.old) (O.contents output.old) (O.contents output.new) (string_bytes s)) }
-    ensures stopped { IfErr result (λ fault. fault ≢ SimulationFault.Write → Stopped (cluster_of (λ s z. S.pick s z) (λ h. plain_of h) rules.now) (choice_by spread (plain_of rules.now.setup.hash)) (planned plan.entry) (I.left input.old) (O.contents output.old) (O.contents output.new)) }
-    ensures fault { IfErr result (CaptureFails (I.left input.old)) }
+    ensures ok { IfOk result (λ s. Answers (cluster_of (λ s z. S.pick s z) (λ h. plain_of h) rules.now) (choice_by spread (plain_of rules.now.setup.hash)) (planned plan.entry) (λ x. slot_of_flow (plain_of rules.now.setup.hash) rules.now.setup.size x) asked (I.tape input.old) (I.tape input.new) (O.tape output.old) (O.tape output.new) (string_bytes s)) }
+    ensures stopped { IfErr result (Stopped (cluster_of (λ s z. S.pick s z) (λ h. plain_of h) rules.now) (choice_by spread (plain_of rules.now.setup.hash)) (planned plan.entry) (I.tape input.old) (I.tape input.new) (O.tape output.old) (O.tape output.new)) }
 {
     let live = all_live(alloc, plan.nodes.len() as u16)?;
     match spread {
@@ -100,9 +98,8 @@ fn play_by<S: Scheme, I: Source, O: Sink>(
     requires limits { HasLimits scenario }
     requires size { scenario.catalogue.size ≡ scenario.size }
     requires picks { S.pick scheme scenario.size ≡ pick_by scenario.scheme (plain_of scenario.hash) scenario.size }
-    ensures ok { IfOk result (λ s. Answers (cluster_in scenario) (choice_in scenario) (plan_in scenario) (λ x. slot_of_flow (plain_of scenario.hash) scenario.size x) asked (I.left input.old) (O.contents output.old) (O.contents output.new) (string_bytes s)) }
-    ensures stopped { IfErr result (λ fault. fault ≢ SimulationFault.Write → Stopped (cluster_in scenario) (choice_in scenario) (plan_in scenario) (I.left input.old) (O.contents output.old) (O.contents output.new)) }
-    ensures fault { IfErr result (CaptureFails (I.left input.old)) }
+    ensures ok { IfOk result (λ s. Answers (cluster_in scenario) (choice_in scenario) (plan_in scenario) (λ x. slot_of_flow (plain_of scenario.hash) scenario.size x) asked (I.tape input.old) (I.tape input.new) (O.tape output.old) (O.tape output.new) (string_bytes s)) }
+    ensures stopped { IfErr result (Stopped (cluster_in scenario) (choice_in scenario) (plan_in scenario) (I.tape input.old) (I.tape input.new) (O.tape output.old) (O.tape output.new)) }
 {
     let Scenario {
         size,
@@ -146,9 +143,8 @@ pub fn play_scenario<I: Source, O: Sink>(
 ) -> Result<String, SimulationFault>
     requires limits { HasLimits scenario }
     requires size { scenario.catalogue.size ≡ scenario.size }
-    ensures ok { IfOk result (λ s. Answers (cluster_in scenario) (choice_in scenario) (plan_in scenario) (λ x. slot_of_flow (plain_of scenario.hash) scenario.size x) asked (I.left input.old) (O.contents output.old) (O.contents output.new) (string_bytes s)) }
-    ensures stopped { IfErr result (λ fault. fault ≢ SimulationFault.Write → Stopped (cluster_in scenario) (choice_in scenario) (plan_in scenario) (I.left input.old) (O.contents output.old) (O.contents output.new)) }
-    ensures fault { IfErr result (CaptureFails (I.left input.old)) }
+    ensures ok { IfOk result (λ s. Answers (cluster_in scenario) (choice_in scenario) (plan_in scenario) (λ x. slot_of_flow (plain_of scenario.hash) scenario.size x) asked (I.tape input.old) (I.tape input.new) (O.tape output.old) (O.tape output.new) (string_bytes s)) }
+    ensures stopped { IfErr result (Stopped (cluster_in scenario) (choice_in scenario) (plan_in scenario) (I.tape input.old) (I.tape input.new) (O.tape output.old) (O.tape output.new)) }
 {
     let hash = scenario.hash;
     match scenario.scheme {

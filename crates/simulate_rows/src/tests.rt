@@ -4,7 +4,7 @@ use crate::captures::{
 use crate::devices::{FailingSink, FailingSource};
 use crate::scenarios::{A_DOWN, A_MOVED, ALL, B_DOWN, Words, of_versions, plain, scenario_of};
 use maglev_cli::{CliFault, explain_run, simulate};
-use pcap_file::{FromRead, PcapFault, ToWrite};
+use pcap_file::{CallCounts, FromRead, PcapFault, ToWrite};
 use pool_versions::PoolFault;
 use std::alloc::{AllocError, Global};
 use std::process::Abort;
@@ -371,8 +371,7 @@ fn source(bytes: &[u8], fails_at: u64) -> FailingSource<'_> {
     FailingSource {
         bytes,
         fails_at,
-        failures: 0,
-        calls: 0,
+        counts: CallCounts::none(),
     }
 }
 
@@ -380,8 +379,7 @@ fn sink(alloc: Global, fails_at: u64) -> FailingSink {
     FailingSink {
         bytes: Vec::new(alloc),
         fails_at,
-        failures: 0,
-        calls: 0,
+        counts: CallCounts::none(),
     }
 }
 
@@ -394,7 +392,7 @@ fn is_no_scenario(rt: &impl Abort, alloc: Global, text: &[u8], fault: CliFault) 
     assert_eq!(rt; done, Err(fault));
     let done = explain_run(alloc, text, &mut input, 0, 0, &mut report);
     assert_eq!(rt; done, Err(fault));
-    assert_eq!(rt; (input.calls, output.calls, report.calls), (0, 0, 0));
+    assert_eq!(rt; (input.counts.calls, output.counts.calls, report.counts.calls), (0, 0, 0));
 }
 
 fn is_refused(rt: &impl Abort, alloc: Global, words: Words<'_>, fault: CliFault) {
@@ -453,7 +451,7 @@ fn a_failing_input(rt: HostRuntime) {
                 "at call {fails_at}"
             );
             assert!(rt; is_between(written.len()), "at call {fails_at}");
-            assert_eq!(rt; report.calls, 0, "at call {fails_at}");
+            assert_eq!(rt; report.counts.calls, 0, "at call {fails_at}");
         } else {
             assert_eq!(rt; done, Ok(()));
             assert_eq!(rt; written.len(), 184);

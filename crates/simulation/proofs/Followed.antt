@@ -1,10 +1,9 @@
 -- What is sent as events come.
 use Rattle.std.proofs.Common.{◌≡◌, ℕ, ◌+◌, ◌<◌, Bool, List, [], ◌∷◌, ◌++◌, length, drop, get_or, Option, Some, Result, Ok, Err, refl, sym, ap, ◌∙◌, subst, arith, append_assoc, drop-cons, add-one, suc, slice_get, append-nil}
 use Rattle.std.specs.Prelude.{OnOk}
-use Rattle.std.specs.Io.KnownBytes.{Appends}
-use Rattle.std.proofs.KnownBytes.{Appends-nil}
 use Rattle.five_tuple.specs.declared.Flow.{Flow}
 use Rattle.pool_versions.specs.declared.backend.Backend.{Backend}
+use Rattle.pcap_file.specs.Device.{Tape}
 use Rattle.pcap_file.specs.Format.{Packet as Record}
 use Rattle.cluster_node.specs.declared.outcomes.Outcome.{Outcome}
 use Rattle.cluster_node.specs.declared.outcomes.Outcome.TheVariants.{Installed, Placed, Forward, Dropped, Restarted, Refused}
@@ -15,11 +14,12 @@ use Rattle.cluster_node.specs.Records.{Judge, Judged}
 use Rattle.course.specs.Cluster.{Cluster, TakesFirst, Orderly}
 use Rattle.waiting_frames.specs.Mirrors.{Mirrors, CanFollow, ComesAs}
 use Rattle.simulation.specs.declared.sending.Wire.{Wire}
-use Rattle.simulation.specs.Sent.{Traffic, Sending, sent, sent_by, sent_at, records_text, BeginsWith}
+use Rattle.simulation.specs.Sent.{Traffic, Sending, sent, sent_by, sent_at, Wrote, WroteUntil}
 use Rattle.simulation.specs.Wires.{traffic}
 use Rattle.simulation.specs.Following.{sent_with, NoArrivals, CanSettle}
 use Rattle.simulation.specs.Going.{onto}
-use Rattle.simulation.proofs.Going.{appends_behind}
+use Rattle.simulation.specs.declared.fault.SimulationFault.{SimulationFault}
+use Rattle.simulation.proofs.Sends.{wrote_none, wrote_both, until_more, until_behind}
 
 pub nothing_sent : (t : Traffic) (o : Outcome) → ((n w i : ℕ) (x : Flow) (b : Backend) (v : ℕ) → o ≡ Forward n w i x b v → ⊥) → sent_by t o ≡ []
 unfolding sent_by
@@ -39,11 +39,11 @@ sent_as_taken w all (Dropped k c) r f = refl
 sent_as_taken w all (Restarted l) r f = refl
 sent_as_taken w all (Refused reason) r f = refl
 
-pub appends_nothing : (a : Option (List ℕ)) (xs : List Sending) → xs ≡ [] → Appends a a (records_text xs)
-appends_nothing a xs e = subst (λ (l : List Sending). Appends a a (records_text l)) (sym e) (Appends-nil a)
+pub wrote_nothing : (a : Tape) (xs : List Sending) → xs ≡ [] → Wrote a a xs
+wrote_nothing a xs e = subst (λ (l : List Sending). Wrote a a l) (sym e) (wrote_none a)
 
-pub settled_with : {E : Type 0} (r : Result (Unit {0}) E) (M : Type 0) (a b : Option (List ℕ)) (xs ys : List Sending) → M → xs ≡ ys → OnOk r (Appends a b (records_text xs)) → OnOk r (M × Appends a b (records_text ys))
-settled_with (Ok u) M a b xs ys m e h = (m, subst (λ (l : List Sending). Appends a b (records_text l)) e h)
+pub settled_with : {E : Type 0} (r : Result (Unit {0}) E) (M : Type 0) (a b : Tape) (xs ys : List Sending) → M → xs ≡ ys → OnOk r (Wrote a b xs) → OnOk r (M × Wrote a b ys)
+settled_with (Ok u) M a b xs ys m e h = (m, subst (λ (l : List Sending). Wrote a b l) e h)
 settled_with (Err x) M a b xs ys m e h = tt
 
 pub judged_onto : (judge : Judge) (past events : List Said) → Judged judge (onto past events) → Judged judge past
@@ -51,19 +51,19 @@ judged_onto judge past [] h = h
 judged_onto judge past (s ∷ ss) h = (judged_onto judge (s ∷ past) ss h).1
 
 -- so many events were followed, and these are left
-pub record Settling (all : List Record) (k : Cluster) (past events rest : List Said) (qs : List (List Record)) (t : Traffic) (a b : Option (List ℕ)) : Type 0 where
+pub record Settling (all : List Record) (k : Cluster) (past events rest : List Said) (qs : List (List Record)) (t : Traffic) (a b : Tape) : Type 0 where
   pub done : List Said
   pub is : onto done rest ≡ onto past events
   pub mirrors : Mirrors all k done qs
   pub quiet : NoArrivals rest
   pub first : List Sending
   pub sent_is : sent t events ≡ first ++ sent t rest
-  pub output : Appends a b (records_text first)
+  pub output : Wrote a b first
 
-pub settling_none : (all : List Record) (k : Cluster) (past events : List Said) (qs : List (List Record)) (t : Traffic) (a : Option (List ℕ)) → Mirrors all k past qs → NoArrivals events → Settling all k past events events qs t a a
-settling_none all k past events qs t a m n = record { done = past; is = refl; mirrors = m; quiet = n; first = []; sent_is = refl; output = Appends-nil a }
+pub settling_none : (all : List Record) (k : Cluster) (past events : List Said) (qs : List (List Record)) (t : Traffic) (a : Tape) → Mirrors all k past qs → NoArrivals events → Settling all k past events events qs t a a
+settling_none all k past events qs t a m n = record { done = past; is = refl; mirrors = m; quiet = n; first = []; sent_is = refl; output = wrote_none a }
 
-pub can_follow : (all : List Record) (k : Cluster) (past events rest : List Said) (s : Said) (qs ps : List (List Record)) (t : Traffic) (a b : Option (List ℕ)) → CanSettle all k past events ps → length qs ≡ length ps → (g : Settling all k past events (s ∷ rest) qs t a b) → CanFollow all k g.done s qs
+pub can_follow : (all : List Record) (k : Cluster) (past events rest : List Said) (s : Said) (qs ps : List (List Record)) (t : Traffic) (a b : Tape) → CanSettle all k past events ps → length qs ≡ length ps → (g : Settling all k past events (s ∷ rest) qs t a b) → CanFollow all k g.done s qs
 can_follow all k past events rest s qs ps t a b can e g = record {
   workers = can.workers;
   room = omega (arith, can.room, e);
@@ -72,8 +72,8 @@ can_follow all k past events rest s qs ps t a b can e g = record {
   mirrors = g.mirrors;
 }
 
-pub settling_more : (all : List Record) (k : Cluster) (past events rest : List Said) (s : Said) (qs ps : List (List Record)) (t : Traffic) (a b c : Option (List ℕ)) → (g : Settling all k past events (s ∷ rest) qs t a b)
-    → Mirrors all k (s ∷ g.done) ps × Appends b c (records_text (sent_by t s.outcome)) → Settling all k past events rest ps t a c
+pub settling_more : (all : List Record) (k : Cluster) (past events rest : List Said) (s : Said) (qs ps : List (List Record)) (t : Traffic) (a b c : Tape) → (g : Settling all k past events (s ∷ rest) qs t a b)
+    → Mirrors all k (s ∷ g.done) ps × Wrote b c (sent_by t s.outcome) → Settling all k past events rest ps t a c
 settling_more all k past events rest s qs ps t a b c g h = record {
   done = s ∷ g.done;
   is = g.is;
@@ -81,18 +81,21 @@ settling_more all k past events rest s qs ps t a b c g h = record {
   quiet = g.quiet.1;
   first = g.first ++ sent_by t s.outcome;
   sent_is = g.sent_is ∙ sym (append_assoc g.first (sent_by t s.outcome) (sent t rest));
-  output = appends_behind a b c g.first (sent_by t s.outcome) g.output h.1;
+  output = wrote_both a b c g.first (sent_by t s.outcome) g.output h.1;
 }
 
 pub next_of : (events : List Said) (i : ℕ) (s : Said) → i < length events → s ≡ get_or events i s → drop i events ≡ s ∷ drop (i + 1) events
 next_of events i s lt e = rw (add-one, drop-cons events i s) (ap (λ (x : Said). x ∷ drop (suc i) events) (sym e))
 
-pub settled_all : (all : List Record) (k : Cluster) (past events : List Said) (qs : List (List Record)) (t : Traffic) (a b : Option (List ℕ)) → Settling all k past events [] qs t a b → Mirrors all k (onto past events) qs × Appends a b (records_text (sent t events))
+pub settled_all : (all : List Record) (k : Cluster) (past events : List Said) (qs : List (List Record)) (t : Traffic) (a b : Tape) → Settling all k past events [] qs t a b → Mirrors all k (onto past events) qs × Wrote a b (sent t events)
 settled_all all k past events qs t a b g =
-    (subst (λ (l : List Said). Mirrors all k l qs) g.is g.mirrors, subst (λ (l : List Sending). Appends a b (records_text l)) (sym (g.sent_is ∙ append-nil g.first)) g.output)
+    (subst (λ (l : List Said). Mirrors all k l qs) g.is g.mirrors, subst (λ (l : List Sending). Wrote a b l) (sym (g.sent_is ∙ append-nil g.first)) g.output)
 
-pub cut_short : (all : List Record) (k : Cluster) (past events rest : List Said) (qs : List (List Record)) (t : Traffic) (a b : Option (List ℕ)) → Settling all k past events rest qs t a b → BeginsWith a b (sent t events)
-cut_short all k past events rest qs t a b g = (g.first, sent t rest, g.sent_is, g.output)
+pub cut_short : (all : List Record) (k : Cluster) (past events rest : List Said) (s : Said) (qs : List (List Record)) (t : Traffic) (a b c : Tape) (fault : SimulationFault) → Settling all k past events (s ∷ rest) qs t a b
+    → WroteUntil fault b c (sent_by t s.outcome) → WroteUntil fault a c (sent t events)
+cut_short all k past events rest s qs t a b c fault g h =
+    until_more fault a c (g.first ++ sent_by t s.outcome) (sent t rest) (sent t events) (g.sent_is ∙ sym (append_assoc g.first (sent_by t s.outcome) (sent t rest)))
+    (until_behind fault a b c g.first (sent_by t s.outcome) g.output h)
 
 no_serve : (all : List Record) (r : Record) (e : Event) (n w v : ℕ) (b : Bool) → ComesAs all r e → e ≡ Serve n w v b → ⊥
 no_serve all r (Install m u) n w v b c e = c

@@ -3,12 +3,11 @@ use Rattle.std.proofs.Common.{◌≡◌, ◌⊎◌, inl, inr, take, ℕ, zero, s
 use Rattle.std.proofs.lemmas.List.{map-append}
 use Rattle.std.proofs.lemmas.Option.{slice_get-map, slice_get-get_or}
 use Rattle.std.proofs.lemmas.Bool.{ltb-false, ltb-true}
-use Rattle.std.specs.Prelude.{nat_lt, if◌then◌else◌, option_map, Result, Ok, Err, IfErr}
-use Rattle.std.specs.Io.KnownBytes.{Appends}
-use Rattle.std.proofs.KnownBytes.{Appends-nil}
+use Rattle.std.specs.Prelude.{nat_lt, if◌then◌else◌, option_map, ◌≢◌}
 use Rattle.ip_headers.specs.declared.Link.{Link}
 use Rattle.pcap_file.specs.declared.format.Head.{Head}
-use Rattle.pcap_file.specs.declared.format.Ending.{Ending}
+use Rattle.pcap_file.specs.declared.format.InputEnd.{InputEnd}
+use Rattle.pcap_file.specs.Device.{Tape}
 use Rattle.pcap_file.specs.Format.{Packet as Record}
 use Rattle.pcap_file.specs.Text.{Passed}
 use Rattle.spreader.specs.Choices.{Choice}
@@ -26,16 +25,18 @@ use Rattle.course.proofs.Moves.{Keeps, deliver_hands, handed_next}
 use Rattle.course.proofs.Bounds.{apart_keeps, run_none}
 use Rattle.course.proofs.Coming.{take_one, take_ended, take_zero, lose_one, lose_ended, lose_zero, run_cons, again_is}
 use Rattle.simulation.specs.declared.fault.SimulationFault.{SimulationFault}
-use Rattle.simulation.specs.declared.fault.SimulationFault.TheVariants.{Capture, Write, Memory}
+use Rattle.simulation.specs.declared.fault.SimulationFault.TheVariants.{Write, Memory}
 use Rattle.simulation.specs.Plans.{Planned}
-use Rattle.simulation.specs.Sent.{packet_in, packets_of, sent, records_text, BeginsWith}
-use Rattle.simulation.specs.Simulated.{course_of, traffic_of, sendings, IsOfRun, EndsBy}
-use Rattle.simulation.specs.Intake.{Taking, HasSeen, Seen, ReadOn}
+use Rattle.simulation.specs.Sent.{packet_in, packets_of, sent, Wrote, WroteUntil}
+use Rattle.simulation.specs.Simulated.{course_of, traffic_of, sendings, IsOfRun}
+use Rattle.simulation.specs.Intake.{Taking, HasSeen, Seen, ReadOn, ReadStops, Stands}
 use Rattle.simulation.specs.Keeping.{AmongSteps, NamesAll, Holds}
 use Rattle.simulation.specs.Going.{Left, Shortened}
 use Rattle.simulation.specs.Stages.{Sound, Going, Reached, IsOver}
 use Rattle.simulation.specs.declared.staging.Stage.{Stage}
-use Rattle.simulation.proofs.Going.{seen_passed, shortened, begins_whole}
+use Rattle.simulation.proofs.Going.{shortened}
+use Rattle.simulation.proofs.Intakes.{stands, stops_run}
+use Rattle.simulation.proofs.Sends.{unfailed_same, wrote_none, first_none, first_all, until_all}
 
 pub packets_push : (link : Link) (check : Bool) (seen more : List Record) (r : Record) → packets_of link check (seen ++ r ∷ more) ≡ packets_of link check seen ++ packet_in link check r ∷ packets_of link check more
 packets_push link check seen more r = map-append (packet_in link check) seen (r ∷ more)
@@ -44,10 +45,12 @@ packets_count : (link : Link) (check : Bool) (seen : List Record) → length (pa
 packets_count link check [] = refl
 packets_count link check (r ∷ rs) = ap suc (packets_count link check rs)
 
-pub seen_same : (t u : Taking) (text left : Option (List ℕ)) (seen : List Record) → u.head ≡ t.head → u.ended ≡ t.ended → u.given ≡ t.given → Seen text seen left t → Seen text seen left u
+pub seen_same : (t u : Taking) (text left : Tape) (seen : List Record) → u.head ≡ t.head → u.ended ≡ t.ended → u.given ≡ t.given → Seen text seen left t → Seen text seen left u
 seen_same t u text left seen h e g s = record {
-  has = subst (λ (x : Head). HasSeen x u.ended text seen left) (sym h) (subst (λ (x : Option Ending). HasSeen t.head x text seen left) (sym e) s.has);
+  has = subst (λ (x : Head). HasSeen x u.ended text.bytes seen left.bytes) (sym h) (subst (λ (x : Option InputEnd). HasSeen t.head x text.bytes seen left.bytes) (sym e) s.has);
   count = g ∙ s.count;
+  unfailed = s.unfailed;
+  calls = λ none. s.calls (sym e ∙ none);
 }
 
 pub at_place : (seen more : List Record) (r : Record) (n : ℕ) → n ≡ length seen → slice_get (seen ++ r ∷ more) n ≡ Some r
@@ -97,26 +100,32 @@ lost_all cluster choice plan link seen k ss c e l =
     let w = world_of cluster choice (packets_of link plan.check (seen ++ [])) in
     sym (lose_ended cluster choice (packets_of link plan.check seen) k ss c (e ∙ sym (packets_count link plan.check seen)) w (ap (λ (l : List Packet). world_of cluster choice l) (map-append (packet_in link plan.check) seen []))) ∙ l
 
--- where a run that reached a record stops there, the output is a beginning
-pub short_of : (cluster : Cluster) (choice : Choice) (plan : Planned) (text begun : Option (List ℕ)) (ss : List Step) (stage : Stage) (left out : Option (List ℕ)) → Reached cluster choice plan text begun ss stage left out → Shortened cluster choice plan stage.intake.head text begun out
+-- where a run that reached a record is refused memory there, the output is a beginning
+pub short_of : (cluster : Cluster) (choice : Choice) (plan : Planned) (text begun : Tape) (ss : List Step) (stage : Stage) (left out : Tape) → Reached cluster choice plan text begun ss stage left out → Shortened cluster choice plan stage.intake.head text left begun out Memory
 short_of cluster choice plan text begun ss stage left out r =
     let g = subst (λ (l : List Record). Going cluster choice plan stage.intake.head.link l ss stage begun out) (append-nil r.seen) (r.going [] (λ _. refl)) in
-    let p = seen_passed stage.intake.head stage.intake.ended text left r.seen r.read.has in
-    shortened cluster choice plan stage.intake.head text p.0 begun out r.seen ss stage.play p.1 g.left (begins_whole begun out _ g.sound.sent)
+    shortened cluster choice plan stage.intake.head text left begun out Memory r.seen ss stage.play (stands stage.intake text left r.seen r.read) g.left (first_all begun out _ g.sound.sent)
+
+-- where reading on stops it
+pub short_read : (cluster : Cluster) (choice : Choice) (plan : Planned) (text begun : Tape) (ss : List Step) (stage : Stage) (left left' out : Tape) (fault : SimulationFault) → (r : Reached cluster choice plan text begun ss stage left out) → fault ≢ Write → ReadStops stage.intake text r.seen left' fault
+    → Shortened cluster choice plan stage.intake.head text left' begun out fault
+short_read cluster choice plan text begun ss stage left left' out fault r n o =
+    let g : Going cluster choice plan stage.intake.head.link (r.seen ++ o.more) ss stage begun out = r.going o.more o.none in
+    shortened cluster choice plan stage.intake.head text left' begun out fault (r.seen ++ o.more) ss stage.play o.stops g.left (until_all fault begun out _ n g.sound.sent)
 
 -- a course whose past is the same is as sound
-pub sound_same : (cluster : Cluster) (plan : Planned) (link : Link) (all : List Record) (c d : Course) (qs ps : List (List Record)) (begun out : Option (List ℕ)) → d.past ≡ c.past → ps ≡ qs → Sound cluster plan link all c qs begun out → Sound cluster plan link all d ps begun out
+pub sound_same : (cluster : Cluster) (plan : Planned) (link : Link) (all : List Record) (c d : Course) (qs ps : List (List Record)) (begun out : Tape) → d.past ≡ c.past → ps ≡ qs → Sound cluster plan link all c qs begun out → Sound cluster plan link all d ps begun out
 sound_same cluster plan link all c d qs ps begun out e f s = record {
   workers = s.workers;
   room = omega (arith, s.room, ap length f);
   orderly = s.orderly;
   judged = subst (λ (l : List Said). Judged cluster.judge l) (sym e) s.judged;
   mirrors = subst (λ (l : List Said). Mirrors all cluster l ps) (sym e) (subst (λ (q : List (List Record)). Mirrors all cluster c.past q) (sym f) s.mirrors);
-  sent = subst (λ (l : List Said). Appends begun out (records_text (sent (traffic_of plan link all) (reverse l)))) (sym e) s.sent;
+  sent = subst (λ (l : List Said). Wrote begun out (sent (traffic_of plan link all) (reverse l))) (sym e) s.sent;
 }
 
 -- no record came: the input has ended, and the step is over
-pub reached_end : (cluster : Cluster) (choice : Choice) (plan : Planned) (text begun : Option (List ℕ)) (step : Step) (ss : List Step) (old new : Stage) (left left' out : Option (List ℕ)) → (r : Reached cluster choice plan text begun (step ∷ ss) old left out)
+pub reached_end : (cluster : Cluster) (choice : Choice) (plan : Planned) (text begun : Tape) (step : Step) (ss : List Step) (old new : Stage) (left left' out : Tape) → (r : Reached cluster choice plan text begun (step ∷ ss) old left out)
     → Seen text r.seen left' new.intake × (is_some new.intake.ended ≡ true) → new.play ≡ old.play → new.relay ≡ old.relay → new.kept ≡ old.kept → new.intake.head ≡ old.intake.head
     → ((link : Link) → Left cluster choice plan link (r.seen ++ []) (step ∷ ss) old.play → Left cluster choice plan link (r.seen ++ []) ss old.play)
     → Reached cluster choice plan text begun ss new left' out
@@ -136,18 +145,18 @@ reached_end cluster choice plan text begun step ss old new left left' out r s p 
 }
 
 -- what is fixed for a move over a further record
-pub record OneMore (plan : Planned) (text : Option (List ℕ)) (seen : List Record) (r : Record) (old new : Stage) (left' : Option (List ℕ)) : Type 0 where
+pub record OneMore (plan : Planned) (text : Tape) (seen : List Record) (r : Record) (old new : Stage) (left' : Tape) : Type 0 where
   pub read : Seen text (seen ++ r ∷ []) left' new.intake
   pub going : old.intake.ended ≡ None
   pub head : new.intake.head ≡ old.intake.head
   pub named : NamesAll plan.steps new.kept
   pub holds : (all : List Record) → Holds all plan.steps old.intake.given old.kept → slice_get all old.intake.given ≡ Some r → Holds all plan.steps (old.intake.given + 1) new.kept
 
-not_ended : (o : Option Ending) (X : Type 0) → o ≡ None → is_some o ≡ true → X
+not_ended : (o : Option InputEnd) (X : Type 0) → o ≡ None → is_some o ≡ true → X
 not_ended o X e f = let bad : false ≡ true = ap is_some (sym e) ∙ f in cc
 
 -- a further record: what is left, and how sound it is, with that record and more behind it
-pub reached_more : (cluster : Cluster) (choice : Choice) (plan : Planned) (text begun : Option (List ℕ)) (ss ts : List Step) (old new : Stage) (left left' out out' : Option (List ℕ)) (x : Record) → (r : Reached cluster choice plan text begun ss old left out)
+pub reached_more : (cluster : Cluster) (choice : Choice) (plan : Planned) (text begun : Tape) (ss ts : List Step) (old new : Stage) (left left' out out' : Tape) (x : Record) → (r : Reached cluster choice plan text begun ss old left out)
     → OneMore plan text r.seen x old new left' → new.play.read ≡ old.play.read + 1
     → ((more : List Record) → Left cluster choice plan old.intake.head.link (r.seen ++ x ∷ more) ss old.play → Left cluster choice plan old.intake.head.link (r.seen ++ x ∷ more) ts new.play)
     → ((more : List Record) → Sound cluster plan old.intake.head.link (r.seen ++ x ∷ more) old.play old.relay.waiting begun out → Sound cluster plan old.intake.head.link (r.seen ++ x ∷ more) new.play new.relay.waiting begun out')
@@ -170,15 +179,15 @@ reached_more cluster choice plan text begun ss ts old new left left' out out' x 
 }
 
 -- a further record was read, and the move over it stopped
-pub short_more : (cluster : Cluster) (choice : Choice) (plan : Planned) (text begun : Option (List ℕ)) (ss ts : List Step) (old mid : Stage) (left left' out out' : Option (List ℕ)) (x : Record) (d : Course) → (r : Reached cluster choice plan text begun ss old left out)
-    → OneMore plan text r.seen x old mid left'
+pub short_more : (cluster : Cluster) (choice : Choice) (plan : Planned) (text begun : Tape) (ss ts : List Step) (old mid : Stage) (left left' out out' : Tape) (x : Record) (d : Course) (fault : SimulationFault) → (r : Reached cluster choice plan text begun ss old left out)
+    → OneMore plan text r.seen x old mid left' → IsOfRun fault
     → (Left cluster choice plan old.intake.head.link (r.seen ++ x ∷ []) ss old.play → Left cluster choice plan old.intake.head.link (r.seen ++ x ∷ []) ts d)
-    → (Sound cluster plan old.intake.head.link (r.seen ++ x ∷ []) old.play old.relay.waiting begun out → BeginsWith begun out' (sent (traffic_of plan old.intake.head.link (r.seen ++ x ∷ [])) (reverse d.past)))
-    → Shortened cluster choice plan old.intake.head text begun out'
-short_more cluster choice plan text begun ss ts old mid left left' out out' x d r m turn cut =
+    → (Sound cluster plan old.intake.head.link (r.seen ++ x ∷ []) old.play old.relay.waiting begun out → WroteUntil fault begun out' (sent (traffic_of plan old.intake.head.link (r.seen ++ x ∷ [])) (reverse d.past)))
+    → Shortened cluster choice plan old.intake.head text left' begun out' fault
+short_more cluster choice plan text begun ss ts old mid left left' out out' x d fault r m named turn cut =
     let g : Going cluster choice plan old.intake.head.link (r.seen ++ x ∷ []) ss old begun out = r.going (x ∷ []) (λ e. not_ended old.intake.ended (x ∷ [] ≡ []) m.going e) in
-    let p = seen_passed mid.intake.head mid.intake.ended text left' (r.seen ++ x ∷ []) m.read.has in
-    shortened cluster choice plan old.intake.head text p.0 begun out' (r.seen ++ x ∷ []) ts d (subst (λ (h : Head). Passed h text (r.seen ++ x ∷ []) p.0) m.head p.1) (turn g.left) (cut g.sound)
+    shortened cluster choice plan old.intake.head text left' begun out' fault (r.seen ++ x ∷ []) ts d
+    (stops_run old.intake.head text left' (r.seen ++ x ∷ []) fault named (subst (λ (h : Head). Stands h text left' (r.seen ++ x ∷ [])) m.head (stands mid.intake text left' (r.seen ++ x ∷ []) m.read))) (turn g.left) (cut g.sound)
 
 -- the counts after a record was taken
 pub counted_taken : (given n : ℕ) (w : World) (p : Packet) (c s d : Course) (place : ℕ) → s ≡ record c { read = c.read + 1 } → d ≡ deliver w place p s → Counted given n c → Counted (given + 1) n d
@@ -191,7 +200,7 @@ delivered_same w check x h i m n s t e f k =
     ap (λ (y : Head). deliver w m (packet_in y.link check x) s) e ∙ ap (λ (j : ℕ). deliver w j (packet_in i.link check x) s) f ∙ ap (λ (y : Course). deliver w n (packet_in i.link check x) y) k
 
 -- a step that has nothing left to do is over
-pub reached_turn : (cluster : Cluster) (choice : Choice) (plan : Planned) (text begun : Option (List ℕ)) (step : Step) (ss : List Step) (stage : Stage) (left out : Option (List ℕ)) → Reached cluster choice plan text begun (step ∷ ss) stage left out
+pub reached_turn : (cluster : Cluster) (choice : Choice) (plan : Planned) (text begun : Tape) (step : Step) (ss : List Step) (stage : Stage) (left out : Tape) → Reached cluster choice plan text begun (step ∷ ss) stage left out
     → ((link : Link) (all : List Record) → Left cluster choice plan link all (step ∷ ss) stage.play → Left cluster choice plan link all ss stage.play) → Reached cluster choice plan text begun ss stage left out
 reached_turn cluster choice plan text begun step ss stage left out r turn = record {
   seen = r.seen;
@@ -259,7 +268,7 @@ repeated cluster choice plan link all place ss c d p h e l =
     ap (λ (x : Course). run w ss x) (e ∙ ap (λ (o : Option Packet). repeat w place o c) (sym h) ∙ sym (again_is w place c)) ∙ sym (run_cons w (again_of place) ss c) ∙ l
 
 -- no further record was read
-pub reached_same : (cluster : Cluster) (choice : Choice) (plan : Planned) (text begun : Option (List ℕ)) (ss ts : List Step) (old new : Stage) (left out out' : Option (List ℕ)) → (r : Reached cluster choice plan text begun ss old left out)
+pub reached_same : (cluster : Cluster) (choice : Choice) (plan : Planned) (text begun : Tape) (ss ts : List Step) (old new : Stage) (left out out' : Tape) → (r : Reached cluster choice plan text begun ss old left out)
     → (new.intake.given ≡ old.intake.given) × (new.intake.ended ≡ old.intake.ended) × (new.intake.head ≡ old.intake.head) → new.play.read ≡ old.play.read → new.kept ≡ old.kept
     → ((all : List Record) → Holds all plan.steps old.play.read old.kept → Left cluster choice plan old.intake.head.link all ss old.play → Left cluster choice plan old.intake.head.link all ts new.play)
     → ((all : List Record) → Holds all plan.steps old.play.read old.kept → Sound cluster plan old.intake.head.link all old.play old.relay.waiting begun out → Sound cluster plan old.intake.head.link all new.play new.relay.waiting begun out')
@@ -278,14 +287,13 @@ reached_same cluster choice plan text begun ss ts old new left out out' r i n k 
       });
 }
 
-pub short_same : (cluster : Cluster) (choice : Choice) (plan : Planned) (text begun : Option (List ℕ)) (ss ts : List Step) (old : Stage) (left out out' : Option (List ℕ)) (d : Course) → (r : Reached cluster choice plan text begun ss old left out)
+pub short_same : (cluster : Cluster) (choice : Choice) (plan : Planned) (text begun : Tape) (ss ts : List Step) (old : Stage) (left out out' : Tape) (d : Course) (fault : SimulationFault) → (r : Reached cluster choice plan text begun ss old left out) → IsOfRun fault
     → (Holds r.seen plan.steps old.play.read old.kept → Left cluster choice plan old.intake.head.link r.seen ss old.play → Left cluster choice plan old.intake.head.link r.seen ts d)
-    → (Holds r.seen plan.steps old.play.read old.kept → Sound cluster plan old.intake.head.link r.seen old.play old.relay.waiting begun out → BeginsWith begun out' (sent (traffic_of plan old.intake.head.link r.seen) (reverse d.past)))
-    → Shortened cluster choice plan old.intake.head text begun out'
-short_same cluster choice plan text begun ss ts old left out out' d r turn cut =
+    → (Holds r.seen plan.steps old.play.read old.kept → Sound cluster plan old.intake.head.link r.seen old.play old.relay.waiting begun out → WroteUntil fault begun out' (sent (traffic_of plan old.intake.head.link r.seen) (reverse d.past)))
+    → Shortened cluster choice plan old.intake.head text left begun out' fault
+short_same cluster choice plan text begun ss ts old left out out' d fault r named turn cut =
     let g = subst (λ (l : List Record). Going cluster choice plan old.intake.head.link l ss old begun out) (append-nil r.seen) (r.going [] (λ _. refl)) in
-    let p = seen_passed old.intake.head old.intake.ended text left r.seen r.read.has in
-    shortened cluster choice plan old.intake.head text p.0 begun out' r.seen ts d p.1 (turn g.holds g.left) (cut g.holds g.sound)
+    shortened cluster choice plan old.intake.head text left begun out' fault r.seen ts d (stops_run old.intake.head text left r.seen fault named (stands old.intake text left r.seen r.read)) (turn g.holds g.left) (cut g.holds g.sound)
 
 -- the counts after a repeat
 pub counted_again : (given n : ℕ) (w : World) (p : Packet) (c d : Course) (place : ℕ) → d ≡ deliver w place p c → Counted given n c → Counted given (n + 1) d
@@ -311,17 +319,13 @@ counted_apart given n w s c d q e h =
 pub read_apart : (w : World) (s : Step) (c d : Course) → names_records s ≡ false → d ≡ after w s c → d.read ≡ c.read
 read_apart w s c d q e = ap (λ (x : Course). x.read) e ∙ (apart_keeps w s c q).read
 
-pub if_err : {T E : Type 0} (r : Result T E) (Q : E → Type 0) (P : Type 0) → P → IfErr r (λ f. Q f → P)
-if_err (Ok x) Q P p = tt
-if_err (Err f) Q P p = λ q. p
-
 pub next_step : (ss : List Step) (i : ℕ) (s : Step) → i < length ss → s ≡ get_or ss i s → drop i ss ≡ s ∷ drop (i + 1) ss
 next_step ss i s lt e = rw (add-one, drop-cons ss i s) (ap (λ (x : Step). x ∷ drop (suc i) ss) (sym e))
 
 pub among_steps : (ss : List Step) (i : ℕ) (s : Step) → i < length ss → s ≡ get_or ss i s → AmongSteps s ss
 among_steps ss i s lt e = (i, slice_get-get_or ss i s lt ∙ ap (λ (x : Step). Some x) (sym e))
 
-passed_none : (head : Head) (text : Option (List ℕ)) → Passed head text [] text
+pub passed_none : (head : Head) (text : Option (List ℕ)) → Passed head text [] text
 passed_none head None = tt
 passed_none head (Some t) = refl
 
@@ -330,12 +334,17 @@ unfolding course_of
 begun_left cluster choice plan link all c e = ap (λ (x : Course). run (world_of cluster choice (packets_of link plan.check all)) plan.steps x) e
 
 -- at the start everything is to be done
-pub reached_start : (cluster : Cluster) (choice : Choice) (plan : Planned) (text out : Option (List ℕ)) (stage : Stage) → cluster.workers ≤ 16 → cluster.nodes ≡ length plan.nodes → length stage.relay.waiting ≡ length plan.nodes * 16 → Orderly cluster
+pub reached_start : (cluster : Cluster) (choice : Choice) (plan : Planned) (text out : Tape) (stage : Stage) → cluster.workers ≤ 16 → cluster.nodes ≡ length plan.nodes → length stage.relay.waiting ≡ length plan.nodes * 16 → Orderly cluster
     → stage.play ≡ start (length plan.nodes) → stage.intake.ended ≡ None → stage.intake.given ≡ 0 → NamesAll plan.steps stage.kept → ((all : List Record) (k : Cluster) → Mirrors all k [] stage.relay.waiting)
     → Reached cluster choice plan text out plan.steps stage text out
 reached_start cluster choice plan text out stage few nodes room orderly play ended given named mirrors = record {
   seen = [];
-  read = record { has = subst (λ (o : Option Ending). HasSeen stage.intake.head o text [] text) (sym ended) (passed_none stage.intake.head text); count = given };
+  read = record {
+    has = subst (λ (o : Option InputEnd). HasSeen stage.intake.head o text.bytes [] text.bytes) (sym ended) (passed_none stage.intake.head text.bytes);
+    count = given;
+    unfailed = unfailed_same text;
+    calls = λ _. (0, omega arith, omega arith);
+  };
   place = ap (λ (c : Course). c.read) play;
   named = named;
   going = λ more cond. record {
@@ -346,36 +355,27 @@ reached_start cluster choice plan text out stage few nodes room orderly play end
       orderly = orderly;
       judged = subst (λ (l : List Said). Judged cluster.judge l) (sym (ap (λ (c : Course). c.past) play)) tt;
       mirrors = subst (λ (l : List Said). Mirrors more cluster l stage.relay.waiting) (sym (ap (λ (c : Course). c.past) play)) (mirrors more cluster);
-      sent = subst (λ (l : List Said). Appends out out (records_text (sent (traffic_of plan stage.intake.head.link more) (reverse l)))) (sym (ap (λ (c : Course). c.past) play)) (Appends-nil out);
+      sent = subst (λ (l : List Said). Wrote out out (sent (traffic_of plan stage.intake.head.link more) (reverse l))) (sym (ap (λ (c : Course). c.past) play)) (wrote_none out);
     };
     holds = λ place again lt. absurd (omega (arith, lt, ap (λ (c : Course). c.read) play));
   };
 }
 
 -- at the end all is done
-pub over_of : (cluster : Cluster) (choice : Choice) (plan : Planned) (text begun : Option (List ℕ)) (stage : Stage) (left out : Option (List ℕ)) (ending : Ending) (new : Taking) → (r : Reached cluster choice plan text begun [] stage left out) → ReadOn text r.seen ending stage.intake new
-    → IsOver cluster choice plan stage.intake.head text begun out stage.play new.given ending
-over_of cluster choice plan text begun stage left out ending new r o =
+pub over_of : (cluster : Cluster) (choice : Choice) (plan : Planned) (text begun : Tape) (stage : Stage) (left left' out : Tape) (ending : InputEnd) (new : Taking) → (r : Reached cluster choice plan text begun [] stage left out) → ReadOn text r.seen left' ending stage.intake new
+    → IsOver cluster choice plan stage.intake.head text left' begun out stage.play new.given ending
+over_of cluster choice plan text begun stage left left' out ending new r o =
     let g : Going cluster choice plan stage.intake.head.link (r.seen ++ o.more) [] stage begun out = r.going o.more o.none in
     let is : stage.play ≡ course_of cluster choice plan stage.intake.head.link (r.seen ++ o.more) = sym (run_none (world_of cluster choice (packets_of stage.intake.head.link plan.check (r.seen ++ o.more))) stage.play) ∙ g.left in
     record {
       records = r.seen ++ o.more;
       told = o.told;
+      unfailed = o.unfailed;
       course_is = is;
       count = o.count;
-      output_is = subst (λ (c : Course). Appends begun out (records_text (sent (traffic_of plan stage.intake.head.link (r.seen ++ o.more)) (reverse c.past)))) is g.sound.sent;
+      wrote = subst (λ (c : Course). Wrote begun out (sent (traffic_of plan stage.intake.head.link (r.seen ++ o.more)) (reverse c.past))) is g.sound.sent;
     }
 
 -- nothing was done yet
-pub short_none : (cluster : Cluster) (choice : Choice) (plan : Planned) (head : Head) (text out : Option (List ℕ)) → Shortened cluster choice plan head text out out
-short_none cluster choice plan head text out = record { records = []; left = text; first = []; others = sendings cluster choice plan head.link []; passed = passed_none head text; sent_is = refl; output_is = Appends-nil out }
-
--- a fault that isn't the capture's says nothing of the text
-pub of_run : {T : Type 0} (head : Head) (text : Option (List ℕ)) (r : Result T SimulationFault) → IfErr r IsOfRun → IfErr r (EndsBy head text)
-of_run head text (Ok x) h = tt
-of_run head text (Err f) h = run_fault f h
-  where
-    run_fault : (f : SimulationFault) → IsOfRun f → EndsBy head text f
-    run_fault (Capture fault) h = absurd h
-    run_fault Write h = tt
-    run_fault Memory h = tt
+pub short_none : (cluster : Cluster) (choice : Choice) (plan : Planned) (head : Head) (text out : Tape) → Shortened cluster choice plan head text text out out Memory
+short_none cluster choice plan head text out = record { records = []; stops = (None, passed_none head text.bytes, unfailed_same text); wrote = first_none out (sendings cluster choice plan head.link []) }

@@ -1,8 +1,8 @@
 -- How a run moves as events come behind it.
-use Rattle.std.proofs.Common.{◌≡◌, ◌⊎◌, ◌≢◌, ℕ, Bool, true, false, List, [], ◌∷◌, ◌++◌, length, drop, reverse, Option, Some, Result, Ok, Err, refl, sym, ap, ◌∙◌, subst, arith, append_assoc, drop_at, slice_get, inl, inr, OnOk, IfErr}
+use Rattle.std.proofs.Common.{◌≡◌, ◌⊎◌, ℕ, Bool, true, false, List, [], ◌∷◌, ◌++◌, length, drop, reverse, Some, Result, Ok, Err, refl, sym, ap, ◌∙◌, subst, arith, append_assoc, drop_at, slice_get, inl, inr, OnOk, IfErr}
 use Rattle.std.proofs.lemmas.List.{reverse-append, reverse-reverse}
-use Rattle.std.specs.Io.KnownBytes.{Appends}
 use Rattle.ip_headers.specs.declared.Link.{Link}
+use Rattle.pcap_file.specs.Device.{Tape}
 use Rattle.pcap_file.specs.Format.{Packet as Record}
 use Rattle.cluster_node.specs.declared.events.Event.{Event}
 use Rattle.cluster_node.specs.declared.events.Event.TheVariants.{Install, Arrive, Serve, Restart}
@@ -16,15 +16,15 @@ use Rattle.course.proofs.Quiet.{is_arrival, Quiet, Calm, Arrived, deliver_arrive
 use Rattle.course.proofs.Told.{deliver_told, after_told}
 use Rattle.waiting_frames.specs.Mirrors.{Mirrors, ComesAs, IsNoArrival}
 use Rattle.simulation.specs.declared.fault.SimulationFault.{SimulationFault}
-use Rattle.simulation.specs.declared.fault.SimulationFault.TheVariants.{Write}
+use Rattle.simulation.specs.declared.fault.SimulationFault.TheVariants.{Memory}
 use Rattle.simulation.specs.Plans.{Planned}
-use Rattle.simulation.specs.Sent.{Sending, sent, records_text, BeginsWith}
+use Rattle.simulation.specs.Sent.{Sending, sent, Wrote, WroteUntil}
 use Rattle.simulation.specs.Simulated.{traffic_of}
 use Rattle.simulation.specs.Going.{onto}
 use Rattle.simulation.specs.Following.{NoArrivals, ArrivesFirst, CanSettle}
 use Rattle.simulation.specs.Stages.{Sound}
-use Rattle.simulation.proofs.Sends.{sent_append}
-use Rattle.simulation.proofs.Going.{begins_more, begins_whole, begins_behind, appends_behind, onto_reverse}
+use Rattle.simulation.proofs.Sends.{sent_append, wrote_both, first_all, until_more, until_behind}
+use Rattle.simulation.proofs.Going.{onto_reverse}
 
 -- a course went on with these events, the newest in front
 pub record Moved (c d : Course) : Type 0 where
@@ -42,7 +42,7 @@ events_of c d m h i n e f k =
 onto_moved : (c d : Course) (m : Moved c d) → onto c.past (reverse m.news) ≡ d.past
 onto_moved c d m = onto_reverse c.past (reverse m.news) ∙ ap (λ (l : List Said). l ++ c.past) (reverse-reverse m.news) ∙ sym m.is
 
-pub can_settle : (k : Cluster) (plan : Planned) (link : Link) (all : List Record) (c d : Course) (m : Moved c d) (events : List Said) (qs : List (List Record)) (begun out : Option (List ℕ))
+pub can_settle : (k : Cluster) (plan : Planned) (link : Link) (all : List Record) (c d : Course) (m : Moved c d) (events : List Said) (qs : List (List Record)) (begun out : Tape)
     → Sound k plan link all c qs begun out → Judged k.judge d.past → events ≡ reverse m.news → CanSettle all k c.past events qs
 can_settle k plan link all c d m events qs begun out s j e = record {
   workers = s.workers;
@@ -57,38 +57,38 @@ sent_moved : (plan : Planned) (link : Link) (all : List Record) (c d : Course) (
 sent_moved plan link all c d m events e =
     ap (sent (traffic_of plan link all)) (history_moved c d m ∙ ap (λ (l : List Said). reverse c.past ++ l) (sym e)) ∙ sent_append (traffic_of plan link all) (reverse c.past) events
 
-sound_moved : (k : Cluster) (plan : Planned) (link : Link) (all : List Record) (c d : Course) (m : Moved c d) (events : List Said) (qs ps : List (List Record)) (begun out new : Option (List ℕ))
+sound_moved : (k : Cluster) (plan : Planned) (link : Link) (all : List Record) (c d : Course) (m : Moved c d) (events : List Said) (qs ps : List (List Record)) (begun out new : Tape)
     → Sound k plan link all c qs begun out → Judged k.judge d.past → events ≡ reverse m.news → length ps ≡ length qs
-    → Mirrors all k (onto c.past events) ps × Appends out new (records_text (sent (traffic_of plan link all) events)) → Sound k plan link all d ps begun new
+    → Mirrors all k (onto c.past events) ps × Wrote out new (sent (traffic_of plan link all) events) → Sound k plan link all d ps begun new
 sound_moved k plan link all c d m events qs ps begun out new s j e n h = record {
   workers = s.workers;
   room = omega (arith, s.room, n);
   orderly = s.orderly;
   judged = j;
   mirrors = subst (λ (l : List Said). Mirrors all k l ps) (ap (λ (l : List Said). onto c.past l) e ∙ onto_moved c d m) h.0;
-  sent = subst (λ (l : List Sending). Appends begun new (records_text l)) (sym (sent_moved plan link all c d m events e))
-      (appends_behind begun out new (sent (traffic_of plan link all) (reverse c.past)) (sent (traffic_of plan link all) events) s.sent h.1);
+  sent = subst (λ (l : List Sending). Wrote begun new l) (sym (sent_moved plan link all c d m events e))
+      (wrote_both begun out new (sent (traffic_of plan link all) (reverse c.past)) (sent (traffic_of plan link all) events) s.sent h.1);
 }
 
-pub sound_after : (k : Cluster) (plan : Planned) (link : Link) (all : List Record) (c d : Course) (m : Moved c d) (events : List Said) (qs ps : List (List Record)) (begun out new : Option (List ℕ)) (r : Result (Unit {0}) SimulationFault)
+pub sound_after : (k : Cluster) (plan : Planned) (link : Link) (all : List Record) (c d : Course) (m : Moved c d) (events : List Said) (qs ps : List (List Record)) (begun out new : Tape) (r : Result (Unit {0}) SimulationFault)
     → Sound k plan link all c qs begun out → Judged k.judge d.past → events ≡ reverse m.news → length ps ≡ length qs
-    → OnOk r (Mirrors all k (onto c.past events) ps × Appends out new (records_text (sent (traffic_of plan link all) events))) → OnOk r (Sound k plan link all d ps begun new)
+    → OnOk r (Mirrors all k (onto c.past events) ps × Wrote out new (sent (traffic_of plan link all) events)) → OnOk r (Sound k plan link all d ps begun new)
 sound_after k plan link all c d m events qs ps begun out new (Ok u) s j e n h = sound_moved k plan link all c d m events qs ps begun out new s j e n h
 sound_after k plan link all c d m events qs ps begun out new (Err f) s j e n h = tt
 
-pub cut_before : (k : Cluster) (plan : Planned) (link : Link) (all : List Record) (c d : Course) (m : Moved c d) (qs : List (List Record)) (begun out : Option (List ℕ))
-    → Sound k plan link all c qs begun out → BeginsWith begun out (sent (traffic_of plan link all) (reverse d.past))
+pub cut_before : (k : Cluster) (plan : Planned) (link : Link) (all : List Record) (c d : Course) (m : Moved c d) (qs : List (List Record)) (begun out : Tape)
+    → Sound k plan link all c qs begun out → WroteUntil Memory begun out (sent (traffic_of plan link all) (reverse d.past))
 cut_before k plan link all c d m qs begun out s =
-    begins_more begun out (sent (traffic_of plan link all) (reverse c.past)) (sent (traffic_of plan link all) (reverse m.news)) (sent (traffic_of plan link all) (reverse d.past))
-    (sent_moved plan link all c d m (reverse m.news) refl) (begins_whole begun out (sent (traffic_of plan link all) (reverse c.past)) s.sent)
+    until_more Memory begun out (sent (traffic_of plan link all) (reverse c.past)) (sent (traffic_of plan link all) (reverse m.news)) (sent (traffic_of plan link all) (reverse d.past))
+    (sent_moved plan link all c d m (reverse m.news) refl) (first_all begun out (sent (traffic_of plan link all) (reverse c.past)) s.sent)
 
-pub cut_after : (k : Cluster) (plan : Planned) (link : Link) (all : List Record) (c d : Course) (m : Moved c d) (events : List Said) (qs : List (List Record)) (begun out new : Option (List ℕ)) (r : Result (Unit {0}) SimulationFault)
+pub cut_after : (k : Cluster) (plan : Planned) (link : Link) (all : List Record) (c d : Course) (m : Moved c d) (events : List Said) (qs : List (List Record)) (begun out new : Tape) (r : Result (Unit {0}) SimulationFault)
     → Sound k plan link all c qs begun out → events ≡ reverse m.news
-    → IfErr r (λ f. f ≢ Write → BeginsWith out new (sent (traffic_of plan link all) events)) → IfErr r (λ f. f ≢ Write → BeginsWith begun new (sent (traffic_of plan link all) (reverse d.past)))
+    → IfErr r (λ f. WroteUntil f out new (sent (traffic_of plan link all) events)) → IfErr r (λ f. WroteUntil f begun new (sent (traffic_of plan link all) (reverse d.past)))
 cut_after k plan link all c d m events qs begun out new (Ok u) s e h = tt
-cut_after k plan link all c d m events qs begun out new (Err f) s e h = λ n.
-    subst (λ (l : List Sending). BeginsWith begun new l) (sym (sent_moved plan link all c d m events e))
-    (begins_behind begun out new (sent (traffic_of plan link all) (reverse c.past)) (sent (traffic_of plan link all) events) s.sent (h n))
+cut_after k plan link all c d m events qs begun out new (Err f) s e h =
+    subst (λ (l : List Sending). WroteUntil f begun new l) (sym (sent_moved plan link all c d m events e))
+    (until_behind f begun out new (sent (traffic_of plan link all) (reverse c.past)) (sent (traffic_of plan link all) events) s.sent h)
 
 quiet_event : (e : Event) → is_arrival e ≡ false → IsNoArrival e
 quiet_event (Install n v) h = tt

@@ -1,10 +1,9 @@
 -- A run over a capture on its way.
-use Rattle.std.specs.Prelude.{◌≡◌, ℕ, List, [], ◌∷◌, ◌++◌, reverse, Option}
-use Rattle.std.specs.Io.KnownBytes.{Appends}
+use Rattle.std.specs.Prelude.{◌≡◌, List, [], ◌∷◌, reverse}
 use Rattle.ip_headers.specs.declared.Link.{Link}
 use Rattle.pcap_file.specs.declared.format.Head.{Head}
+use Rattle.pcap_file.specs.Device.{Tape}
 use Rattle.pcap_file.specs.Format.{Packet as Record}
-use Rattle.pcap_file.specs.Text.{Passed}
 use Rattle.spreader.specs.Choices.{Choice}
 use Rattle.scenario_steps.specs.declared.Step.{Step}
 use Rattle.cluster_node.specs.declared.events.Said.{Said}
@@ -12,7 +11,9 @@ use Rattle.course.specs.Cluster.{Cluster}
 use Rattle.course.specs.Course.{Course}
 use Rattle.course.specs.Steps.{world_of, run}
 use Rattle.simulation.specs.Plans.{Planned}
-use Rattle.simulation.specs.Sent.{Sending, packets_of, sent, records_text}
+use Rattle.simulation.specs.declared.fault.SimulationFault.{SimulationFault}
+use Rattle.simulation.specs.Intake.{StopsAt}
+use Rattle.simulation.specs.Sent.{packets_of, sent, Wrote, WroteUntil}
 use Rattle.simulation.specs.Simulated.{course_of, traffic_of, sendings}
 
 -- a record with these events behind it, the oldest of them first
@@ -25,15 +26,11 @@ abbrev pub Left : Cluster → Choice → Planned → Link → List Record → Li
 Left cluster choice plan link all ss course = run (world_of cluster choice (packets_of link plan.check all)) ss course ≡ course_of cluster choice plan link all
 
 -- behind the header the output got what was sent so far
-abbrev pub SentSoFar : Planned → Link → List Record → Course → Option (List ℕ) → Option (List ℕ) → Type 0
-SentSoFar plan link all course begun out = Appends begun out (records_text (sent (traffic_of plan link all) (reverse course.past)))
+abbrev pub SentSoFar : Planned → Link → List Record → Course → Tape → Tape → Type 0
+SentSoFar plan link all course begun out = Wrote begun out (sent (traffic_of plan link all) (reverse course.past))
 
--- behind the header the input begins with some records, and the output got a beginning of what is sent of them
-pub record Shortened (cluster : Cluster) (choice : Choice) (plan : Planned) (head : Head) (text begun out : Option (List ℕ)) : Type 0 where
+-- a run stopped by this fault behind some records, and the output got a beginning of what is sent of them
+pub record Shortened (cluster : Cluster) (choice : Choice) (plan : Planned) (head : Head) (text left begun out : Tape) (fault : SimulationFault) : Type 0 where
   pub records : List Record
-  pub left : Option (List ℕ)
-  pub first : List Sending
-  pub others : List Sending
-  pub passed : Passed head text records left
-  pub sent_is : sendings cluster choice plan head.link records ≡ first ++ others
-  pub output_is : Appends begun out (records_text first)
+  pub stops : StopsAt head text left records fault
+  pub wrote : WroteUntil fault begun out (sendings cluster choice plan head.link records)

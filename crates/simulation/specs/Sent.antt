@@ -6,13 +6,17 @@ use Rattle.ip_headers.specs.declared.IpFault.{IpFault}
 use Rattle.ip_headers.specs.Ipv4.{frame_answer}
 use Rattle.pool_versions.specs.declared.backend.Backend.{Backend}
 use Rattle.gre_tunnel.specs.Gre.{wrapped}
+use Rattle.pcap_file.specs.Device.{Tape, Unfailed}
 use Rattle.pcap_file.specs.Format.{Packet as Record, written_head, written_record}
+use Rattle.pcap_file.specs.Writing.{RecordPutRefused}
 use Rattle.cluster_node.specs.declared.packets.Packet.{Packet}
 use Rattle.cluster_node.specs.declared.packets.Packet.TheVariants.{Good, Bad}
 use Rattle.cluster_node.specs.declared.outcomes.Outcome.{Outcome}
 use Rattle.cluster_node.specs.declared.outcomes.Outcome.TheVariants.{Installed, Placed, Forward, Dropped, Restarted, Refused}
 use Rattle.cluster_node.specs.declared.events.Said.{Said}
 use Rattle.cluster_core.specs.Reading.{packet_read}
+use Rattle.simulation.specs.declared.fault.SimulationFault.{SimulationFault}
+use Rattle.simulation.specs.declared.fault.SimulationFault.TheVariants.{Capture, Write, Memory}
 
 -- the packets that the records of a capture are
 abbrev pub packet_in : Link → Bool → Record → Packet
@@ -77,6 +81,30 @@ records_text (r ∷ rs) = record_text r ++ records_text rs
 abbrev pub capture_text : List Sending → List ℕ
 capture_text rs = written_head ++ records_text rs
 
--- a device got some of these records, the first ones, and nothing of the others
-abbrev pub BeginsWith : Option (List ℕ) → Option (List ℕ) → List Sending → Type 0
-BeginsWith old new all = (first : List Sending) × (others : List Sending) × (all ≡ first ++ others) × Appends old new (records_text first)
+-- a device got these records, and no failure was counted
+pub record Wrote (before after : Tape) (rs : List Sending) : Type 0 where
+  pub bytes : Appends before.bytes after.bytes (records_text rs)
+  pub unfailed : Unfailed before after
+
+-- a device got the first of these records, whole, and nothing of the others
+pub record WroteFirst (before after : Tape) (all : List Sending) : Type 0 where
+  pub first : List Sending
+  pub others : List Sending
+  pub all_is : all ≡ first ++ others
+  pub wrote : Wrote before after first
+
+-- a device got the first of these records, whole, and was given up at the next
+pub record WriteFails (before after : Tape) (all : List Sending) : Type 0 where
+  pub first : List Sending
+  pub next : Sending
+  pub others : List Sending
+  pub all_is : all ≡ first ++ next ∷ others
+  pub at : Tape
+  pub wrote : Wrote before at first
+  pub refused : RecordPutRefused next.secs next.micros next.bytes at after
+
+-- what a device got of these records where a run stopped by this fault
+abbrev pub WroteUntil : SimulationFault → Tape → Tape → List Sending → Type 0
+WroteUntil (Capture fault) before after all = WroteFirst before after all
+WroteUntil Write before after all = WriteFails before after all
+WroteUntil Memory before after all = WroteFirst before after all

@@ -1,12 +1,13 @@
 -- What the run of a scenario over a capture comes to.
-use Rattle.std.specs.Prelude.{◌≡◌, ◌⊎◌, ℕ, List, ◌++◌, length, drop, reverse, Option, Some, None, Ok, Err}
+use Rattle.std.specs.Prelude.{◌≡◌, ◌⊎◌, ℕ, List, length, drop, reverse, Option, Some, None, Ok, Err}
 use Rattle.std.specs.Io.KnownBytes.{Appends}
 use Rattle.ip_headers.specs.declared.Link.{Link}
 use Rattle.pcap_file.specs.declared.format.Head.{Head}
-use Rattle.pcap_file.specs.declared.format.Ending.{Ending}
-use Rattle.pcap_file.specs.Format.{Packet as Record, head_answer}
-use Rattle.pcap_file.specs.Capture.{HeadRead}
-use Rattle.pcap_file.specs.Text.{Reads, Begins, AllRefused}
+use Rattle.pcap_file.specs.declared.format.InputEnd.{InputEnd}
+use Rattle.pcap_file.specs.Device.{Tape, Unfailed, WithinCalls, PutRefused}
+use Rattle.pcap_file.specs.Format.{Packet as Record, head_answer, written_head}
+use Rattle.pcap_file.specs.Capture.{HeadRead, HeadCause}
+use Rattle.pcap_file.specs.Text.{Reads, ending_of}
 use Rattle.spreader.specs.Choices.{Choice}
 use Rattle.course.specs.Cluster.{Cluster}
 use Rattle.course.specs.Course.{Course}
@@ -14,17 +15,13 @@ use Rattle.course.specs.Steps.{world_of, run, start}
 use Rattle.simulation.specs.declared.fault.SimulationFault.{SimulationFault}
 use Rattle.simulation.specs.declared.fault.SimulationFault.TheVariants.{Capture, Write, Memory}
 use Rattle.simulation.specs.Plans.{Planned}
-use Rattle.simulation.specs.Sent.{Traffic, Sending, packets_of, sent, capture_text}
+use Rattle.simulation.specs.Intake.{StopsAt}
+use Rattle.simulation.specs.Sent.{Traffic, Sending, packets_of, sent, capture_text, WroteUntil}
 
 -- an input that is told has this header, these records and this ending
-abbrev pub InputIs : Option (List ℕ) → Head → List Record → Ending → Type 0
+abbrev pub InputIs : Option (List ℕ) → Head → List Record → InputEnd → Type 0
 InputIs None head records ending = Unit {0}
-InputIs (Some text) head records ending = (head_answer text ≡ Ok head) × Reads head 0 (drop 24 text) records ending
-
--- an input that is told has this header, and begins with these records
-abbrev pub InputBegins : Option (List ℕ) → Head → List Record → Type 0
-InputBegins None head records = Unit {0}
-InputBegins (Some text) head records = (head_answer text ≡ Ok head) × (rest : List ℕ) × Begins head 0 (drop 24 text) records rest
+InputIs (Some text) head records ending = (head_answer text ≡ Ok head) × Reads head 0 (drop 24 text) records (ending_of ending)
 
 -- the course of the plan's steps over these records
 unfoldable pub course_of : Cluster → Choice → Planned → Link → List Record → Course
@@ -39,43 +36,54 @@ abbrev pub sendings : Cluster → Choice → Planned → Link → List Record �
 sendings cluster choice plan link records = sent (traffic_of plan link records) (reverse (course_of cluster choice plan link records).past)
 
 -- the course is that of the input's records, of which there are so many, up to how the input ends, and the output got the
--- capture of all that it sends
-pub record Simulated (cluster : Cluster) (choice : Choice) (plan : Planned) (input output output' : Option (List ℕ)) (course : Course) (packets : ℕ) (ending : Ending) : Type 0 where
+-- capture of all that it sends; neither device failed
+pub record Simulated (cluster : Cluster) (choice : Choice) (plan : Planned) (input input' output output' : Tape) (course : Course) (packets : ℕ) (ending : InputEnd) : Type 0 where
   pub head : Head
   pub records : List Record
-  pub input_is : InputIs input head records ending
+  pub input_is : InputIs input.bytes head records ending
+  pub input_unfailed : Unfailed input input'
   pub course_is : course ≡ course_of cluster choice plan head.link records
   pub count : packets ≡ length records
-  pub output_is : Appends output output' (capture_text (sendings cluster choice plan head.link records))
+  pub output_is : Appends output.bytes output'.bytes (capture_text (sendings cluster choice plan head.link records))
+  pub output_unfailed : Unfailed output output'
 
--- the output got a beginning, cut between records, of the capture over records that the input begins with
-pub record StopsShort (cluster : Cluster) (choice : Choice) (plan : Planned) (input output output' : Option (List ℕ)) : Type 0 where
+-- the output got the header of a capture
+abbrev pub Begun : Tape → Tape → Type 0
+Begun output begun = Appends output.bytes begun.bytes written_head × Unfailed output begun
+
+-- what the output got of the capture of these records where a run stopped by this fault: a beginning of the header, or the
+-- header and a beginning of the records
+abbrev pub CaptureUntil : SimulationFault → Tape → Tape → List Sending → Type 0
+CaptureUntil fault output output' all =
+    ((fault ≡ Write) × PutRefused written_head output output') ⊎ ((begun : Tape) × Begun output begun × WroteUntil fault begun output' all)
+
+-- behind its header the input had these records when the run stopped by this fault, and the output got a beginning of the
+-- capture over these: cut between records, unless writing failed
+pub record StopsShort (cluster : Cluster) (choice : Choice) (plan : Planned) (input input' output output' : Tape) (fault : SimulationFault) : Type 0 where
   pub head : Head
+  pub text : Tape
+  pub header : HeadRead input.bytes text.bytes (Ok head)
+  pub unfailed : Unfailed input text
+  pub within : WithinCalls 24 input text
   pub records : List Record
-  pub first : List Sending
-  pub others : List Sending
-  pub input_begins : InputBegins input head records
-  pub sent_is : sendings cluster choice plan head.link records ≡ first ++ others
-  pub output_is : Appends output output' (capture_text first)
+  pub stops : StopsAt head text input' records fault
+  pub wrote : CaptureUntil fault output output' (sendings cluster choice plan head.link records)
 
--- nothing was written, or a beginning
-abbrev pub Stopped : Cluster → Choice → Planned → Option (List ℕ) → Option (List ℕ) → Option (List ℕ) → Type 0
-Stopped cluster choice plan input output output' = (output' ≡ output) ⊎ StopsShort cluster choice plan input output output'
+-- the input's header was refused
+abbrev pub HeaderFails : SimulationFault → Tape → Tape → Type 0
+HeaderFails (Capture fault) input input' = HeadRead input.bytes input'.bytes (Err fault) × HeadCause (Err fault) input input'
+HeaderFails Write input input' = ⊥
+HeaderFails Memory input input' = ⊥
+
+-- memory was refused before the devices were called; or the input's header was refused, and the output is as it was; or the
+-- run stopped short
+abbrev pub Stopped : Cluster → Choice → Planned → Tape → Tape → Tape → Tape → SimulationFault → Type 0
+Stopped cluster choice plan input input' output output' fault =
+    ((fault ≡ Memory) × (input' ≡ input) × (output' ≡ output))
+    ⊎ ((HeaderFails fault input input' × (output' ≡ output)) ⊎ StopsShort cluster choice plan input input' output output' fault)
 
 -- a fault that isn't the capture's
 abbrev pub IsOfRun : SimulationFault → Type 0
 IsOfRun (Capture fault) = ⊥
 IsOfRun Write = Unit {0}
 IsOfRun Memory = Unit {0}
-
--- a fault of the capture is that of its text behind some records
-abbrev pub EndsBy : Head → Option (List ℕ) → SimulationFault → Type 0
-EndsBy head text (Capture fault) = AllRefused head text fault
-EndsBy head text Write = Unit {0}
-EndsBy head text Memory = Unit {0}
-
--- a fault of the capture is its header's, or that of its text behind some records
-abbrev pub CaptureFails : Option (List ℕ) → SimulationFault → Type 0
-CaptureFails input (Capture fault) = ((left : Option (List ℕ)) × HeadRead input left (Err fault)) ⊎ ((head : Head) × (left : Option (List ℕ)) × HeadRead input left (Ok head) × AllRefused head left fault)
-CaptureFails input Write = Unit {0}
-CaptureFails input Memory = Unit {0}

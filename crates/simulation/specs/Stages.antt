@@ -1,9 +1,9 @@
 -- A run record by record, between two of its moves.
-use Rattle.std.specs.Prelude.{◌≡◌, ◌≤◌, ℕ, ◌*◌, Bool, true, false, List, [], ◌∷◌, ◌++◌, length, Option, is_some}
+use Rattle.std.specs.Prelude.{◌≡◌, ◌≤◌, ℕ, ◌*◌, Bool, true, false, List, [], ◌∷◌, ◌++◌, length, is_some}
 use Rattle.ip_headers.specs.declared.Link.{Link}
-use Rattle.std.specs.Io.KnownBytes.{Appends}
 use Rattle.pcap_file.specs.declared.format.Head.{Head}
-use Rattle.pcap_file.specs.declared.format.Ending.{Ending}
+use Rattle.pcap_file.specs.declared.format.InputEnd.{InputEnd}
+use Rattle.pcap_file.specs.Device.{Tape, Unfailed}
 use Rattle.pcap_file.specs.Format.{Packet as Record}
 use Rattle.pcap_file.specs.Text.{IsTold}
 use Rattle.spreader.specs.Choices.{Choice}
@@ -14,7 +14,7 @@ use Rattle.course.specs.Course.{Course}
 use Rattle.course.specs.Streams.{take_of, lose_of}
 use Rattle.waiting_frames.specs.Mirrors.{Mirrors}
 use Rattle.simulation.specs.Plans.{Planned}
-use Rattle.simulation.specs.Sent.{records_text}
+use Rattle.simulation.specs.Sent.{Wrote}
 use Rattle.simulation.specs.Simulated.{course_of, sendings}
 use Rattle.simulation.specs.Intake.{Seen}
 use Rattle.simulation.specs.Keeping.{NamesAll, Holds}
@@ -23,7 +23,7 @@ use Rattle.simulation.specs.declared.staging.Stage.{Stage}
 
 -- where all the records are these: the queues of frames mirror the course, and behind the header the output got what was
 -- sent so far
-pub record Sound (cluster : Cluster) (plan : Planned) (link : Link) (all : List Record) (course : Course) (qs : List (List Record)) (begun out : Option (List ℕ)) : Type 0 where
+pub record Sound (cluster : Cluster) (plan : Planned) (link : Link) (all : List Record) (course : Course) (qs : List (List Record)) (begun out : Tape) : Type 0 where
   pub workers : cluster.workers ≤ 16
   pub room : cluster.nodes * 16 ≤ length qs
   pub orderly : Orderly cluster
@@ -32,13 +32,13 @@ pub record Sound (cluster : Cluster) (plan : Planned) (link : Link) (all : List 
   pub sent : SentSoFar plan link all course begun out
 
 -- where all the records are these: what is left to be done leads to the course of the whole plan
-pub record Going (cluster : Cluster) (choice : Choice) (plan : Planned) (link : Link) (all : List Record) (ss : List Step) (stage : Stage) (begun out : Option (List ℕ)) : Type 0 where
+pub record Going (cluster : Cluster) (choice : Choice) (plan : Planned) (link : Link) (all : List Record) (ss : List Step) (stage : Stage) (begun out : Tape) : Type 0 where
   pub left : Left cluster choice plan link all ss stage.play
   pub sound : Sound cluster plan link all stage.play stage.relay.waiting begun out
   pub holds : Holds all plan.steps stage.play.read stage.kept
 
 -- with these steps left: some records were read, and whatever comes behind them, the run is going
-pub record Reached (cluster : Cluster) (choice : Choice) (plan : Planned) (text begun : Option (List ℕ)) (ss : List Step) (stage : Stage) (left out : Option (List ℕ)) : Type 0 where
+pub record Reached (cluster : Cluster) (choice : Choice) (plan : Planned) (text begun : Tape) (ss : List Step) (stage : Stage) (left out : Tape) : Type 0 where
   pub seen : List Record
   pub read : Seen text seen left stage.intake
   pub place : stage.play.read ≡ length seen
@@ -57,9 +57,10 @@ still_to_lose false k ss = ss
 
 -- the steps are done and the input was read to its end: the records behind the header are these, the course is the plan's
 -- over them, and the output got all that it sends
-pub record IsOver (cluster : Cluster) (choice : Choice) (plan : Planned) (head : Head) (text begun out : Option (List ℕ)) (course : Course) (packets : ℕ) (ending : Ending) : Type 0 where
+pub record IsOver (cluster : Cluster) (choice : Choice) (plan : Planned) (head : Head) (text left begun out : Tape) (course : Course) (packets : ℕ) (ending : InputEnd) : Type 0 where
   pub records : List Record
-  pub told : IsTold head text records ending
+  pub told : IsTold head text.bytes records ending
+  pub unfailed : Unfailed text left
   pub course_is : course ≡ course_of cluster choice plan head.link records
   pub count : packets ≡ length records
-  pub output_is : Appends begun out (records_text (sendings cluster choice plan head.link records))
+  pub wrote : Wrote begun out (sendings cluster choice plan head.link records)

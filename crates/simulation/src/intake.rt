@@ -1,11 +1,13 @@
 //! The records of a capture, read one by one.
-ghost use Rattle.std.specs.Prelude.{◌≡◌, ◌<◌, ◌≤◌, ◌+◌, true, false, None, IfOk, IfErr, OnOk, List, ℕ, Option, is_some};
+ghost use Rattle.std.specs.Prelude.{◌≡◌, ◌<◌, ◌≤◌, ◌+◌, true, false, None, IfOk, IfErr, OnOk, IsOk, List, is_some};
+ghost use Rattle.pcap_file.specs.Device.{Tape};
 ghost use Rattle.pcap_file.specs.Format.{Packet as Record, packet, max_records};
-ghost use Rattle.pcap_file.specs.Text.{AllRefused};
-ghost use Rattle.simulation.specs.Intake.{Taking, Seen, SeenMore, ReadOn};
+ghost use Rattle.pcap_file.specs.Text.{RefusedBehind};
+ghost use Rattle.simulation.specs.declared.fault.SimulationFault.TheVariants.{Capture};
+ghost use Rattle.simulation.specs.Intake.{Taking, Seen, SeenMore, ReadOn, ReadStops};
 
 use ip_headers::Link;
-use pcap_file::{Ending, Frame, Head, PcapFault, Source, read_record_into};
+use pcap_file::{Ending, Frame, Head, InputEnd, PcapFault, Source, read_record_into};
 use std::alloc::Global;
 use std::marker::Model;
 use std::mem;
@@ -16,7 +18,7 @@ pub(crate) struct Intake {
     head: Head,
     frame: Frame,
     given: u32,
-    ended: Option<Ending>,
+    ended: Option<InputEnd>,
 }
 
 impl Model for Intake {
@@ -71,12 +73,13 @@ impl Intake {
     // Reads the next record, unless the input has ended.
     pub(crate) fn next<I: Source>(&mut self, input: &mut I) -> Result<bool, PcapFault>
         ensures head { self.new.head ≡ self.old.head }
-        ensures more { (text : Option (List ℕ)) (seen : List Record) → Seen text seen (I.left input.old) self.old → IfOk result (λ more. SeenMore more text seen (I.left input.new) self.new) }
+        ensures more { (text : Tape) (seen : List Record) → Seen text seen (I.tape input.old) self.old → IfOk result (λ more. SeenMore more text seen (I.tape input.new) self.new) }
         ensures same { IfOk result (λ more. more ≡ true → (self.new.ended ≡ self.old.ended) × (self.new.given ≡ self.old.given + 1)) }
         ensures none { IfOk result (λ more. more ≡ false → (self.new.given ≡ self.old.given) × (is_some self.new.ended ≡ true)) }
         ensures end { is_some self.old.ended ≡ true → IfOk result (λ more. (more ≡ false) × (self.new ≡ self.old)) }
         ensures few { self.new.given ≤ max_records }
-        ensures fault { (text : Option (List ℕ)) (seen : List Record) → Seen text seen (I.left input.old) self.old → IfErr result (λ fault. AllRefused self.old.head text fault) }
+        ensures fault { (text : Tape) (seen : List Record) → Seen text seen (I.tape input.old) self.old → IfErr result (λ fault. RefusedBehind self.old.head text (I.tape input.new) seen fault) }
+        ensures closed { is_some self.old.ended ≡ true → IsOk result }
     {
         if self.ended.is_some() {
             return Ok(false);
@@ -86,20 +89,24 @@ impl Intake {
                 self.given += 1;
                 Ok(true)
             }
-            Err(Ending::Failed(fault)) => Err(fault),
-            Err(ending) => {
-                self.ended = Some(ending);
+            Err(Ending::End) => {
+                self.ended = Some(InputEnd::End);
                 Ok(false)
             }
+            Err(Ending::Cut) => {
+                self.ended = Some(InputEnd::Cut);
+                Ok(false)
+            }
+            Err(Ending::Failed(fault)) => Err(fault),
         }
     }
 
     // Reads what is left of the input, and says how it ends.
-    pub(crate) fn read_rest<I: Source>(&mut self, input: &mut I) -> Result<Ending, PcapFault>
+    pub(crate) fn read_rest<I: Source>(&mut self, input: &mut I) -> Result<InputEnd, PcapFault>
         ensures head { self.new.head ≡ self.old.head }
-        ensures told { (text : Option (List ℕ)) (seen : List Record) → Seen text seen (I.left input.old) self.old → IfOk result (λ ending. ReadOn text seen ending self.old self.new) }
+        ensures told { (text : Tape) (seen : List Record) → Seen text seen (I.tape input.old) self.old → IfOk result (λ ending. ReadOn text seen (I.tape input.new) ending self.old self.new) }
         ensures more { OnOk result (self.old.given ≤ self.new.given) }
-        ensures fault { (text : Option (List ℕ)) (seen : List Record) → Seen text seen (I.left input.old) self.old → IfErr result (λ fault. AllRefused self.old.head text fault) }
+        ensures fault { (text : Tape) (seen : List Record) → Seen text seen (I.tape input.old) self.old → IfErr result (λ fault. ReadStops self.old text seen (I.tape input.new) (Capture fault)) }
     {
         loop {
             match self.next(input) {

@@ -1,17 +1,17 @@
 //! A scenario's steps over a capture.
-ghost use Rattle.std.specs.Prelude.{◌≡◌, ◌≢◌, ◌≤◌, [], IfOk, OnOk, IfErr, length};
-ghost use Rattle.std.specs.Io.KnownBytes.{Appends};
+ghost use Rattle.std.specs.Prelude.{◌≡◌, ◌≤◌, [], IfOk, OnOk, IfErr, length};
+ghost use Rattle.pcap_file.specs.Device.{PutRefused};
 ghost use Rattle.pcap_file.specs.Format.{written_head};
 ghost use Rattle.course.specs.Cluster.{Orderly};
 ghost use Rattle.course.specs.Steps.{below};
 ghost use Rattle.simulation.specs.Plans.{planned};
-ghost use Rattle.simulation.specs.Simulated.{Simulated, Stopped, CaptureFails};
+ghost use Rattle.simulation.specs.Simulated.{Begun, Simulated, Stopped};
 
 use crate::fault::SimulationFault;
 use crate::plan::Plan;
 use crate::staging::play_records;
 use course::{Core, Play};
-use pcap_file::{Ending, Sink, Source, read_start, write_head};
+use pcap_file::{InputEnd, Sink, Source, read_start, write_head};
 use spreader::Spread;
 use std::alloc::Global;
 
@@ -20,12 +20,12 @@ use std::alloc::Global;
 pub struct Played {
     pub play: Play,
     pub packets: u32,
-    pub ending: Ending,
+    pub ending: InputEnd,
 }
 
 fn begin<O: Sink>(output: &mut O) -> Result<(), SimulationFault>
-    ensures bytes { OnOk result (Appends (O.contents output.old) (O.contents output.new) written_head) }
-    ensures refused { IfErr result (λ fault. fault ≡ SimulationFault.Write) }
+    ensures begun { OnOk result (Begun (O.tape output.old) (O.tape output.new)) }
+    ensures refused { IfErr result (λ fault. (fault ≡ SimulationFault.Write) × PutRefused written_head (O.tape output.old) (O.tape output.new)) }
 {
     match write_head(output) {
         Ok(()) => Ok(()),
@@ -52,11 +52,10 @@ pub fn play_capture<C: Core, P: Spread, I: Source, O: Sink>(
     requires workers { (C.cluster setup.now).workers ≤ 16 }
     requires cluster { (C.cluster setup.now).nodes ≡ length plan.nodes.now }
     requires orderly { Orderly (C.cluster setup.now) }
-    ensures ok { IfOk result (λ p. Simulated (C.cluster setup.now) (P.choice spread.old) (planned plan.entry) (I.left input.old) (O.contents output.old) (O.contents output.new) p.play p.packets p.ending) }
+    ensures ok { IfOk result (λ p. Simulated (C.cluster setup.now) (P.choice spread.old) (planned plan.entry) (I.tape input.old) (I.tape input.new) (O.tape output.old) (O.tape output.new) p.play p.packets p.ending) }
     ensures read { IfOk result (λ p. p.play.read ≤ p.packets) }
     ensures stands { IfOk result (λ p. C.stands setup.now p.play.past core.new) }
-    ensures stopped { IfErr result (λ fault. fault ≢ SimulationFault.Write → Stopped (C.cluster setup.now) (P.choice spread.old) (planned plan.entry) (I.left input.old) (O.contents output.old) (O.contents output.new)) }
-    ensures fault { IfErr result (CaptureFails (I.left input.old)) }
+    ensures stopped { IfErr result (Stopped (C.cluster setup.now) (P.choice spread.old) (planned plan.entry) (I.tape input.old) (I.tape input.new) (O.tape output.old) (O.tape output.new)) }
 {
     let head = match read_start(input) {
         Ok(head) => head,

@@ -1,11 +1,10 @@
 //! The frames of the packets that wait, and what is sent of them as events come.
-ghost use Rattle.std.specs.Prelude.{◌≡◌, ◌≢◌, ◌*◌, ℕ, List, [], ◌∷◌, length, IfOk, IfErr, OnOk};
-ghost use Rattle.std.specs.Io.KnownBytes.{Appends};
+ghost use Rattle.std.specs.Prelude.{◌≡◌, ◌*◌, List, [], ◌∷◌, length, IfOk, IfErr, OnOk};
 ghost use Rattle.pcap_file.specs.Format.{Packet as Record, packet};
 ghost use Rattle.cluster_node.specs.declared.events.Said.{Said};
 ghost use Rattle.course.specs.Cluster.{Cluster};
 ghost use Rattle.waiting_frames.specs.Mirrors.{Mirrors, CanFollow, ComesAs, IsNoArrival};
-ghost use Rattle.simulation.specs.Sent.{sent, sent_by, records_text, BeginsWith};
+ghost use Rattle.simulation.specs.Sent.{sent, sent_by, Wrote, WroteUntil};
 ghost use Rattle.simulation.specs.Simulated.{IsOfRun};
 ghost use Rattle.simulation.specs.Wires.{traffic};
 ghost use Rattle.simulation.specs.Going.{onto};
@@ -37,9 +36,9 @@ fn send_taken<O: Sink>(
     outcome: &Outcome,
     frame: &Frame,
 ) -> Result<(), SimulationFault>
-    ensures ok { OnOk result (Appends (O.contents output.old) (O.contents output.new) (records_text (sent_with (traffic wire.now []) outcome.now (packet frame.now)))) }
+    ensures ok { OnOk result (Wrote (O.tape output.old) (O.tape output.new) (sent_with (traffic wire.now []) outcome.now (packet frame.now))) }
     ensures named { IfErr result IsOfRun }
-    ensures kept { IfErr result (λ fault. fault ≢ SimulationFault.Write → O.contents output.new ≡ O.contents output.old) }
+    ensures cut { IfErr result (λ fault. WroteUntil fault (O.tape output.old) (O.tape output.new) (sent_with (traffic wire.now []) outcome.now (packet frame.now))) }
 {
     match outcome {
         Outcome::Forward { node, backend, .. } => {
@@ -72,9 +71,10 @@ impl Relay {
     ) -> Result<(), SimulationFault>
         ensures count { length self.new.waiting ≡ length self.old.waiting }
         ensures settled { (all : List Record) (k : Cluster) (past : List Said) → CanFollow all k past said.now self.old.waiting → IsNoArrival said.now.event →
-            OnOk result (Mirrors all k (said.now ∷ past) self.new.waiting × Appends (O.contents output.old) (O.contents output.new) (records_text (sent_by (traffic wire.now all) said.now.outcome))) }
+            OnOk result (Mirrors all k (said.now ∷ past) self.new.waiting × Wrote (O.tape output.old) (O.tape output.new) (sent_by (traffic wire.now all) said.now.outcome)) }
         ensures named { IfErr result IsOfRun }
-        ensures kept { IfErr result (λ fault. fault ≢ SimulationFault.Write → O.contents output.new ≡ O.contents output.old) }
+        ensures cut { (all : List Record) (k : Cluster) (past : List Said) → CanFollow all k past said.now self.old.waiting → IsNoArrival said.now.event →
+            IfErr result (λ fault. WroteUntil fault (O.tape output.old) (O.tape output.new) (sent_by (traffic wire.now all) said.now.outcome)) }
     {
         let Some(frame) = self.waiting.settle(said) else {
             return Ok(());
@@ -92,10 +92,10 @@ impl Relay {
     ) -> Result<(), SimulationFault>
         ensures count { length self.new.waiting ≡ length self.old.waiting }
         ensures settled { (all : List Record) (k : Cluster) (past : List Said) → CanSettle all k past events.now self.old.waiting → NoArrivals events.now →
-            OnOk result (Mirrors all k (onto past events.now) self.new.waiting × Appends (O.contents output.old) (O.contents output.new) (records_text (sent (traffic wire.now all) events.now))) }
+            OnOk result (Mirrors all k (onto past events.now) self.new.waiting × Wrote (O.tape output.old) (O.tape output.new) (sent (traffic wire.now all) events.now)) }
         ensures named { IfErr result IsOfRun }
         ensures cut { (all : List Record) (k : Cluster) (past : List Said) → CanSettle all k past events.now self.old.waiting → NoArrivals events.now →
-            IfErr result (λ fault. fault ≢ SimulationFault.Write → BeginsWith (O.contents output.old) (O.contents output.new) (sent (traffic wire.now all) events.now)) }
+            IfErr result (λ fault. WroteUntil fault (O.tape output.old) (O.tape output.new) (sent (traffic wire.now all) events.now)) }
     {
         for said in events {
             match self.settle_one(wire, said, output) {
@@ -133,10 +133,10 @@ impl Relay {
         ensures count { length self.new.waiting ≡ length self.old.waiting }
         ensures intake { (intake.new.given ≡ intake.old.given) × (intake.new.ended ≡ intake.old.ended) × (intake.new.head ≡ intake.old.head) }
         ensures settled { (all : List Record) (k : Cluster) (past : List Said) → CanSettle all k past events.now self.old.waiting → ArrivesFirst all intake.old.record_read events.now →
-            OnOk result (Mirrors all k (onto past events.now) self.new.waiting × Appends (O.contents output.old) (O.contents output.new) (records_text (sent (traffic wire.now all) events.now))) }
+            OnOk result (Mirrors all k (onto past events.now) self.new.waiting × Wrote (O.tape output.old) (O.tape output.new) (sent (traffic wire.now all) events.now)) }
         ensures named { IfErr result IsOfRun }
         ensures cut { (all : List Record) (k : Cluster) (past : List Said) → CanSettle all k past events.now self.old.waiting → ArrivesFirst all intake.old.record_read events.now →
-            IfErr result (λ fault. fault ≢ SimulationFault.Write → BeginsWith (O.contents output.old) (O.contents output.new) (sent (traffic wire.now all) events.now)) }
+            IfErr result (λ fault. WroteUntil fault (O.tape output.old) (O.tape output.new) (sent (traffic wire.now all) events.now)) }
     {
         let Some((first, rest)) = events.split_first() else {
             return Ok(());

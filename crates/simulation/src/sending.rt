@@ -1,10 +1,9 @@
 //! What the cluster sends is wrapped and written.
-ghost use Rattle.std.specs.Prelude.{◌≡◌, ◌≢◌, ◌≤◌, map, option_map, IfOk, OnOk, OnErr, IfErr, IfSome, length, [], Some, None, Err, slice_get};
-ghost use Rattle.std.specs.Io.KnownBytes.{Appends};
+ghost use Rattle.std.specs.Prelude.{◌≡◌, ◌≤◌, ◌∷◌, option_map, OnOk, IfErr, IfSome, length, [], Some, None, slice_get};
 ghost use Rattle.ip_headers.specs.Ipv4.{frame_answer};
 ghost use Rattle.pcap_file.specs.Format.{packet};
 ghost use Rattle.gre_tunnel.specs.Gre.{wrapped};
-ghost use Rattle.simulation.specs.Sent.{packet_in, cut_to, datagram_in, wrapped_as, sent, sent_by, sent_at, records_text, record_text, BeginsWith};
+ghost use Rattle.simulation.specs.Sent.{packet_in, cut_to, datagram_in, wrapped_as, sent_at, Wrote, WroteUntil};
 ghost use Rattle.simulation.specs.Simulated.{IsOfRun};
 ghost use Rattle.simulation.specs.Wires.{traffic};
 
@@ -65,7 +64,6 @@ fn tunnelled(room: &mut Vec<u8>, inner: &[u8], node: u32, backend: u32) -> Resul
     }
 }
 
-#[tactic(auto, unfolding(crate::specs::Sent::record_text))]
 fn put_record<O: Sink>(
     output: &mut O,
     secs: u32,
@@ -73,8 +71,9 @@ fn put_record<O: Sink>(
     bytes: &[u8],
 ) -> Result<(), SimulationFault>
     requires { length bytes.now ≤ 65535 }
-    ensures ok { OnOk result (Appends (O.contents output.old) (O.contents output.new) (record_text (record { secs = secs; micros = micros; bytes = bytes.now }))) }
-    ensures err { OnErr result (result ≡ Err SimulationFault.Write) }
+    ensures ok { OnOk result (Wrote (O.tape output.old) (O.tape output.new) (record { secs = secs; micros = micros; bytes = bytes.now } ∷ [])) }
+    ensures named { IfErr result IsOfRun }
+    ensures cut { IfErr result (λ fault. WroteUntil fault (O.tape output.old) (O.tape output.new) (record { secs = secs; micros = micros; bytes = bytes.now } ∷ [])) }
 {
     match write_record(output, secs, micros, bytes) {
         Ok(()) => Ok(()),
@@ -92,9 +91,9 @@ fn put_wrapped<O: Sink>(
     inner: Option<&[u8]>,
 ) -> Result<(), SimulationFault>
     requires { IfSome inner (λ d. length d.now ≤ 65511) }
-    ensures ok { OnOk result (Appends (O.contents output.old) (O.contents output.new) (records_text (wrapped_as (packet frame.now) node backend (option_map (λ d. d.now) inner.entry)))) }
+    ensures ok { OnOk result (Wrote (O.tape output.old) (O.tape output.new) (wrapped_as (packet frame.now) node backend (option_map (λ d. d.now) inner.entry))) }
     ensures named { IfErr result IsOfRun }
-    ensures kept { IfErr result (λ fault. fault ≢ SimulationFault.Write → O.contents output.new ≡ O.contents output.old) }
+    ensures cut { IfErr result (λ fault. WroteUntil fault (O.tape output.old) (O.tape output.new) (wrapped_as (packet frame.now) node backend (option_map (λ d. d.now) inner.entry))) }
 {
     let Some(node) = node else {
         return Ok(());
@@ -119,9 +118,9 @@ pub fn send_record<O: Sink>(
     read: &Packet,
 ) -> Result<(), SimulationFault>
     requires { read.now ≡ packet_in wire.now.link wire.now.check (packet frame.now) }
-    ensures ok { OnOk result (Appends (O.contents output.old) (O.contents output.new) (records_text (sent_at (traffic wire.now []) node backend.entry.now (Some (packet frame.now))))) }
+    ensures ok { OnOk result (Wrote (O.tape output.old) (O.tape output.new) (sent_at (traffic wire.now []) node backend.entry.now (Some (packet frame.now)))) }
     ensures named { IfErr result IsOfRun }
-    ensures kept { IfErr result (λ fault. fault ≢ SimulationFault.Write → O.contents output.new ≡ O.contents output.old) }
+    ensures cut { IfErr result (λ fault. WroteUntil fault (O.tape output.old) (O.tape output.new) (sent_at (traffic wire.now []) node backend.entry.now (Some (packet frame.now)))) }
 {
     let inner = datagram(wire.link, read, frame.bytes.as_slice());
     put_wrapped(room, output, wire.address(node), backend.addr, frame, inner)

@@ -1,6 +1,6 @@
 //! A run record by record.
 ghost use Rattle.std.specs.Prelude.{◌≡◌, ◌≢◌, ◌<◌, ◌≤◌, ◌+◌, ◌^◌, ◌∷◌, [], ℕ, List, Option, Some, None, true, false, nat_lt, if◌then◌else◌, option_map, length, drop, slice_get, reverse, IfOk, IfErr, OnOk};
-ghost use Rattle.std.specs.Io.KnownBytes.{Appends};
+ghost use Rattle.pcap_file.specs.Device.{Tape};
 ghost use Rattle.pcap_file.specs.Format.{Packet as Record, packet, max_records};
 ghost use Rattle.scenario_steps.specs.declared.Step.{Step};
 ghost use Rattle.course.specs.Steps.{World, SameChoice, deliver, after, names_records, start, below};
@@ -9,10 +9,10 @@ ghost use Rattle.course.specs.Room.{Counted};
 ghost use Rattle.simulation.specs.Plans.{Planned, planned};
 ghost use Rattle.spreader.specs.Choices.{Choice};
 ghost use Rattle.course.specs.Cluster.{Cluster, Orderly};
-ghost use Rattle.simulation.specs.Sent.{packet_in, sent, BeginsWith};
-ghost use Rattle.simulation.specs.Simulated.{traffic_of, IsOfRun, EndsBy};
+ghost use Rattle.simulation.specs.Sent.{packet_in, sent, WroteUntil};
+ghost use Rattle.simulation.specs.Simulated.{traffic_of, IsOfRun};
 ghost use Rattle.simulation.specs.Going.{Shortened};
-ghost use Rattle.simulation.specs.Intake.{Seen, SeenMore};
+ghost use Rattle.simulation.specs.Intake.{Seen, SeenMore, ReadStops};
 ghost use Rattle.simulation.specs.Keeping.{IsAgain, AmongSteps, NamesAll, Holds, found};
 ghost use Rattle.simulation.specs.Stages.{Sound, Going, Reached, IsOver, still_to_take, still_to_lose};
 
@@ -53,7 +53,7 @@ impl Stage {
         ensures fresh { IfOk result (λ s. Counted s.intake.given 0 s.play) }
         ensures play { IfOk result (λ s. s.play ≡ start (length plan.entry.nodes.now)) }
         ensures head { IfOk result (λ s. s.intake.head ≡ head) }
-        ensures reached { (cluster : Cluster) (choice : Choice) (text out : Option (List ℕ)) → cluster.workers ≤ 16 → cluster.nodes ≡ length plan.entry.nodes.now → Orderly cluster →
+        ensures reached { (cluster : Cluster) (choice : Choice) (text out : Tape) → cluster.workers ≤ 16 → cluster.nodes ≡ length plan.entry.nodes.now → Orderly cluster →
             IfOk result (λ s. Reached cluster choice (planned plan.entry) text out plan.entry.steps.now s text out) }
     {
         let nodes = plan.nodes.len() as u16;
@@ -96,13 +96,13 @@ impl Stage {
         ensures kept { self.new.kept ≡ self.old.kept }
         ensures intake { (self.new.intake.given ≡ self.old.intake.given) × (self.new.intake.ended ≡ self.old.intake.ended) × (self.new.intake.head ≡ self.old.intake.head) }
         ensures play { OnOk result ((w : World) → w.cluster ≡ C.cluster setup.now → SameChoice w.choice (P.choice spread.now) → self.new.play ≡ deliver w place (packet_in self.old.intake.head.link plan.entry.check self.old.intake.record_read) self.old.play) }
-        ensures sound { (all : List Record) (begun : Option (List ℕ)) →
-            Sound (C.cluster setup.now) (planned plan.entry) self.old.intake.head.link all self.old.play self.old.relay.waiting begun (O.contents output.old) → slice_get all place ≡ Some self.old.intake.record_read →
-            OnOk result (Sound (C.cluster setup.now) (planned plan.entry) self.old.intake.head.link all self.new.play self.new.relay.waiting begun (O.contents output.new)) }
+        ensures sound { (all : List Record) (begun : Tape) →
+            Sound (C.cluster setup.now) (planned plan.entry) self.old.intake.head.link all self.old.play self.old.relay.waiting begun (O.tape output.old) → slice_get all place ≡ Some self.old.intake.record_read →
+            OnOk result (Sound (C.cluster setup.now) (planned plan.entry) self.old.intake.head.link all self.new.play self.new.relay.waiting begun (O.tape output.new)) }
         ensures named { IfErr result IsOfRun }
-        ensures cut { (w : World) (all : List Record) (begun : Option (List ℕ)) → w.cluster ≡ C.cluster setup.now → SameChoice w.choice (P.choice spread.now) →
-            Sound (C.cluster setup.now) (planned plan.entry) self.old.intake.head.link all self.old.play self.old.relay.waiting begun (O.contents output.old) → slice_get all place ≡ Some self.old.intake.record_read →
-            IfErr result (λ fault. fault ≢ SimulationFault.Write → BeginsWith begun (O.contents output.new) (sent (traffic_of (planned plan.entry) self.old.intake.head.link all) (reverse (deliver w place (packet_in self.old.intake.head.link plan.entry.check self.old.intake.record_read) self.old.play).past))) }
+        ensures cut { (w : World) (all : List Record) (begun : Tape) → w.cluster ≡ C.cluster setup.now → SameChoice w.choice (P.choice spread.now) →
+            Sound (C.cluster setup.now) (planned plan.entry) self.old.intake.head.link all self.old.play self.old.relay.waiting begun (O.tape output.old) → slice_get all place ≡ Some self.old.intake.record_read →
+            IfErr result (λ fault. WroteUntil fault begun (O.tape output.new) (sent (traffic_of (planned plan.entry) self.old.intake.head.link all) (reverse (deliver w place (packet_in self.old.intake.head.link plan.entry.check self.old.intake.record_read) self.old.play).past))) }
     {
         let wire = self.wire(plan);
         let before = self.play.history().len();
@@ -135,13 +135,13 @@ impl Stage {
         ensures kept { self.new.kept ≡ self.old.kept }
         ensures intake { self.new.intake ≡ self.old.intake }
         ensures play { OnOk result ((w : World) → w.cluster ≡ C.cluster setup.now → names_records step.now ≡ false → self.new.play ≡ after w step.now self.old.play) }
-        ensures sound { (all : List Record) (begun : Option (List ℕ)) → names_records step.now ≡ false →
-            Sound (C.cluster setup.now) (planned plan.entry) self.old.intake.head.link all self.old.play self.old.relay.waiting begun (O.contents output.old) →
-            OnOk result (Sound (C.cluster setup.now) (planned plan.entry) self.old.intake.head.link all self.new.play self.new.relay.waiting begun (O.contents output.new)) }
+        ensures sound { (all : List Record) (begun : Tape) → names_records step.now ≡ false →
+            Sound (C.cluster setup.now) (planned plan.entry) self.old.intake.head.link all self.old.play self.old.relay.waiting begun (O.tape output.old) →
+            OnOk result (Sound (C.cluster setup.now) (planned plan.entry) self.old.intake.head.link all self.new.play self.new.relay.waiting begun (O.tape output.new)) }
         ensures named { IfErr result IsOfRun }
-        ensures cut { (w : World) (all : List Record) (begun : Option (List ℕ)) → w.cluster ≡ C.cluster setup.now → names_records step.now ≡ false →
-            Sound (C.cluster setup.now) (planned plan.entry) self.old.intake.head.link all self.old.play self.old.relay.waiting begun (O.contents output.old) →
-            IfErr result (λ fault. fault ≢ SimulationFault.Write → BeginsWith begun (O.contents output.new) (sent (traffic_of (planned plan.entry) self.old.intake.head.link all) (reverse (after w step.now self.old.play).past))) }
+        ensures cut { (w : World) (all : List Record) (begun : Tape) → w.cluster ≡ C.cluster setup.now → names_records step.now ≡ false →
+            Sound (C.cluster setup.now) (planned plan.entry) self.old.intake.head.link all self.old.play self.old.relay.waiting begun (O.tape output.old) →
+            IfErr result (λ fault. WroteUntil fault begun (O.tape output.new) (sent (traffic_of (planned plan.entry) self.old.intake.head.link all) (reverse (after w step.now self.old.play).past))) }
     {
         let wire = self.wire(plan);
         let before = self.play.history().len();
@@ -158,7 +158,7 @@ impl Stage {
         ensures play { self.new.play ≡ self.old.play }
         ensures relay { self.new.relay ≡ self.old.relay }
         ensures head { self.new.intake.head ≡ self.old.intake.head }
-        ensures more { (text : Option (List ℕ)) (seen : List Record) → Seen text seen (I.left input.old) self.old.intake → IfOk result (λ more. SeenMore more text seen (I.left input.new) self.new.intake) }
+        ensures more { (text : Tape) (seen : List Record) → Seen text seen (I.tape input.old) self.old.intake → IfOk result (λ more. SeenMore more text seen (I.tape input.new) self.new.intake) }
         ensures same { IfOk result (λ more. more ≡ true → (self.new.intake.ended ≡ self.old.intake.ended) × (self.new.intake.given ≡ self.old.intake.given + 1)) }
         ensures none { IfOk result (λ more. more ≡ false → (self.new.intake.given ≡ self.old.intake.given) × (self.new.kept ≡ self.old.kept)) }
         ensures named { (ss : List Step) → NamesAll ss self.old.kept → OnOk result (NamesAll ss self.new.kept) }
@@ -166,14 +166,14 @@ impl Stage {
             IfOk result (λ more. more ≡ true → slice_get all self.old.intake.given ≡ Some self.new.intake.record_read → Holds all ss (self.old.intake.given + 1) self.new.kept) }
         ensures few { self.new.intake.given ≤ max_records }
         ensures unwritten { IfErr result (λ fault. fault ≢ SimulationFault.Write) }
-        ensures fault { (text : Option (List ℕ)) (seen : List Record) → Seen text seen (I.left input.old) self.old.intake → IfErr result (EndsBy self.old.intake.head text) }
+        ensures stops { (text : Tape) (seen : List Record) → Seen text seen (I.tape input.old) self.old.intake → IfErr result (ReadStops self.old.intake text seen (I.tape input.new)) }
     {
         let place = self.intake.given();
         match self.intake.next(input) {
-            Ok(true) => {
-                self.kept.note(alloc, place, self.intake.frame())?;
-                Ok(true)
-            }
+            Ok(true) => match self.kept.note(alloc, place, self.intake.frame()) {
+                Ok(()) => Ok(true),
+                Err(_) => Err(SimulationFault::Memory),
+            },
             Ok(false) => Ok(false),
             Err(fault) => Err(SimulationFault::Capture(fault)),
         }
@@ -197,14 +197,12 @@ impl Stage {
         ensures live { OnOk result (self.new.play.live ≡ self.old.play.live) }
         ensures few { (n : ℕ) → Counted self.old.intake.given n self.old.play → OnOk result (Counted self.new.intake.given n self.new.play) }
         ensures head { self.new.intake.head ≡ self.old.intake.head }
-        ensures reached { (choice : Choice) (text begun : Option (List ℕ)) (ss : List Step) (k : ℕ) → SameChoice choice (P.choice spread.now) →
-            Reached (C.cluster setup.now) choice (planned plan.entry) text begun (take_of (k + 1) ∷ ss) self.old (I.left input.old) (O.contents output.old) →
-            IfOk result (λ more. Reached (C.cluster setup.now) choice (planned plan.entry) text begun (still_to_take more k ss) self.new (I.left input.new) (O.contents output.new)) }
-        ensures short { (choice : Choice) (text begun : Option (List ℕ)) (ss : List Step) (k : ℕ) → SameChoice choice (P.choice spread.now) →
-            Reached (C.cluster setup.now) choice (planned plan.entry) text begun (take_of (k + 1) ∷ ss) self.old (I.left input.old) (O.contents output.old) →
-            IfErr result (λ fault. fault ≢ SimulationFault.Write → Shortened (C.cluster setup.now) choice (planned plan.entry) self.old.intake.head text begun (O.contents output.new)) }
-        ensures fault { (choice : Choice) (text begun : Option (List ℕ)) (ss : List Step) →
-            Reached (C.cluster setup.now) choice (planned plan.entry) text begun ss self.old (I.left input.old) (O.contents output.old) → IfErr result (EndsBy self.old.intake.head text) }
+        ensures reached { (choice : Choice) (text begun : Tape) (ss : List Step) (k : ℕ) → SameChoice choice (P.choice spread.now) →
+            Reached (C.cluster setup.now) choice (planned plan.entry) text begun (take_of (k + 1) ∷ ss) self.old (I.tape input.old) (O.tape output.old) →
+            IfOk result (λ more. Reached (C.cluster setup.now) choice (planned plan.entry) text begun (still_to_take more k ss) self.new (I.tape input.new) (O.tape output.new)) }
+        ensures short { (choice : Choice) (text begun : Tape) (ss : List Step) (k : ℕ) → SameChoice choice (P.choice spread.now) →
+            Reached (C.cluster setup.now) choice (planned plan.entry) text begun (take_of (k + 1) ∷ ss) self.old (I.tape input.old) (O.tape output.old) →
+            IfErr result (λ fault. Shortened (C.cluster setup.now) choice (planned plan.entry) self.old.intake.head text (I.tape input.new) begun (O.tape output.new) fault) }
     {
         match self.read_one(alloc, input) {
             Ok(true) => {}
@@ -237,14 +235,12 @@ impl Stage {
         ensures live { OnOk result (self.new.play.live ≡ self.old.play.live) }
         ensures few { (n : ℕ) → Counted self.old.intake.given n self.old.play → OnOk result (Counted self.new.intake.given n self.new.play) }
         ensures head { self.new.intake.head ≡ self.old.intake.head }
-        ensures reached { (choice : Choice) (text begun : Option (List ℕ)) (ss : List Step) → SameChoice choice (P.choice spread.now) →
-            Reached (C.cluster setup.now) choice (planned plan.entry) text begun (take_of count ∷ ss) self.old (I.left input.old) (O.contents output.old) →
-            OnOk result (Reached (C.cluster setup.now) choice (planned plan.entry) text begun ss self.new (I.left input.new) (O.contents output.new)) }
-        ensures short { (choice : Choice) (text begun : Option (List ℕ)) (ss : List Step) → SameChoice choice (P.choice spread.now) →
-            Reached (C.cluster setup.now) choice (planned plan.entry) text begun (take_of count ∷ ss) self.old (I.left input.old) (O.contents output.old) →
-            IfErr result (λ fault. fault ≢ SimulationFault.Write → Shortened (C.cluster setup.now) choice (planned plan.entry) self.old.intake.head text begun (O.contents output.new)) }
-        ensures fault { (choice : Choice) (text begun : Option (List ℕ)) (ss : List Step) → SameChoice choice (P.choice spread.now) →
-            Reached (C.cluster setup.now) choice (planned plan.entry) text begun (take_of count ∷ ss) self.old (I.left input.old) (O.contents output.old) → IfErr result (EndsBy self.old.intake.head text) }
+        ensures reached { (choice : Choice) (text begun : Tape) (ss : List Step) → SameChoice choice (P.choice spread.now) →
+            Reached (C.cluster setup.now) choice (planned plan.entry) text begun (take_of count ∷ ss) self.old (I.tape input.old) (O.tape output.old) →
+            OnOk result (Reached (C.cluster setup.now) choice (planned plan.entry) text begun ss self.new (I.tape input.new) (O.tape output.new)) }
+        ensures short { (choice : Choice) (text begun : Tape) (ss : List Step) → SameChoice choice (P.choice spread.now) →
+            Reached (C.cluster setup.now) choice (planned plan.entry) text begun (take_of count ∷ ss) self.old (I.tape input.old) (O.tape output.old) →
+            IfErr result (λ fault. Shortened (C.cluster setup.now) choice (planned plan.entry) self.old.intake.head text (I.tape input.new) begun (O.tape output.new) fault) }
     {
         for _ in 0..count {
             match self.take_one(alloc, core, setup, spread, plan, input, output) {
@@ -262,11 +258,11 @@ impl Stage {
         ensures play { OnOk result ((self.new.play.past ≡ self.old.play.past) × (self.new.play.live ≡ self.old.play.live)) }
         ensures few { (n : ℕ) → Counted self.old.intake.given n self.old.play → OnOk result (Counted self.new.intake.given n self.new.play) }
         ensures head { self.new.intake.head ≡ self.old.intake.head }
-        ensures reached { (cluster : Cluster) (choice : Choice) (plan : Planned) (text begun out : Option (List ℕ)) (ss : List Step) (k : ℕ) →
-            Reached cluster choice plan text begun (lose_of (k + 1) ∷ ss) self.old (I.left input.old) out →
-            IfOk result (λ more. Reached cluster choice plan text begun (still_to_lose more k ss) self.new (I.left input.new) out) }
-        ensures unwritten { IfErr result (λ fault. fault ≢ SimulationFault.Write) }
-        ensures fault { (text : Option (List ℕ)) (seen : List Record) → Seen text seen (I.left input.old) self.old.intake → IfErr result (EndsBy self.old.intake.head text) }
+        ensures reached { (cluster : Cluster) (choice : Choice) (plan : Planned) (text begun out : Tape) (ss : List Step) (k : ℕ) →
+            Reached cluster choice plan text begun (lose_of (k + 1) ∷ ss) self.old (I.tape input.old) out →
+            IfOk result (λ more. Reached cluster choice plan text begun (still_to_lose more k ss) self.new (I.tape input.new) out) }
+        ensures short { (cluster : Cluster) (choice : Choice) (plan : Planned) (text begun out : Tape) (ss : List Step) →
+            Reached cluster choice plan text begun ss self.old (I.tape input.old) out → IfErr result (λ fault. Shortened cluster choice plan self.old.intake.head text (I.tape input.new) begun out fault) }
     {
         match self.read_one(alloc, input) {
             Ok(true) => {}
@@ -288,12 +284,11 @@ impl Stage {
         ensures play { OnOk result ((self.new.play.past ≡ self.old.play.past) × (self.new.play.live ≡ self.old.play.live)) }
         ensures few { (n : ℕ) → Counted self.old.intake.given n self.old.play → OnOk result (Counted self.new.intake.given n self.new.play) }
         ensures head { self.new.intake.head ≡ self.old.intake.head }
-        ensures reached { (cluster : Cluster) (choice : Choice) (plan : Planned) (text begun out : Option (List ℕ)) (ss : List Step) →
-            Reached cluster choice plan text begun (lose_of count ∷ ss) self.old (I.left input.old) out →
-            OnOk result (Reached cluster choice plan text begun ss self.new (I.left input.new) out) }
-        ensures unwritten { IfErr result (λ fault. fault ≢ SimulationFault.Write) }
-        ensures fault { (cluster : Cluster) (choice : Choice) (plan : Planned) (text begun out : Option (List ℕ)) (ss : List Step) →
-            Reached cluster choice plan text begun (lose_of count ∷ ss) self.old (I.left input.old) out → IfErr result (EndsBy self.old.intake.head text) }
+        ensures reached { (cluster : Cluster) (choice : Choice) (plan : Planned) (text begun out : Tape) (ss : List Step) →
+            Reached cluster choice plan text begun (lose_of count ∷ ss) self.old (I.tape input.old) out →
+            OnOk result (Reached cluster choice plan text begun ss self.new (I.tape input.new) out) }
+        ensures short { (cluster : Cluster) (choice : Choice) (plan : Planned) (text begun out : Tape) (ss : List Step) →
+            Reached cluster choice plan text begun (lose_of count ∷ ss) self.old (I.tape input.old) out → IfErr result (λ fault. Shortened cluster choice plan self.old.intake.head text (I.tape input.new) begun out fault) }
     {
         for _ in 0..count {
             match self.lose_one(alloc, input) {
@@ -338,12 +333,12 @@ impl Stage {
         ensures few { (n : ℕ) → Counted self.old.intake.given n self.old.play → OnOk result (Counted self.new.intake.given (n + 1) self.new.play) }
         ensures head { self.new.intake.head ≡ self.old.intake.head }
         ensures named { IfErr result IsOfRun }
-        ensures reached { (choice : Choice) (text begun left : Option (List ℕ)) (ss : List Step) → SameChoice choice (P.choice spread.now) → IsAgain place plan.entry.steps.now →
-            Reached (C.cluster setup.now) choice (planned plan.entry) text begun (again_of place ∷ ss) self.old left (O.contents output.old) →
-            OnOk result (Reached (C.cluster setup.now) choice (planned plan.entry) text begun ss self.new left (O.contents output.new)) }
-        ensures short { (choice : Choice) (text begun left : Option (List ℕ)) (ss : List Step) → SameChoice choice (P.choice spread.now) → IsAgain place plan.entry.steps.now →
-            Reached (C.cluster setup.now) choice (planned plan.entry) text begun (again_of place ∷ ss) self.old left (O.contents output.old) →
-            IfErr result (λ fault. fault ≢ SimulationFault.Write → Shortened (C.cluster setup.now) choice (planned plan.entry) self.old.intake.head text begun (O.contents output.new)) }
+        ensures reached { (choice : Choice) (text begun left : Tape) (ss : List Step) → SameChoice choice (P.choice spread.now) → IsAgain place plan.entry.steps.now →
+            Reached (C.cluster setup.now) choice (planned plan.entry) text begun (again_of place ∷ ss) self.old left (O.tape output.old) →
+            OnOk result (Reached (C.cluster setup.now) choice (planned plan.entry) text begun ss self.new left (O.tape output.new)) }
+        ensures short { (choice : Choice) (text begun left : Tape) (ss : List Step) → SameChoice choice (P.choice spread.now) → IsAgain place plan.entry.steps.now →
+            Reached (C.cluster setup.now) choice (planned plan.entry) text begun (again_of place ∷ ss) self.old left (O.tape output.old) →
+            IfErr result (λ fault. Shortened (C.cluster setup.now) choice (planned plan.entry) self.old.intake.head text left begun (O.tape output.new) fault) }
     {
         match self.seen_one(alloc, place) {
             Ok(Some(frame)) => {
@@ -381,12 +376,12 @@ impl Stage {
         ensures few { (n : ℕ) → Counted self.old.intake.given n self.old.play → OnOk result (Counted self.new.intake.given (n + 1) self.new.play) }
         ensures head { self.new.intake.head ≡ self.old.intake.head }
         ensures named { IfErr result IsOfRun }
-        ensures reached { (choice : Choice) (text begun left : Option (List ℕ)) (ss : List Step) →
-            Reached (C.cluster setup.now) choice (planned plan.entry) text begun (step.now ∷ ss) self.old left (O.contents output.old) →
-            OnOk result (Reached (C.cluster setup.now) choice (planned plan.entry) text begun ss self.new left (O.contents output.new)) }
-        ensures short { (choice : Choice) (text begun left : Option (List ℕ)) (ss : List Step) →
-            Reached (C.cluster setup.now) choice (planned plan.entry) text begun (step.now ∷ ss) self.old left (O.contents output.old) →
-            IfErr result (λ fault. fault ≢ SimulationFault.Write → Shortened (C.cluster setup.now) choice (planned plan.entry) self.old.intake.head text begun (O.contents output.new)) }
+        ensures reached { (choice : Choice) (text begun left : Tape) (ss : List Step) →
+            Reached (C.cluster setup.now) choice (planned plan.entry) text begun (step.now ∷ ss) self.old left (O.tape output.old) →
+            OnOk result (Reached (C.cluster setup.now) choice (planned plan.entry) text begun ss self.new left (O.tape output.new)) }
+        ensures short { (choice : Choice) (text begun left : Tape) (ss : List Step) →
+            Reached (C.cluster setup.now) choice (planned plan.entry) text begun (step.now ∷ ss) self.old left (O.tape output.old) →
+            IfErr result (λ fault. Shortened (C.cluster setup.now) choice (planned plan.entry) self.old.intake.head text left begun (O.tape output.new) fault) }
     {
         match self.apart(alloc, core, setup, spread, plan, step, output) {
             Ok(()) => Ok(()),
@@ -414,14 +409,12 @@ impl Stage {
         ensures choice { SameChoice (P.choice spread.old) (P.choice spread.new) }
         ensures few { (n : ℕ) → Counted self.old.intake.given n self.old.play → OnOk result (Counted self.new.intake.given (n + 1) self.new.play) }
         ensures head { self.new.intake.head ≡ self.old.intake.head }
-        ensures reached { (choice : Choice) (text begun : Option (List ℕ)) (ss : List Step) → SameChoice choice (P.choice spread.old) → AmongSteps step.now plan.entry.steps.now →
-            Reached (C.cluster setup.now) choice (planned plan.entry) text begun (step.now ∷ ss) self.old (I.left input.old) (O.contents output.old) →
-            OnOk result (Reached (C.cluster setup.now) choice (planned plan.entry) text begun ss self.new (I.left input.new) (O.contents output.new)) }
-        ensures short { (choice : Choice) (text begun : Option (List ℕ)) (ss : List Step) → SameChoice choice (P.choice spread.old) → AmongSteps step.now plan.entry.steps.now →
-            Reached (C.cluster setup.now) choice (planned plan.entry) text begun (step.now ∷ ss) self.old (I.left input.old) (O.contents output.old) →
-            IfErr result (λ fault. fault ≢ SimulationFault.Write → Shortened (C.cluster setup.now) choice (planned plan.entry) self.old.intake.head text begun (O.contents output.new)) }
-        ensures fault { (choice : Choice) (text begun : Option (List ℕ)) (ss : List Step) → SameChoice choice (P.choice spread.old) →
-            Reached (C.cluster setup.now) choice (planned plan.entry) text begun (step.now ∷ ss) self.old (I.left input.old) (O.contents output.old) → IfErr result (EndsBy self.old.intake.head text) }
+        ensures reached { (choice : Choice) (text begun : Tape) (ss : List Step) → SameChoice choice (P.choice spread.old) → AmongSteps step.now plan.entry.steps.now →
+            Reached (C.cluster setup.now) choice (planned plan.entry) text begun (step.now ∷ ss) self.old (I.tape input.old) (O.tape output.old) →
+            OnOk result (Reached (C.cluster setup.now) choice (planned plan.entry) text begun ss self.new (I.tape input.new) (O.tape output.new)) }
+        ensures short { (choice : Choice) (text begun : Tape) (ss : List Step) → SameChoice choice (P.choice spread.old) → AmongSteps step.now plan.entry.steps.now →
+            Reached (C.cluster setup.now) choice (planned plan.entry) text begun (step.now ∷ ss) self.old (I.tape input.old) (O.tape output.old) →
+            IfErr result (λ fault. Shortened (C.cluster setup.now) choice (planned plan.entry) self.old.intake.head text (I.tape input.new) begun (O.tape output.new) fault) }
     {
         match step {
             Step::Take(count) => self.take(alloc, core, setup, spread, plan, *count, input, output),
@@ -449,14 +442,12 @@ impl Stage {
         ensures stands { OnOk result (C.stands setup.now self.new.play.past core.new) }
         ensures head { self.new.intake.head ≡ self.old.intake.head }
         ensures read { OnOk result (self.new.play.read ≤ self.new.intake.given) }
-        ensures reached { (text begun : Option (List ℕ)) →
-            Reached (C.cluster setup.now) (P.choice spread.old) (planned plan.entry) text begun plan.entry.steps.now self.old (I.left input.old) (O.contents output.old) →
-            OnOk result (Reached (C.cluster setup.now) (P.choice spread.old) (planned plan.entry) text begun [] self.new (I.left input.new) (O.contents output.new)) }
-        ensures short { (text begun : Option (List ℕ)) →
-            Reached (C.cluster setup.now) (P.choice spread.old) (planned plan.entry) text begun plan.entry.steps.now self.old (I.left input.old) (O.contents output.old) →
-            IfErr result (λ fault. fault ≢ SimulationFault.Write → Shortened (C.cluster setup.now) (P.choice spread.old) (planned plan.entry) self.old.intake.head text begun (O.contents output.new)) }
-        ensures fault { (text begun : Option (List ℕ)) →
-            Reached (C.cluster setup.now) (P.choice spread.old) (planned plan.entry) text begun plan.entry.steps.now self.old (I.left input.old) (O.contents output.old) → IfErr result (EndsBy self.old.intake.head text) }
+        ensures reached { (text begun : Tape) →
+            Reached (C.cluster setup.now) (P.choice spread.old) (planned plan.entry) text begun plan.entry.steps.now self.old (I.tape input.old) (O.tape output.old) →
+            OnOk result (Reached (C.cluster setup.now) (P.choice spread.old) (planned plan.entry) text begun [] self.new (I.tape input.new) (O.tape output.new)) }
+        ensures short { (text begun : Tape) →
+            Reached (C.cluster setup.now) (P.choice spread.old) (planned plan.entry) text begun plan.entry.steps.now self.old (I.tape input.old) (O.tape output.old) →
+            IfErr result (λ fault. Shortened (C.cluster setup.now) (P.choice spread.old) (planned plan.entry) self.old.intake.head text (I.tape input.new) begun (O.tape output.new) fault) }
     {
         for step in plan.steps {
             match self.step(alloc, core, setup, spread, plan, step, input, output) {
@@ -472,11 +463,12 @@ impl Stage {
         requires { self.play.read ≤ self.intake.given }
         ensures play { IfOk result (λ p. p.play ≡ self.play) }
         ensures read { IfOk result (λ p. p.play.read ≤ p.packets) }
-        ensures over { (cluster : Cluster) (choice : Choice) (plan : Planned) (text begun out : Option (List ℕ)) →
-            Reached cluster choice plan text begun [] self (I.left input.old) out →
-            IfOk result (λ p. IsOver cluster choice plan self.intake.head text begun out p.play p.packets p.ending) }
-        ensures unwritten { IfErr result (λ fault. fault ≢ SimulationFault.Write) }
-        ensures fault { (text : Option (List ℕ)) (seen : List Record) → Seen text seen (I.left input.old) self.intake → IfErr result (EndsBy self.intake.head text) }
+        ensures over { (cluster : Cluster) (choice : Choice) (plan : Planned) (text begun out : Tape) →
+            Reached cluster choice plan text begun [] self (I.tape input.old) out →
+            IfOk result (λ p. IsOver cluster choice plan self.intake.head text (I.tape input.new) begun out p.play p.packets p.ending) }
+        ensures short { (cluster : Cluster) (choice : Choice) (plan : Planned) (text begun out : Tape) →
+            Reached cluster choice plan text begun [] self (I.tape input.old) out →
+            IfErr result (λ fault. Shortened cluster choice plan self.intake.head text (I.tape input.new) begun out fault) }
     {
         let Stage {
             play,
@@ -513,11 +505,10 @@ pub(crate) fn play_records<C: Core, P: Spread, I: Source, O: Sink>(
     requires workers { (C.cluster setup.now).workers ≤ 16 }
     requires cluster { (C.cluster setup.now).nodes ≡ length plan.nodes.now }
     requires orderly { Orderly (C.cluster setup.now) }
-    ensures over { IfOk result (λ p. IsOver (C.cluster setup.now) (P.choice spread.old) (planned plan.entry) head (I.left input.old) (O.contents output.old) (O.contents output.new) p.play p.packets p.ending) }
+    ensures over { IfOk result (λ p. IsOver (C.cluster setup.now) (P.choice spread.old) (planned plan.entry) head (I.tape input.old) (I.tape input.new) (O.tape output.old) (O.tape output.new) p.play p.packets p.ending) }
     ensures read { IfOk result (λ p. p.play.read ≤ p.packets) }
     ensures stands { IfOk result (λ p. C.stands setup.now p.play.past core.new) }
-    ensures short { IfErr result (λ fault. fault ≢ SimulationFault.Write → Shortened (C.cluster setup.now) (P.choice spread.old) (planned plan.entry) head (I.left input.old) (O.contents output.old) (O.contents output.new)) }
-    ensures fault { IfErr result (EndsBy head (I.left input.old)) }
+    ensures short { IfErr result (λ fault. Shortened (C.cluster setup.now) (P.choice spread.old) (planned plan.entry) head (I.tape input.old) (I.tape input.new) (O.tape output.old) (O.tape output.new) fault) }
 {
     let mut stage = match Stage::make(alloc, plan, head) {
         Ok(stage) => stage,

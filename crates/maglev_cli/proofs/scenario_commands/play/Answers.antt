@@ -1,46 +1,48 @@
-use Rattle.std.proofs.Common.{◌≡◌, ◌∙◌, ◌⊎◌, ap, subst, inr, string_bytes}
+use Rattle.std.proofs.Common.{◌≡◌, ◌⊎◌, List, ℕ, subst, inl, inr, string_bytes, refl}
 use Rattle.std.proofs.lemmas.Result.{IfOk-weaker, IfErr-weaker}
 use Rattle.std.specs.Io.KnownBytes.{Appends}
-use Rattle.simulation.specs.declared.fault.SimulationFault.TheVariants as run
+use Rattle.pcap_file.specs.Device.{Unfailed, PutRefused}
 use Rattle.maglev_cli.specs.declared.fault.CliFault.TheVariants.{Write}
-use Rattle.maglev_cli.specs.Scenarios.{Plays, ScenarioFails, RunFails, run_fault}
+use Rattle.maglev_cli.specs.Scenarios.{Plays, ScenarioFails, RunFails, ReportFails}
 use Rattle.maglev_cli.proofs.scenario_commands.play.Goals as goal
 
 pub returns-in-Ok-play_scenario-clause-played : goal.returns-in-Ok-play_scenario-clause-played
 returns-in-Ok-play_scenario-clause-played g c =
     IfOk-weaker c.put_text.result
-    (λ _. Appends (g.R.Sink.contents c.args.report.now) (g.R.Sink.contents c.put_text.new.report) c.as_str.result.now)
-    (λ _. Plays c.args.asked c.args.scenario.now (g.I.Source.left c.args.input.now) (g.O.Sink.contents c.args.output.now) (g.O.Sink.contents c.play_scenario.new.output) (g.R.Sink.contents c.args.report.now) (g.R.Sink.contents c.put_text.new.report))
+    (λ _. Appends (g.R.Sink.tape c.args.report.now).bytes (g.R.Sink.tape c.put_text.new.sink).bytes c.as_str.result.now × Unfailed (g.R.Sink.tape c.args.report.now) (g.R.Sink.tape c.put_text.new.sink))
+    (λ _. Plays c.args.asked c.args.scenario.now (g.I.Source.tape c.args.input.now) (g.I.Source.tape c.play_scenario.new.input) (g.O.Sink.tape c.args.output.now) (g.O.Sink.tape c.play_scenario.new.output) (g.R.Sink.tape c.args.report.now) (g.R.Sink.tape c.put_text.new.sink))
     (λ _ written. record {
       scenario = c.in-Ok.scenario;
       means = c.in-Ok.ensures.means;
       answer = string_bytes c.in-Ok-play_scenario.text;
       answers = c.in-Ok-play_scenario.ensures.ok;
-      written = subst (λ text. Appends (g.R.Sink.contents c.args.report.now) (g.R.Sink.contents c.put_text.new.report) text) c.as_str.ensures.value written;
+      written = subst (λ (text : List ℕ). Appends (g.R.Sink.tape c.args.report.now).bytes (g.R.Sink.tape c.put_text.new.sink).bytes text) c.as_str.ensures.value written.0;
+      unfailed = written.1;
     })
     c.put_text.ensures.written
 
 pub returns-in-Ok-play_scenario-clause-stopped : goal.returns-in-Ok-play_scenario-clause-stopped
 returns-in-Ok-play_scenario-clause-stopped g c =
-    IfErr-weaker c.put_text.result (λ fault. fault ≡ Write)
-    (λ fault. (ScenarioFails fault c.args.scenario.now × (c.play_scenario.new.input ≡ c.args.input.now) × (c.play_scenario.new.output ≡ c.args.output.now)) ⊎ RunFails fault c.args.scenario.now (g.I.Source.left c.args.input.now) (g.O.Sink.contents c.args.output.now) (g.O.Sink.contents c.play_scenario.new.output))
-    (λ _ is. inr (record {
+    IfErr-weaker c.put_text.result (λ fault. (fault ≡ Write) × PutRefused c.as_str.result.now (g.R.Sink.tape c.args.report.now) (g.R.Sink.tape c.put_text.new.sink))
+    (λ fault. (ScenarioFails fault c.args.scenario.now × (c.play_scenario.new.input ≡ c.args.input.now) × (c.play_scenario.new.output ≡ c.args.output.now) × (c.put_text.new.sink ≡ c.args.report.now))
+        ⊎ ((RunFails fault c.args.scenario.now (g.I.Source.tape c.args.input.now) (g.I.Source.tape c.play_scenario.new.input) (g.O.Sink.tape c.args.output.now) (g.O.Sink.tape c.play_scenario.new.output) × (c.put_text.new.sink ≡ c.args.report.now))
+        ⊎ ReportFails fault c.args.asked c.args.scenario.now (g.I.Source.tape c.args.input.now) (g.I.Source.tape c.play_scenario.new.input) (g.O.Sink.tape c.args.output.now) (g.O.Sink.tape c.play_scenario.new.output) (g.R.Sink.tape c.args.report.now) (g.R.Sink.tape c.put_text.new.sink)))
+    (λ _ is. inr (inr (record {
       scenario = c.in-Ok.scenario;
       means = c.in-Ok.ensures.means;
-      why = run.Write;
-      named = is;
-      reason = tt;
-      stopped = λ other. absurd (other is);
-    }))
-    c.put_text.ensures.fault
+      answer = string_bytes c.in-Ok-play_scenario.text;
+      answers = c.in-Ok-play_scenario.ensures.ok;
+      named = is.0;
+      refused = subst (λ (text : List ℕ). PutRefused text (g.R.Sink.tape c.args.report.now) (g.R.Sink.tape c.put_text.new.sink)) c.as_str.ensures.value is.1;
+    })))
+    c.put_text.ensures.refused
 
 pub returns-in-Err-play_scenario-clause-stopped : goal.returns-in-Err-play_scenario-clause-stopped
 returns-in-Err-play_scenario-clause-stopped g c =
-    inr (record {
+    inr (inl (record {
       scenario = c.in-Ok.scenario;
       means = c.in-Ok.ensures.means;
       why = c.in-Err-play_scenario.fault;
       named = c.run_fault.ensures;
-      reason = c.in-Err-play_scenario.ensures.fault;
-      stopped = λ other. c.in-Err-play_scenario.ensures.stopped (λ is. other (c.run_fault.ensures ∙ ap run_fault is));
-    })
+      stopped = c.in-Err-play_scenario.ensures.stopped;
+    }, refl))

@@ -1,4 +1,5 @@
-use Rattle.std.proofs.Common.{◌≡◌, ◌-◌, ◌≤◌, List, ℕ, Option}
+use Rattle.std.proofs.Common.{◌≡◌, ◌-◌, ◌≤◌, List}
+use Rattle.pcap_file.specs.Device.{Tape}
 use Rattle.pcap_file.specs.Format.{Packet as Record, max_records}
 use Rattle.simulation.specs.Intake.{Seen}
 use Rattle.simulation.proofs.Intakes.{Onward}
@@ -8,7 +9,7 @@ abbrev pub invariant-loop-ending : goal.invariant-loop-ending
 invariant-loop-ending g l = record {
   head : l.self.head ≡ l.initial.self.head;
   few : l.initial.self.given ≤ l.self.given;
-  onward : (text : Option (List ℕ)) (seen : List Record) → Seen text seen (g.I.Source.left l.initial.input) l.initial.self → Onward text seen (g.I.Source.left l.input) l.initial.self l.self;
+  onward : (text : Tape) (seen : List Record) → Seen text seen (g.I.Source.tape l.initial.input) l.initial.self → Onward text seen (g.I.Source.tape l.input) l.initial.self l.self;
 }
 
 abbrev pub decreases-loop-ending : goal.decreases-loop-ending

@@ -11,18 +11,25 @@ loop-said-preserved g c = record {
   going = λ all k past can quiet.
       let t = traffic c.args.wire.now all in
       let rest = drop (c.loop-said.said-index + 1) c.args.events.now in
-      let now : Settling all k past c.args.events.now (c.said-item.result ∷ rest) c.loop-said.self.waiting t (g.O.Sink.contents c.args.output.now) (g.O.Sink.contents c.loop-said.output) =
-      subst (λ (l : List Said). Settling all k past c.args.events.now l c.loop-said.self.waiting t (g.O.Sink.contents c.args.output.now) (g.O.Sink.contents c.loop-said.output))
+      let now : Settling all k past c.args.events.now (c.said-item.result ∷ rest) c.loop-said.self.waiting t (g.O.Sink.tape c.args.output.now) (g.O.Sink.tape c.loop-said.output) =
+      subst (λ (l : List Said). Settling all k past c.args.events.now l c.loop-said.self.waiting t (g.O.Sink.tape c.args.output.now) (g.O.Sink.tape c.loop-said.output))
       (next_of c.args.events.now c.loop-said.said-index c.said-item.result (omega arith) c.said-item.is) (c.loop-said.invariant.going all k past can quiet) in
       settling_more all k past c.args.events.now rest c.said-item.result c.loop-said.self.waiting c.settle_one.new.self.waiting t _ _ _ now
       (c.in-Ok.ensures.settled all k now.done (can_follow all k past c.args.events.now rest c.said-item.result c.loop-said.self.waiting c.args.self.now.waiting t _ _ can c.loop-said.invariant.count now) now.quiet.0);
 }
 
 pub returns-in-Err-clause-cut : goal.returns-in-Err-clause-cut
-returns-in-Err-clause-cut g c = λ all k past can quiet n. rw (c.in-Err.ensures.kept n) (cut_short all k past c.args.events.now _ _ (traffic c.args.wire.now all) _ _ (c.loop-said.invariant.going all k past can quiet))
+returns-in-Err-clause-cut g c = λ all k past can quiet.
+    let t = traffic c.args.wire.now all in
+    let rest = drop (c.loop-said.said-index + 1) c.args.events.now in
+    let now : Settling all k past c.args.events.now (c.said-item.result ∷ rest) c.loop-said.self.waiting t (g.O.Sink.tape c.args.output.now) (g.O.Sink.tape c.loop-said.output) =
+    subst (λ (l : List Said). Settling all k past c.args.events.now l c.loop-said.self.waiting t (g.O.Sink.tape c.args.output.now) (g.O.Sink.tape c.loop-said.output))
+    (next_of c.args.events.now c.loop-said.said-index c.said-item.result (omega arith) c.said-item.is) (c.loop-said.invariant.going all k past can quiet) in
+    cut_short all k past c.args.events.now rest c.said-item.result c.loop-said.self.waiting t _ _ _ c.in-Err.fault now
+    (c.in-Err.ensures.cut all k now.done (can_follow all k past c.args.events.now rest c.said-item.result c.loop-said.self.waiting c.args.self.now.waiting t _ _ can c.loop-said.invariant.count now) now.quiet.0)
 
 pub returns-clause-settled : goal.returns-clause-settled
 returns-clause-settled g c = λ all k past can quiet.
     settled_all all k past c.args.events.now c.loop-said.self.waiting (traffic c.args.wire.now all) _ _
-    (subst (λ (l : List Said). Settling all k past c.args.events.now l c.loop-said.self.waiting (traffic c.args.wire.now all) (g.O.Sink.contents c.args.output.now) (g.O.Sink.contents c.loop-said.output))
+    (subst (λ (l : List Said). Settling all k past c.args.events.now l c.loop-said.self.waiting (traffic c.args.wire.now all) (g.O.Sink.tape c.args.output.now) (g.O.Sink.tape c.loop-said.output))
     (drop_all c.loop-said.said-index c.args.events.now (omega arith)) (c.loop-said.invariant.going all k past can quiet))

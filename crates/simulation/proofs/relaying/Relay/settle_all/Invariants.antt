@@ -12,5 +12,5 @@ abbrev pub invariant-loop-said : goal.invariant-loop-said
 invariant-loop-said g l = record {
   count : length l.self.waiting ≡ length l.initial.self.waiting;
   going : (all : List Record) (k : Cluster) (past : List Said) → CanSettle all k past l.events l.initial.self.waiting → NoArrivals l.events →
-      Settling all k past l.events (drop l.said-index l.events) l.self.waiting (traffic l.wire all) (g.O.Sink.contents l.initial.output) (g.O.Sink.contents l.output);
+      Settling all k past l.events (drop l.said-index l.events) l.self.waiting (traffic l.wire all) (g.O.Sink.tape l.initial.output) (g.O.Sink.tape l.output);
 }

@@ -1,10 +1,8 @@
 use Rattle.std.proofs.Common.{◌≡◌, ◌∷◌, List, ◌∙◌, sym, subst, ap}
-use Rattle.std.specs.Prelude.{OnOk, IfErr, ◌≢◌}
-use Rattle.std.specs.Io.KnownBytes.{Appends}
+use Rattle.std.specs.Prelude.{OnOk, IfErr}
 use Rattle.cluster_node.specs.declared.events.Said.{Said}
 use Rattle.waiting_frames.specs.Mirrors.{Mirrors}
-use Rattle.simulation.specs.declared.fault.SimulationFault.TheVariants.{Write}
-use Rattle.simulation.specs.Sent.{Sending, sent, records_text, BeginsWith}
+use Rattle.simulation.specs.Sent.{Sending, sent, Wrote, WroteUntil}
 use Rattle.simulation.specs.Wires.{traffic}
 use Rattle.simulation.specs.Going.{onto}
 use Rattle.simulation.specs.Following.{ArrivesFirst, CanSettle}
@@ -19,8 +17,8 @@ returns-clause-settled g c = λ all k past can first.
     let t = traffic c.args.wire.now all in
     let m = c.in_ok-take_in.ensures.taken all k past (can_first all k past c.in-Some.rest.now c.in-Some.first.now c.args.self.now.waiting can') first'.0 in
     let done = c.settle_all.ensures.settled all k (c.in-Some.first.now ∷ past) (can_rest all k past c.in-Some.rest.now c.in-Some.first.now c.args.self.now.waiting c.take_in.new.self.waiting can' c.take_in.ensures.count m) first'.1 in
-    subst (λ (l : List Said). OnOk c.settle_all.result (Mirrors all k (onto past l) c.settle_all.new.self.waiting × Appends (g.O.Sink.contents c.args.output.now) (g.O.Sink.contents c.settle_all.new.output) (records_text (sent t l)))) (sym is)
-    (subst (λ (l : List Sending). OnOk c.settle_all.result (Mirrors all k (onto (c.in-Some.first.now ∷ past) c.in-Some.rest.now) c.settle_all.new.self.waiting × Appends (g.O.Sink.contents c.args.output.now) (g.O.Sink.contents c.settle_all.new.output) (records_text l)))
+    subst (λ (l : List Said). OnOk c.settle_all.result (Mirrors all k (onto past l) c.settle_all.new.self.waiting × Wrote (g.O.Sink.tape c.args.output.now) (g.O.Sink.tape c.settle_all.new.output) (sent t l))) (sym is)
+    (subst (λ (l : List Sending). OnOk c.settle_all.result (Mirrors all k (onto (c.in-Some.first.now ∷ past) c.in-Some.rest.now) c.settle_all.new.self.waiting × Wrote (g.O.Sink.tape c.args.output.now) (g.O.Sink.tape c.settle_all.new.output) l))
     (sym (all_sent all k past c.in-Some.rest.now c.in-Some.first.now c.args.intake.now.record_read c.args.self.now.waiting t can' first'.0)) done)
 
 pub returns-clause-cut : goal.returns-clause-cut
@@ -31,5 +29,5 @@ returns-clause-cut g c = λ all k past can first.
     let t = traffic c.args.wire.now all in
     let m = c.in_ok-take_in.ensures.taken all k past (can_first all k past c.in-Some.rest.now c.in-Some.first.now c.args.self.now.waiting can') first'.0 in
     let done = c.settle_all.ensures.cut all k (c.in-Some.first.now ∷ past) (can_rest all k past c.in-Some.rest.now c.in-Some.first.now c.args.self.now.waiting c.take_in.new.self.waiting can' c.take_in.ensures.count m) first'.1 in
-    subst (λ (l : List Sending). IfErr c.settle_all.result (λ fault. fault ≢ Write → BeginsWith (g.O.Sink.contents c.args.output.now) (g.O.Sink.contents c.settle_all.new.output) l))
+    subst (λ (l : List Sending). IfErr c.settle_all.result (λ fault. WroteUntil fault (g.O.Sink.tape c.args.output.now) (g.O.Sink.tape c.settle_all.new.output) l))
     (sym (ap (sent t) is ∙ all_sent all k past c.in-Some.rest.now c.in-Some.first.now c.args.intake.now.record_read c.args.self.now.waiting t can' first'.0)) done

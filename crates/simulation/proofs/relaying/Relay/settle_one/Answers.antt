@@ -1,14 +1,22 @@
 use Rattle.simulation.specs.Wires.{traffic}
-use Rattle.simulation.proofs.Followed.{nothing_sent, sent_as_taken, appends_nothing, settled_with}
+use Rattle.std.proofs.Common.{List, subst}
+use Rattle.std.specs.Prelude.{IfErr}
+use Rattle.simulation.specs.Sent.{Sending, WroteUntil}
+use Rattle.simulation.proofs.Followed.{nothing_sent, sent_as_taken, wrote_nothing, settled_with}
 use Rattle.simulation.proofs.relaying.Relay.settle_one.Goals as goal
 
 pub returns-in_default-clause-settled : goal.returns-in_default-clause-settled
 returns-in_default-clause-settled g c = λ all k past can quiet. (
   c.settle.ensures.mirrors all k past can quiet,
-  appends_nothing _ _ (nothing_sent (traffic c.args.wire.now all) c.args.said.now.outcome (λ n w i x b v e. c.in_default.ensures.sent all k past can n w i x b v e)),
+  wrote_nothing _ _ (nothing_sent (traffic c.args.wire.now all) c.args.said.now.outcome (λ n w i x b v e. c.in_default.ensures.sent all k past can n w i x b v e)),
 )
 
 pub returns-clause-settled : goal.returns-clause-settled
 returns-clause-settled g c = λ all k past can quiet.
     settled_with c.send_taken.result _ _ _ _ _ (c.settle.ensures.mirrors all k past can quiet)
     (sent_as_taken c.args.wire.now all c.args.said.now.outcome _ (λ n w i x b v e. c.in-Some.ensures.sent all k past can n w i x b v e)) c.send_taken.ensures.ok
+
+pub returns-clause-cut : goal.returns-clause-cut
+returns-clause-cut g c = λ all k past can quiet.
+    subst (λ (l : List Sending). IfErr c.send_taken.result (λ fault. WroteUntil fault (g.O.Sink.tape c.args.output.now) (g.O.Sink.tape c.send_taken.new.output) l))
+    (sent_as_taken c.args.wire.now all c.args.said.now.outcome _ (λ n w i x b v e. c.in-Some.ensures.sent all k past can n w i x b v e)) c.send_taken.ensures.cut

@@ -8,7 +8,7 @@ use Rattle.course.proofs.Moves.{deliver_hands}
 use Rattle.course.proofs.Coming.{repeat_some, repeat_none}
 use Rattle.simulation.specs.Plans.{planned}
 use Rattle.simulation.specs.Intake.{Taking}
-use Rattle.simulation.specs.Sent.{packet_in, packets_of, sent, BeginsWith}
+use Rattle.simulation.specs.Sent.{packet_in, packets_of, sent, WroteUntil}
 use Rattle.simulation.specs.Simulated.{traffic_of}
 use Rattle.simulation.specs.Keeping.{found}
 use Rattle.simulation.specs.Stages.{Sound}
@@ -29,10 +29,10 @@ pub repeat-requires-clause-many : goal.repeat-requires-clause-many
 repeat-requires-clause-many g c = omega (arith, c.requires.few.1, c.requires.few.2.read, c.requires.few.2.nth, c.seen_one.ensures.few)
 
 pub returns-in-Err-clause-short : goal.returns-in-Err-clause-short
-returns-in-Err-clause-short g c = λ choice text begun left ss same named r n. short_of _ _ (planned c.args.plan) text begun _ c.args.self.now _ _ r
+returns-in-Err-clause-short g c = λ choice text begun left ss same named r. short_of _ _ (planned c.args.plan) text begun _ c.args.self.now _ _ r
 
 pub returns-in-Err-repeat-clause-short : goal.returns-in-Err-repeat-clause-short
-returns-in-Err-repeat-clause-short g c = λ choice text begun left ss same named r n. short_of _ _ (planned c.args.plan) text begun _ c.args.self.now _ _ r
+returns-in-Err-repeat-clause-short g c = λ choice text begun left ss same named r. short_of _ _ (planned c.args.plan) text begun _ c.args.self.now _ _ r
 
 pub returns-in-Ok-repeat-clause-few : goal.returns-in-Ok-repeat-clause-few
 returns-in-Ok-repeat-clause-few g c = λ n h.
@@ -83,13 +83,13 @@ returns-in-Ok-clause-reached g c = λ choice text begun left ss same named r.
     repeated cluster choice plan link all c.args.place ss old.play new.play (Some (packet_in link plan.check x))
     (packet_there link plan.check all c.args.place old.play.read (Some x) lt (sym (h c.args.place named lt) ∙ got.1))
     (c.in-Ok.ensures.play w refl same ∙ ap (λ (t : Taking). deliver w c.args.place (packet_in t.head.link plan.check t.record_read) old.play) rest ∙ sym (repeat_some w c.args.place (packet_in link plan.check x) old.play)) l)
-    (λ all h s. subst (λ (t : Taking). Sound cluster plan t.head.link all new.play new.relay.waiting begun (g.O.Sink.contents c.deliver.new.output)) rest
+    (λ all h s. subst (λ (t : Taking). Sound cluster plan t.head.link all new.play new.relay.waiting begun (g.O.Sink.tape c.deliver.new.output)) rest
     (c.in-Ok.ensures.sound all begun
-    (subst (λ (t : Taking). Sound cluster plan t.head.link all old.play old.relay.waiting begun (g.O.Sink.contents c.args.output.now)) (sym rest) s)
+    (subst (λ (t : Taking). Sound cluster plan t.head.link all old.play old.relay.waiting begun (g.O.Sink.tape c.args.output.now)) (sym rest) s)
     (sym (h c.args.place named lt) ∙ got.1 ∙ ap (λ (t : Taking). Some t.record_read) (sym rest))))
 
 pub returns-in-Err-deliver-clause-short : goal.returns-in-Err-deliver-clause-short
-returns-in-Err-deliver-clause-short g c = λ choice text begun left ss same named r n.
+returns-in-Err-deliver-clause-short g c = λ choice text begun left ss same named r.
     let cluster = g.C.Core.cluster c.args.setup.now in
     let plan = planned c.args.plan in
     let old = c.args.self.now in
@@ -101,11 +101,11 @@ returns-in-Err-deliver-clause-short g c = λ choice text begun left ss same name
     let rest = c.exchange.ensures.rest in
     let w = world_of cluster choice (packets_of link plan.check r.seen) in
     let d : Course = deliver w c.args.place (packet_in link plan.check x) old.play in
-    short_same cluster choice plan text begun (again_of c.args.place ∷ ss) ss old left _ _ d r
+    short_same cluster choice plan text begun (again_of c.args.place ∷ ss) ss old left _ _ d c.in-Err-deliver.fault r c.in-Err-deliver.ensures.named
     (λ h l. repeated cluster choice plan link r.seen c.args.place ss old.play d (Some (packet_in link plan.check x))
     (packet_there link plan.check r.seen c.args.place old.play.read (Some x) lt (sym (h c.args.place named lt) ∙ got.1))
     (sym (repeat_some w c.args.place (packet_in link plan.check x) old.play)) l)
-    (λ h s. subst (λ (t : Taking). BeginsWith begun (g.O.Sink.contents c.deliver.new.output) (sent (traffic_of plan t.head.link r.seen) (reverse (deliver w c.args.place (packet_in t.head.link plan.check t.record_read) old.play).past))) rest
+    (λ h s. subst (λ (t : Taking). WroteUntil c.in-Err-deliver.fault begun (g.O.Sink.tape c.deliver.new.output) (sent (traffic_of plan t.head.link r.seen) (reverse (deliver w c.args.place (packet_in t.head.link plan.check t.record_read) old.play).past))) rest
     (c.in-Err-deliver.ensures.cut w r.seen begun refl same
-    (subst (λ (t : Taking). Sound cluster plan t.head.link r.seen old.play old.relay.waiting begun (g.O.Sink.contents c.args.output.now)) (sym rest) s)
-    (sym (h c.args.place named lt) ∙ got.1 ∙ ap (λ (t : Taking). Some t.record_read) (sym rest)) n))
+    (subst (λ (t : Taking). Sound cluster plan t.head.link r.seen old.play old.relay.waiting begun (g.O.Sink.tape c.args.output.now)) (sym rest) s)
+    (sym (h c.args.place named lt) ∙ got.1 ∙ ap (λ (t : Taking). Some t.record_read) (sym rest))))

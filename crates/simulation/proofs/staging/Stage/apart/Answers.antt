@@ -1,12 +1,10 @@
-use Rattle.std.proofs.Common.{◌∙◌, length, refl, sym, subst, OnOk, IfErr, ◌≢◌, [], reverse}
-use Rattle.std.specs.Io.KnownBytes.{Appends}
+use Rattle.std.proofs.Common.{◌∙◌, length, refl, sym, subst, OnOk, IfErr, [], reverse}
 use Rattle.course.specs.Course.{Course}
 use Rattle.course.specs.Steps.{world_of, after}
 use Rattle.waiting_frames.specs.Mirrors.{Mirrors}
 use Rattle.simulation.specs.declared.sending.Wire.{Wire}
-use Rattle.simulation.specs.declared.fault.SimulationFault.TheVariants.{Write}
 use Rattle.simulation.specs.Plans.{planned}
-use Rattle.simulation.specs.Sent.{sent, records_text, BeginsWith}
+use Rattle.simulation.specs.Sent.{sent, Wrote, WroteUntil}
 use Rattle.simulation.specs.Simulated.{traffic_of}
 use Rattle.simulation.specs.Wires.{traffic}
 use Rattle.simulation.specs.Going.{onto}
@@ -15,7 +13,7 @@ use Rattle.simulation.proofs.Staged.{Quietly, stepped, stepped_told, events_of, 
 use Rattle.simulation.proofs.staging.Stage.apart.Goals as goal
 
 pub returns-in-Err-clause-cut : goal.returns-in-Err-clause-cut
-returns-in-Err-clause-cut g c = λ w all begun i q s n.
+returns-in-Err-clause-cut g c = λ w all begun i q s.
     let c0 = c.args.self.now.play in
     let a : Quietly c0 (after w c.args.step.now c0) = stepped w c.args.step.now c0 (after w c.args.step.now c0) q refl in
     cut_before (g.C.Core.cluster c.args.setup.now) (planned c.args.plan) c.args.self.now.intake.head.link all c0 (after w c.args.step.now c0) a.moved c.args.self.now.relay.waiting begun _ s
@@ -33,7 +31,7 @@ returns-clause-sound g c = λ all begun q s.
     let can = can_settle k (planned c.args.plan) c.args.self.now.intake.head.link all c0 d a.moved c.behind-events.result.now c.args.self.now.relay.waiting begun _ s told ev in
     let quiet = subst NoArrivals (sym ev) a.quiet in
     sound_after k (planned c.args.plan) c.args.self.now.intake.head.link all c0 d a.moved c.behind-events.result.now c.args.self.now.relay.waiting c.settle_all.new.self.waiting begun _ _ c.settle_all.result s told ev c.settle_all.ensures.count
-    (subst (λ (x : Wire). OnOk c.settle_all.result (Mirrors all k (onto c0.past c.behind-events.result.now) c.settle_all.new.self.waiting × Appends (g.O.Sink.contents c.args.output.now) (g.O.Sink.contents c.settle_all.new.output) (records_text (sent (traffic x all) c.behind-events.result.now))))
+    (subst (λ (x : Wire). OnOk c.settle_all.result (Mirrors all k (onto c0.past c.behind-events.result.now) c.settle_all.new.self.waiting × Wrote (g.O.Sink.tape c.args.output.now) (g.O.Sink.tape c.settle_all.new.output) (sent (traffic x all) c.behind-events.result.now)))
     c.wire-wire.ensures (c.settle_all.ensures.settled all k c0.past can quiet))
 
 pub returns-clause-cut : goal.returns-clause-cut
@@ -48,7 +46,7 @@ returns-clause-cut g c = λ w all begun i q s.
     let ev = c.behind-events.ensures ∙ events_of c0 d a.moved c.history-before.result.now c.history.result.now (length c.history-before.result.now) c.history-before.ensures c.history.ensures refl in
     let can = can_settle k (planned c.args.plan) link all c0 d a.moved c.behind-events.result.now c.args.self.now.relay.waiting begun _ s told ev in
     let quiet = subst NoArrivals (sym ev) a.quiet in
-    subst (λ (x : Course). IfErr c.settle_all.result (λ fault. fault ≢ Write → BeginsWith begun (g.O.Sink.contents c.settle_all.new.output) (sent (traffic_of (planned c.args.plan) link all) (reverse x.past)))) e
+    subst (λ (x : Course). IfErr c.settle_all.result (λ fault. WroteUntil fault begun (g.O.Sink.tape c.settle_all.new.output) (sent (traffic_of (planned c.args.plan) link all) (reverse x.past)))) e
     (cut_after k (planned c.args.plan) link all c0 d a.moved c.behind-events.result.now c.args.self.now.relay.waiting begun _ _ c.settle_all.result s ev
-    (subst (λ (x : Wire). IfErr c.settle_all.result (λ fault. fault ≢ Write → BeginsWith (g.O.Sink.contents c.args.output.now) (g.O.Sink.contents c.settle_all.new.output) (sent (traffic x all) c.behind-events.result.now)))
+    (subst (λ (x : Wire). IfErr c.settle_all.result (λ fault. WroteUntil fault (g.O.Sink.tape c.args.output.now) (g.O.Sink.tape c.settle_all.new.output) (sent (traffic x all) c.behind-events.result.now)))
     c.wire-wire.ensures (c.settle_all.ensures.cut all k c0.past can quiet)))

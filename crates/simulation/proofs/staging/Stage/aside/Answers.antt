@@ -29,12 +29,12 @@ returns-in-Ok-clause-reached g c = λ choice text begun left ss r.
     (λ all h s. c.in-Ok.ensures.sound all begun c.requires.apart s)
 
 pub returns-in-Err-clause-short : goal.returns-in-Err-clause-short
-returns-in-Err-clause-short g c = λ choice text begun left ss r n.
+returns-in-Err-clause-short g c = λ choice text begun left ss r.
     let cluster = g.C.Core.cluster c.args.setup.now in
     let plan = planned c.args.plan in
     let old = c.args.self.now in
     let w = world_of cluster choice (packets_of old.intake.head.link plan.check r.seen) in
     let d : Course = after w c.args.step.now old.play in
-    short_same cluster choice plan text begun (c.args.step.now ∷ ss) ss old left _ _ d r
+    short_same cluster choice plan text begun (c.args.step.now ∷ ss) ss old left _ _ d c.in-Err.fault r c.in-Err.ensures.named
     (λ h l. stepped_left cluster choice plan old.intake.head.link r.seen c.args.step.now ss old.play d refl l)
-    (λ h s. c.in-Err.ensures.cut w r.seen begun refl c.requires.apart s n)
+    (λ h s. c.in-Err.ensures.cut w r.seen begun refl c.requires.apart s)

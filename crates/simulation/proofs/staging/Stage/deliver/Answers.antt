@@ -1,5 +1,4 @@
-use Rattle.std.proofs.Common.{◌∙◌, List, Some, length, refl, sym, subst, ap, OnOk, IfErr, ◌≢◌, [], reverse}
-use Rattle.std.specs.Io.KnownBytes.{Appends}
+use Rattle.std.proofs.Common.{◌∙◌, List, Some, length, refl, sym, subst, ap, OnOk, IfErr, [], reverse}
 use Rattle.pcap_file.specs.Format.{Packet as Record, packet}
 use Rattle.cluster_node.specs.declared.events.Said.{Said}
 use Rattle.cluster_node.specs.declared.packets.Packet.{Packet}
@@ -9,9 +8,8 @@ use Rattle.course.specs.Course.{Course}
 use Rattle.course.specs.Steps.{world_of, deliver}
 use Rattle.waiting_frames.specs.Mirrors.{Mirrors}
 use Rattle.simulation.specs.declared.sending.Wire.{Wire}
-use Rattle.simulation.specs.declared.fault.SimulationFault.TheVariants.{Write}
 use Rattle.simulation.specs.Plans.{planned}
-use Rattle.simulation.specs.Sent.{packet_in, sent, records_text, BeginsWith}
+use Rattle.simulation.specs.Sent.{packet_in, sent, Wrote, WroteUntil}
 use Rattle.simulation.specs.Simulated.{traffic_of}
 use Rattle.simulation.specs.Wires.{traffic}
 use Rattle.simulation.specs.Going.{onto}
@@ -23,7 +21,7 @@ pub deliver-requires-clause-read : goal.deliver-requires-clause-read
 deliver-requires-clause-read g c = subst (λ (p : Packet). WasRead (Some p)) (sym c.packet-packet.ensures) (was_read _ _ _)
 
 pub returns-in-Err-clause-cut : goal.returns-in-Err-clause-cut
-returns-in-Err-clause-cut g c = λ w all begun i j s here n.
+returns-in-Err-clause-cut g c = λ w all begun i j s here.
     let c0 = c.args.self.now.play in
     let p = packet_in c.args.self.now.intake.head.link c.args.plan.check c.args.self.now.intake.record_read in
     let a : Arriving all c.args.self.now.intake.record_read c0 (deliver w c.args.place p c0) = delivered w c.args.place p all c.args.self.now.intake.record_read c0 (deliver w c.args.place p c0) refl here in
@@ -42,7 +40,7 @@ returns-clause-sound g c = λ all begun s here.
     let can = can_settle k (planned c.args.plan) c.args.self.now.intake.head.link all c0 c.deliver.new.self a.moved c.behind-events.result.now c.args.self.now.relay.waiting begun _ s told ev in
     let first = subst (λ (l : List Said). ArrivesFirst all r l) (sym ev) a.first in
     sound_after k (planned c.args.plan) c.args.self.now.intake.head.link all c0 c.deliver.new.self a.moved c.behind-events.result.now c.args.self.now.relay.waiting c.settle_delivered.new.self.waiting begun _ _ c.settle_delivered.result s told ev c.settle_delivered.ensures.count
-    (subst (λ (x : Wire). OnOk c.settle_delivered.result (Mirrors all k (onto c0.past c.behind-events.result.now) c.settle_delivered.new.self.waiting × Appends (g.O.Sink.contents c.args.output.now) (g.O.Sink.contents c.settle_delivered.new.output) (records_text (sent (traffic x all) c.behind-events.result.now))))
+    (subst (λ (x : Wire). OnOk c.settle_delivered.result (Mirrors all k (onto c0.past c.behind-events.result.now) c.settle_delivered.new.self.waiting × Wrote (g.O.Sink.tape c.args.output.now) (g.O.Sink.tape c.settle_delivered.new.output) (sent (traffic x all) c.behind-events.result.now)))
     c.wire-wire.ensures (c.settle_delivered.ensures.settled all k c0.past can first))
 
 pub returns-clause-cut : goal.returns-clause-cut
@@ -59,7 +57,7 @@ returns-clause-cut g c = λ w all begun i j s here.
     let first = subst (λ (l : List Said). ArrivesFirst all r l) (sym ev) a.first in
     let pk = c.packet-packet.ensures ∙ ap (λ (x : Wire). packet_in x.link x.check (packet c.frame.result.now)) c.wire-wire.ensures ∙ ap (λ (x : Record). packet_in link c.args.plan.check x) c.frame.ensures in
     let is = e ∙ ap (λ (p : Packet). deliver w c.args.place p c0) pk in
-    subst (λ (d : Course). IfErr c.settle_delivered.result (λ fault. fault ≢ Write → BeginsWith begun (g.O.Sink.contents c.settle_delivered.new.output) (sent (traffic_of (planned c.args.plan) link all) (reverse d.past)))) is
+    subst (λ (d : Course). IfErr c.settle_delivered.result (λ fault. WroteUntil fault begun (g.O.Sink.tape c.settle_delivered.new.output) (sent (traffic_of (planned c.args.plan) link all) (reverse d.past)))) is
     (cut_after k (planned c.args.plan) link all c0 c.deliver.new.self a.moved c.behind-events.result.now c.args.self.now.relay.waiting begun _ _ c.settle_delivered.result s ev
-    (subst (λ (x : Wire). IfErr c.settle_delivered.result (λ fault. fault ≢ Write → BeginsWith (g.O.Sink.contents c.args.output.now) (g.O.Sink.contents c.settle_delivered.new.output) (sent (traffic x all) c.behind-events.result.now)))
+    (subst (λ (x : Wire). IfErr c.settle_delivered.result (λ fault. WroteUntil fault (g.O.Sink.tape c.args.output.now) (g.O.Sink.tape c.settle_delivered.new.output) (sent (traffic x all) c.behind-events.result.now)))
     c.wire-wire.ensures (c.settle_delivered.ensures.cut all k c0.past can first)))

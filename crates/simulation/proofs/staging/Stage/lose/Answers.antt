@@ -1,7 +1,7 @@
 use Rattle.std.proofs.Common.{Bool, ◌+◌, ◌-◌, ◌∷◌, ℕ, subst, ◌∙◌, arith}
 use Rattle.course.specs.Streams.{lose_of}
 use Rattle.pcap_file.specs.declared.format.Head.{Head}
-use Rattle.simulation.specs.Simulated.{EndsBy}
+use Rattle.simulation.specs.Going.{Shortened}
 use Rattle.simulation.specs.Stages.{Reached, still_to_lose}
 use Rattle.simulation.proofs.Reaching.{one_fewer, reached_turn, no_more_lost}
 use Rattle.simulation.proofs.staging.Stage.lose.Goals as goal
@@ -15,8 +15,8 @@ returns-in-Ok-false-clause-few g c = λ n h. c.in-Ok-false.ensures.few n (c.loop
 pub returns-in-Ok-false-clause-reached : goal.returns-in-Ok-false-clause-reached
 returns-in-Ok-false-clause-reached g c = λ cluster choice plan text begun out ss r.
     let k = c.args.count - (c.loop.counter + 1) in
-    let here = subst (λ (m : ℕ). Reached cluster choice plan text begun (lose_of m ∷ ss) c.loop.self (g.I.Source.left c.loop.input) out) (one_fewer c.args.count c.loop.counter (omega arith)) (c.loop.invariant.reached cluster choice plan text begun out ss r) in
-    subst (λ (b : Bool). Reached cluster choice plan text begun (still_to_lose b k ss) c.lose_one.new.self (g.I.Source.left c.lose_one.new.input) out) c.in-Ok-false.field-0-test (c.in-Ok-false.ensures.reached cluster choice plan text begun out ss k here)
+    let here = subst (λ (m : ℕ). Reached cluster choice plan text begun (lose_of m ∷ ss) c.loop.self (g.I.Source.tape c.loop.input) out) (one_fewer c.args.count c.loop.counter (omega arith)) (c.loop.invariant.reached cluster choice plan text begun out ss r) in
+    subst (λ (b : Bool). Reached cluster choice plan text begun (still_to_lose b k ss) c.lose_one.new.self (g.I.Source.tape c.lose_one.new.input) out) c.in-Ok-false.field-0-test (c.in-Ok-false.ensures.reached cluster choice plan text begun out ss k here)
 
 pub loop-preserved : goal.loop-preserved
 loop-preserved g c = record {
@@ -26,8 +26,8 @@ loop-preserved g c = record {
   head = c.in-Ok-true.ensures.head ∙ c.loop.invariant.head;
   reached = λ cluster choice plan text begun out ss r.
       let k = c.args.count - (c.loop.counter + 1) in
-      let here = subst (λ (m : ℕ). Reached cluster choice plan text begun (lose_of m ∷ ss) c.loop.self (g.I.Source.left c.loop.input) out) (one_fewer c.args.count c.loop.counter (omega arith)) (c.loop.invariant.reached cluster choice plan text begun out ss r) in
-      subst (λ (b : Bool). Reached cluster choice plan text begun (still_to_lose b k ss) c.lose_one.new.self (g.I.Source.left c.lose_one.new.input) out) c.in-Ok-true.field-0-test (c.in-Ok-true.ensures.reached cluster choice plan text begun out ss k here);
+      let here = subst (λ (m : ℕ). Reached cluster choice plan text begun (lose_of m ∷ ss) c.loop.self (g.I.Source.tape c.loop.input) out) (one_fewer c.args.count c.loop.counter (omega arith)) (c.loop.invariant.reached cluster choice plan text begun out ss r) in
+      subst (λ (b : Bool). Reached cluster choice plan text begun (still_to_lose b k ss) c.lose_one.new.self (g.I.Source.tape c.lose_one.new.input) out) c.in-Ok-true.field-0-test (c.in-Ok-true.ensures.reached cluster choice plan text begun out ss k here);
 }
 
 pub returns-clause-reached : goal.returns-clause-reached
@@ -35,7 +35,7 @@ returns-clause-reached g c = λ cluster choice plan text begun out ss r.
     reached_turn cluster choice plan text begun (lose_of (c.args.count - c.loop.counter)) ss c.loop.self _ _ (c.loop.invariant.reached cluster choice plan text begun out ss r)
     (no_more_lost cluster choice plan (c.args.count - c.loop.counter) ss c.loop.self.play (omega arith))
 
-pub returns-in-Err-clause-fault : goal.returns-in-Err-clause-fault
-returns-in-Err-clause-fault g c = λ cluster choice plan text begun out ss r.
+pub returns-in-Err-clause-short : goal.returns-in-Err-clause-short
+returns-in-Err-clause-short g c = λ cluster choice plan text begun out ss r.
     let here = c.loop.invariant.reached cluster choice plan text begun out ss r in
-    subst (λ (h : Head). EndsBy h text c.in-Err.fault) c.loop.invariant.head (c.in-Err.ensures.fault text here.seen here.read)
+    subst (λ (h : Head). Shortened cluster choice plan h text (g.I.Source.tape c.lose_one.new.input) begun out c.in-Err.fault) c.loop.invariant.head (c.in-Err.ensures.short cluster choice plan text begun out (lose_of (c.args.count - c.loop.counter) ∷ ss) here)

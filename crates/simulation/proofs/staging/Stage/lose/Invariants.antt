@@ -1,10 +1,11 @@
-use Rattle.std.proofs.Common.{◌≡◌, ◌-◌, ◌∷◌, ℕ, List, Option}
+use Rattle.std.proofs.Common.{◌≡◌, ◌-◌, ◌∷◌, ℕ, List}
 use Rattle.scenario_steps.specs.declared.Step.{Step}
 use Rattle.spreader.specs.Choices.{Choice}
 use Rattle.course.specs.Cluster.{Cluster}
 use Rattle.course.specs.Room.{Counted}
 use Rattle.course.specs.Streams.{lose_of}
 use Rattle.simulation.specs.Plans.{Planned}
+use Rattle.pcap_file.specs.Device.{Tape}
 use Rattle.simulation.specs.Stages.{Reached}
 use Rattle.simulation.proofs.staging.Stage.lose.Given as goal
 
@@ -14,7 +15,7 @@ invariant-loop g l = record {
   live : l.self.play.live ≡ l.initial.self.play.live;
   few : (n : ℕ) → Counted l.initial.self.intake.given n l.initial.self.play → Counted l.self.intake.given n l.self.play;
   head : l.self.intake.head ≡ l.initial.self.intake.head;
-  reached : (cluster : Cluster) (choice : Choice) (plan : Planned) (text begun out : Option (List ℕ)) (ss : List Step) →
-      Reached cluster choice plan text begun (lose_of l.count ∷ ss) l.initial.self (g.I.Source.left l.initial.input) out →
-      Reached cluster choice plan text begun (lose_of (l.count - l.counter) ∷ ss) l.self (g.I.Source.left l.input) out;
+  reached : (cluster : Cluster) (choice : Choice) (plan : Planned) (text begun out : Tape) (ss : List Step) →
+      Reached cluster choice plan text begun (lose_of l.count ∷ ss) l.initial.self (g.I.Source.tape l.initial.input) out →
+      Reached cluster choice plan text begun (lose_of (l.count - l.counter) ∷ ss) l.self (g.I.Source.tape l.input) out;
 }

@@ -1,24 +1,23 @@
-use Rattle.std.proofs.Common.{◌≢◌, ◌∷◌, Some, subst, ◌∙◌, ap}
+use Rattle.std.proofs.Common.{◌∷◌, Some, subst, ◌∙◌, ap}
 use Rattle.scenario_steps.specs.declared.Step.{Step}
-use Rattle.simulation.specs.declared.fault.SimulationFault.TheVariants.{Write}
 use Rattle.simulation.specs.Plans.{planned}
 use Rattle.simulation.specs.Stages.{Reached}
-use Rattle.simulation.proofs.Reaching.{short_of, if_err, of_run}
 use Rattle.simulation.proofs.staging.Stage.step.Goals as goal
 
 pub returns-in-Take-clause-short : goal.returns-in-Take-clause-short
 returns-in-Take-clause-short g c = λ choice text begun ss same among r.
     c.take.ensures.short choice text begun ss same
-    (subst (λ (s : Step). Reached (g.C.Core.cluster c.args.setup.now) choice (planned c.args.plan) text begun (s ∷ ss) c.args.self.now (g.I.Source.left c.args.input.now) (g.O.Sink.contents c.args.output.now)) c.in-Take.is r)
+    (subst (λ (s : Step). Reached (g.C.Core.cluster c.args.setup.now) choice (planned c.args.plan) text begun (s ∷ ss) c.args.self.now (g.I.Source.tape c.args.input.now) (g.O.Sink.tape c.args.output.now)) c.in-Take.is r)
 
 pub returns-in-Lose-clause-short : goal.returns-in-Lose-clause-short
 returns-in-Lose-clause-short g c = λ choice text begun ss same among r.
-    if_err c.lose.result (λ f. f ≢ Write) _ (short_of _ _ (planned c.args.plan) text begun _ c.args.self.now _ _ r)
+    c.lose.ensures.short (g.C.Core.cluster c.args.setup.now) choice (planned c.args.plan) text begun (g.O.Sink.tape c.args.output.now) ss
+    (subst (λ (s : Step). Reached (g.C.Core.cluster c.args.setup.now) choice (planned c.args.plan) text begun (s ∷ ss) c.args.self.now (g.I.Source.tape c.args.input.now) (g.O.Sink.tape c.args.output.now)) c.in-Lose.is r)
 
 pub returns-in-Again-clause-short : goal.returns-in-Again-clause-short
 returns-in-Again-clause-short g c = λ choice text begun ss same among r.
     c.again.ensures.short choice text begun _ ss same (record { index = among.0; there = among.1 ∙ ap (λ (s : Step). Some s) c.in-Again.is })
-    (subst (λ (s : Step). Reached (g.C.Core.cluster c.args.setup.now) choice (planned c.args.plan) text begun (s ∷ ss) c.args.self.now (g.I.Source.left c.args.input.now) (g.O.Sink.contents c.args.output.now)) c.in-Again.is r)
+    (subst (λ (s : Step). Reached (g.C.Core.cluster c.args.setup.now) choice (planned c.args.plan) text begun (s ∷ ss) c.args.self.now (g.I.Source.tape c.args.input.now) (g.O.Sink.tape c.args.output.now)) c.in-Again.is r)
 
 pub returns-in_default : goal.returns-in_default
 returns-in_default g c = record {
@@ -29,15 +28,4 @@ returns-in_default g c = record {
   head = c.aside.ensures.head;
   reached = λ choice text begun ss same among r. c.aside.ensures.reached choice text begun _ ss r;
   short = λ choice text begun ss same among r. c.aside.ensures.short choice text begun _ ss r;
-  fault = λ choice text begun ss same r. of_run c.args.self.now.intake.head text c.aside.result c.aside.ensures.named;
 }
-
-pub returns-in-Take-clause-fault : goal.returns-in-Take-clause-fault
-returns-in-Take-clause-fault g c = λ choice text begun ss same r.
-    c.take.ensures.fault choice text begun ss same
-    (subst (λ (s : Step). Reached (g.C.Core.cluster c.args.setup.now) choice (planned c.args.plan) text begun (s ∷ ss) c.args.self.now (g.I.Source.left c.args.input.now) (g.O.Sink.contents c.args.output.now)) c.in-Take.is r)
-
-pub returns-in-Lose-clause-fault : goal.returns-in-Lose-clause-fault
-returns-in-Lose-clause-fault g c = λ choice text begun ss same r.
-    c.lose.ensures.fault (g.C.Core.cluster c.args.setup.now) choice (planned c.args.plan) text begun (g.O.Sink.contents c.args.output.now) ss
-    (subst (λ (s : Step). Reached (g.C.Core.cluster c.args.setup.now) choice (planned c.args.plan) text begun (s ∷ ss) c.args.self.now (g.I.Source.left c.args.input.now) (g.O.Sink.contents c.args.output.now)) c.in-Lose.is r)

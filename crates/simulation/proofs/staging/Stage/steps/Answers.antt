@@ -2,19 +2,18 @@ use Rattle.std.proofs.Common.{◌+◌, List, drop, subst, ◌∙◌, arith}
 use Rattle.pcap_file.specs.declared.format.Head.{Head}
 use Rattle.scenario_steps.specs.declared.Step.{Step}
 use Rattle.simulation.specs.Plans.{planned}
-use Rattle.simulation.specs.Simulated.{EndsBy}
 use Rattle.simulation.specs.Going.{Shortened}
 use Rattle.simulation.specs.Stages.{Reached}
 use Rattle.simulation.proofs.Reaching.{next_step, among_steps}
 use Rattle.simulation.proofs.staging.Stage.steps.Goals as goal
 
 pub returns-in-Err-clause-short : goal.returns-in-Err-clause-short
-returns-in-Err-clause-short g c = λ text begun r n.
+returns-in-Err-clause-short g c = λ text begun r.
     let i = c.loop-step.step-index in
-    let here = subst (λ (l : List Step). Reached (g.C.Core.cluster c.args.setup.now) (g.P.Spread.choice c.args.spread.now) (planned c.args.plan) text begun l c.loop-step.self (g.I.Source.left c.loop-step.input) (g.O.Sink.contents c.loop-step.output))
+    let here = subst (λ (l : List Step). Reached (g.C.Core.cluster c.args.setup.now) (g.P.Spread.choice c.args.spread.now) (planned c.args.plan) text begun l c.loop-step.self (g.I.Source.tape c.loop-step.input) (g.O.Sink.tape c.loop-step.output))
     (next_step c.args.plan.steps.now i c.step-item.result (omega arith) c.step-item.is) (c.loop-step.invariant.reached text begun r) in
-    subst (λ (h : Head). Shortened (g.C.Core.cluster c.args.setup.now) (g.P.Spread.choice c.args.spread.now) (planned c.args.plan) h text begun (g.O.Sink.contents c.step.new.output)) c.loop-step.invariant.head
-    (c.in-Err.ensures.short (g.P.Spread.choice c.args.spread.now) text begun (drop (i + 1) c.args.plan.steps.now) c.loop-step.invariant.same (among_steps c.args.plan.steps.now i c.step-item.result (omega arith) c.step-item.is) here n)
+    subst (λ (h : Head). Shortened (g.C.Core.cluster c.args.setup.now) (g.P.Spread.choice c.args.spread.now) (planned c.args.plan) h text (g.I.Source.tape c.step.new.input) begun (g.O.Sink.tape c.step.new.output) c.in-Err.fault) c.loop-step.invariant.head
+    (c.in-Err.ensures.short (g.P.Spread.choice c.args.spread.now) text begun (drop (i + 1) c.args.plan.steps.now) c.loop-step.invariant.same (among_steps c.args.plan.steps.now i c.step-item.result (omega arith) c.step-item.is) here)
 
 pub loop-step-preserved : goal.loop-step-preserved
 loop-step-preserved g c =
@@ -26,14 +25,7 @@ loop-step-preserved g c =
       counted = c.in-Ok.ensures.few i c.loop-step.invariant.counted;
       head = c.in-Ok.ensures.head ∙ c.loop-step.invariant.head;
       reached = λ text begun r.
-          let here = subst (λ (l : List Step). Reached (g.C.Core.cluster c.args.setup.now) (g.P.Spread.choice c.args.spread.now) (planned c.args.plan) text begun l c.loop-step.self (g.I.Source.left c.loop-step.input) (g.O.Sink.contents c.loop-step.output))
+          let here = subst (λ (l : List Step). Reached (g.C.Core.cluster c.args.setup.now) (g.P.Spread.choice c.args.spread.now) (planned c.args.plan) text begun l c.loop-step.self (g.I.Source.tape c.loop-step.input) (g.O.Sink.tape c.loop-step.output))
           (next_step c.args.plan.steps.now i c.step-item.result (omega arith) c.step-item.is) (c.loop-step.invariant.reached text begun r) in
           c.in-Ok.ensures.reached (g.P.Spread.choice c.args.spread.now) text begun (drop (i + 1) c.args.plan.steps.now) c.loop-step.invariant.same (among_steps c.args.plan.steps.now i c.step-item.result (omega arith) c.step-item.is) here;
     }
-
-pub returns-in-Err-clause-fault : goal.returns-in-Err-clause-fault
-returns-in-Err-clause-fault g c = λ text begun r.
-    let i = c.loop-step.step-index in
-    let here = subst (λ (l : List Step). Reached (g.C.Core.cluster c.args.setup.now) (g.P.Spread.choice c.args.spread.now) (planned c.args.plan) text begun l c.loop-step.self (g.I.Source.left c.loop-step.input) (g.O.Sink.contents c.loop-step.output))
-    (next_step c.args.plan.steps.now i c.step-item.result (omega arith) c.step-item.is) (c.loop-step.invariant.reached text begun r) in
-    subst (λ (h : Head). EndsBy h text c.in-Err.fault) c.loop-step.invariant.head (c.in-Err.ensures.fault (g.P.Spread.choice c.args.spread.now) text begun (drop (i + 1) c.args.plan.steps.now) c.loop-step.invariant.same here)

@@ -1,7 +1,8 @@
-use Rattle.std.proofs.Common.{◌≡◌, ℕ, List, Option, drop}
+use Rattle.std.proofs.Common.{◌≡◌, drop}
 use Rattle.course.specs.Steps.{SameChoice}
 use Rattle.course.specs.Room.{Counted}
 use Rattle.simulation.specs.Plans.{planned}
+use Rattle.pcap_file.specs.Device.{Tape}
 use Rattle.simulation.specs.Stages.{Reached}
 use Rattle.simulation.proofs.staging.Stage.steps.Given as goal
 
@@ -12,7 +13,7 @@ invariant-loop-step g l = record {
   same : SameChoice (g.P.Spread.choice l.initial.spread) (g.P.Spread.choice l.spread);
   counted : Counted l.self.intake.given l.step-index l.self.play;
   head : l.self.intake.head ≡ l.initial.self.intake.head;
-  reached : (text begun : Option (List ℕ)) →
-      Reached (g.C.Core.cluster l.setup) (g.P.Spread.choice l.initial.spread) (planned l.plan) text begun l.plan.steps.now l.initial.self (g.I.Source.left l.initial.input) (g.O.Sink.contents l.initial.output) →
-      Reached (g.C.Core.cluster l.setup) (g.P.Spread.choice l.initial.spread) (planned l.plan) text begun (drop l.step-index l.plan.steps.now) l.self (g.I.Source.left l.input) (g.O.Sink.contents l.output);
+  reached : (text begun : Tape) →
+      Reached (g.C.Core.cluster l.setup) (g.P.Spread.choice l.initial.spread) (planned l.plan) text begun l.plan.steps.now l.initial.self (g.I.Source.tape l.initial.input) (g.O.Sink.tape l.initial.output) →
+      Reached (g.C.Core.cluster l.setup) (g.P.Spread.choice l.initial.spread) (planned l.plan) text begun (drop l.step-index l.plan.steps.now) l.self (g.I.Source.tape l.input) (g.O.Sink.tape l.output);
 }

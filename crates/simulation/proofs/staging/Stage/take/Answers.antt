@@ -2,7 +2,6 @@ use Rattle.std.proofs.Common.{Bool, ◌+◌, ◌-◌, ◌∷◌, ℕ, subst, ◌
 use Rattle.pcap_file.specs.declared.format.Head.{Head}
 use Rattle.course.specs.Streams.{take_of}
 use Rattle.simulation.specs.Plans.{planned}
-use Rattle.simulation.specs.Simulated.{EndsBy}
 use Rattle.simulation.specs.Going.{Shortened}
 use Rattle.simulation.specs.Stages.{Reached, still_to_take}
 use Rattle.simulation.proofs.Reaching.{one_fewer, reached_turn, no_more_taken}
@@ -18,15 +17,15 @@ pub returns-in-Ok-false-clause-reached : goal.returns-in-Ok-false-clause-reached
 returns-in-Ok-false-clause-reached g c = λ choice text begun ss same r.
     let cluster = g.C.Core.cluster c.args.setup.now in
     let k = c.args.count - (c.loop.counter + 1) in
-    let here = subst (λ (m : ℕ). Reached cluster choice (planned c.args.plan) text begun (take_of m ∷ ss) c.loop.self (g.I.Source.left c.loop.input) (g.O.Sink.contents c.loop.output)) (one_fewer c.args.count c.loop.counter (omega arith)) (c.loop.invariant.reached choice text begun ss same r) in
-    subst (λ (b : Bool). Reached cluster choice (planned c.args.plan) text begun (still_to_take b k ss) c.take_one.new.self (g.I.Source.left c.take_one.new.input) (g.O.Sink.contents c.take_one.new.output)) c.in-Ok-false.field-0-test (c.in-Ok-false.ensures.reached choice text begun ss k same here)
+    let here = subst (λ (m : ℕ). Reached cluster choice (planned c.args.plan) text begun (take_of m ∷ ss) c.loop.self (g.I.Source.tape c.loop.input) (g.O.Sink.tape c.loop.output)) (one_fewer c.args.count c.loop.counter (omega arith)) (c.loop.invariant.reached choice text begun ss same r) in
+    subst (λ (b : Bool). Reached cluster choice (planned c.args.plan) text begun (still_to_take b k ss) c.take_one.new.self (g.I.Source.tape c.take_one.new.input) (g.O.Sink.tape c.take_one.new.output)) c.in-Ok-false.field-0-test (c.in-Ok-false.ensures.reached choice text begun ss k same here)
 
 pub returns-in-Err-clause-short : goal.returns-in-Err-clause-short
-returns-in-Err-clause-short g c = λ choice text begun ss same r n.
+returns-in-Err-clause-short g c = λ choice text begun ss same r.
     let cluster = g.C.Core.cluster c.args.setup.now in
     let k = c.args.count - (c.loop.counter + 1) in
-    let here = subst (λ (m : ℕ). Reached cluster choice (planned c.args.plan) text begun (take_of m ∷ ss) c.loop.self (g.I.Source.left c.loop.input) (g.O.Sink.contents c.loop.output)) (one_fewer c.args.count c.loop.counter (omega arith)) (c.loop.invariant.reached choice text begun ss same r) in
-    subst (λ (h : Head). Shortened cluster choice (planned c.args.plan) h text begun (g.O.Sink.contents c.take_one.new.output)) c.loop.invariant.head (c.in-Err.ensures.short choice text begun ss k same here n)
+    let here = subst (λ (m : ℕ). Reached cluster choice (planned c.args.plan) text begun (take_of m ∷ ss) c.loop.self (g.I.Source.tape c.loop.input) (g.O.Sink.tape c.loop.output)) (one_fewer c.args.count c.loop.counter (omega arith)) (c.loop.invariant.reached choice text begun ss same r) in
+    subst (λ (h : Head). Shortened cluster choice (planned c.args.plan) h text (g.I.Source.tape c.take_one.new.input) begun (g.O.Sink.tape c.take_one.new.output) c.in-Err.fault) c.loop.invariant.head (c.in-Err.ensures.short choice text begun ss k same here)
 
 pub loop-preserved : goal.loop-preserved
 loop-preserved g c = record {
@@ -37,8 +36,8 @@ loop-preserved g c = record {
   reached = λ choice text begun ss same r.
       let cluster = g.C.Core.cluster c.args.setup.now in
       let k = c.args.count - (c.loop.counter + 1) in
-      let here = subst (λ (m : ℕ). Reached cluster choice (planned c.args.plan) text begun (take_of m ∷ ss) c.loop.self (g.I.Source.left c.loop.input) (g.O.Sink.contents c.loop.output)) (one_fewer c.args.count c.loop.counter (omega arith)) (c.loop.invariant.reached choice text begun ss same r) in
-      subst (λ (b : Bool). Reached cluster choice (planned c.args.plan) text begun (still_to_take b k ss) c.take_one.new.self (g.I.Source.left c.take_one.new.input) (g.O.Sink.contents c.take_one.new.output)) c.in-Ok-true.field-0-test (c.in-Ok-true.ensures.reached choice text begun ss k same here);
+      let here = subst (λ (m : ℕ). Reached cluster choice (planned c.args.plan) text begun (take_of m ∷ ss) c.loop.self (g.I.Source.tape c.loop.input) (g.O.Sink.tape c.loop.output)) (one_fewer c.args.count c.loop.counter (omega arith)) (c.loop.invariant.reached choice text begun ss same r) in
+      subst (λ (b : Bool). Reached cluster choice (planned c.args.plan) text begun (still_to_take b k ss) c.take_one.new.self (g.I.Source.tape c.take_one.new.input) (g.O.Sink.tape c.take_one.new.output)) c.in-Ok-true.field-0-test (c.in-Ok-true.ensures.reached choice text begun ss k same here);
 }
 
 pub returns-clause-reached : goal.returns-clause-reached
@@ -46,7 +45,3 @@ returns-clause-reached g c = λ choice text begun ss same r.
     let cluster = g.C.Core.cluster c.args.setup.now in
     reached_turn cluster choice (planned c.args.plan) text begun (take_of (c.args.count - c.loop.counter)) ss c.loop.self _ _ (c.loop.invariant.reached choice text begun ss same r)
     (no_more_taken cluster choice (planned c.args.plan) (c.args.count - c.loop.counter) ss c.loop.self.play (omega arith))
-
-pub returns-in-Err-clause-fault : goal.returns-in-Err-clause-fault
-returns-in-Err-clause-fault g c = λ choice text begun ss same r.
-    subst (λ (h : Head). EndsBy h text c.in-Err.fault) c.loop.invariant.head (c.in-Err.ensures.fault choice text begun (take_of (c.args.count - c.loop.counter) ∷ ss) (c.loop.invariant.reached choice text begun ss same r))

@@ -1,10 +1,11 @@
-use Rattle.std.proofs.Common.{◌≡◌, ◌-◌, ◌∷◌, ℕ, List, Option}
+use Rattle.std.proofs.Common.{◌≡◌, ◌-◌, ◌∷◌, ℕ, List}
 use Rattle.scenario_steps.specs.declared.Step.{Step}
 use Rattle.spreader.specs.Choices.{Choice}
 use Rattle.course.specs.Steps.{SameChoice}
 use Rattle.course.specs.Room.{Counted}
 use Rattle.course.specs.Streams.{take_of}
 use Rattle.simulation.specs.Plans.{planned}
+use Rattle.pcap_file.specs.Device.{Tape}
 use Rattle.simulation.specs.Stages.{Reached}
 use Rattle.simulation.proofs.staging.Stage.take.Given as goal
 
@@ -14,7 +15,7 @@ invariant-loop g l = record {
   live : l.self.play.live ≡ l.initial.self.play.live;
   few : (n : ℕ) → Counted l.initial.self.intake.given n l.initial.self.play → Counted l.self.intake.given n l.self.play;
   head : l.self.intake.head ≡ l.initial.self.intake.head;
-  reached : (choice : Choice) (text begun : Option (List ℕ)) (ss : List Step) → SameChoice choice (g.P.Spread.choice l.spread) →
-      Reached (g.C.Core.cluster l.setup) choice (planned l.plan) text begun (take_of l.count ∷ ss) l.initial.self (g.I.Source.left l.initial.input) (g.O.Sink.contents l.initial.output) →
-      Reached (g.C.Core.cluster l.setup) choice (planned l.plan) text begun (take_of (l.count - l.counter) ∷ ss) l.self (g.I.Source.left l.input) (g.O.Sink.contents l.output);
+  reached : (choice : Choice) (text begun : Tape) (ss : List Step) → SameChoice choice (g.P.Spread.choice l.spread) →
+      Reached (g.C.Core.cluster l.setup) choice (planned l.plan) text begun (take_of l.count ∷ ss) l.initial.self (g.I.Source.tape l.initial.input) (g.O.Sink.tape l.initial.output) →
+      Reached (g.C.Core.cluster l.setup) choice (planned l.plan) text begun (take_of (l.count - l.counter) ∷ ss) l.self (g.I.Source.tape l.input) (g.O.Sink.tape l.output);
 }

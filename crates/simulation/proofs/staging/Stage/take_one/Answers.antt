@@ -6,22 +6,23 @@ use Rattle.course.specs.Room.{Counted}
 use Rattle.course.specs.Steps.{world_of, deliver}
 use Rattle.course.specs.Streams.{take_of}
 use Rattle.simulation.specs.Plans.{planned}
-use Rattle.simulation.specs.Sent.{packet_in, packets_of, sent, BeginsWith}
+use Rattle.simulation.specs.Sent.{packet_in, packets_of, sent, WroteUntil}
 use Rattle.simulation.specs.Simulated.{traffic_of}
 use Rattle.simulation.specs.Intake.{SeenMore}
 use Rattle.simulation.specs.Stages.{Sound}
-use Rattle.simulation.proofs.Reaching.{short_of, reached_end, took_all, OneMore, seen_same, reached_more, short_more, took, at_place, sound_same, counted_taken, delivered_same}
+use Rattle.simulation.proofs.Reaching.{short_read, reached_end, took_all, OneMore, seen_same, reached_more, short_more, took, at_place, sound_same, counted_taken, delivered_same}
 use Rattle.simulation.proofs.staging.Stage.take_one.Goals as goal
 
 pub returns-in-Ok-false-clause-reached : goal.returns-in-Ok-false-clause-reached
 returns-in-Ok-false-clause-reached g c = λ choice text begun ss k same r.
     let cluster = g.C.Core.cluster c.args.setup.now in
-    reached_end cluster choice (planned c.args.plan) text begun (take_of (k + 1)) ss c.args.self.now c.read_one.new.self _ _ _ r (subst (λ (b : Bool). SeenMore b text r.seen (g.I.Source.left c.read_one.new.input) c.read_one.new.self.intake) c.in-Ok-false.field-0-test (c.in-Ok-false.ensures.more text r.seen r.read))
+    reached_end cluster choice (planned c.args.plan) text begun (take_of (k + 1)) ss c.args.self.now c.read_one.new.self _ _ _ r (subst (λ (b : Bool). SeenMore b text r.seen (g.I.Source.tape c.read_one.new.input) c.read_one.new.self.intake) c.in-Ok-false.field-0-test (c.in-Ok-false.ensures.more text r.seen r.read))
     c.in-Ok-false.ensures.play c.in-Ok-false.ensures.relay (c.in-Ok-false.ensures.none c.in-Ok-false.field-0-test).1 c.in-Ok-false.ensures.head
     (λ link l. took_all cluster choice (planned c.args.plan) link r.seen (k + 1) ss c.args.self.now.play r.place l)
 
 pub returns-in-Err-clause-short : goal.returns-in-Err-clause-short
-returns-in-Err-clause-short g c = λ choice text begun ss k same r n. short_of _ _ (planned c.args.plan) text begun _ c.args.self.now _ _ r
+returns-in-Err-clause-short g c = λ choice text begun ss k same r.
+    short_read (g.C.Core.cluster c.args.setup.now) choice (planned c.args.plan) text begun (take_of (k + 1) ∷ ss) c.args.self.now _ _ _ c.in-Err.fault r c.in-Err.ensures.unwritten (c.in-Err.ensures.stops text r.seen r.read)
 
 pub next_place-place-requires : goal.next_place-place-requires
 next_place-place-requires g c = omega (arith, c.requires.few.2.read, c.in-Ok-true.ensures.few, (c.in-Ok-true.ensures.same c.in-Ok-true.field-0-test).1, ap (λ (x : Course). x.read) c.in-Ok-true.ensures.play)
@@ -44,10 +45,10 @@ returns-in-Ok-clause-reached g c = λ choice text begun ss k same r.
     let link = old.intake.head.link in
     let x = mid.intake.record_read in
     let s = c.next_place-place.new.self in
-    let read = subst (λ (b : Bool). SeenMore b text r.seen (g.I.Source.left c.read_one.new.input) mid.intake) c.in-Ok-true.field-0-test (c.in-Ok-true.ensures.more text r.seen r.read) in
+    let read = subst (λ (b : Bool). SeenMore b text r.seen (g.I.Source.tape c.read_one.new.input) mid.intake) c.in-Ok-true.field-0-test (c.in-Ok-true.ensures.more text r.seen r.read) in
     let moved : s ≡ record old.play { read = old.play.read + 1 } = c.next_place-place.ensures.after ∙ ap (λ (y : Course). record y { read = y.read + 1 }) c.in-Ok-true.ensures.play in
     let place : c.next_place-place.result ≡ old.play.read = c.next_place-place.ensures.place ∙ ap (λ (y : Course). y.read) c.in-Ok-true.ensures.play in
-    let more : OneMore plan text r.seen x old new (g.I.Source.left c.read_one.new.input) = record {
+    let more : OneMore plan text r.seen x old new (g.I.Source.tape c.read_one.new.input) = record {
       read = seen_same mid.intake new.intake text _ (r.seen ++ x ∷ []) c.in-Ok.ensures.intake.2 c.in-Ok.ensures.intake.1 c.in-Ok.ensures.intake.0 read.0;
       going = sym (c.in-Ok-true.ensures.same c.in-Ok-true.field-0-test).0 ∙ read.1;
       head = c.in-Ok.ensures.intake.2 ∙ c.in-Ok-true.ensures.head;
@@ -59,14 +60,14 @@ returns-in-Ok-clause-reached g c = λ choice text begun ss k same r.
     (λ rest l. let w = world_of cluster choice (packets_of link plan.check (r.seen ++ x ∷ rest)) in
     took cluster choice plan link r.seen rest x k ss old.play new.play r.place
     (c.in-Ok.ensures.play w refl same ∙ delivered_same w plan.check x mid.intake.head old.intake.head c.next_place-place.result old.play.read s (record old.play { read = old.play.read + 1 }) c.in-Ok-true.ensures.head place moved) l)
-    (λ rest sound. subst (λ (h : Head). Sound cluster plan h.link (r.seen ++ x ∷ rest) new.play new.relay.waiting begun (g.O.Sink.contents c.deliver.new.output)) c.in-Ok-true.ensures.head
+    (λ rest sound. subst (λ (h : Head). Sound cluster plan h.link (r.seen ++ x ∷ rest) new.play new.relay.waiting begun (g.O.Sink.tape c.deliver.new.output)) c.in-Ok-true.ensures.head
     (c.in-Ok.ensures.sound (r.seen ++ x ∷ rest) begun
-    (subst (λ (h : Head). Sound cluster plan h.link (r.seen ++ x ∷ rest) s mid.relay.waiting begun (g.O.Sink.contents c.args.output.now)) (sym c.in-Ok-true.ensures.head)
-    (sound_same cluster plan link (r.seen ++ x ∷ rest) old.play s old.relay.waiting mid.relay.waiting begun (g.O.Sink.contents c.args.output.now) (ap (λ (y : Course). y.past) moved) (ap (λ y. y.waiting) c.in-Ok-true.ensures.relay) sound))
+    (subst (λ (h : Head). Sound cluster plan h.link (r.seen ++ x ∷ rest) s mid.relay.waiting begun (g.O.Sink.tape c.args.output.now)) (sym c.in-Ok-true.ensures.head)
+    (sound_same cluster plan link (r.seen ++ x ∷ rest) old.play s old.relay.waiting mid.relay.waiting begun (g.O.Sink.tape c.args.output.now) (ap (λ (y : Course). y.past) moved) (ap (λ y. y.waiting) c.in-Ok-true.ensures.relay) sound))
     (at_place r.seen rest x c.next_place-place.result (place ∙ r.place))))
 
 pub returns-in-Err-deliver-clause-short : goal.returns-in-Err-deliver-clause-short
-returns-in-Err-deliver-clause-short g c = λ choice text begun ss k same r n.
+returns-in-Err-deliver-clause-short g c = λ choice text begun ss k same r.
     let cluster = g.C.Core.cluster c.args.setup.now in
     let plan = planned c.args.plan in
     let old = c.args.self.now in
@@ -74,10 +75,10 @@ returns-in-Err-deliver-clause-short g c = λ choice text begun ss k same r n.
     let link = old.intake.head.link in
     let x = mid.intake.record_read in
     let s = c.next_place-place.new.self in
-    let read = subst (λ (b : Bool). SeenMore b text r.seen (g.I.Source.left c.read_one.new.input) mid.intake) c.in-Ok-true.field-0-test (c.in-Ok-true.ensures.more text r.seen r.read) in
+    let read = subst (λ (b : Bool). SeenMore b text r.seen (g.I.Source.tape c.read_one.new.input) mid.intake) c.in-Ok-true.field-0-test (c.in-Ok-true.ensures.more text r.seen r.read) in
     let moved : s ≡ record old.play { read = old.play.read + 1 } = c.next_place-place.ensures.after ∙ ap (λ (y : Course). record y { read = y.read + 1 }) c.in-Ok-true.ensures.play in
     let place : c.next_place-place.result ≡ old.play.read = c.next_place-place.ensures.place ∙ ap (λ (y : Course). y.read) c.in-Ok-true.ensures.play in
-    let more : OneMore plan text r.seen x old mid (g.I.Source.left c.read_one.new.input) = record {
+    let more : OneMore plan text r.seen x old mid (g.I.Source.tape c.read_one.new.input) = record {
       read = read.0;
       going = sym (c.in-Ok-true.ensures.same c.in-Ok-true.field-0-test).0 ∙ read.1;
       head = c.in-Ok-true.ensures.head;
@@ -86,12 +87,12 @@ returns-in-Err-deliver-clause-short g c = λ choice text begun ss k same r n.
     } in
     let w = world_of cluster choice (packets_of link plan.check (r.seen ++ x ∷ [])) in
     let d : Course = deliver w old.play.read (packet_in link plan.check x) (record old.play { read = old.play.read + 1 }) in
-    short_more cluster choice plan text begun (take_of (k + 1) ∷ ss) (take_of k ∷ ss) old mid _ _ _ _ x d r more
+    short_more cluster choice plan text begun (take_of (k + 1) ∷ ss) (take_of k ∷ ss) old mid _ _ _ _ x d c.in-Err-deliver.fault r more c.in-Err-deliver.ensures.named
     (λ l. took cluster choice plan link r.seen [] x k ss old.play d r.place refl l)
-    (λ sound. subst (λ (y : Course). BeginsWith begun (g.O.Sink.contents c.deliver.new.output) (sent (traffic_of plan link (r.seen ++ x ∷ [])) (reverse y.past)))
+    (λ sound. subst (λ (y : Course). WroteUntil c.in-Err-deliver.fault begun (g.O.Sink.tape c.deliver.new.output) (sent (traffic_of plan link (r.seen ++ x ∷ [])) (reverse y.past)))
     (delivered_same w plan.check x mid.intake.head old.intake.head c.next_place-place.result old.play.read s (record old.play { read = old.play.read + 1 }) c.in-Ok-true.ensures.head place moved)
-    (subst (λ (h : Head). BeginsWith begun (g.O.Sink.contents c.deliver.new.output) (sent (traffic_of plan h.link (r.seen ++ x ∷ [])) (reverse (deliver w c.next_place-place.result (packet_in mid.intake.head.link plan.check x) s).past))) c.in-Ok-true.ensures.head
+    (subst (λ (h : Head). WroteUntil c.in-Err-deliver.fault begun (g.O.Sink.tape c.deliver.new.output) (sent (traffic_of plan h.link (r.seen ++ x ∷ [])) (reverse (deliver w c.next_place-place.result (packet_in mid.intake.head.link plan.check x) s).past))) c.in-Ok-true.ensures.head
     (c.in-Err-deliver.ensures.cut w (r.seen ++ x ∷ []) begun refl same
-    (subst (λ (h : Head). Sound cluster plan h.link (r.seen ++ x ∷ []) s mid.relay.waiting begun (g.O.Sink.contents c.args.output.now)) (sym c.in-Ok-true.ensures.head)
-    (sound_same cluster plan link (r.seen ++ x ∷ []) old.play s old.relay.waiting mid.relay.waiting begun (g.O.Sink.contents c.args.output.now) (ap (λ (y : Course). y.past) moved) (ap (λ y. y.waiting) c.in-Ok-true.ensures.relay) sound))
-    (at_place r.seen [] x c.next_place-place.result (place ∙ r.place)) n)))
+    (subst (λ (h : Head). Sound cluster plan h.link (r.seen ++ x ∷ []) s mid.relay.waiting begun (g.O.Sink.tape c.args.output.now)) (sym c.in-Ok-true.ensures.head)
+    (sound_same cluster plan link (r.seen ++ x ∷ []) old.play s old.relay.waiting mid.relay.waiting begun (g.O.Sink.tape c.args.output.now) (ap (λ (y : Course). y.past) moved) (ap (λ y. y.waiting) c.in-Ok-true.ensures.relay) sound))
+    (at_place r.seen [] x c.next_place-place.result (place ∙ r.place)))))

@@ -1,0 +1,8 @@
+use Rattle.simulation.proofs.Sends.{wrote_one, refused_one}
+use Rattle.simulation.proofs.sending.put_record.Goals as goal
+
+pub returns-in-Ok-clause-ok : goal.returns-in-Ok-clause-ok
+returns-in-Ok-clause-ok g c = wrote_one _ _ (record { secs = c.args.secs; micros = c.args.micros; bytes = c.args.bytes.now }) c.in-Ok.ensures.bytes c.in-Ok.ensures.unfailed
+
+pub returns-in-Err-clause-cut : goal.returns-in-Err-clause-cut
+returns-in-Err-clause-cut g c = refused_one _ _ (record { secs = c.args.secs; micros = c.args.micros; bytes = c.args.bytes.now }) c.in-Err.ensures.refused
