@@ -292,8 +292,6 @@ def test_simulate_rows():
     text = scenario(["install 0 1", "install 1 1", "take 3"], scheme="round")
     lists("round robin", text, "yxx", {3: a1, 5: a1, 7: "forward B@10.8.0.2 from 1"})
     explains("round robin splits", text, "yxx", 7, 5, "split slot 5 version 1 B@10.8.0.2 version 1 A@10.8.0.1")
-    test_spreading_and_waiting()
-
 
 def test_spreading_and_waiting():
     # Under the sum hash y goes to the first of two live nodes, and z to the second.
@@ -558,9 +556,27 @@ def test_command_line():
     misused("a size that isn't a number", ["table", "--size", "seven", "--hash", "sum", "A"])
     misused("a size that doesn't fit", ["table", "--size", "4294967296", "--hash", "sum", "A"])
     misused("a negative size", ["table", "--size", "-7", "--hash", "sum", "A"])
-    for words in [["--help"], ["table", "--help"], ["pick", "--help"], ["compare", "--help"], ["simulate", "--help"], ["explain", "--help"]]:
-        status, out, err = run(words)
-        check(" ".join(words), status == 0 and b"Usage" in out and err == b"", f"{status} {out!r} {err!r}")
+    folder = TOP / "tests" / "texts"
+    prints("the help", ["--help"], (folder / "maglev.txt").read_text())
+    for name in ["table", "pick", "compare", "simulate", "explain"]:
+        prints(f"the help of {name}", [name, "--help"], (folder / f"{name}.txt").read_text())
+    for name, words in [
+        ("unknown_command", ["tables"]),
+        ("bad_number", ["table", "--size", "seven", "--hash", "sum", "A"]),
+        ("missing_argument", ["simulate", "a", "b"]),
+    ]:
+        answer = run(words)
+        check(f"the text of {name}", answer == (2, b"", (folder / f"{name}.txt").read_bytes()), repr(answer))
+    with open("/dev/full", "wb") as full:
+        done = subprocess.run([PROGRAM, "table"], stdout=subprocess.PIPE, stderr=full, check=False)
+        check("a bad command line, not told", (done.returncode, done.stdout) == (2, b""), repr(done))
+        status, _, err = run(["--help"], stdout=full)
+        check("help that can't be written", (status, err) == (1, b"fault: Write\n"), f"{status} {err!r}")
+
+
+def test_definitions():
+    done = subprocess.run([sys.executable, str(TOP / "tools" / "definitions.py"), "--check"], check=False)
+    check("docs/DEFINITIONS.md lists the definitions", done.returncode == 0)
 
 
 def main():

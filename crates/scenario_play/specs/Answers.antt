@@ -8,7 +8,7 @@ use Rattle.spreader.specs.Choices.{Choice}
 use Rattle.cluster_node.specs.declared.events.Said.{Said}
 use Rattle.cluster_node.specs.declared.outcomes.Outcome.{Outcome}
 use Rattle.cluster_core.specs.declared.counts.Totals.{Totals}
-use Rattle.cluster_core.specs.Tally.{is_arrival, is_forward, is_refused, how_many, drops_all, lost_all}
+use Rattle.cluster_core.specs.Tally.{is_arrival, is_forward, is_refused, how_many, drop_counts}
 use Rattle.cluster_core.specs.Totals.{came_all, went_all}
 use Rattle.cluster_core.specs.Histories.{outcomes_of}
 use Rattle.cluster_core.specs.Explain.{Send, send_of, explained}
@@ -28,7 +28,7 @@ abbrev pub totals_in : List Outcome → Totals
 totals_in outs = record {
   received = how_many (λ o. is_arrival o) outs;
   forwarded = how_many (λ o. is_forward o) outs;
-  dropped = drops_all 1 outs ∷ drops_all 2 outs ∷ drops_all 3 outs ∷ drops_all 4 outs ∷ drops_all 5 outs ∷ drops_all 6 outs ∷ drops_all 7 outs ∷ drops_all 8 outs ∷ drops_all 9 outs ∷ drops_all 10 outs ∷ drops_all 11 outs ∷ drops_all 12 outs ∷ lost_all outs ∷ [];
+  dropped = drop_counts outs;
   waiting = came_all outs - went_all outs;
   refused = how_many (λ o. is_refused o) outs;
 }
