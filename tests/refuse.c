@@ -10,6 +10,9 @@ extern void *__libc_realloc(void *, size);
 extern char *getenv(const char *);
 extern int atoi(const char *);
 extern long write(int, const void *, size);
+extern int *__errno_location(void);
+
+static const int no_memory = 12; /* ENOMEM */
 
 static int refused;
 static int and_later;
@@ -34,6 +37,7 @@ static int is_refused(void) {
     if (count != refused && !(and_later && count > refused))
         return 0;
     write(told, "r", 1);
+    *__errno_location() = no_memory;
     return 1;
 }
 

@@ -17,6 +17,8 @@ import tempfile
 TOP = pathlib.Path(__file__).resolve().parent.parent
 PROGRAM = str(TOP / "crates" / "maglev" / "out" / "maglev")
 MOST_GROWTHS = 100_000
+# What a run says that was refused memory.
+FAULTS = [(1, b"", b"fault: Memory\n")]
 
 THREE = "A@10.8.0.1 B@10.8.0.2 C@10.8.0.3"
 TABLE = "size 7 backends 3\n0 B\n1 A\n2 B\n3 C\n4 C\n5 A\n6 A\ncount A 3\ncount B 2\ncount C 2\n"
@@ -69,13 +71,13 @@ CASES = [
 ]
 
 
-def compiled(folder):
+def compiled(folder, source="refuse.c"):
     """The library that refuses."""
     kit = pathlib.Path(subprocess.run(["rt", "doc"], capture_output=True, check=True, text=True).stdout.split()[0]).parent
     tools = kit / "toolchain" / "bin"
-    library = str(pathlib.Path(folder) / "refuse.so")
+    library = str(pathlib.Path(folder) / source.replace(".c", ".so"))
     options = ["-shared", "-fPIC", "-O1", "-nostdlib", "-fuse-ld=lld", "-B", str(tools)]
-    subprocess.run([str(tools / "clang"), *options, "-o", library, str(TOP / "tests" / "refuse.c")], check=True)
+    subprocess.run([str(tools / "clang"), *options, "-o", library, str(TOP / "tests" / source)], check=True)
     return library
 
 
@@ -104,7 +106,7 @@ def run_refused(library, case, refused):
         is_ample = answer == (0, case.text.encode(), b"")
         if is_ample:
             is_ample = all((pathlib.Path(folder) / name).read_bytes() == content for name, content in case.written.items())
-        return is_ample, answer == (1, b"", b"fault: Memory\n"), was_refused, answer
+        return is_ample, answer in FAULTS, was_refused, answer
 
 
 def refuse_each(library, case, behind):
@@ -124,7 +126,7 @@ def refuse_each(library, case, behind):
             print(f"FAILED {name}, growth {number}{behind} refused: {answer}")
         if not was_refused:
             later = " with all behind it" if behind else ""
-            print(f"{name}: {number - 1} growths, each refused{later}: {faults} times Memory")
+            print(f"{name}: {number - 1} growths, each refused{later}: {faults} faults")
             return (passed, failed) if faults else (passed, failed + 1)
     print(f"FAILED {name}: more than {MOST_GROWTHS} growths")
     return passed, failed + 1
