@@ -1,0 +1,29 @@
+-- Numbers, addresses and members are read from what is printed of them, and from nothing else.
+use Rattle.std.specs.Prelude.{◌≡◌, ◌<◌, ◌≤◌, ◌^◌, ℕ, Bool, true, List, [], ◌++◌, Some, if◌then◌else◌, codes}
+use Rattle.std.specs.Fmt.{decimal}
+use Rattle.pool_versions.specs.declared.backend.Member.{Member}
+use Rattle.maglev_table.specs.NameText.{is_name}
+use Rattle.maglev_texts.specs.Parsing.{decimal_of, address_of, member_of}
+use Rattle.maglev_texts.specs.Printing.{address_text, backend_text}
+
+abbrev pub DecimalsAreReadBack : Type 0
+DecimalsAreReadBack = (limit n : ℕ) → limit < 2 ^ 40 → n ≤ limit → decimal_of limit (decimal n) ≡ Some n
+
+abbrev pub OnlyDecimalsAreRead : Type 0
+OnlyDecimalsAreRead = (limit n : ℕ) (text : List ℕ) → limit < 2 ^ 40 → decimal_of limit text ≡ Some n → (text ≡ decimal n) × (n ≤ limit)
+
+abbrev pub AddressesAreReadBack : Type 0
+AddressesAreReadBack = (a : ℕ) → a < 2 ^ 32 → address_of (address_text a) ≡ Some a
+
+abbrev pub OnlyAddressesAreRead : Type 0
+OnlyAddressesAreRead = (a : ℕ) (text : List ℕ) → address_of text ≡ Some a → (text ≡ address_text a) × (a < 2 ^ 32)
+
+-- `NAME@ADDRESS`, with `/down` behind it where it is down
+abbrev pub member_text : Member → List ℕ
+member_text m = backend_text m.backend ++ (if m.up then [] else codes "/down")
+
+abbrev pub MembersAreReadBack : Type 0
+MembersAreReadBack = (m : Member) → is_name m.backend.name ≡ true → m.backend.addr < 2 ^ 32 → member_of (member_text m) ≡ Some m
+
+abbrev pub OnlyMembersAreRead : Type 0
+OnlyMembersAreRead = (m : Member) (text : List ℕ) → member_of text ≡ Some m → (text ≡ member_text m) × (is_name m.backend.name ≡ true) × (m.backend.addr < 2 ^ 32)

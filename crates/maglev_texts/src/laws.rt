@@ -1,0 +1,13 @@
+//! What is printed is read, and nothing else.
+ghost use Rattle.maglev_texts.specs.RoundTrips.{DecimalsAreReadBack, OnlyDecimalsAreRead, AddressesAreReadBack, OnlyAddressesAreRead, MembersAreReadBack, OnlyMembersAreRead};
+
+/// Decimal numbers, addresses and member words are read from what is printed of them, and from no other text: two texts of
+/// one number, address or member are the same. The clauses are the laws; the body does nothing.
+pub fn texts_are_read_back()
+    ensures decimals { DecimalsAreReadBack }
+    ensures only_decimals { OnlyDecimalsAreRead }
+    ensures addresses { AddressesAreReadBack }
+    ensures only_addresses { OnlyAddressesAreRead }
+    ensures members { MembersAreReadBack }
+    ensures only_members { OnlyMembersAreRead }
+{}
