@@ -1,4 +1,4 @@
-use Rattle.std.proofs.Common.{◌≡◌, ◌≤◌, ◌<◌, ◌+◌, ℕ, List, length, take, sym, subst, ap, ◌∙◌, arith}
+use Rattle.std.proofs.Common.{List, sym, subst, ap, arith}
 use Rattle.selection.specs.Readied.{Readied}
 use Rattle.cluster_node.specs.Rules.{Rules}
 use Rattle.cluster_core.specs.Setups.{rules_for}
