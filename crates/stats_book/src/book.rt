@@ -1,6 +1,7 @@
 //! The counts, beside a ledger for each.
 ghost use Rattle.std.specs.Prelude.{◌≡◌, ◌+◌, ◌<◌, ◌↔◌, true, false, ℕ, MatchBool, replicate, slice_index};
 ghost use Rattle.stats_book.specs.Counts.{Counted, one_more};
+ghost use Rattle.stats_book.specs.Moves.{IsReceived, IsForwarded, IsDropped};
 ghost use Rattle.stats_book.specs.Names.{Unnamed};
 
 use crate::drops::{DropBlanks, DropBooks};
@@ -106,7 +107,7 @@ impl<B: Names> StatsBook<B> {
     pub fn receive(&mut self, mine: &mut Shares<B>) -> bool
         requires { 0 < mine.old.parts }
         ensures full { (result ≡ false) ↔ (self.old.received ≡ u64.MAX) }
-        ensures moved { MatchBool result ((self.new.received ≡ self.old.received + 1) × (self.new.waiting ≡ self.old.waiting + 1) × (self.new.forwarded ≡ self.old.forwarded) × (self.new.dropped ≡ self.old.dropped)) (self.new ≡ self.old) }
+        ensures moved { MatchBool result (IsReceived self.old self.new) (self.new ≡ self.old) }
         ensures shares { MatchBool result (mine.new ≡ record mine.old { received = mine.old.received + 1 }) (mine.new ≡ mine.old) }
     {
         if !self.stats.receive() {
@@ -120,7 +121,7 @@ impl<B: Names> StatsBook<B> {
     pub fn forwarded_one(&mut self, mine: &mut Shares<B>) -> bool
         requires { 0 < mine.old.parts }
         ensures none { (result ≡ false) ↔ (self.old.waiting ≡ 0) }
-        ensures moved { MatchBool result ((self.new.forwarded ≡ self.old.forwarded + 1) × (self.old.waiting ≡ self.new.waiting + 1) × (self.new.received ≡ self.old.received) × (self.new.dropped ≡ self.old.dropped)) (self.new ≡ self.old) }
+        ensures moved { MatchBool result (IsForwarded self.old self.new) (self.new ≡ self.old) }
         ensures shares { MatchBool result (mine.new ≡ record mine.old { forwarded = mine.old.forwarded + 1 }) (mine.new ≡ mine.old) }
     {
         if !self.stats.forwarded_one() {
@@ -135,7 +136,7 @@ impl<B: Names> StatsBook<B> {
     pub fn dropped_one(&mut self, mine: &mut Shares<B>, cause: Cause) -> bool
         requires { 0 < mine.old.parts }
         ensures none { (result ≡ false) ↔ (self.old.waiting ≡ 0) }
-        ensures moved { MatchBool result ((self.new.dropped ≡ one_more self.old.dropped cause) × (self.old.waiting ≡ self.new.waiting + 1) × (self.new.received ≡ self.old.received) × (self.new.forwarded ≡ self.old.forwarded)) (self.new ≡ self.old) }
+        ensures moved { MatchBool result (IsDropped cause self.old self.new) (self.new ≡ self.old) }
         ensures shares { MatchBool result (mine.new ≡ record mine.old { dropped = one_more mine.old.dropped cause }) (mine.new ≡ mine.old) }
     {
         if !self.stats.dropped_one(cause) {

@@ -5,6 +5,9 @@ use std::marker::{Brand, PhantomData};
 use std::sync::ledger::Ledger;
 
 /// The names of the ledgers of a book, and into how many parts the shares of each are cut.
+///
+/// A function that opens a book is written over `B: Names` and takes the blanks. It is called with `Brand` for `B`, and that
+/// call's proof picks the names and the parts from the blanks.
 pub trait Names {
     ghost names: { ℕ → ℕ };
 

@@ -1,6 +1,6 @@
 //! Counts that add up.
 ghost use Rattle.std.specs.Prelude.{◌≡◌, ◌+◌, ◌<◌, ◌↔◌, [], sum, true, false, MatchBool, replicate};
-ghost use Rattle.stats_book.specs.Counts.{place_of, one_more};
+ghost use Rattle.stats_book.specs.Counts.{place_of};
 
 use cluster_node::Cause;
 
@@ -41,6 +41,8 @@ fn place_of(cause: Cause) -> usize
 }
 
 impl Stats {
+    ghost use Rattle.stats_book.specs.Moves.{IsReceived, IsForwarded, IsDropped};
+
     /// Before any packet.
     pub fn new() -> Stats
         ensures received { result.received ≡ 0 }
@@ -59,7 +61,7 @@ impl Stats {
     /// A packet came, and waits. The answer is false, and nothing is changed, exactly where as many came as can be counted.
     pub fn receive(&mut self) -> bool
         ensures full { (result ≡ false) ↔ (self.old.received ≡ u64.MAX) }
-        ensures moved { MatchBool result ((self.new.received ≡ self.old.received + 1) × (self.new.waiting ≡ self.old.waiting + 1) × (self.new.forwarded ≡ self.old.forwarded) × (self.new.dropped ≡ self.old.dropped)) (self.new ≡ self.old) }
+        ensures moved { MatchBool result (IsReceived self.old self.new) (self.new ≡ self.old) }
     {
         if self.received == u64::MAX {
             return false;
@@ -77,7 +79,7 @@ impl Stats {
     /// A packet that waited was sent. The answer is false, and nothing is changed, exactly where none waits.
     pub fn forwarded_one(&mut self) -> bool
         ensures none { (result ≡ false) ↔ (self.old.waiting ≡ 0) }
-        ensures moved { MatchBool result ((self.new.forwarded ≡ self.old.forwarded + 1) × (self.old.waiting ≡ self.new.waiting + 1) × (self.new.received ≡ self.old.received) × (self.new.dropped ≡ self.old.dropped)) (self.new ≡ self.old) }
+        ensures moved { MatchBool result (IsForwarded self.old self.new) (self.new ≡ self.old) }
     {
         if self.waiting == 0 {
             return false;
@@ -95,7 +97,7 @@ impl Stats {
     /// A packet that waited was dropped. The answer is false, and nothing is changed, exactly where none waits.
     pub fn dropped_one(&mut self, cause: Cause) -> bool
         ensures none { (result ≡ false) ↔ (self.old.waiting ≡ 0) }
-        ensures moved { MatchBool result ((self.new.dropped ≡ one_more self.old.dropped cause) × (self.old.waiting ≡ self.new.waiting + 1) × (self.new.received ≡ self.old.received) × (self.new.forwarded ≡ self.old.forwarded)) (self.new ≡ self.old) }
+        ensures moved { MatchBool result (IsDropped cause self.old self.new) (self.new ≡ self.old) }
     {
         if self.waiting == 0 {
             return false;
