@@ -1,5 +1,5 @@
 -- A device that never fails is never given up.
-use Rattle.std.proofs.Common.{◌≡◌, ◌≢◌, ◌⊎◌, ℕ, List, length, inl, inr, sym, ◌∙◌, refl, arith}
+use Rattle.std.proofs.Common.{◌≡◌, ◌≢◌, ℕ, List, length, inl, inr, sym, ◌∙◌, refl, arith}
 use Rattle.pcap_file.specs.declared.format.PcapFault.{PcapFault}
 use Rattle.pcap_file.specs.declared.format.PcapFault.TheVariants as capture
 use Rattle.pcap_file.specs.Device.{Tape, GivenUp, PutRefused}
@@ -12,8 +12,8 @@ use Rattle.course.specs.Cluster.{Cluster}
 use Rattle.simulation.specs.Plans.{Planned}
 use Rattle.simulation.specs.Simulated.{Stopped}
 use Rattle.maglev_cli.specs.declared.fault.CliFault.{CliFault}
-use Rattle.maglev_cli.specs.declared.fault.CliFault.TheVariants.{Write, Memory, Capture}
-use Rattle.maglev_cli.specs.Scenarios.{RunFails, ReportFails, unkept, run_fault, capture_fault}
+use Rattle.maglev_cli.specs.declared.fault.CliFault.TheVariants.{Write}
+use Rattle.maglev_cli.specs.Scenarios.{RunFails, unkept, run_fault, capture_fault}
 
 no_end : (n calls : ℕ) (a : Tape) → a.failures ≡ 0 → GivenUp n a (unkept calls) → ⊥
 no_end n calls a e (inl f) = omega (arith, e, f.0)

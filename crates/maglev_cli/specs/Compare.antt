@@ -2,7 +2,6 @@
 use Rattle.std.specs.Prelude.{◌≡◌, ℕ, ◌++◌, Bool, true, false, not, ◌||◌, nat_lt, List, map, filter, length, Option, Some, None, is_none, codes, Contains, ◌⊎◌}
 use Rattle.std.specs.List.{flat_map, range_with_len}
 use Rattle.std.specs.Fmt.{decimal}
-use Rattle.std.specs.Io.KnownBytes.{Appends}
 use Rattle.hash_laws.specs.declared.any.AnyHash.{AnyHash}
 use Rattle.hash_laws.specs.Any.{hash_of_word, plain_of}
 use Rattle.maglev_table.specs.Sizes.{is_table_size}
@@ -115,15 +114,14 @@ CompareFails Write size hash old new = AreListed size hash × ListsFail Write si
 CompareFails Memory size hash old new = AreListed size hash
 CompareFails _ size hash old new = ⊥
 
--- what was written compares the tables of the up members of two good lists
-pub record WritesCompare (plain : List ℕ → ℕ) (size : ℕ) (old new : List ℕ) (before after : Option (List ℕ)) : Type 0 where
+-- the text compares the tables of the up members of two good lists
+pub record IsCompareText (plain : List ℕ → ℕ) (size : ℕ) (old new : List ℕ) (text : List ℕ) : Type 0 where
   pub ms : List Member
   pub ns : List Member
   pub lists : AreLists old new ms ns
   pub good : AreGood size ms ns
-  pub written : Appends before after (compare_text (table_of_ups plain size (ups ms)) (table_of_ups plain size (ups ns)))
+  pub is : text ≡ compare_text (table_of_ups plain size (ups ms)) (table_of_ups plain size (ups ns))
 
 -- the same, for the hash that a word names
-abbrev pub WritesCompareOf : List ℕ → ℕ → List ℕ → List ℕ → Option (List ℕ) → Option (List ℕ) → Type 0
-WritesCompareOf word size old new before after =
-    (hash : AnyHash) × (hash_of_word word ≡ Some hash) × (is_table_size size ≡ true) × WritesCompare (plain_of hash) size old new before after
+abbrev pub IsCompareTextOf : List ℕ → ℕ → List ℕ → List ℕ → List ℕ → Type 0
+IsCompareTextOf word size old new text = (hash : AnyHash) × (hash_of_word word ≡ Some hash) × (is_table_size size ≡ true) × IsCompareText (plain_of hash) size old new text

@@ -1,7 +1,6 @@
 -- The command `pick`: the flow of a datagram, its slot and its backend, or why it is dropped.
 use Rattle.std.specs.Prelude.{◌≡◌, ◌<◌, ◌≤◌, ℕ, ◌-◌, ◌++◌, Bool, true, false, ◌==◌, nat_lt, if◌then◌else◌, List, [], map, take, length, slice_index, slice_index_or, Option, Some, None, Result, Ok, Err, IfSome, codes}
 use Rattle.std.specs.Fmt.{decimal}
-use Rattle.std.specs.Io.KnownBytes.{Appends}
 use Rattle.hash_laws.specs.declared.any.AnyHash.{AnyHash}
 use Rattle.hash_laws.specs.Any.{hash_of_word, plain_of}
 use Rattle.hex.specs.Hex.{decode_of}
@@ -83,14 +82,18 @@ IsNoHex text = (e : FromHexError) × (decode_of (without_newline text) ≡ Err e
 abbrev pub longest : ℕ
 longest = 524289
 
-abbrev pub WritesPick : (List ℕ → ℕ) → ℕ → List (List ℕ) → Bool → Option (List ℕ) → Option (List ℕ) → Option (List ℕ) → Type 0
-WritesPick plain size words check input old new =
-    (sorted : List (List ℕ)) × IsAscending words sorted × (bytes : List ℕ) × IfSome input (IsHexOf bytes) × Appends old new (pick_line plain size sorted (judge_of check bytes))
+-- the line of a datagram, where the input tells it
+abbrev pub IsPickLine : (List ℕ → ℕ) → ℕ → List (List ℕ) → Bool → Option (List ℕ) → List ℕ → Type 0
+IsPickLine plain size words check input line =
+    (sorted : List (List ℕ)) × IsAscending words sorted × (bytes : List ℕ) × IfSome input (IsHexOf bytes) × (line ≡ pick_line plain size sorted (judge_of check bytes))
 
 -- the same, for the hash that a word names
-abbrev pub WritesPickOf : List ℕ → ℕ → List (List ℕ) → Bool → Option (List ℕ) → Option (List ℕ) → Option (List ℕ) → Type 0
-WritesPickOf word size words check input old new =
-    (hash : AnyHash) × (hash_of_word word ≡ Some hash) × WritesPick (plain_of hash) size words check input old new
+abbrev pub IsPickLineOf : List ℕ → ℕ → List (List ℕ) → Bool → Option (List ℕ) → List ℕ → Type 0
+IsPickLineOf word size words check input line = (hash : AnyHash) × (hash_of_word word ≡ Some hash) × IsPickLine (plain_of hash) size words check input line
+
+-- an input that isn't too long
+abbrev pub IsShort : Option (List ℕ) → Type 0
+IsShort input = IfSome input (λ text. length text ≤ longest)
 
 -- what the text is where decoding it ends by a fault
 abbrev pub HexFails : CliFault → List ℕ → Type 0
@@ -103,7 +106,7 @@ abbrev pub InputFails : CliFault → Option (List ℕ) → Type 0
 InputFails TooLong input = IfSome input (λ text. longest < length text)
 InputFails Read input = Unit {0}
 InputFails BadHex input = IfSome input (λ text. (length text ≤ longest) × IsNoHex text)
-InputFails Write input = IfSome input (λ text. length text ≤ longest)
+InputFails Write input = IsShort input
 InputFails Memory input = Unit {0}
 InputFails _ input = ⊥
 

@@ -1,17 +1,19 @@
-ghost use Rattle.std.specs.Prelude.{◌≡◌, ◌≢◌, IfOk, IfErr};
+ghost use Rattle.std.specs.Prelude.{◌≡◌, ◌≢◌, IfOk, OnOk, IfErr};
 ghost use Rattle.pool_versions.specs.Pool.{ups};
 ghost use Rattle.selection.specs.Picks.{table_of_ups};
-ghost use Rattle.maglev_cli.specs.Compare.{WritesCompare, WritesCompareOf, ListsFail, CompareFails, AreGood};
+ghost use Rattle.maglev_cli.specs.Printing.{Prints, BreaksOff};
+ghost use Rattle.maglev_cli.specs.Compare.{IsCompareText, IsCompareTextOf, ListsFail, CompareFails, AreGood};
 
 use super::compare_text::compare_text_of;
 use super::fault::CliFault;
 use super::members::lists_in;
+use super::writing::put_text;
 use hash_laws::{AnyHash, FlowHash};
 use maglev_table::TableSize;
+use pcap_file::Sink;
 use pool_versions::{Backend, Member, Service};
 use selection::{Maglev, MaglevTable};
 use std::alloc::{AllocError, Global};
-use std::io::Write;
 
 // The up backends of some members, in ascending order of name.
 fn ups_of(alloc: Global, members: Vec<Member>) -> Result<Vec<Backend>, AllocError>
@@ -41,15 +43,16 @@ fn table_of<H: FlowHash>(
     }
 }
 
-fn compare_with<H: FlowHash, W: Write>(
+fn compare_with<H: FlowHash, S: Sink>(
     alloc: Global,
     size: TableSize,
     hash: &H,
     old: &str,
     new: &str,
-    out: &mut W,
+    out: &mut S,
 ) -> Result<(), CliFault>
-    ensures written { IfOk result (λ _. WritesCompare (H.plain hash.now) size old.now new.now (W.contents out.old) (W.contents out.new)) }
+    ensures written { OnOk result (Prints (IsCompareText (H.plain hash.now) size old.now new.now) (S.tape out.old) (S.tape out.new)) }
+    ensures broken { IfErr result (λ fault. fault ≡ CliFault.Write → BreaksOff (IsCompareText (H.plain hash.now) size old.now new.now) (S.tape out.old) (S.tape out.new)) }
     ensures silent { IfErr result (λ fault. fault ≢ CliFault.Write → out.new ≡ out.old) }
     ensures fault { IfErr result (λ fault. ListsFail fault size old.now new.now) }
 {
@@ -59,9 +62,9 @@ fn compare_with<H: FlowHash, W: Write>(
     let before = table_of(alloc, size, hash, old.as_slice())?;
     let after = table_of(alloc, size, hash, new.as_slice())?;
     let text = compare_text_of(alloc, &before, &after)?;
-    match out.write_all(text.as_bytes()) {
+    match put_text(out, text.as_str()) {
         Ok(()) => Ok(()),
-        Err(_) => Err(CliFault::Write),
+        Err(fault) => Err(fault),
     }
 }
 
@@ -70,15 +73,16 @@ fn compare_with<H: FlowHash, W: Write>(
 /// Each list is one or more member words, `NAME@ADDRESS` or `NAME@ADDRESS/down`, joined by single spaces. Backends are
 /// told apart by name and address. The text is written in one piece once it is whole, so after any fault but `Write`
 /// nothing was written.
-pub fn compare<W: Write>(
+pub fn compare<S: Sink>(
     alloc: Global,
     size: u32,
     hash: &str,
     old: &str,
     new: &str,
-    out: &mut W,
+    out: &mut S,
 ) -> Result<(), CliFault>
-    ensures written { IfOk result (λ _. WritesCompareOf hash.now size old.now new.now (W.contents out.old) (W.contents out.new)) }
+    ensures written { OnOk result (Prints (IsCompareTextOf hash.now size old.now new.now) (S.tape out.old) (S.tape out.new)) }
+    ensures broken { IfErr result (λ fault. fault ≡ CliFault.Write → BreaksOff (IsCompareTextOf hash.now size old.now new.now) (S.tape out.old) (S.tape out.new)) }
     ensures silent { IfErr result (λ fault. fault ≢ CliFault.Write → out.new ≡ out.old) }
     ensures fault { IfErr result (λ fault. CompareFails fault size hash.now old.now new.now) }
 {

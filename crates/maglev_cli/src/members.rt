@@ -1,4 +1,4 @@
-ghost use Rattle.std.specs.Prelude.{◌≡◌, map, Some, IfOk, IfErr};
+ghost use Rattle.std.specs.Prelude.{◌≢◌, ◌≡◌, map, Some, IfOk, IfErr};
 ghost use Rattle.maglev_texts.specs.Parsing.{member_of};
 ghost use Rattle.maglev_cli.specs.Compare.{AreMembers, AreLists, AreGood, WordsAreOther, MembersFail, ListsFail, is_long};
 
@@ -61,6 +61,7 @@ pub(crate) fn lists_in(
     ensures lists { IfOk result (λ l. AreLists old.now new.now l.old.items l.new.items) }
     ensures good { IfOk result (λ l. AreGood size l.old.items l.new.items) }
     ensures fault { IfErr result (λ fault. ListsFail fault size old.now new.now) }
+    ensures unwritten { IfErr result (λ fault. fault ≢ CliFault.Write) }
 {
     let old = members_in(alloc, old)?;
     let new = members_in(alloc, new)?;

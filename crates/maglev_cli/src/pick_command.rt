@@ -1,18 +1,21 @@
-ghost use Rattle.std.specs.Prelude.{◌≡◌, ◌<◌, ◌≤◌, ◌≢◌, map, length, IfOk, IfErr, IfSome, OnOk, string_bytes, All, Ok};
+ghost use Rattle.std.specs.Prelude.{◌≡◌, ◌+◌, ◌<◌, ◌≤◌, ◌≢◌, map, length, IfOk, IfErr, IfSome, OnOk, string_bytes, All, Ok};
+ghost use Rattle.pcap_file.specs.Device.{Unfailed, ReadRefused};
+ghost use Rattle.maglev_cli.specs.Printing.{Prints, BreaksOff};
+ghost use Rattle.maglev_cli.specs.Refusals.{AreFew, IsTableWork};
 ghost use Rattle.maglev_cli.specs.declared.judging.Judged.TheVariants.{Found};
-ghost use Rattle.maglev_cli.specs.Pick.{longest, without_newline, IsHexOf, judge_of, pick_line, HexFails, InputFails, WritesPick, WritesPickOf, PickFailsWith, PickFails};
+ghost use Rattle.maglev_cli.specs.Pick.{longest, without_newline, IsHexOf, judge_of, pick_line, HexFails, InputFails, IsPickLine, IsPickLineOf, IsShort, PickFailsWith, PickFails};
 
 use super::fault::CliFault;
 use super::judging::{CauseText, Judged, judge};
 use super::names::{lists_of, names_for};
+use super::writing::put_text;
 use five_tuple::Flow;
 use hash_laws::{AnyHash, FlowHash};
 use hex::FromHexError;
 use maglev_table::{Name, TableSize, populate};
 use maglev_texts::FlowText;
-use pcap_file::{FromRead, fill};
+use pcap_file::{Sink, Source, fill};
 use std::alloc::{AllocError, Global};
-use std::io::{Read, Write};
 
 /// The longest input: two digits for each byte of 262,144, and a newline.
 const LONGEST: usize = 524_289;
@@ -25,14 +28,16 @@ fn room_for(alloc: Global, size: usize) -> Result<Vec<u8>, AllocError>
 }
 
 // All bytes of the input, of which there are no more than the longest.
-fn input_of<R: Read>(alloc: Global, input: &mut R) -> Result<Vec<u8>, CliFault>
-    ensures bytes { IfOk result (λ v. IfSome (R.remaining input.old) (λ text. v.items ≡ text)) }
+fn input_of<R: Source>(alloc: Global, input: &mut R) -> Result<Vec<u8>, CliFault>
+    ensures bytes { IfOk result (λ v. IfSome (R.tape input.old).bytes (λ text. v.items ≡ text)) }
     ensures short { IfOk result (λ v. length v.items ≤ longest) }
-    ensures fault { IfErr result (λ fault. InputFails fault (R.remaining input.old)) }
+    ensures unfailed { OnOk result (Unfailed (R.tape input.old) (R.tape input.new)) }
+    ensures fault { IfErr result (λ fault. InputFails fault (R.tape input.old).bytes) }
+    ensures read { IfErr result (λ fault. fault ≡ CliFault.Read → ReadRefused (longest + 1) (R.tape input.old) (R.tape input.new)) }
+    ensures unwritten { IfErr result (λ fault. fault ≢ CliFault.Write) }
 {
     let mut bytes = room_for(alloc, LONGEST + 1)?;
-    let mut source = FromRead::new(input);
-    let Ok(count) = fill(&mut source, bytes.as_mut_slice()) else {
+    let Ok(count) = fill(input, bytes.as_mut_slice()) else {
         return Err(CliFault::Read);
     };
     if count > LONGEST {
@@ -120,10 +125,13 @@ fn line_of<H: FlowHash>(
 }
 
 // Reads a datagram as hexadecimal text.
-fn datagram_of<R: Read>(alloc: Global, input: &mut R) -> Result<Vec<u8>, CliFault>
-    ensures bytes { IfOk result (λ v. IfSome (R.remaining input.old) (λ text. IsHexOf v.items text)) }
-    ensures short { OnOk result (InputFails CliFault.Write (R.remaining input.old)) }
-    ensures fault { IfErr result (λ fault. InputFails fault (R.remaining input.old)) }
+fn datagram_of<R: Source>(alloc: Global, input: &mut R) -> Result<Vec<u8>, CliFault>
+    ensures bytes { IfOk result (λ v. IfSome (R.tape input.old).bytes (λ text. IsHexOf v.items text)) }
+    ensures short { OnOk result (IsShort (R.tape input.old).bytes) }
+    ensures unfailed { OnOk result (Unfailed (R.tape input.old) (R.tape input.new)) }
+    ensures fault { IfErr result (λ fault. InputFails fault (R.tape input.old).bytes) }
+    ensures read { IfErr result (λ fault. fault ≡ CliFault.Read → ReadRefused (longest + 1) (R.tape input.old) (R.tape input.new)) }
+    ensures unwritten { IfErr result (λ fault. fault ≢ CliFault.Write) }
 {
     let text = input_of(alloc, input)?;
     match bytes_of(alloc, text.as_slice()) {
@@ -132,20 +140,23 @@ fn datagram_of<R: Read>(alloc: Global, input: &mut R) -> Result<Vec<u8>, CliFaul
     }
 }
 
-fn pick_with<H: FlowHash, R: Read, W: Write>(
+fn pick_with<H: FlowHash, R: Source, S: Sink>(
     alloc: Global,
     size: TableSize,
     hash: &H,
     check: bool,
     words: &[&str],
     input: &mut R,
-    out: &mut W,
+    out: &mut S,
 ) -> Result<(), CliFault>
     requires { 0 < length words.now }
-    ensures written { IfOk result (λ _. WritesPick (H.plain hash.now) size (map (λ w. w.now) words.now) check
-        (R.remaining input.old) (W.contents out.old) (W.contents out.new)) }
+    ensures written { OnOk result (Prints (IsPickLine (H.plain hash.now) size (map (λ w. w.now) words.now) check (R.tape input.old).bytes) (S.tape out.old) (S.tape out.new)) }
+    ensures broken { IfErr result (λ fault. fault ≡ CliFault.Write → BreaksOff (IsPickLine (H.plain hash.now) size (map (λ w. w.now) words.now) check (R.tape input.old).bytes) (S.tape out.old) (S.tape out.new)) }
+    ensures accepted { OnOk result (AreFew size (map (λ w. w.now) words.now) × IsShort (R.tape input.old).bytes) }
+    ensures unfailed { OnOk result (Unfailed (R.tape input.old) (R.tape input.new)) }
+    ensures read { IfErr result (λ fault. fault ≡ CliFault.Read → ReadRefused (longest + 1) (R.tape input.old) (R.tape input.new)) }
     ensures silent { IfErr result (λ fault. fault ≢ CliFault.Write → out.new ≡ out.old) }
-    ensures fault { IfErr result (λ fault. PickFailsWith fault size (map (λ w. w.now) words.now) (R.remaining input.old)) }
+    ensures fault { IfErr result (λ fault. PickFailsWith fault size (map (λ w. w.now) words.now) (R.tape input.old).bytes) }
 {
     let names = names_for(alloc, size, words)?;
     let bytes = match datagram_of(alloc, input) {
@@ -154,9 +165,9 @@ fn pick_with<H: FlowHash, R: Read, W: Write>(
     };
     let judged = judge(bytes.as_slice(), check);
     let line = line_of(alloc, size, hash, names.as_slice(), judged)?;
-    match out.write_all(line.as_bytes()) {
+    match put_text(out, line.as_str()) {
         Ok(()) => Ok(()),
-        Err(_) => Err(CliFault::Write),
+        Err(fault) => Err(fault),
     }
 }
 
@@ -165,20 +176,23 @@ fn pick_with<H: FlowHash, R: Read, W: Write>(
 ///
 /// The input is hexadecimal digits of either case, two a byte, and at most one newline behind them. The header checksum is
 /// tested where `check` holds. The line is written in one piece, so after any fault but `Write` nothing was written.
-pub fn pick<R: Read, W: Write>(
+pub fn pick<R: Source, S: Sink>(
     alloc: Global,
     size: u32,
     hash: &str,
     check: bool,
     words: &[&str],
     input: &mut R,
-    out: &mut W,
+    out: &mut S,
 ) -> Result<(), CliFault>
     requires { 0 < length words.now }
-    ensures written { IfOk result (λ _. WritesPickOf hash.now size (map (λ w. w.now) words.now) check
-        (R.remaining input.old) (W.contents out.old) (W.contents out.new)) }
+    ensures written { OnOk result (Prints (IsPickLineOf hash.now size (map (λ w. w.now) words.now) check (R.tape input.old).bytes) (S.tape out.old) (S.tape out.new)) }
+    ensures broken { IfErr result (λ fault. fault ≡ CliFault.Write → BreaksOff (IsPickLineOf hash.now size (map (λ w. w.now) words.now) check (R.tape input.old).bytes) (S.tape out.old) (S.tape out.new)) }
+    ensures accepted { OnOk result (IsTableWork size hash.now (map (λ w. w.now) words.now) × IsShort (R.tape input.old).bytes) }
+    ensures unfailed { OnOk result (Unfailed (R.tape input.old) (R.tape input.new)) }
+    ensures read { IfErr result (λ fault. fault ≡ CliFault.Read → ReadRefused (longest + 1) (R.tape input.old) (R.tape input.new)) }
     ensures silent { IfErr result (λ fault. fault ≢ CliFault.Write → out.new ≡ out.old) }
-    ensures fault { IfErr result (λ fault. PickFails fault size hash.now (map (λ w. w.now) words.now) (R.remaining input.old)) }
+    ensures fault { IfErr result (λ fault. PickFails fault size hash.now (map (λ w. w.now) words.now) (R.tape input.old).bytes) }
 {
     let Some(size) = TableSize::new(size) else {
         return Err(CliFault::BadSize);

@@ -1,42 +1,64 @@
+ghost use Rattle.std.specs.Prelude.{None};
+ghost use Rattle.pcap_file.specs.Host.{taped};
+
 use super::{CliFault, compare, finish, pick, table};
-use pcap_file::PcapFault;
+use pcap_file::{CallCounts, DeviceFault, FromRead, PcapFault, Sink, Source, ToWrite};
 use pool_versions::PoolFault;
 use std::alloc::Global;
-use std::io::{self, Read, Write};
 use std::process::Abort;
 
-/// A writer whose every call fails.
+/// A device whose every call fails.
 #[derive(Drop)]
-struct Broken;
+struct Broken {
+    counts: CallCounts,
+}
 
-impl Write for Broken {
-    fn write(&mut self, _bytes: &[u8]) -> io::Result<usize> {
-        Err(io::Error::from(io::ErrorKind::Other))
-    }
+impl Source for Broken {
+    ghost tape = { λ s. taped None s.counts };
 
-    fn flush(&mut self) -> io::Result<()> {
-        Ok(())
+    fn read(&mut self, _bytes: &mut [u8]) -> Result<usize, DeviceFault> {
+        self.counts.call();
+        Err(self.counts.fault(false))
     }
 }
 
+impl Sink for Broken {
+    ghost tape = { λ s. taped None s.counts };
+
+    fn write(&mut self, _bytes: &[u8]) -> Result<usize, DeviceFault> {
+        self.counts.call();
+        Err(self.counts.fault(false))
+    }
+}
+
+fn failing() -> Broken {
+    Broken {
+        counts: CallCounts::none(),
+    }
+}
+
+fn kept(alloc: Global) -> ToWrite<Vec<u8>> {
+    ToWrite::new(Vec::new(alloc))
+}
+
 fn printed(rt: &impl Abort, alloc: Global, size: u32, hash: &str, words: &[&str], text: &str) {
-    let mut out = Vec::new(alloc);
+    let mut out = kept(alloc);
     if words.is_empty() {
         return;
     }
     let done = table(alloc, size, hash, words, &mut out);
     assert_eq!(rt; done, Ok(()));
-    assert_eq!(rt; out.as_slice(), text.as_bytes());
+    assert_eq!(rt; out.into_inner().as_slice(), text.as_bytes());
 }
 
 fn refused(rt: &impl Abort, alloc: Global, size: u32, hash: &str, words: &[&str], fault: CliFault) {
-    let mut out = Vec::new(alloc);
+    let mut out = kept(alloc);
     if words.is_empty() {
         return;
     }
     let done = table(alloc, size, hash, words, &mut out);
     assert_eq!(rt; done, Err(fault));
-    assert_eq!(rt; out.len(), 0);
+    assert_eq!(rt; out.into_inner().len(), 0);
 }
 
 #[test]
@@ -71,14 +93,14 @@ fn faults_of_table(rt: HostRuntime) {
         CliFault::DoubleName,
     );
     refused(&rt, rt.alloc(), 7, "sum", &eight, CliFault::TooMany);
-    let done = table(rt.alloc(), 7, "sum", &["A"], &mut Broken);
+    let done = table(rt.alloc(), 7, "sum", &["A"], &mut failing());
     assert_eq!(rt; done, Err(CliFault::Write));
 }
 
 fn shown(rt: &impl Abort, alloc: Global, outcome: Result<(), CliFault>, status: u8, line: &str) {
-    let mut err = Vec::new(alloc);
+    let mut err = kept(alloc);
     assert_eq!(rt; finish(&outcome, &mut err), status);
-    assert_eq!(rt; err.as_slice(), line.as_bytes());
+    assert_eq!(rt; err.into_inner().as_slice(), line.as_bytes());
 }
 
 #[test]
@@ -98,14 +120,14 @@ fn faults_are_shown(rt: HostRuntime) {
     shown(&rt, rt.alloc(), Err(magic), 1, "fault: BadMagic\n");
     let step = CliFault::BadStep(99_999);
     shown(&rt, rt.alloc(), Err(step), 1, "fault: BadStep 99999\n");
-    assert_eq!(rt; finish(&Err(CliFault::BadSize), &mut Broken), 1);
+    assert_eq!(rt; finish(&Err(CliFault::BadSize), &mut failing()), 1);
 }
 
 fn compared(rt: &impl Abort, alloc: Global, old: &str, new: &str, text: &str) {
-    let mut out = Vec::new(alloc);
+    let mut out = kept(alloc);
     let done = compare(alloc, 7, "sum", old, new, &mut out);
     assert_eq!(rt; done, Ok(()));
-    assert_eq!(rt; out.as_slice(), text.as_bytes());
+    assert_eq!(rt; out.into_inner().as_slice(), text.as_bytes());
 }
 
 #[test]
@@ -138,10 +160,10 @@ fn comparisons(rt: HostRuntime) {
 }
 
 fn not_compared(rt: &impl Abort, alloc: Global, size: u32, old: &str, new: &str, fault: CliFault) {
-    let mut out = Vec::new(alloc);
+    let mut out = kept(alloc);
     let done = compare(alloc, size, "sum", old, new, &mut out);
     assert_eq!(rt; done, Err(fault));
-    assert_eq!(rt; out.len(), 0);
+    assert_eq!(rt; out.into_inner().len(), 0);
 }
 
 #[test]
@@ -164,9 +186,9 @@ fn faults_of_compare(rt: HostRuntime) {
     not_compared(&rt, rt.alloc(), 7, eight, two, CliFault::DoubleName);
     not_compared(&rt, rt.alloc(), 7, two, eight, CliFault::DoubleName);
     not_compared(&rt, rt.alloc(), 7, one, eight, CliFault::TooMany);
-    let done = compare(rt.alloc(), 7, "md5", "", one, &mut Broken);
+    let done = compare(rt.alloc(), 7, "md5", "", one, &mut failing());
     assert_eq!(rt; done, Err(CliFault::BadHash));
-    let done = compare(rt.alloc(), 7, "sum", one, one, &mut Broken);
+    let done = compare(rt.alloc(), 7, "sum", one, one, &mut failing());
     assert_eq!(rt; done, Err(CliFault::Write));
 }
 
@@ -176,8 +198,8 @@ const TCP: &str =
 const UDP: &str = "4500001c000100004011aece0a000001c000020103e8003500080000";
 
 fn picked(rt: &impl Abort, alloc: Global, check: bool, input: &str, line: &str) {
-    let mut out = Vec::new(alloc);
-    let mut bytes = input.as_bytes();
+    let mut out = kept(alloc);
+    let mut bytes = FromRead::new(input.as_bytes());
     let done = pick(
         alloc,
         7,
@@ -188,7 +210,7 @@ fn picked(rt: &impl Abort, alloc: Global, check: bool, input: &str, line: &str) 
         &mut out,
     );
     assert_eq!(rt; done, Ok(()));
-    assert_eq!(rt; out.as_slice(), line.as_bytes());
+    assert_eq!(rt; out.into_inner().as_slice(), line.as_bytes());
 }
 
 #[test]
@@ -213,21 +235,11 @@ fn picks(rt: HostRuntime) {
 }
 
 fn not_picked(rt: &impl Abort, alloc: Global, input: &[u8], fault: CliFault) {
-    let mut out = Vec::new(alloc);
-    let mut bytes = input;
+    let mut out = kept(alloc);
+    let mut bytes = FromRead::new(input);
     let done = pick(alloc, 7, "sum", true, &["A"], &mut bytes, &mut out);
     assert_eq!(rt; done, Err(fault));
-    assert_eq!(rt; out.len(), 0);
-}
-
-/// A reader whose every call fails.
-#[derive(Drop)]
-struct Deaf;
-
-impl Read for Deaf {
-    fn read(&mut self, _bytes: &mut [u8]) -> io::Result<usize> {
-        Err(io::Error::from(io::ErrorKind::Other))
-    }
+    assert_eq!(rt; out.into_inner().len(), 0);
 }
 
 #[test]
@@ -240,13 +252,29 @@ fn faults_of_pick(rt: HostRuntime) {
     not_picked(&rt, rt.alloc(), long.as_slice(), CliFault::TooLong);
     long.truncate(524_289);
     not_picked(&rt, rt.alloc(), long.as_slice(), CliFault::BadHex);
-    let mut out = Vec::new(rt.alloc());
-    let done = pick(rt.alloc(), 7, "sum", true, &["A"], &mut Deaf, &mut out);
+    let mut out = kept(rt.alloc());
+    let done = pick(rt.alloc(), 7, "sum", true, &["A"], &mut failing(), &mut out);
     assert_eq!(rt; done, Err(CliFault::Read));
-    let done = pick(rt.alloc(), 7, "sum", true, &["A", "A"], &mut Deaf, &mut out);
+    let done = pick(
+        rt.alloc(),
+        7,
+        "sum",
+        true,
+        &["A", "A"],
+        &mut failing(),
+        &mut out,
+    );
     assert_eq!(rt; done, Err(CliFault::DoubleName));
-    let mut bytes = TCP.as_bytes();
-    let done = pick(rt.alloc(), 7, "sum", true, &["A"], &mut bytes, &mut Broken);
+    let mut bytes = FromRead::new(TCP.as_bytes());
+    let done = pick(
+        rt.alloc(),
+        7,
+        "sum",
+        true,
+        &["A"],
+        &mut bytes,
+        &mut failing(),
+    );
     assert_eq!(rt; done, Err(CliFault::Write));
 }
 
@@ -256,9 +284,30 @@ fn a_large_datagram(rt: HostRuntime) {
     let head = "4500ffe8000000004011000000000000000000000000000000080000";
     let mut text = vec![in rt.alloc(); b'0'; 131_024].expect(&rt, "memory");
     text[..56].copy_from_slice(head.as_bytes());
-    let mut out = Vec::new(rt.alloc());
-    let mut bytes = text.as_slice();
+    let mut out = kept(rt.alloc());
+    let mut bytes = FromRead::new(text.as_slice());
     let done = pick(rt.alloc(), 7, "sum", false, &["A"], &mut bytes, &mut out);
     assert_eq!(rt; done, Ok(()));
-    assert_eq!(rt; out.as_slice(), b"drop TooLarge\n".as_slice());
+    assert_eq!(rt; out.into_inner().as_slice(), b"drop TooLarge\n".as_slice());
+}
+
+// A text of more than 65,536 bytes is written whole: every slot of 8,191 changes its backend.
+#[test]
+fn a_long_comparison(rt: HostRuntime) {
+    let mut out = kept(rt.alloc());
+    let done = compare(
+        rt.alloc(),
+        8191,
+        "sum",
+        "A@10.8.0.1",
+        "A@10.8.0.9",
+        &mut out,
+    );
+    assert_eq!(rt; done, Ok(()));
+    let text = out.into_inner();
+    let head = b"size 8191 old 1 new 1 differ 8191\n0 A@10.8.0.1 A@10.8.0.9\n";
+    assert!(rt; text.as_slice().starts_with(head));
+    assert!(rt; text.as_slice().ends_with(b"\n8190 A@10.8.0.1 A@10.8.0.9\n"));
+    // 34 bytes, and of 8,191 lines 22 bytes, a newline and the digits: 10, 180, 2,700 and 28,764.
+    assert_eq!(rt; text.len(), 34 + 8191 * 23 + 10 + 180 + 2700 + 28764);
 }

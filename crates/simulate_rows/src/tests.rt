@@ -17,12 +17,12 @@ const TWO_SENT: &str =
 
 // What is written where a scenario is played over a capture in memory.
 #[derive(Drop)]
-struct Written {
-    output: Vec<u8>,
-    report: Vec<u8>,
+pub(crate) struct Written {
+    pub(crate) output: Vec<u8>,
+    pub(crate) report: Vec<u8>,
 }
 
-fn played(
+pub(crate) fn played(
     alloc: Global,
     words: Words<'_>,
     capture: &[u8],
@@ -392,7 +392,10 @@ fn is_no_scenario(rt: &impl Abort, alloc: Global, text: &[u8], fault: CliFault) 
     assert_eq!(rt; done, Err(fault));
     let done = explain_run(alloc, text, &mut input, 0, 0, &mut report);
     assert_eq!(rt; done, Err(fault));
-    assert_eq!(rt; (input.counts.calls, output.counts.calls, report.counts.calls), (0, 0, 0));
+    assert_eq!(rt;
+        (input.counts.calls, output.counts.calls, report.counts.calls),
+        (0, 0, 0)
+    );
 }
 
 fn is_refused(rt: &impl Abort, alloc: Global, words: Words<'_>, fault: CliFault) {

@@ -1,6 +1,5 @@
-use Rattle.std.proofs.Common.{◌≡◌, ◌⊎◌, ℕ, inl, inr, subst}
+use Rattle.std.proofs.Common.{ℕ, inl, inr, subst}
 use Rattle.maglev_cli.specs.Scenarios.{RunFails, ReportFails, unkept}
-use Rattle.maglev_cli.specs.Scenarios.{ScenarioFails}
 use Rattle.scenario_play.specs.declared.asking.Asked.TheVariants.{Events}
 use Rattle.maglev_cli.proofs.Unkept.{never_written}
 use Rattle.maglev_cli.proofs.scenario_commands.explain_run.Goals as goal
