@@ -1,5 +1,5 @@
 -- One more node.
-use Rattle.std.proofs.Common.{◌≡◌, ◌+◌, ◌++◌, ◌∷◌, [], ℕ, List, length, map, sym, subst, ap, ◌∙◌, Result, Ok, arith}
+use Rattle.std.proofs.Common.{◌≡◌, ◌+◌, ◌++◌, ◌∷◌, [], ℕ, List, length, subst, arith}
 use Rattle.node_records.specs.declared.nodes.NodeRecord.{NodeRecord}
 use Rattle.node_records.specs.Runs.{IsRunOf, AreRuns}
 use Rattle.cluster_node.specs.Rules.{Rules}

@@ -5,7 +5,7 @@ ghost use Rattle.cluster_node.specs.declared.packets.Packet.{Packet};
 ghost use Rattle.node_records.specs.declared.command.Command.{Command};
 ghost use Rattle.node_records.specs.declared.nodes.NodeRecord.{NodeRecord};
 ghost use Rattle.node_records.specs.Runs.{IsRunOf, AreRuns, JoinsRuns};
-ghost use Rattle.cluster_threads.specs.Clusters.{AreNumbered};
+ghost use Rattle.cluster_threads.specs.Clusters.{AreNumbered, rank_of, first_fault};
 
 use cluster_core::Setup;
 use cluster_node::Packet;
@@ -64,14 +64,25 @@ struct Joined {
     fault: Option<RunFault>,
 }
 
-// The fault that comes first: Memory, ThreadLost, Foreign, RingLost.
-fn first_of(fault: Option<RunFault>, other: RunFault) -> RunFault {
-    match (fault, other) {
-        (None, other) => other,
-        (Some(RunFault::Memory), _) | (_, RunFault::Memory) => RunFault::Memory,
-        (Some(RunFault::ThreadLost), _) | (_, RunFault::ThreadLost) => RunFault::ThreadLost,
-        (Some(RunFault::Foreign), _) | (_, RunFault::Foreign) => RunFault::Foreign,
-        (Some(RunFault::RingLost), RunFault::RingLost) => RunFault::RingLost,
+// The place of a fault in the order in which faults are told.
+fn rank(fault: RunFault) -> u8
+    ensures { result ≡ rank_of fault }
+{
+    match fault {
+        RunFault::Memory => 0,
+        RunFault::ThreadLost => 1,
+        RunFault::Foreign => 2,
+        RunFault::RingLost => 3,
+    }
+}
+
+// The fault of two that is told.
+fn first_of(fault: Option<RunFault>, other: RunFault) -> RunFault
+    ensures { result ≡ first_fault fault other }
+{
+    match fault {
+        Some(fault) if rank(fault) <= rank(other) => fault,
+        _ => other,
     }
 }
 

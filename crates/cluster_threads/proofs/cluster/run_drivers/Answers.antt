@@ -1,5 +1,4 @@
-use Rattle.std.proofs.Common.{◌≡◌, ◌+◌, ◌++◌, ◌∷◌, [], ℕ, List, length, map, sym, subst, ap, ◌∙◌, rules}
-use Rattle.std.specs.Prelude.{All}
+use Rattle.std.proofs.Common.{◌≡◌, ◌∷◌, ℕ, List, length, map, sym, subst, ◌∙◌, rules}
 use Rattle.std.specs.declared.thread.PromisedHandle.{PromisedHandle}
 use Rattle.std.proofs.lemmas.List.{map_push, length_push, length-map}
 use Rattle.std.proofs.lemmas.List.Elements.{All-rest}

@@ -1,4 +1,4 @@
-use Rattle.std.proofs.Common.{◌≡◌, ◌+◌, ◌++◌, ◌∷◌, [], ℕ, List, length, sym, subst, Result, Ok, arith}
+use Rattle.std.proofs.Common.{◌++◌, ◌∷◌, [], ℕ, List, sym, subst, Result, arith}
 use Rattle.std.specs.Prelude.{IfOk}
 use Rattle.cluster_core.specs.Setups.{Fixed, rules_for}
 use Rattle.cluster_node.specs.Rules.{Rules}
