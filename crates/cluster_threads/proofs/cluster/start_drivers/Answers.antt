@@ -1,0 +1,30 @@
+use Rattle.std.proofs.Common.{◌≡◌, ◌++◌, ◌∷◌, [], ℕ, List, length, map, sym, subst, ap, ◌∙◌, arith}
+use Rattle.std.specs.Prelude.{All}
+use Rattle.std.specs.declared.thread.PromisedHandle.{PromisedHandle}
+use Rattle.std.proofs.lemmas.List.{map_push, length_push, length-map}
+use Rattle.std.proofs.lemmas.List.Elements.{All-push}
+use Rattle.maglev_table.proofs.Walks.{pushed_map}
+use Rattle.cluster_threads.specs.declared.cluster.OfNode.{OfNode}
+use Rattle.cluster_threads.specs.Clusters.{AreNumbered}
+use Rattle.cluster_threads.proofs.Clusters.{numbered_more}
+use Rattle.cluster_threads.proofs.cluster.start_drivers.Goals as goal
+
+pub loop-at-preserved : goal.loop-at-preserved
+loop-at-preserved g c =
+    let had = c.loop-at.invariant in
+    let h = c.in-Ok.handle in
+    let old : List (PromisedHandle _ (OfNode _ _ _)) = c.loop-at.handles.items in
+    let is = c.in-Ok.ensures.ok in
+    let items : c.push_reserved.new.self.items ≡ old ++ h ∷ [] = c.push_reserved.ensures.items ∙ ap (λ (l : List (PromisedHandle _ (OfNode _ _ _))). l ++ h ∷ []) c.reserve.ensures.items in
+    let node : h.promise.node ≡ c.loop-at.at = ap (λ p. p.node) is in
+    let many : length (map (λ (x : PromisedHandle _ (OfNode _ _ _)). x.promise.node) old) ≡ length old = length-map old (λ (x : PromisedHandle _ (OfNode _ _ _)). x.promise.node) in
+    record {
+      same = subst (λ (l : List (PromisedHandle _ (OfNode _ _ _))). All (λ x. (x.promise.setup.now ≡ c.args.setup.now) × (x.promise.catalogue.now ≡ c.args.catalogue.now) × (x.promise.packets.now ≡ c.args.packets.now) × (x.promise.ring ≡ c.args.ring)) l) (sym items)
+          (All-push (λ (x : PromisedHandle _ (OfNode _ _ _)). (x.promise.setup.now ≡ c.args.setup.now) × (x.promise.catalogue.now ≡ c.args.catalogue.now) × (x.promise.packets.now ≡ c.args.packets.now) × (x.promise.ring ≡ c.args.ring)) old h had.same (ap (λ p. p.setup.now) is, ap (λ p. p.catalogue.now) is, ap (λ p. p.packets.now) is, ap (λ p. p.ring) is));
+      numbered = subst (λ (l : List (PromisedHandle _ (OfNode _ _ _))). AreNumbered 0 (map (λ x. x.promise.node) l)) (sym items)
+          (subst (λ (ns : List ℕ). AreNumbered 0 ns) (sym (map_push (λ (x : PromisedHandle _ (OfNode _ _ _)). x.promise.node) old h))
+          (numbered_more 0 h.promise.node (map (λ (x : PromisedHandle _ (OfNode _ _ _)). x.promise.node) old) had.numbered (omega (arith, node, many, had.count))));
+      count = (let more : length c.push_reserved.new.self.items ≡ length (old ++ h ∷ []) = ap (λ (l : List (PromisedHandle _ (OfNode _ _ _))). length l) items in
+          let pushed = length_push old h in omega (arith, more, pushed, had.count));
+      lists = pushed_map (λ (x : PromisedHandle _ (OfNode _ _ _)). x.promise.commands.now) (λ l. l.items) old c.push_reserved.new.self.items h c.args.lists.now c.loop-at.at c.index-lists-at.result items had.lists c.loop-at-test.true c.index-lists-at.is (ap (λ p. p.commands.now) is ∙ c.as_slice-commands.ensures.value);
+    }

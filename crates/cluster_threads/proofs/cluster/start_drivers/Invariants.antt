@@ -1,0 +1,12 @@
+use Rattle.std.proofs.Common.{◌≡◌, length, map, take}
+use Rattle.std.specs.Prelude.{All}
+use Rattle.cluster_threads.specs.Clusters.{AreNumbered}
+use Rattle.cluster_threads.proofs.cluster.start_drivers.Given as goal
+
+abbrev pub invariant-loop-at : goal.invariant-loop-at
+invariant-loop-at g l = record {
+  same : All (λ h. (h.promise.setup.now ≡ l.setup) × (h.promise.catalogue.now ≡ l.catalogue) × (h.promise.packets.now ≡ l.packets) × (h.promise.ring ≡ l.ring)) l.handles.items;
+  numbered : AreNumbered 0 (map (λ h. h.promise.node) l.handles.items);
+  count : length l.handles.items ≡ l.at;
+  lists : map (λ h. h.promise.commands.now) l.handles.items ≡ map (λ c. c.items) (take l.at l.lists);
+}

@@ -1,0 +1,12 @@
+//! A cluster on threads: the runs of all its nodes at once, each with a driver in a thread of its own.
+//!
+//! [`run_cluster`] runs each node as `run_node` of `node_threads` does it, joins all drivers, and puts the nodes' records
+//! behind one another into one history of the cluster.
+#![tactic(auto)]
+
+mod cluster;
+
+pub use cluster::{ClusterRun, run_cluster};
+
+#[cfg(test)]
+mod tests;
