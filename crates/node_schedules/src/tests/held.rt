@@ -5,11 +5,11 @@ ghost use Rattle.std.specs.Cmp.Rules.{comparing};
 ghost use Rattle.std.specs.Ordering.{on};
 
 use super::{count, forward, run, setup, x_to_a};
-use crate::Gate;
 use cluster_node::Outcome;
 use connection_table::LruTable;
 use hash_laws::FlowHash;
 use node_records::Command;
+use node_threads::Gate;
 use std::alloc::Global;
 use std::process::Abort;
 use std::sync::atomic::{AtomicU64, Ordering};
