@@ -18,6 +18,7 @@ use Rattle.simulation.specs.Simulated.{Stopped}
 use Rattle.scenario_play.specs.declared.asking.Asked.{Asked}
 use Rattle.scenario_play.specs.Described.{cluster_in, choice_in, plan_in}
 use Rattle.scenario_play.specs.Answers.{Answers}
+use Rattle.scenario_play.specs.Kept.{KeepsPromises}
 use Rattle.maglev_cli.specs.declared.fault.CliFault.{CliFault}
 use Rattle.maglev_cli.specs.declared.fault.CliFault.TheVariants.{Write, TooLong, BadMember, BadToml, BadFormat, BadKey, Pool, BadStep, Capture, Memory}
 
@@ -48,12 +49,13 @@ run_fault run.Write = Write
 run_fault run.Memory = Memory
 
 -- the scenario that the text means was played over the input, the output got what was sent, and the report the text that
--- answers what was asked
+-- answers what was asked; and the run keeps the promises
 pub record Plays (asked : Asked) (text : List ℕ) (input input' output output' report report' : Tape) : Type 0 where
   pub scenario : Scenario
   pub means : Means text scenario
   pub answer : List ℕ
   pub answers : Answers (cluster_in scenario) (choice_in scenario) (plan_in scenario) (λ x. slot_of_flow (plain_of scenario.hash) scenario.size x) asked input input' output output' answer
+  pub kept : KeepsPromises scenario answers.course
   pub written : Appends report.bytes report'.bytes answer
   pub unfailed : Unfailed report report'
 

@@ -1,3 +1,4 @@
 pub mod Asks
 pub mod Runs
 pub mod Carries
+pub mod Keeping

@@ -9,6 +9,7 @@ ghost use Rattle.simulation.specs.Plans.{planned};
 ghost use Rattle.simulation.specs.Simulated.{Stopped};
 ghost use Rattle.scenario_play.specs.Described.{pick_by, cluster_in, choice_in, choice_by, plan_in};
 ghost use Rattle.scenario_play.specs.Answers.{Answers};
+ghost use Rattle.scenario_play.specs.Kept.{KeepsPromises};
 
 use crate::answering::answer;
 use crate::asking::Asked;
@@ -86,7 +87,7 @@ fn play_over<S: Scheme, I: Source, O: Sink>(
     }
 }
 
-// Plays with the scheme that the scenario names.
+// Plays with this scheme.
 fn play_by<S: Scheme, I: Source, O: Sink>(
     alloc: Global,
     scheme: S,
@@ -131,10 +132,8 @@ fn play_by<S: Scheme, I: Source, O: Sink>(
     }
 }
 
-/// Plays a scenario over a capture, and answers what is asked of the run. What the cluster sends is written as another
-/// capture, which is begun once the input's header was accepted. Whatever goes wrong but a write, the output is cut between
-/// records.
-pub fn play_scenario<I: Source, O: Sink>(
+// Plays with the scheme that the scenario names.
+fn play_named<I: Source, O: Sink>(
     alloc: Global,
     scenario: Scenario,
     asked: Asked,
@@ -151,5 +150,33 @@ pub fn play_scenario<I: Source, O: Sink>(
         SchemeKind::Maglev => play_by(alloc, Maglev { hash }, scenario, asked, input, output),
         SchemeKind::Plain => play_by(alloc, PlainHash { hash }, scenario, asked, input, output),
         SchemeKind::Round => play_by(alloc, RoundRobin, scenario, asked, input, output),
+    }
+}
+
+/// Plays a scenario over a capture, and answers what is asked of the run. What the cluster sends is written as another
+/// capture, which is begun once the input's header was accepted. Whatever goes wrong but a write, the output is cut between
+/// records.
+///
+/// By the clause `kept` the run keeps the promises: for a scheme to which the turn doesn't matter two packets of one flow
+/// that were sent to different backends were chosen under versions that pick these backends, for Maglev under versions whose
+/// tables name them at the flow's slot; a forwarder keeps a flow's backend while its entry stands and the backend is up; and
+/// every slot of Maglev's tables names an up backend, and backends' slot counts differ by at most one.
+pub fn play_scenario<I: Source, O: Sink>(
+    alloc: Global,
+    scenario: Scenario,
+    asked: Asked,
+    input: &mut I,
+    output: &mut O,
+) -> Result<String, SimulationFault>
+    requires limits { HasLimits scenario }
+    requires size { scenario.catalogue.size ≡ scenario.size }
+    ensures ok { IfOk result (λ s. Answers (cluster_in scenario) (choice_in scenario) (plan_in scenario) (λ x. slot_of_flow (plain_of scenario.hash) scenario.size x) asked (I.tape input.old) (I.tape input.new) (O.tape output.old) (O.tape output.new) (string_bytes s)) }
+    ensures kept { IfOk result (λ s. (a : Answers (cluster_in scenario) (choice_in scenario) (plan_in scenario) (λ x. slot_of_flow (plain_of scenario.hash) scenario.size x) asked (I.tape input.old) (I.tape input.new) (O.tape output.old) (O.tape output.new) (string_bytes s)) → KeepsPromises scenario a.course) }
+    ensures stopped { IfErr result (Stopped (cluster_in scenario) (choice_in scenario) (plan_in scenario) (I.tape input.old) (I.tape input.new) (O.tape output.old) (O.tape output.new)) }
+{
+    let _slots = scenario.size.slots();
+    match play_named(alloc, scenario, asked, input, output) {
+        Ok(text) => Ok(text),
+        Err(fault) => Err(fault),
     }
 }

@@ -16,6 +16,7 @@ returns-in-Ok-play_scenario-clause-played g c =
       means = c.in-Ok.ensures.means;
       answer = string_bytes c.in-Ok-play_scenario.text;
       answers = c.in-Ok-play_scenario.ensures.ok;
+      kept = c.in-Ok-play_scenario.ensures.kept c.in-Ok-play_scenario.ensures.ok;
       written = subst (λ (text : List ℕ). Appends (g.R.Sink.tape c.args.report.now).bytes (g.R.Sink.tape c.put_text.new.sink).bytes text) c.as_str.ensures.value written.0;
       unfailed = written.1;
     })
