@@ -1,0 +1,115 @@
+//! Counts that add up.
+ghost use Rattle.std.specs.Prelude.{◌≡◌, ◌+◌, ◌<◌, ◌↔◌, [], sum, true, false, MatchBool, replicate};
+ghost use Rattle.stats_book.specs.Counts.{place_of};
+
+use cluster_node::Cause;
+
+/// What became of the packets that came to a cluster's nodes.
+#[derive(Clone, Copy, Debug, PartialEq, Eq)]
+pub struct Stats {
+    /// Packets that came to a node.
+    pub received: u64,
+    /// Packets that were sent to a backend.
+    pub forwarded: u64,
+    /// Packets that were not, by cause, in the order of `Cause`.
+    pub dropped: [u64; 13],
+    /// Packets of which it isn't known yet.
+    pub waiting: u64,
+    pub ghost adds_up: { received ≡ forwarded + sum dropped + waiting },
+}
+
+// The place of a cause among the drops.
+fn place_of(cause: Cause) -> usize
+    ensures place { result ≡ place_of cause }
+    ensures below { result < 13 }
+{
+    match cause {
+        Cause::NotIpv4 => 0,
+        Cause::Truncated => 1,
+        Cause::BadHeader => 2,
+        Cause::BadChecksum => 3,
+        Cause::Fragment => 4,
+        Cause::NotTcpUdp => 5,
+        Cause::BadTransport => 6,
+        Cause::TooLarge => 7,
+        Cause::NoService => 8,
+        Cause::NoBackend => 9,
+        Cause::NoVersion => 10,
+        Cause::RingsFull => 11,
+        Cause::LostAtRestart => 12,
+    }
+}
+
+impl Stats {
+    ghost use Rattle.stats_book.specs.Moves.{IsReceived, IsForwarded, IsDropped};
+
+    /// Before any packet.
+    pub fn new() -> Stats
+        ensures received { result.received ≡ 0 }
+        ensures forwarded { result.forwarded ≡ 0 }
+        ensures dropped { result.dropped ≡ replicate 13 0 }
+        ensures waiting { result.waiting ≡ 0 }
+    {
+        Stats {
+            received: 0,
+            forwarded: 0,
+            dropped: [0; 13],
+            waiting: 0,
+        }
+    }
+
+    /// A packet came, and waits. The answer is false, and nothing is changed, exactly where as many came as can be counted.
+    pub fn receive(&mut self) -> bool
+        ensures full { (result ≡ false) ↔ (self.old.received ≡ u64.MAX) }
+        ensures moved { MatchBool result (IsReceived self.old self.new) (self.new ≡ self.old) }
+    {
+        if self.received == u64::MAX {
+            return false;
+        }
+        let Stats {
+            received,
+            waiting,
+            ..
+        } = self;
+        *received += 1;
+        *waiting += 1;
+        true
+    }
+
+    /// A packet that waited was sent. The answer is false, and nothing is changed, exactly where none waits.
+    pub fn forwarded_one(&mut self) -> bool
+        ensures none { (result ≡ false) ↔ (self.old.waiting ≡ 0) }
+        ensures moved { MatchBool result (IsForwarded self.old self.new) (self.new ≡ self.old) }
+    {
+        if self.waiting == 0 {
+            return false;
+        }
+        let Stats {
+            forwarded,
+            waiting,
+            ..
+        } = self;
+        *forwarded += 1;
+        *waiting -= 1;
+        true
+    }
+
+    /// A packet that waited was dropped. The answer is false, and nothing is changed, exactly where none waits.
+    pub fn dropped_one(&mut self, cause: Cause) -> bool
+        ensures none { (result ≡ false) ↔ (self.old.waiting ≡ 0) }
+        ensures moved { MatchBool result (IsDropped cause self.old self.new) (self.new ≡ self.old) }
+    {
+        if self.waiting == 0 {
+            return false;
+        }
+        let at = place_of(cause);
+        let Stats {
+            dropped,
+            waiting,
+            ..
+        } = self;
+        dropped[at] += 1;
+        *waiting -= 1;
+        true
+    }
+}
