@@ -436,7 +436,10 @@ fn every_drop_is_counted(rt: HostRuntime) {
         },
     ];
     let totals = totals(&outcomes);
-    assert_eq!(rt; (totals.received, totals.forwarded, totals.waiting), (2, 0, 0));
+    assert_eq!(rt;
+        (totals.received, totals.forwarded, totals.waiting),
+        (2, 0, 0)
+    );
     assert_eq!(rt; totals.dropped, [0, 0, 0, 0, 0, 0, 0, 1, 0, 0, 0, 0, 1]);
 }
 

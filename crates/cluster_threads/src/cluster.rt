@@ -1,6 +1,8 @@
 //! A cluster on threads: each node's run, with its driver in a thread of its own.
 ghost use Rattle.std.specs.Prelude.{◌≡◌, ◌≤◌, ◌<◌, ◌++◌, ◌∷◌, [], ℕ, List, length, map, None, Ok, IfOk, All};
 ghost use Rattle.cluster_core.specs.Setups.{Fixed, rules_for};
+ghost use Rattle.cluster_core.specs.Headline.{Agreement, Keeping};
+ghost use Rattle.cluster_core.specs.Histories.{IsSteady};
 ghost use Rattle.cluster_node.specs.declared.packets.Packet.{Packet};
 ghost use Rattle.node_records.specs.declared.command.Command.{Command};
 ghost use Rattle.node_records.specs.declared.nodes.NodeRecord.{NodeRecord};
@@ -288,6 +290,10 @@ where
 /// Whatever the schedule was, each record is one of a run of its node's commands, and the history has all of them, node by
 /// node: what each event comes to in it is what it came to in its node. Of several faults Memory is told first, then
 /// ThreadLost, Foreign and RingLost. A driver that can't be started is ThreadLost, and so the others end first.
+///
+/// So what is promised of every list of events is promised of the run: two packets of one flow that were sent to different
+/// backends, by any nodes, were chosen under versions that pick these backends (`agreement`), and a worker keeps a flow's
+/// backend while its entry stands and the backend is up (`keeping`).
 pub fn run_cluster<
     S: Scheme + Send + Sync,
     H: FlowHash + Send + Sync,
@@ -309,8 +315,13 @@ where
     requires nodes { length commands.now ≡ length setup.now.nodes }
     requires some { 0 < ring }
     requires limit { ring ≤ 65536 }
-    ensures { let rules = rules_for (λ s z. S.pick s z) (λ h. H.plain h) setup.now catalogue.now in IfOk result (λ run.
+    ensures runs { let rules = rules_for (λ s z. S.pick s z) (λ h. H.plain h) setup.now catalogue.now in IfOk result (λ run.
         AreRuns rules packets.now ring 0 (map (λ c. c.items) commands.now) run.nodes.items × JoinsRuns rules packets.now run.nodes.items run.history) }
+    // agreement, for a scheme to which the turn doesn't matter, and keeping
+    ensures agreement { let rules = rules_for (λ s z. S.pick s z) (λ h. H.plain h) setup.now catalogue.now in
+        IfOk result (λ run. IsSteady rules → Agreement rules run.history.outcomes.items) }
+    ensures keeping { let rules = rules_for (λ s z. S.pick s z) (λ h. H.plain h) setup.now catalogue.now in
+        IfOk result (λ run. Keeping rules [] packets.now run.history.events.items run.history.outcomes.items) }
 {
     let nodes = run_nodes::<S, H, T, G, R>(
         rt, alloc, setup, catalogue, packets, commands, ring, gate,

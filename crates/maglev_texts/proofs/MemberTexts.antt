@@ -33,9 +33,13 @@ name_lacks (x ∷ xs) h =
 address_lacks : (c a : ℕ) → is_digit c ≡ false → (46 == c) ≡ false → a < 2 ^ 32 → Lacks c (address_text a)
 address_lacks c a other dot few =
     let number : (n : ℕ) → n < 2 ^ 64 → Lacks c (decimal n) = λ n small. digits_lack c (decimal n) other (decimal_digits n small) in
-    lacks_both c (decimal (a / 16777216)) _ (number (a / 16777216) (omega arith)) (dot,
-    lacks_both c (decimal (a / 65536 % 256)) _ (number (a / 65536 % 256) (omega arith)) (dot,
-    lacks_both c (decimal (a / 256 % 256)) _ (number (a / 256 % 256) (omega arith)) (dot, number (a % 256) (omega arith))))
+    lacks_both c (decimal (a / 16777216)) _ (number (a / 16777216) (omega arith)) (
+      dot,
+      lacks_both c (decimal (a / 65536 % 256)) _ (number (a / 65536 % 256) (omega arith)) (
+        dot,
+        lacks_both c (decimal (a / 256 % 256)) _ (number (a / 256 % 256) (omega arith)) (dot, number (a % 256) (omega arith)),
+      ),
+    )
 
 -- the text behind the name
 abbrev pub suffix : Bool → List ℕ

@@ -106,6 +106,10 @@ whole_unanswered cluster choice plan input input' output output' c n e s =
       within = (0, omega arith, omega arith);
       records = s.records;
       stops = (Some e, told.1, s.input_unfailed);
-      wrote = inr (with_header output, (appends_header output.bytes, unfailed_same output), first_all (with_header output) output' (sendings cluster choice plan s.head.link s.records)
-          (record { bytes = appends_rest output.bytes output'.bytes (records_text (sendings cluster choice plan s.head.link s.records)) s.output_is; unfailed = s.output_unfailed }));
+      wrote = inr (
+        with_header output,
+        (appends_header output.bytes, unfailed_same output),
+        first_all (with_header output) output' (sendings cluster choice plan s.head.link s.records)
+            (record { bytes = appends_rest output.bytes output'.bytes (records_text (sendings cluster choice plan s.head.link s.records)) s.output_is; unfailed = s.output_unfailed }),
+      );
     }))

@@ -1,7 +1,7 @@
 ghost use Rattle.std.specs.Prelude.{None};
 ghost use Rattle.pcap_file.specs.Host.{taped};
 
-use super::{CliFault, compare, finish, pick, table};
+use maglev_cli::{CliFault, compare, finish, pick, table};
 use pcap_file::{CallCounts, DeviceFault, FromRead, PcapFault, Sink, Source, ToWrite};
 use pool_versions::PoolFault;
 use std::alloc::Global;
