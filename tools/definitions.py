@@ -111,6 +111,26 @@ def behind(roots, definitions, imports, seen):
     return order
 
 
+def named_by_contracts(definitions):
+    """The definitions that a contract of a public function, a trait or a type names."""
+    found = set()
+    for path in sorted(TOP.glob("crates/*/src/**/*.rt")):
+        if "tests" in path.name or "tests" in path.parts:
+            continue
+        lines = path.read_text().splitlines()
+        imports = imports_of(path.parts[path.parts.index("crates") + 1], [line.strip().replace("ghost use", "use") for line in lines])
+        is_public, of_trait = True, False
+        for line in lines:
+            text = line.strip()
+            if re.match(r"(pub(\(crate\))? )?(const )?fn ", text):
+                is_public = text.startswith("pub fn") or (of_trait and line.startswith("    "))
+            elif text.startswith(("impl", "pub trait", "pub struct", "pub enum", "struct", "enum")):
+                is_public, of_trait = True, text.startswith("pub trait") or " for " in text
+            elif is_public and not text.startswith(("//", "ghost use", "use")):
+                found |= {imports[word] for word in WORD.findall(text) if word in imports}
+    return found & set(definitions)
+
+
 def page():
     """The text of the page."""
     definitions, imports = read()
@@ -132,6 +152,13 @@ def page():
             names = ", ".join(f"`{key[2]}` {len(definitions[key].lines)}" for key in files[crate, module])
             lines = sum(len(definitions[key].lines) for key in files[crate, module])
             text.append(f"- `{crate}/specs/{module}.antt`, {lines} lines: {names}")
+    public = set(behind(sorted(named_by_contracts(definitions)), definitions, imports, set()))
+    private = sorted({key[:2] for key in definitions} - {key[:2] for key in public})
+    text += ["", "## What a reader may skip", ""]
+    text.append("No contract of a public function, a trait or a type stands on a definition of these files: they serve the contracts of")
+    text.append("private functions, which public ones are proved by.")
+    text.append("")
+    text += [f"- `{crate}/specs/{module}.antt`" for crate, module in private if module != "Lib"]
     return "\n".join(text) + "\n"
 
 

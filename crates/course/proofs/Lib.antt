@@ -5,3 +5,4 @@ pub mod Coming
 pub mod Readings
 pub mod Told
 pub mod Quiet
+pub mod Adding

@@ -4,3 +4,4 @@ pub mod Steps
 pub mod Room
 pub mod Tally
 pub mod Streams
+pub mod Sums
