@@ -29,7 +29,7 @@ pub use laws::{
 };
 pub use reading::read_packet;
 pub use replaying::replay;
-pub use running::Run;
+pub use running::{Run, prepare_newer};
 
 #[cfg(test)]
 mod tests;

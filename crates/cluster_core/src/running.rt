@@ -90,8 +90,9 @@ fn prepare<S: Scheme>(
     }
 }
 
-// Prepares a version that is above a node's newest. The others are refused there.
-fn prepare_newer<S: Scheme>(
+/// Prepares a version of the catalogue that is above a node's newest, unless that was done before: it stands in front of the
+/// others then. A version that isn't above it is refused there, and so isn't prepared.
+pub fn prepare_newer<S: Scheme>(
     alloc: Global,
     versions: &mut Vec<PreparedVersion<S>>,
     scheme: &S,
