@@ -5,19 +5,30 @@ use crate::table::{ConnTable, Entry};
 use five_tuple::Flow;
 use lru::LruCache;
 use std::alloc::{AllocError, Global};
+use std::marker::Model;
 use std::num::NonZeroUsize;
 
 /// A table over a cache by least recent use. A look and a store take constant time.
 #[derive(Drop)]
 pub struct LruTable {
     cache: LruCache<Flow, Entry>,
-    ghost some: { 0 < cache.cap },
+}
+
+impl Model for LruTable {
+    ghost use Rattle.std.specs.Prelude.{◌<◌};
+    ghost use Rattle.connection_table.specs.Recency.{Recency};
+
+    ghost Value = { Recency };
+
+    ghost view = { λ t. record { limit = t.cache.cap; pairs = t.cache.entries } };
+
+    ghost invariant = { λ t. 0 < t.cache.cap };
 }
 
 impl ConnTable for LruTable {
-    ghost capacity = { λ t. t.cache.cap };
+    ghost capacity = { λ t. t.limit };
 
-    ghost entries = { λ t. t.cache.entries };
+    ghost entries = { λ t. t.pairs };
 
     fn make(alloc: Global, limit: u32) -> Result<LruTable, AllocError> {
         let places = NonZeroUsize::new(limit as usize).unwrap();
@@ -32,10 +43,10 @@ impl ConnTable for LruTable {
     }
 
     fn store(&mut self, flow: Flow, entry: Entry) -> Result<(), AllocError> {
-        match self.cache.put(flow, entry) {
-            Ok(_) => Ok(()),
-            Err(_) => Err(AllocError),
-        }
+        let Ok(_) = self.cache.put(flow, entry) else {
+            return Err(AllocError);
+        };
+        Ok(())
     }
 
     fn clear(&mut self) {
