@@ -61,10 +61,11 @@ def build(name):
     crates = needed(name, below)
     above = {one: sum(one in needed(other, below) for other in crates) for one in crates}
     waiting, running, proved = set(crates), {}, set()
-    with concurrent.futures.ThreadPoolExecutor(jobs()) as pool:
+    places = jobs()
+    with concurrent.futures.ThreadPoolExecutor(places) as pool:
         while waiting or running:
             ready = [one for one in waiting if proved.issuperset(below[one])]
-            for one in sorted(ready, key=lambda one: -above[one])[: jobs() - len(running)]:
+            for one in sorted(ready, key=lambda one: -above[one])[: places - len(running)]:
                 waiting.remove(one)
                 running[pool.submit(prove, one)] = one
             for future in concurrent.futures.wait(running, return_when=concurrent.futures.FIRST_COMPLETED).done:
