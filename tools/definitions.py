@@ -154,9 +154,12 @@ def page():
             text.append(f"- `{crate}/specs/{module}.antt`, {lines} lines: {names}")
     public = set(behind(sorted(named_by_contracts(definitions)), definitions, imports, set()))
     private = sorted({key[:2] for key in definitions} - {key[:2] for key in public})
+    for crate, module in {key[:2] for key in definitions}:
+        if module != "Lib" and ((crate, module) in private) != module.startswith("Private"):
+            sys.exit(f"the name of {crate}/specs/{module}.antt says the contrary of whom it serves")
     text += ["", "## What a reader may skip", ""]
-    text.append("No contract of a public function, a trait or a type stands on a definition of these files: they serve the contracts of")
-    text.append("private functions, which public ones are proved by.")
+    text.append("No contract of a public function, a trait or a type stands on a definition of these files, whose names begin with")
+    text.append("`Private`: they serve the contracts of private functions, which public ones are proved by.")
     text.append("")
     text += [f"- `{crate}/specs/{module}.antt`" for crate, module in private if module != "Lib"]
     return "\n".join(text) + "\n"

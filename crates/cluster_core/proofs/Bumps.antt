@@ -10,7 +10,7 @@ use Rattle.cluster_core.specs.Tally.{number, is_arrival, is_forward, is_placed, 
 use Rattle.cluster_core.specs.Totals.{came_all, went_all}
 use Rattle.cluster_node.specs.declared.events.Said.{Said}
 use Rattle.cluster_core.specs.Histories.{outcomes_of}
-use Rattle.cluster_core.specs.Counting.{kind, bumped, bumped_all, zeros, Leads, Fits}
+use Rattle.cluster_core.specs.PrivateCounting.{kind, bumped, bumped_all, zeros, Leads, Fits}
 use Rattle.std.specs.List.{sum}
 use Rattle.cluster_core.proofs.Law.{Counts, counts, last_fits, drops_add_up}
 

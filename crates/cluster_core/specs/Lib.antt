@@ -11,5 +11,5 @@ pub mod Apart
 pub mod Blocks
 pub mod Laws
 pub mod Histories
-pub mod Counting
+pub mod PrivateCounting
 pub mod Promises

@@ -4,7 +4,7 @@ ghost use Rattle.cluster_node.specs.declared.outcomes.Outcome.{Outcome};
 ghost use Rattle.cluster_core.specs.Tally.{number, at_serving, is_arrival, is_forward, lost_of, drop_counts, how_many, is_refused};
 ghost use Rattle.cluster_core.specs.Totals.{came_all, went_all};
 ghost use Rattle.cluster_core.specs.Histories.{outcomes_of};
-ghost use Rattle.cluster_core.specs.Counting.{kind, bumped, Leads, Fits, Totalled};
+ghost use Rattle.cluster_core.specs.PrivateCounting.{kind, bumped, Leads, Fits, Totalled};
 
 use crate::counts::Totals;
 use cluster_node::{Cause, Outcome, Said};

@@ -33,7 +33,7 @@ use Rattle.cluster_node.proofs.Below.{place_below, home_below}
 use Rattle.cluster_node.specs.Rules.{Rules}
 use Rattle.cluster_node.specs.declared.events.Said.{Said}
 use Rattle.cluster_node.specs.Record.{accepted, newest_of, installed_of, refusals_of, refused_home, placed_count, served_count, placed_by, more_placed, lines_of, of_taken, of_choice, by_queue, serve_verdict, prepared_at, IsPrepared, ArePrepared, install_verdict, arrive_verdict, steered, node_verdict, node_say, fresh, cleared, waits, IsKnown, NodeStands, NodeGoes}
-use Rattle.cluster_node.specs.Steps.{NodeStep, OneStep, one_prepared, one_step, serve_at, serve_step, install_step, arrive_on, arrive_step, place_step, put_at, refuse, restarted}
+use Rattle.cluster_node.specs.PrivateSteps.{NodeStep, OneStep, one_prepared, one_step, serve_at, serve_step, install_step, arrive_on, arrive_step, place_step, put_at, refuse, restarted}
 use Rattle.std.proofs.Math.Nat.{mod-add-mod}
 
 -- a list with one element set

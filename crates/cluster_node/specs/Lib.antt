@@ -3,5 +3,5 @@ pub mod WorkerView
 pub mod Book
 pub mod NodeView
 pub mod Record
-pub mod Steps
+pub mod PrivateSteps
 pub mod Records

@@ -4,7 +4,7 @@ ghost use Rattle.std.specs.List.{list_any};
 ghost use Rattle.std.specs.Option.{option_copied};
 ghost use Rattle.cluster_node.specs.Rules.{Rules};
 ghost use Rattle.cluster_node.specs.NodeView.{NodeView};
-ghost use Rattle.cluster_node.specs.Steps.{install_step, arrive_step, one_step, serve_step, restarted};
+ghost use Rattle.cluster_node.specs.PrivateSteps.{install_step, arrive_step, one_step, serve_step, restarted};
 ghost use Rattle.cluster_node.specs.Record.{of_taken, of_choice, node_verdict, prepared_at, ArePrepared, IsKnown, installed_of, waits, waiting_at, fresh, cleared, NodeStands, NodeGoes};
 ghost use Rattle.cluster_node.specs.declared.events.Said.{Said};
 

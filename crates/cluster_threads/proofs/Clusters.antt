@@ -5,7 +5,7 @@ use Rattle.node_records.specs.Runs.{IsRunOf, AreRuns}
 use Rattle.cluster_node.specs.Rules.{Rules}
 use Rattle.cluster_node.specs.declared.packets.Packet.{Packet}
 use Rattle.node_records.specs.declared.command.Command.{Command}
-use Rattle.cluster_threads.specs.Clusters.{AreNumbered}
+use Rattle.cluster_threads.specs.PrivateClusters.{AreNumbered}
 
 pub numbered_more : (k m : ℕ) (ns : List ℕ) → AreNumbered k ns → m ≡ k + length ns → AreNumbered k (ns ++ m ∷ [])
 numbered_more k m [] h e = (omega (arith, e), tt)

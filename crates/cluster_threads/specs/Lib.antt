@@ -1,1 +1,1 @@
-pub mod Clusters
+pub mod PrivateClusters

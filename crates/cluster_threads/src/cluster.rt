@@ -7,7 +7,7 @@ ghost use Rattle.cluster_node.specs.declared.packets.Packet.{Packet};
 ghost use Rattle.node_records.specs.declared.command.Command.{Command};
 ghost use Rattle.node_records.specs.declared.nodes.NodeRecord.{NodeRecord};
 ghost use Rattle.node_records.specs.Runs.{IsRunOf, AreRuns, JoinsRuns};
-ghost use Rattle.cluster_threads.specs.Clusters.{AreNumbered, rank_of, first_fault};
+ghost use Rattle.cluster_threads.specs.PrivateClusters.{AreNumbered, rank_of, first_fault};
 
 use cluster_core::Setup;
 use cluster_node::Packet;

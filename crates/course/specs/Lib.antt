@@ -3,5 +3,5 @@ pub mod Course
 pub mod Steps
 pub mod Room
 pub mod Tally
-pub mod Streams
+pub mod PrivateStreams
 pub mod Sums

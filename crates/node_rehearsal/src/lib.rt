@@ -12,7 +12,7 @@ ghost use Rattle.node_records.specs.declared.command.Command.TheVariants.{Publis
 ghost use Rattle.cluster_node.specs.declared.packets.Packet.{Packet};
 ghost use Rattle.node_records.specs.Histories.{commands_of, past_of, NoneWaits};
 ghost use Rattle.node_records.specs.Journals.{JournalView, Tells, Drives, IsServed};
-ghost use Rattle.node_rehearsal.specs.Going.{Going};
+ghost use Rattle.node_rehearsal.specs.PrivateGoing.{Going};
 ghost use Rattle.node_records.specs.Works.{WorkView, IsOf};
 ghost use Rattle.node_records.specs.Runs.{IsRunOf};
 

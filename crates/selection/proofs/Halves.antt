@@ -13,7 +13,7 @@ use Rattle.std.proofs.lemmas.List.Sorted.{searchable_from_sorted, IsNonDecreasin
 use Rattle.pool_versions.specs.Pool.{AscendsByName, is_below}
 use Rattle.pool_versions.specs.declared.backend.Backend.{Backend}
 use Rattle.selection.specs.Readied.{same_backend}
-use Rattle.selection.specs.Halves.{is_at_head}
+use Rattle.selection.specs.PrivateHalves.{is_at_head}
 
 -- how a backend's name stands to that of the one that is sought
 abbrev to_name : Backend → Backend → Ordering

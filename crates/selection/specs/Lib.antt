@@ -2,4 +2,4 @@ pub mod Faults
 pub mod Picks
 pub mod PickLaws
 pub mod Readied
-pub mod Halves
+pub mod PrivateHalves

@@ -2,7 +2,7 @@
 ghost use Rattle.std.specs.Prelude.{◌≡◌, ◌↔◌, true, IfOk, IfErr, Contains};
 ghost use Rattle.std.specs.List.{list_any};
 ghost use Rattle.pool_versions.specs.Pool.{ups, AscendsByName};
-ghost use Rattle.selection.specs.Halves.{is_at_head};
+ghost use Rattle.selection.specs.PrivateHalves.{is_at_head};
 ghost use Rattle.selection.specs.Readied.{ReadiedService, readied_of, serves_readied, same_backend};
 ghost use Rattle.selection.specs.Faults.{IsPrepareFault};
 

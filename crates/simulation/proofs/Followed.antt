@@ -17,7 +17,7 @@ use Rattle.simulation.specs.declared.sending.Wire.{Wire}
 use Rattle.simulation.specs.Sent.{Traffic, Sending, sent, sent_by, sent_at, Wrote, WroteUntil}
 use Rattle.simulation.specs.Wires.{traffic}
 use Rattle.simulation.specs.Following.{sent_with, NoArrivals, CanSettle}
-use Rattle.simulation.specs.Going.{onto}
+use Rattle.simulation.specs.PrivateGoing.{onto}
 use Rattle.simulation.specs.declared.fault.SimulationFault.{SimulationFault}
 use Rattle.simulation.proofs.Sends.{wrote_none, wrote_both, until_more, until_behind}
 

@@ -16,7 +16,7 @@ use Rattle.simulation.specs.Plans.{Planned}
 use Rattle.simulation.specs.Intake.{StopsAt}
 use Rattle.simulation.specs.Sent.{packets_of, sent, WroteUntil}
 use Rattle.simulation.specs.Simulated.{course_of, traffic_of, sendings}
-use Rattle.simulation.specs.Going.{onto, Left, Shortened}
+use Rattle.simulation.specs.PrivateGoing.{onto, Left, Shortened}
 use Rattle.simulation.proofs.Sends.{sent_append, until_more}
 
 -- a list that grew is, the oldest first, what it was with the new behind it

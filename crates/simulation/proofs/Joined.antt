@@ -17,8 +17,8 @@ use Rattle.simulation.specs.declared.fault.SimulationFault.TheVariants.{Write, M
 use Rattle.simulation.specs.Plans.{Planned}
 use Rattle.simulation.specs.Intake.{StopsAt}
 use Rattle.simulation.specs.Sent.{records_text}
-use Rattle.simulation.specs.Going.{Shortened}
-use Rattle.simulation.specs.Stages.{IsOver}
+use Rattle.simulation.specs.PrivateGoing.{Shortened}
+use Rattle.simulation.specs.PrivateStages.{IsOver}
 use Rattle.simulation.specs.Simulated.{InputIs, sendings, Begun, Simulated, Stopped}
 use Rattle.simulation.proofs.Sends.{unfailed_same, unfailed_both, first_all}
 use Rattle.simulation.proofs.Reaching.{passed_none}

@@ -19,7 +19,7 @@ use Rattle.waiting_frames.specs.Mirrors.{Mirrors}
 use Rattle.course.specs.Cluster.{Cluster, Orderly}
 use Rattle.course.specs.Course.{Course}
 use Rattle.course.specs.Steps.{World, world_of, run, deliver, repeat, after, names_records, start}
-use Rattle.course.specs.Streams.{take_of, lose_of, again_of}
+use Rattle.course.specs.PrivateStreams.{take_of, lose_of, again_of}
 use Rattle.course.specs.Room.{Counted}
 use Rattle.course.proofs.Moves.{Keeps, deliver_hands, handed_next}
 use Rattle.course.proofs.Bounds.{apart_keeps, run_none}
@@ -30,9 +30,9 @@ use Rattle.simulation.specs.Plans.{Planned}
 use Rattle.simulation.specs.Sent.{packet_in, packets_of, sent, Wrote, WroteUntil}
 use Rattle.simulation.specs.Simulated.{course_of, traffic_of, sendings, IsOfRun}
 use Rattle.simulation.specs.Intake.{Taking, HasSeen, Seen, ReadOn, ReadStops, Stands}
-use Rattle.simulation.specs.Keeping.{AmongSteps, NamesAll, Holds}
-use Rattle.simulation.specs.Going.{Left, Shortened}
-use Rattle.simulation.specs.Stages.{Sound, Going, Reached, IsOver}
+use Rattle.simulation.specs.PrivateKeeping.{AmongSteps, NamesAll, Holds}
+use Rattle.simulation.specs.PrivateGoing.{Left, Shortened}
+use Rattle.simulation.specs.PrivateStages.{Sound, Going, Reached, IsOver}
 use Rattle.simulation.specs.declared.staging.Stage.{Stage}
 use Rattle.simulation.proofs.Going.{shortened}
 use Rattle.simulation.proofs.Intakes.{stands, stops_run}

@@ -20,9 +20,9 @@ use Rattle.simulation.specs.declared.fault.SimulationFault.TheVariants.{Memory}
 use Rattle.simulation.specs.Plans.{Planned}
 use Rattle.simulation.specs.Sent.{Sending, sent, Wrote, WroteUntil}
 use Rattle.simulation.specs.Simulated.{traffic_of}
-use Rattle.simulation.specs.Going.{onto}
+use Rattle.simulation.specs.PrivateGoing.{onto}
 use Rattle.simulation.specs.Following.{NoArrivals, ArrivesFirst, CanSettle}
-use Rattle.simulation.specs.Stages.{Sound}
+use Rattle.simulation.specs.PrivateStages.{Sound}
 use Rattle.simulation.proofs.Sends.{sent_append, wrote_both, first_all, until_more, until_behind}
 use Rattle.simulation.proofs.Going.{onto_reverse}
 

@@ -8,7 +8,7 @@ use Rattle.cluster_node.specs.Records.{Judged}
 use Rattle.course.specs.Cluster.{Cluster, Orderly}
 use Rattle.waiting_frames.specs.Mirrors.{Mirrors, IsNoArrival, ComesAs}
 use Rattle.simulation.specs.Sent.{Traffic, Sending, sent_at}
-use Rattle.simulation.specs.Going.{onto}
+use Rattle.simulation.specs.PrivateGoing.{onto}
 
 -- what an outcome sends of this record
 unfoldable pub sent_with : Traffic → Outcome → Record → List Sending

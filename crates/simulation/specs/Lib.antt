@@ -1,9 +1,9 @@
 pub mod Sent
 pub mod Intake
-pub mod Keeping
+pub mod PrivateKeeping
 pub mod Plans
 pub mod Wires
 pub mod Simulated
-pub mod Going
+pub mod PrivateGoing
 pub mod Following
-pub mod Stages
+pub mod PrivateStages

@@ -2,7 +2,7 @@
 ghost use Rattle.std.specs.Prelude.{◌≡◌, ◌==◌, ◌&&◌, true, IfOk, OnOk, ℕ, List, Some, None, if◌then◌else◌, option_map};
 ghost use Rattle.pcap_file.specs.Format.{packet};
 ghost use Rattle.scenario_steps.specs.declared.Step.{Step};
-ghost use Rattle.simulation.specs.Keeping.{is_named, found, NamesAll};
+ghost use Rattle.simulation.specs.PrivateKeeping.{is_named, found, NamesAll};
 
 use pcap_file::Frame;
 use scenario_steps::Step;

@@ -7,7 +7,7 @@ ghost use Rattle.waiting_frames.specs.Mirrors.{Mirrors, CanFollow, ComesAs, IsNo
 ghost use Rattle.simulation.specs.Sent.{sent, sent_by, Wrote, WroteUntil};
 ghost use Rattle.simulation.specs.Simulated.{IsOfRun};
 ghost use Rattle.simulation.specs.Wires.{traffic};
-ghost use Rattle.simulation.specs.Going.{onto};
+ghost use Rattle.simulation.specs.PrivateGoing.{onto};
 ghost use Rattle.simulation.specs.Following.{sent_with, NoArrivals, ArrivesFirst, CanSettle};
 
 use crate::fault::SimulationFault;

@@ -6,7 +6,7 @@ use Rattle.cluster_core.specs.Runs.{AreGood}
 use Rattle.node_records.specs.declared.command.Command.TheVariants.{Publish, Offer, Restart}
 use Rattle.node_records.specs.Histories.{commands_of}
 use Rattle.node_records.specs.Journals.{JournalView}
-use Rattle.node_rehearsal.specs.Going.{Going}
+use Rattle.node_rehearsal.specs.PrivateGoing.{Going}
 use Rattle.node_rehearsal.proofs.Goes.{obeyed_more, obeyed_all, same_run}
 use Rattle.node_rehearsal.proofs.rehearse.Goals as goal
 use Rattle.node_rehearsal.proofs.rehearse.Goals.{in-Publish+in_ok-newest-in-Publish, in-Offer+in_ok-offer-in-Offer, in-Restart+in_ok-list-in-Restart+in_ok-keep-in-Restart+in_ok-queue-in-Restart}

@@ -1,5 +1,5 @@
 use Rattle.std.proofs.Common.{drop}
-use Rattle.cluster_core.specs.Counting.{Leads}
+use Rattle.cluster_core.specs.PrivateCounting.{Leads}
 use Rattle.cluster_core.proofs.counting.counted.Given as goal
 
 -- with those that are left, what was counted makes all

@@ -1,6 +1,6 @@
 use Rattle.std.proofs.Common.{drop}
 use Rattle.cluster_core.specs.Histories.{outcomes_of}
-use Rattle.cluster_core.specs.Counting.{Leads}
+use Rattle.cluster_core.specs.PrivateCounting.{Leads}
 use Rattle.cluster_core.proofs.counting.counted_history.Given as goal
 
 -- with those that are left, what was counted makes all

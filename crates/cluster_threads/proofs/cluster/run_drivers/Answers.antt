@@ -6,7 +6,7 @@ use Rattle.cluster_core.specs.Setups.{rules_for}
 use Rattle.node_records.specs.declared.command.Command.{Command}
 use Rattle.node_records.specs.Runs.{AreRuns}
 use Rattle.cluster_threads.specs.declared.cluster.OfNode.{OfNode}
-use Rattle.cluster_threads.specs.Clusters.{AreNumbered}
+use Rattle.cluster_threads.specs.PrivateClusters.{AreNumbered}
 use Rattle.cluster_threads.proofs.cluster.run_drivers.Goals as goal
 
 pub loop-handle-preserved : goal.loop-handle-preserved

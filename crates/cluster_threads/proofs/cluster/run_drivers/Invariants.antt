@@ -2,7 +2,7 @@ use Rattle.std.proofs.Common.{◌≡◌, length, map}
 use Rattle.std.specs.Prelude.{All, None}
 use Rattle.cluster_core.specs.Setups.{rules_for}
 use Rattle.node_records.specs.Runs.{AreRuns}
-use Rattle.cluster_threads.specs.Clusters.{AreNumbered}
+use Rattle.cluster_threads.specs.PrivateClusters.{AreNumbered}
 use Rattle.cluster_threads.proofs.cluster.run_drivers.Given as goal
 
 abbrev pub invariant-loop-handle : goal.invariant-loop-handle

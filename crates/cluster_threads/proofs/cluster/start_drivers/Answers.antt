@@ -5,7 +5,7 @@ use Rattle.std.proofs.lemmas.List.{map_push, length_push, length-map}
 use Rattle.std.proofs.lemmas.List.Elements.{All-push}
 use Rattle.maglev_table.proofs.Walks.{pushed_map}
 use Rattle.cluster_threads.specs.declared.cluster.OfNode.{OfNode}
-use Rattle.cluster_threads.specs.Clusters.{AreNumbered}
+use Rattle.cluster_threads.specs.PrivateClusters.{AreNumbered}
 use Rattle.cluster_threads.proofs.Clusters.{numbered_more}
 use Rattle.cluster_threads.proofs.cluster.start_drivers.Goals as goal
 

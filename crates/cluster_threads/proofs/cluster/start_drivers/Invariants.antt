@@ -1,6 +1,6 @@
 use Rattle.std.proofs.Common.{◌≡◌, length, map, take}
 use Rattle.std.specs.Prelude.{All}
-use Rattle.cluster_threads.specs.Clusters.{AreNumbered}
+use Rattle.cluster_threads.specs.PrivateClusters.{AreNumbered}
 use Rattle.cluster_threads.proofs.cluster.start_drivers.Given as goal
 
 abbrev pub invariant-loop-at : goal.invariant-loop-at

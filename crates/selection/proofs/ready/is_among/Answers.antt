@@ -3,7 +3,7 @@ use Rattle.std.proofs.lemmas.List.{length-drop}
 use Rattle.std.proofs.lemmas.List.Sorted.{IsPartitionPoint-from_clause}
 use Rattle.pool_versions.specs.Pool.{is_below}
 use Rattle.pool_versions.specs.declared.backend.Backend.{Backend}
-use Rattle.selection.specs.Halves.{is_at_head}
+use Rattle.selection.specs.PrivateHalves.{is_at_head}
 use Rattle.selection.proofs.Halves.{parted, is_found_at_head}
 use Rattle.selection.proofs.ready.is_among.Goals as goal
 

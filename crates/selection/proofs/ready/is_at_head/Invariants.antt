@@ -1,5 +1,5 @@
 use Rattle.std.proofs.Common.{◌≡◌, drop}
-use Rattle.selection.specs.Halves.{is_at_head}
+use Rattle.selection.specs.PrivateHalves.{is_at_head}
 use Rattle.selection.proofs.ready.is_at_head.Given as goal
 
 abbrev pub invariant-loop-other : goal.invariant-loop-other

@@ -1,7 +1,7 @@
 use Rattle.std.proofs.Common.{subst, ◌∙◌}
 use Rattle.pcap_file.specs.declared.format.Head.{Head}
 use Rattle.simulation.specs.Plans.{planned}
-use Rattle.simulation.specs.Going.{Shortened}
+use Rattle.simulation.specs.PrivateGoing.{Shortened}
 use Rattle.simulation.proofs.Reaching.{short_none}
 use Rattle.simulation.proofs.staging.play_records.Goals as goal
 

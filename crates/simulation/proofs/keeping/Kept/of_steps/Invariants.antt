@@ -1,7 +1,7 @@
 use Rattle.std.proofs.Common.{◌≡◌, ◌<◌, ℕ, true, None, Some}
 use Rattle.std.specs.Prelude.{slice_get}
 use Rattle.scenario_steps.specs.declared.Step.TheVariants as steps
-use Rattle.simulation.specs.Keeping.{is_named, found}
+use Rattle.simulation.specs.PrivateKeeping.{is_named, found}
 use Rattle.simulation.proofs.keeping.Kept.of_steps.Given as goal
 
 -- what the steps so far name is to be kept

@@ -4,7 +4,7 @@ use Rattle.cluster_node.specs.declared.events.Said.{Said}
 use Rattle.waiting_frames.specs.Mirrors.{Mirrors}
 use Rattle.simulation.specs.Sent.{Sending, sent, Wrote, WroteUntil}
 use Rattle.simulation.specs.Wires.{traffic}
-use Rattle.simulation.specs.Going.{onto}
+use Rattle.simulation.specs.PrivateGoing.{onto}
 use Rattle.simulation.specs.Following.{ArrivesFirst, CanSettle}
 use Rattle.simulation.proofs.Followed.{can_first, can_rest, all_sent}
 use Rattle.simulation.proofs.relaying.Relay.settle_delivered.Goals as goal

@@ -3,15 +3,15 @@ use Rattle.pcap_file.specs.Format.{packet}
 use Rattle.course.specs.Course.{Course}
 use Rattle.course.specs.Room.{Counted}
 use Rattle.course.specs.Steps.{world_of, deliver}
-use Rattle.course.specs.Streams.{again_of}
+use Rattle.course.specs.PrivateStreams.{again_of}
 use Rattle.course.proofs.Moves.{deliver_hands}
 use Rattle.course.proofs.Coming.{repeat_some, repeat_none}
 use Rattle.simulation.specs.Plans.{planned}
 use Rattle.simulation.specs.Intake.{Taking}
 use Rattle.simulation.specs.Sent.{packet_in, packets_of, sent, WroteUntil}
 use Rattle.simulation.specs.Simulated.{traffic_of}
-use Rattle.simulation.specs.Keeping.{found}
-use Rattle.simulation.specs.Stages.{Sound}
+use Rattle.simulation.specs.PrivateKeeping.{found}
+use Rattle.simulation.specs.PrivateStages.{Sound}
 use Rattle.simulation.specs.declared.staging.Stage.{Stage}
 use Rattle.simulation.proofs.Reaching.{short_of, sound_same, if_some, if_none, packet_there, packet_none, repeated, reached_same, short_same, counted_again, counted_skip}
 use Rattle.simulation.proofs.staging.Stage.again.Goals as goal

@@ -7,7 +7,7 @@ use Rattle.simulation.specs.Plans.{planned}
 use Rattle.simulation.specs.Sent.{sent, Wrote, WroteUntil}
 use Rattle.simulation.specs.Simulated.{traffic_of}
 use Rattle.simulation.specs.Wires.{traffic}
-use Rattle.simulation.specs.Going.{onto}
+use Rattle.simulation.specs.PrivateGoing.{onto}
 use Rattle.simulation.specs.Following.{NoArrivals}
 use Rattle.simulation.proofs.Staged.{Quietly, stepped, stepped_told, events_of, can_settle, sound_after, cut_before, cut_after}
 use Rattle.simulation.proofs.staging.Stage.apart.Goals as goal

@@ -12,7 +12,7 @@ use Rattle.simulation.specs.Plans.{planned}
 use Rattle.simulation.specs.Sent.{packet_in, sent, Wrote, WroteUntil}
 use Rattle.simulation.specs.Simulated.{traffic_of}
 use Rattle.simulation.specs.Wires.{traffic}
-use Rattle.simulation.specs.Going.{onto}
+use Rattle.simulation.specs.PrivateGoing.{onto}
 use Rattle.simulation.specs.Following.{ArrivesFirst}
 use Rattle.simulation.proofs.Staged.{Arriving, delivered, delivered_told, events_of, can_settle, sound_after, cut_before, cut_after}
 use Rattle.simulation.proofs.staging.Stage.deliver.Goals as goal

@@ -1,6 +1,6 @@
 use Rattle.std.proofs.Common.{subst, sym, ℕ}
 use Rattle.simulation.specs.declared.fault.SimulationFault.TheVariants.{Capture}
-use Rattle.simulation.specs.Stages.{IsOver}
+use Rattle.simulation.specs.PrivateStages.{IsOver}
 use Rattle.simulation.proofs.Reaching.{over_of, short_read}
 use Rattle.simulation.proofs.staging.Stage.finish.Goals as goal
 

@@ -1,8 +1,8 @@
 use Rattle.std.proofs.Common.{Bool, ◌+◌, ◌-◌, ◌∷◌, ℕ, subst, ◌∙◌, arith}
-use Rattle.course.specs.Streams.{lose_of}
+use Rattle.course.specs.PrivateStreams.{lose_of}
 use Rattle.pcap_file.specs.declared.format.Head.{Head}
-use Rattle.simulation.specs.Going.{Shortened}
-use Rattle.simulation.specs.Stages.{Reached, still_to_lose}
+use Rattle.simulation.specs.PrivateGoing.{Shortened}
+use Rattle.simulation.specs.PrivateStages.{Reached, still_to_lose}
 use Rattle.simulation.proofs.Reaching.{one_fewer, reached_turn, no_more_lost}
 use Rattle.simulation.proofs.staging.Stage.lose.Goals as goal
 

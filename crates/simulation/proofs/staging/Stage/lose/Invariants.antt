@@ -3,10 +3,10 @@ use Rattle.scenario_steps.specs.declared.Step.{Step}
 use Rattle.spreader.specs.Choices.{Choice}
 use Rattle.course.specs.Cluster.{Cluster}
 use Rattle.course.specs.Room.{Counted}
-use Rattle.course.specs.Streams.{lose_of}
+use Rattle.course.specs.PrivateStreams.{lose_of}
 use Rattle.simulation.specs.Plans.{Planned}
 use Rattle.pcap_file.specs.Device.{Tape}
-use Rattle.simulation.specs.Stages.{Reached}
+use Rattle.simulation.specs.PrivateStages.{Reached}
 use Rattle.simulation.proofs.staging.Stage.lose.Given as goal
 
 abbrev pub invariant-loop : goal.invariant-loop

@@ -1,6 +1,6 @@
 use Rattle.std.proofs.Common.{Bool, ◌≡◌, ◌+◌, ◌∷◌, ◌++◌, sym, subst, ap, ◌∙◌}
 use Rattle.course.specs.Course.{Course}
-use Rattle.course.specs.Streams.{lose_of}
+use Rattle.course.specs.PrivateStreams.{lose_of}
 use Rattle.simulation.specs.Intake.{SeenMore}
 use Rattle.simulation.specs.declared.staging.Stage.{Stage}
 use Rattle.simulation.proofs.Reaching.{short_read, reached_end, lost_all, OneMore, reached_more, lost, sound_same}

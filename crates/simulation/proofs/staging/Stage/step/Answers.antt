@@ -1,7 +1,7 @@
 use Rattle.std.proofs.Common.{◌∷◌, Some, subst, ◌∙◌, ap}
 use Rattle.scenario_steps.specs.declared.Step.{Step}
 use Rattle.simulation.specs.Plans.{planned}
-use Rattle.simulation.specs.Stages.{Reached}
+use Rattle.simulation.specs.PrivateStages.{Reached}
 use Rattle.simulation.proofs.staging.Stage.step.Goals as goal
 
 pub returns-in-Take-clause-short : goal.returns-in-Take-clause-short

@@ -2,8 +2,8 @@ use Rattle.std.proofs.Common.{◌+◌, List, drop, subst, ◌∙◌, arith}
 use Rattle.pcap_file.specs.declared.format.Head.{Head}
 use Rattle.scenario_steps.specs.declared.Step.{Step}
 use Rattle.simulation.specs.Plans.{planned}
-use Rattle.simulation.specs.Going.{Shortened}
-use Rattle.simulation.specs.Stages.{Reached}
+use Rattle.simulation.specs.PrivateGoing.{Shortened}
+use Rattle.simulation.specs.PrivateStages.{Reached}
 use Rattle.simulation.proofs.Reaching.{next_step, among_steps}
 use Rattle.simulation.proofs.staging.Stage.steps.Goals as goal
 

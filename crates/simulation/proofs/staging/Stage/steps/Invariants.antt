@@ -3,7 +3,7 @@ use Rattle.course.specs.Steps.{SameChoice}
 use Rattle.course.specs.Room.{Counted}
 use Rattle.simulation.specs.Plans.{planned}
 use Rattle.pcap_file.specs.Device.{Tape}
-use Rattle.simulation.specs.Stages.{Reached}
+use Rattle.simulation.specs.PrivateStages.{Reached}
 use Rattle.simulation.proofs.staging.Stage.steps.Given as goal
 
 abbrev pub invariant-loop-step : goal.invariant-loop-step

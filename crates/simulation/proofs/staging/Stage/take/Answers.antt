@@ -1,9 +1,9 @@
 use Rattle.std.proofs.Common.{Bool, ◌+◌, ◌-◌, ◌∷◌, ℕ, subst, ◌∙◌, arith}
 use Rattle.pcap_file.specs.declared.format.Head.{Head}
-use Rattle.course.specs.Streams.{take_of}
+use Rattle.course.specs.PrivateStreams.{take_of}
 use Rattle.simulation.specs.Plans.{planned}
-use Rattle.simulation.specs.Going.{Shortened}
-use Rattle.simulation.specs.Stages.{Reached, still_to_take}
+use Rattle.simulation.specs.PrivateGoing.{Shortened}
+use Rattle.simulation.specs.PrivateStages.{Reached, still_to_take}
 use Rattle.simulation.proofs.Reaching.{one_fewer, reached_turn, no_more_taken}
 use Rattle.simulation.proofs.staging.Stage.take.Goals as goal
 

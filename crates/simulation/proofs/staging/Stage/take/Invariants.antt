@@ -3,10 +3,10 @@ use Rattle.scenario_steps.specs.declared.Step.{Step}
 use Rattle.spreader.specs.Choices.{Choice}
 use Rattle.course.specs.Steps.{SameChoice}
 use Rattle.course.specs.Room.{Counted}
-use Rattle.course.specs.Streams.{take_of}
+use Rattle.course.specs.PrivateStreams.{take_of}
 use Rattle.simulation.specs.Plans.{planned}
 use Rattle.pcap_file.specs.Device.{Tape}
-use Rattle.simulation.specs.Stages.{Reached}
+use Rattle.simulation.specs.PrivateStages.{Reached}
 use Rattle.simulation.proofs.staging.Stage.take.Given as goal
 
 abbrev pub invariant-loop : goal.invariant-loop

@@ -4,12 +4,12 @@ use Rattle.course.specs.Course.{Course}
 use Rattle.course.proofs.Moves.{handed_next}
 use Rattle.course.specs.Room.{Counted}
 use Rattle.course.specs.Steps.{world_of, deliver}
-use Rattle.course.specs.Streams.{take_of}
+use Rattle.course.specs.PrivateStreams.{take_of}
 use Rattle.simulation.specs.Plans.{planned}
 use Rattle.simulation.specs.Sent.{packet_in, packets_of, sent, WroteUntil}
 use Rattle.simulation.specs.Simulated.{traffic_of}
 use Rattle.simulation.specs.Intake.{SeenMore}
-use Rattle.simulation.specs.Stages.{Sound}
+use Rattle.simulation.specs.PrivateStages.{Sound}
 use Rattle.simulation.proofs.Reaching.{short_read, reached_end, took_all, OneMore, seen_same, reached_more, short_more, took, at_place, sound_same, counted_taken, delivered_same}
 use Rattle.simulation.proofs.staging.Stage.take_one.Goals as goal
 

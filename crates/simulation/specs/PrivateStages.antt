@@ -11,14 +11,14 @@ use Rattle.scenario_steps.specs.declared.Step.{Step}
 use Rattle.cluster_node.specs.Records.{Judged}
 use Rattle.course.specs.Cluster.{Cluster, Orderly}
 use Rattle.course.specs.Course.{Course}
-use Rattle.course.specs.Streams.{take_of, lose_of}
+use Rattle.course.specs.PrivateStreams.{take_of, lose_of}
 use Rattle.waiting_frames.specs.Mirrors.{Mirrors}
 use Rattle.simulation.specs.Plans.{Planned}
 use Rattle.simulation.specs.Sent.{Wrote}
 use Rattle.simulation.specs.Simulated.{course_of, sendings}
 use Rattle.simulation.specs.Intake.{Seen}
-use Rattle.simulation.specs.Keeping.{NamesAll, Holds}
-use Rattle.simulation.specs.Going.{Left, SentSoFar}
+use Rattle.simulation.specs.PrivateKeeping.{NamesAll, Holds}
+use Rattle.simulation.specs.PrivateGoing.{Left, SentSoFar}
 use Rattle.simulation.specs.declared.staging.Stage.{Stage}
 
 -- where all the records are these: the queues of frames mirror the course, and behind the header the output got what was
