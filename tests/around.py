@@ -1,0 +1,157 @@
+#!/usr/bin/env python3
+"""Tests of what stands around the program: its man page and completions, bin/install, and the commands of docs/USING.md.
+
+What a tool that isn't installed would show is skipped with a word. The last line is 'N passed, N failed'.
+"""
+import os
+import pathlib
+import re
+import shutil
+import struct
+import subprocess
+import sys
+import tempfile
+
+TOP = pathlib.Path(__file__).resolve().parent.parent
+EXAMPLE = TOP / "examples" / "failover"
+
+passed = 0
+failed = 0
+
+
+def check(name, holds, detail=""):
+    """Counts one comparison, and says which failed."""
+    global passed, failed
+    passed += bool(holds)
+    failed += not holds
+    if not holds:
+        print(f"FAILED {name}: {detail}")
+
+
+def has(tool):
+    """Whether a tool is installed; where it isn't its tests are skipped."""
+    there = shutil.which(tool) is not None
+    if not there:
+        print(f"{tool} isn't installed: what it shows is skipped")
+    return there
+
+
+def did(words, **more):
+    """Runs a command, and gives status and both outputs."""
+    done = subprocess.run(words, capture_output=True, timeout=600, check=False, **more)
+    return done.returncode, done.stdout, done.stderr
+
+
+def datagrams():
+    """The datagrams of the example, whose frames are Ethernet, with their records' times."""
+    text = EXAMPLE.with_suffix(".pcap").read_bytes()
+    at, found = 24, []
+    while at < len(text):
+        secs, micros, length, _ = struct.unpack_from("<IIII", text, at)
+        found.append((secs, micros, text[at + 16 + 14:at + 16 + length]))
+        at += 16 + length
+    return found
+
+
+def capture(link, header):
+    """The example's datagrams as a capture of another link type, each behind a header."""
+    text = struct.pack("<IHHiIII", 0xA1B2C3D4, 2, 4, 0, 0, 65535, link)
+    for secs, micros, datagram in datagrams():
+        record = header + datagram
+        text += struct.pack("<IIII", secs, micros, len(record), len(record)) + record
+    return text
+
+
+def using(start):
+    """The command of docs/USING.md that begins so, as words."""
+    page = (TOP / "docs" / "USING.md").read_text()
+    return re.search(rf"`?({re.escape(start)}[^`\n]*)", page).group(1)
+
+
+def played(folder, name):
+    """What the program writes of a capture with the example's scenario: its report and OUTPUT."""
+    words = [TOP / "bin" / "maglev", "simulate", EXAMPLE.with_suffix(".toml"), folder / name, folder / "sent.pcap"]
+    status, out, err = did(words)
+    return status, out, err, (folder / "sent.pcap").read_bytes() if status == 0 else b""
+
+
+def test_captures_that_work():
+    """Captures of other forms, made so by the page's commands, are played like the example's own."""
+    ethernet = bytes.fromhex("020000000002020000000001")
+    cooked = bytes.fromhex("0000000100060200000000010000") + b"\x08\x00"
+    cooked_again = bytes.fromhex("0800000000000002000100060200000000010000")
+    with tempfile.TemporaryDirectory() as made:
+        folder = pathlib.Path(made)
+        shutil.copy(EXAMPLE.with_suffix(".pcap"), folder / "own.pcap")
+        expected = played(folder, "own.pcap")
+        (folder / "in.pcap").write_bytes(capture(1, ethernet + b"\x08\x00"))
+        check("the example's datagrams in a capture of ours", played(folder, "in.pcap") == expected)
+        ways = [("VLAN", capture(1, ethernet + b"\x81\x00\x00\x05\x08\x00"), using("editcap -F pcap -L -C 12:4"))]
+        ways.append(("cooked", capture(113, cooked), using("editcap -F pcap -L -C 16")))
+        ways.append(("cooked, version 2", capture(276, cooked_again), using("editcap -F pcap -L -C 16").replace("16", "20")))
+        ways.append(("gzip", None, using("gunzip -c")))
+        if has("tshark"):
+            ways.append(("one direction", capture(101, b""), using("tshark -r in.pcap -Y 'ip.dst")))
+        for name, text, words in ways if has("editcap") else []:
+            (folder / "in.pcap").write_bytes(text or capture(101, b""))
+            subprocess.run(["gzip", "-k", "-f", "in.pcap"], cwd=folder, check=True)
+            done = subprocess.run(words, shell=True, cwd=folder, capture_output=True, check=False)
+            check(f"{name}: made a capture that works", done.returncode == 0 and played(folder, "out.pcap") == expected, repr(done))
+        if has("editcap"):
+            subprocess.run(["editcap", "-F", "pcapng", "in.pcap", "in.pcapng"], cwd=folder, check=True)
+            check("pcapng isn't read", played(folder, "in.pcapng")[2] == b"fault: BadMagic\n")
+            subprocess.run(using("editcap -F pcap in.pcapng"), shell=True, cwd=folder, check=True)
+            check("pcapng: made a capture that works", played(folder, "out.pcap") == expected)
+
+
+def test_sent_as_frames():
+    """What was sent, with Ethernet in front, holds the same datagrams."""
+    if not (has("tshark") and has("text2pcap")):
+        return
+    with tempfile.TemporaryDirectory() as made:
+        folder = pathlib.Path(made)
+        shutil.copy(EXAMPLE.with_suffix(".pcap"), folder / "in.pcap")
+        sent = played(folder, "in.pcap")[3]
+        subprocess.run(using("tshark -r sent.pcap -x"), shell=True, cwd=folder, capture_output=True, check=True)
+        frames = (folder / "frames.pcap").read_bytes()
+        length = struct.unpack_from("<I", sent, 24 + 8)[0]
+        check("the first datagram in a frame", frames[24 + 16 + 12:24 + 16 + 14 + length] == b"\x08\x00" + sent[40:40 + length])
+
+
+def test_manual():
+    """The man page and the completions are those of the help texts."""
+    check("share/ is what tools/manual.py writes", did([sys.executable, TOP / "tools" / "manual.py", "--check"])[0] == 0)
+    page = TOP / "share" / "man" / "man1" / "maglev.1"
+    if has("mandoc"):
+        check("the man page", did(["mandoc", "-T", "lint", page]) == (0, b"", b""))
+    words = 'source share/bash-completion/completions/maglev; COMP_WORDS=(maglev %s); COMP_CWORD=%d; _maglev; echo "${COMPREPLY[*]}"'
+    for typed, at, expected in [("si", 1, "simulate"), ("table --hash s", 3, "sha256 sum"), ("pick --no", 2, "--no-check")]:
+        answer = did(["bash", "-c", words % (typed, at)], cwd=TOP)
+        check(f"completion of {typed}", answer == (0, expected.encode() + b"\n", b""), repr(answer))
+
+
+def test_install():
+    """The program, its page and its completions are put below a prefix, and the program runs there."""
+    with tempfile.TemporaryDirectory() as made:
+        prefix = pathlib.Path(made)
+        check("bin/install", did([TOP / "bin" / "install", prefix])[0] == 0)
+        help_text = (TOP / "tests" / "texts" / "maglev.txt").read_bytes()
+        check("the installed program", did([prefix / "bin" / "maglev", "--help"], cwd="/") == (0, help_text, b""))
+        share = TOP / "share"
+        files = [path.relative_to(share) for path in share.rglob("*") if path.is_file()]
+        same = [(prefix / "share" / name).read_bytes() == (share / name).read_bytes() for name in files]
+        check("what stands beside it", len(same) == 4 and all(same))
+    check("bin/install of nothing", did([TOP / "bin" / "install"])[0] == 2)
+
+
+def main():
+    for name, test in sorted(globals().items()):
+        if name.startswith("test_"):
+            test()
+    print(f"{passed} passed, {failed} failed")
+    return 1 if failed else 0
+
+
+if __name__ == "__main__":
+    os.chdir(TOP)
+    sys.exit(main())
