@@ -104,6 +104,59 @@ def test_captures_that_work():
             check("pcapng: made a capture that works", played(folder, "out.pcap") == expected)
 
 
+def example_in(folder):
+    """Copies the example into a folder, as s.toml and in.pcap, and gives its report and what it sends."""
+    shutil.copy(EXAMPLE.with_suffix(".toml"), folder / "s.toml")
+    shutil.copy(EXAMPLE.with_suffix(".pcap"), folder / "in.pcap")
+    _, report, _, sent = played(folder, "in.pcap")
+    return report, sent
+
+
+def in_shell(folder, words):
+    """What a command of the shell does in a folder, where `maglev` is the program."""
+    program = f"maglev() {{ '{TOP / 'bin' / 'maglev'}' \"$@\"; }}\n"
+    done = subprocess.run(["bash", "-c", program + words], cwd=folder, capture_output=True, timeout=600, check=False)
+    return done.returncode, done.stdout, done.stderr
+
+
+def test_standard_streams():
+    """`-` stands for standard input and output, whose bytes nothing else mixes with; a closed stream is no file's."""
+    with tempfile.TemporaryDirectory() as made:
+        folder = pathlib.Path(made)
+        report, sent = example_in(folder)
+        check("INPUT from standard input", in_shell(folder, "maglev simulate s.toml - out.pcap < in.pcap") == (0, report, b""))
+        check("what it sent", (folder / "out.pcap").read_bytes() == sent)
+        check("SCENARIO from standard input", in_shell(folder, "maglev simulate - in.pcap out.pcap < s.toml") == (0, report, b""))
+        explained = in_shell(folder, "maglev explain s.toml - 13 15 < in.pcap")
+        check("explain from standard input", explained == in_shell(folder, "maglev explain s.toml in.pcap 13 15") and explained[0] == 0)
+        check("OUTPUT to standard output", in_shell(folder, "maglev simulate s.toml in.pcap -") == (0, sent, report))
+        check("OUTPUT to /dev/stdout", in_shell(folder, "maglev simulate s.toml in.pcap /dev/stdout") == (0, sent, report))
+        check("all in a pipe", in_shell(folder, "cat in.pcap | maglev simulate s.toml - - 2>/dev/null | cat") == (0, sent, b""))
+        closed = in_shell(folder, "maglev simulate s.toml in.pcap out.pcap <&- >&-")
+        check("standard output is closed", closed == (1, b"", b"fault: Write\n"), repr(closed))
+        check("OUTPUT is no standard stream", (folder / "out.pcap").read_bytes() == sent)
+        check("all are closed", in_shell(folder, "maglev simulate s.toml in.pcap out.pcap <&- >&- 2>&-")[0] == 1)
+        check("OUTPUT still isn't", (folder / "out.pcap").read_bytes() == sent)
+        check("standard input is closed", in_shell(folder, "maglev pick --size 7 --hash sum A <&-") == (0, b"drop Truncated\n", b""))
+
+
+def test_one_file():
+    """OUTPUT that is a file which is read, by whatever name, isn't emptied."""
+    with tempfile.TemporaryDirectory() as made:
+        folder = pathlib.Path(made)
+        example_in(folder)
+        (folder / "soft.pcap").symlink_to("in.pcap")
+        (folder / "hard.pcap").hardlink_to(folder / "in.pcap")
+        before = {name: (folder / name).read_bytes() for name in ("in.pcap", "s.toml")}
+        for output in ("in.pcap", "./in.pcap", "soft.pcap", "hard.pcap", "s.toml"):
+            answer = in_shell(folder, f"maglev simulate s.toml in.pcap {output}")
+            check(f"OUTPUT {output} is read", answer == (1, b"", b"fault: OpenOutput\n"), repr(answer))
+        answer = in_shell(folder, "maglev simulate s.toml - in.pcap < in.pcap")
+        check("OUTPUT is standard input's file", answer == (1, b"", b"fault: OpenOutput\n"), repr(answer))
+        check("nothing was emptied", before == {name: (folder / name).read_bytes() for name in before})
+        check("a device may be both", in_shell(folder, "maglev simulate s.toml /dev/null /dev/null") == (1, b"", b"fault: ShortHeader\n"))
+
+
 def test_sent_as_frames():
     """What was sent, with Ethernet in front, holds the same datagrams."""
     if not (has("tshark") and has("text2pcap")):

@@ -1,6 +1,50 @@
 use clap::{Arg, ArgAction, Command, Error, value_parser};
 use std::alloc::Global;
 
+/// What stands below the help of `simulate`.
+const SIMULATE_HELP: &str =
+    "Example: maglev simulate --list examples/failover.toml examples/failover.pcap sent.pcap
+
+SCENARIO, INPUT and OUTPUT may be -, which is standard input or output. Where OUTPUT is standard output the report is printed on standard error.
+
+Steps of a scenario, of balancers N, versions V, workers W and records P:
+  install N V    N gets version V
+  live [N ..]    from now on these balancers get packets, and no other
+  take K         the next K records are delivered
+  lose K         the next K records are read and lost
+  again P        record P, counted from 0, is delivered again
+  full N [W ..]  from now on these workers of N refuse packets, and no other
+  hold N         N's workers serve nothing
+  drain N        N's workers serve what waits, and go on
+  restart N      N's workers begin anew, without what waits
+
+Faults, and what to do:
+  OpenScenario, OpenInput      check the path, and who may read the file
+  OpenOutput                   check the path; a file that is read can't be OUTPUT
+  ReadScenario, Read           check the disk
+  BadToml, BadFormat, BadKey   correct the scenario: docs/FORMATS.md has each key
+  BadMember                    write NAME@ADDRESS or NAME@ADDRESS/down
+  BadNumber, NumberTaken       give each version a number of its own, from 1
+  DoubleService, DoubleName    give each service its address, protocol and port, each member its name
+  TooMany                      take fewer members than slots, or fewer services or versions
+  BadStep N                    correct step N, counted from 0
+  ShortHeader, BadMagic, BadVersion, BadLink
+                               convert INPUT: docs/USING.md has the commands
+  TooLong                      shorten the scenario; or INPUT is damaged
+  Write                        make room, or open standard output
+  Memory                       allow more memory, or take fewer slots, versions and entries";
+
+/// What stands below the help of `explain`.
+const EXPLAIN_HELP: &str =
+    "Example: maglev explain examples/failover.toml examples/failover.pcap 13 15
+
+SCENARIO or INPUT may be -, which is standard input. Faults are those of simulate.";
+
+/// What stands below the help of `pick`.
+const PICK_HELP: &str = "The datagram is read from standard input.
+
+Example: echo 4500001c000100004011aece0a000001c000020103e8003500080000 | maglev pick --size 7 --hash sum A B C";
+
 fn size<'a>(alloc: Global) -> Arg<'a> {
     Arg::new(alloc, "size")
         .long("size")
@@ -52,9 +96,7 @@ fn pick<'a>(alloc: Global) -> Result<Command<'a>, Error> {
         .about(
             "Reads one IPv4 datagram as hexadecimal text, and prints its flow, slot and backend, or why it is dropped",
         )
-        .after_help(
-            "Example: echo 4500001c000100004011aece0a000001c000020103e8003500080000 | maglev pick --size 7 --hash sum A B C",
-        )
+        .after_help(PICK_HELP)
         .arg(size(alloc))?
         .arg(hash(alloc))?
         .arg(no_check)?
@@ -132,9 +174,7 @@ fn simulate<'a>(alloc: Global) -> Result<Command<'a>, Error> {
         .about(
             "Plays a scenario over a capture, writes what the cluster sends, and prints a report",
         )
-        .after_help(
-            "Example: maglev simulate --list examples/failover.toml examples/failover.pcap sent.pcap",
-        )
+        .after_help(SIMULATE_HELP)
         .arg(list)?
         .arg(scenario(alloc))?
         .arg(input(alloc))?
@@ -147,7 +187,7 @@ fn explain<'a>(alloc: Global) -> Result<Command<'a>, Error> {
         .about(
             "Plays a scenario over a capture, and prints why the packets of two events went where they went",
         )
-        .after_help("Example: maglev explain examples/failover.toml examples/failover.pcap 13 15")
+        .after_help(EXPLAIN_HELP)
         .arg(scenario(alloc))?
         .arg(input(alloc))?
         .arg(event(alloc, "one", "I"))?
@@ -159,6 +199,7 @@ fn explain<'a>(alloc: Global) -> Result<Command<'a>, Error> {
 pub fn command<'a>(alloc: Global) -> Result<Command<'a>, Error> {
     let whole = Command::new(alloc, "maglev")
         .about("A cluster of layer 4 load balancers after Maglev (NSDI 2016), proved")
+        .version("0.1.0")
         .subcommand_required(true)
         .subcommand(table(alloc)?)?
         .subcommand(pick(alloc)?)?

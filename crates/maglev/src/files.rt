@@ -1,19 +1,91 @@
-//! Files that are opened at the first call.
+//! Files and standard streams that are opened at the first call.
 use maglev_cli::CliFault;
 use std::alloc::Global;
-use std::fs::File;
+use std::fs::{File, metadata};
 use std::io;
-use std::io::{BufReader, BufWriter, ErrorKind, Read, Write};
+use std::io::{BufReader, BufWriter, ErrorKind, Printer, Read, Stdin, Write};
+use std::os::fd::AsRawFd;
+use std::os::unix::fs::MetadataExt;
 
 /// The bytes that a file's buffer holds.
 const BUFFER: usize = 65_536;
+
+/// The descriptor of standard error, the last of the standard streams.
+const LAST_STANDARD: i32 = 2;
+
+/// The word that stands for standard input or standard output in the place of a path.
+const STANDARD: &str = "-";
+
+/// Whether a path stands for a standard stream.
+pub fn is_standard(path: &str) -> bool {
+    path == STANDARD
+}
+
+/// Gives each standard stream that is closed a file that has nothing to read and can't be written, so that no file that is
+/// opened later takes its place. The files stand for the streams as long as they are kept.
+pub fn stand_for_closed(rt: &HostRuntime) -> [Option<File>; 3] {
+    [stand_in(rt), stand_in(rt), stand_in(rt)]
+}
+
+// A file of the least descriptor that is free, where that is a standard stream's.
+fn stand_in(rt: &HostRuntime) -> Option<File> {
+    match File::open(rt, "/dev/null") {
+        Ok(file) if file.as_raw_fd() <= LAST_STANDARD => Some(file),
+        _ => None,
+    }
+}
+
+// The device and the number of what a path names there.
+fn identity(rt: &HostRuntime, path: &str) -> Option<(u64, u64)> {
+    match metadata(rt, path) {
+        Ok(found) => Some((found.dev(), found.ino())),
+        Err(_) => None,
+    }
+}
+
+// Whether a path names a regular file, which opening it for output empties.
+fn would_be_emptied(rt: &HostRuntime, path: &str) -> bool {
+    match metadata(rt, path) {
+        Ok(found) => found.is_file(),
+        Err(_) => false,
+    }
+}
+
+// The path of what is read, where a standard stream has one too.
+fn path_read(path: &str) -> &str {
+    if is_standard(path) {
+        "/dev/stdin"
+    } else {
+        path
+    }
+}
+
+// Whether two paths name one file.
+fn are_one(rt: &HostRuntime, one: &str, other: &str) -> bool {
+    match (identity(rt, one), identity(rt, other)) {
+        (Some(one), Some(other)) => one == other,
+        _ => false,
+    }
+}
+
+/// Whether what is written to a path comes out of standard output, so that nothing else may be written there.
+pub fn is_standard_output(rt: &HostRuntime, path: &str) -> bool {
+    is_standard(path) || (are_one(rt, path, "/dev/stdout") && !are_one(rt, path, "/dev/null"))
+}
+
+// What an input is read from.
+#[derive(Drop)]
+enum Reader {
+    File(BufReader<File>),
+    Standard(BufReader<Stdin>),
+}
 
 /// An input that is opened at the first read.
 #[derive(Drop)]
 pub struct InputFile<'a> {
     rt: &'a HostRuntime,
     path: &'a str,
-    reader: Option<BufReader<File>>,
+    reader: Option<Reader>,
     refusal: Option<ErrorKind>,
 }
 
@@ -28,9 +100,14 @@ impl<'a> InputFile<'a> {
         }
     }
 
-    fn open(&self) -> io::Result<BufReader<File>> {
+    fn open(&self) -> io::Result<Reader> {
+        let alloc: Global = self.rt.alloc();
+        if is_standard(self.path) {
+            let reader = BufReader::with_capacity(alloc, BUFFER, self.rt.stdin())?;
+            return Ok(Reader::Standard(reader));
+        }
         let file = File::open(self.rt, self.path)?;
-        BufReader::with_capacity(self.rt.alloc(), BUFFER, file)
+        Ok(Reader::File(BufReader::with_capacity(alloc, BUFFER, file)?))
     }
 
     fn opened(&mut self) -> io::Result<()> {
@@ -63,35 +140,62 @@ impl Read for InputFile<'_> {
             self.opened()?;
         }
         match &mut self.reader {
-            Some(reader) => reader.read(buf),
+            Some(Reader::File(reader)) => reader.read(buf),
+            Some(Reader::Standard(reader)) => reader.read(buf),
             None => Ok(0),
         }
     }
 }
 
-/// An output that is made, or emptied, at the first write.
+// What an output is written to.
+#[derive(Drop)]
+enum Writer<'a> {
+    File(BufWriter<File>),
+    Standard(BufWriter<Printer<'a, HostRuntime>>),
+}
+
+/// An output that is made, or emptied, at the first write. It isn't where that would empty one of the files that are read.
 #[derive(Drop)]
 pub struct OutputFile<'a> {
     rt: &'a HostRuntime,
     path: &'a str,
-    writer: Option<BufWriter<File>>,
+    read: [&'a str; 2],
+    writer: Option<Writer<'a>>,
     refusal: Option<ErrorKind>,
 }
 
 impl<'a> OutputFile<'a> {
-    /// The file of this path, not opened yet.
-    pub fn new(rt: &'a HostRuntime, path: &'a str) -> OutputFile<'a> {
+    /// The file of this path, not opened yet, beside the paths of files that are read.
+    pub fn new(rt: &'a HostRuntime, path: &'a str, read: [&'a str; 2]) -> OutputFile<'a> {
         OutputFile {
             rt,
             path,
+            read,
             writer: None,
             refusal: None,
         }
     }
 
-    fn open(&self) -> io::Result<BufWriter<File>> {
+    // Whether a file that is read would be emptied.
+    fn would_empty_what_is_read(&self) -> bool {
+        would_be_emptied(self.rt, self.path)
+            && self
+                .read
+                .iter()
+                .any(|read| are_one(self.rt, self.path, path_read(read)))
+    }
+
+    fn open(&self) -> io::Result<Writer<'a>> {
+        let alloc: Global = self.rt.alloc();
+        if is_standard(self.path) {
+            let writer = BufWriter::with_capacity(alloc, BUFFER, io::writer(self.rt))?;
+            return Ok(Writer::Standard(writer));
+        }
+        if self.would_empty_what_is_read() {
+            return Err(io::Error::from(ErrorKind::InvalidInput));
+        }
         let file = File::create(self.rt, self.path)?;
-        BufWriter::with_capacity(self.rt.alloc(), BUFFER, file)
+        Ok(Writer::File(BufWriter::with_capacity(alloc, BUFFER, file)?))
     }
 
     fn opened(&mut self) -> io::Result<()> {
@@ -124,14 +228,16 @@ impl Write for OutputFile<'_> {
             self.opened()?;
         }
         match &mut self.writer {
-            Some(writer) => writer.write(buf),
+            Some(Writer::File(writer)) => writer.write(buf),
+            Some(Writer::Standard(writer)) => writer.write(buf),
             None => Ok(0),
         }
     }
 
     fn flush(&mut self) -> io::Result<()> {
         match &mut self.writer {
-            Some(writer) => writer.flush(),
+            Some(Writer::File(writer)) => writer.flush(),
+            Some(Writer::Standard(writer)) => writer.flush(),
             None => Ok(()),
         }
     }

@@ -1,5 +1,5 @@
 //! The commands that play a scenario, over files.
-use crate::files::{InputFile, Kept, OutputFile};
+use crate::files::{InputFile, Kept, OutputFile, is_standard, is_standard_output};
 use maglev_cli::{CliFault, explain_run, simulate};
 use pcap_file::{FromRead, PcapFault, ToWrite};
 use std::fs::File;
@@ -11,9 +11,16 @@ const MOST: u64 = 1_048_577;
 
 // The text of a scenario's file, up to the bytes that show that it is too long.
 fn scenario_text(rt: &HostRuntime, path: &str) -> Result<Vec<u8>, CliFault> {
+    if is_standard(path) {
+        return whole_text(rt, rt.stdin());
+    }
     let Ok(file) = File::open(rt, path) else {
         return Err(CliFault::OpenScenario);
     };
+    whole_text(rt, file)
+}
+
+fn whole_text<R: Read>(rt: &HostRuntime, file: R) -> Result<Vec<u8>, CliFault> {
     let mut text = Vec::new(rt.alloc());
     match file.take(MOST).read_to_end(&mut text) {
         Ok(_) => Ok(text),
@@ -46,8 +53,14 @@ fn flushed(output: &mut OutputFile<'_>) -> Result<(), CliFault> {
     }
 }
 
-fn printed(rt: &HostRuntime, text: &[u8]) -> Result<(), CliFault> {
-    match io::writer(rt).write_all(text) {
+// Prints the report: on standard output, or on standard error where what is sent goes to standard output.
+fn printed(rt: &HostRuntime, text: &[u8], to_error: bool) -> Result<(), CliFault> {
+    let done = if to_error {
+        rt.stderr().write_all(text)
+    } else {
+        io::writer(rt).write_all(text)
+    };
+    match done {
         Ok(()) => Ok(()),
         Err(_) => Err(CliFault::Write),
     }
@@ -62,8 +75,9 @@ pub fn simulate_files(
     list: bool,
 ) -> Result<(), CliFault> {
     let text = scenario_text(rt, scenario)?;
+    let to_error = is_standard_output(rt, output);
+    let mut output = ToWrite::new(OutputFile::new(rt, output, [scenario, input]));
     let mut input = FromRead::new(InputFile::new(rt, input));
-    let mut output = ToWrite::new(OutputFile::new(rt, output));
     let mut report = ToWrite::new(Kept::new(rt.alloc()));
     let scenario = text.as_slice();
     let outcome = simulate(
@@ -78,7 +92,7 @@ pub fn simulate_files(
     let report = report.into_inner();
     flushed(&mut output)?;
     match outcome {
-        Ok(()) => printed(rt, report.text()),
+        Ok(()) => printed(rt, report.text(), to_error),
         Err(fault) => {
             let fault = of_input(fault, &input.into_inner());
             Err(of_output(fault, &output, &report))
