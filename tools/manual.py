@@ -64,6 +64,16 @@ def roff(text):
     return "\n".join(textwrap.wrap(text, 78, break_long_words=False, break_on_hyphens=False))
 
 
+def after_help(line):
+    """A line below a command's options: a sentence, a word with its text, or the text of the word before."""
+    if not line.startswith("  "):
+        return [".PP", roff(line)]
+    word, _, text = line.strip().partition("  ")
+    if line.startswith("     "):
+        return [roff(line.strip())]
+    return [".TP", f".B {roff(word)}"] + ([roff(text.strip())] if text else [])
+
+
 def man_page(whole, commands):
     """The man page, in the macros of man(7)."""
     page = [f'.TH MAGLEV 1 "{DATE}" "maglev" "User Commands"', ".SH NAME", f"maglev \\- {roff(whole.about)}", ".SH SYNOPSIS"]
@@ -76,8 +86,8 @@ def man_page(whole, commands):
         page += [f".SS {one.name}", roff(one.about) + "."]
         for word, text in one.parts["Arguments:"] + one.parts["Options:"]:
             page += [".TP", f".B {roff(word)}", roff(text)]
-        if one.after:
-            page += [".PP"] + [roff(line) for line in one.after]
+        for line in one.after:
+            page += after_help(line)
     page += [".SH EXIT STATUS", ".TP", "0", "Done.", ".TP", "1", "A fault, which a line on standard error names."]
     page += [".TP", "2", "A bad command line."]
     return "\n".join(page) + "\n"

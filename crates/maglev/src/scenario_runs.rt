@@ -20,7 +20,7 @@ fn scenario_text(rt: &HostRuntime, path: &str) -> Result<Vec<u8>, CliFault> {
     whole_text(rt, file)
 }
 
-fn whole_text<R: Read>(rt: &HostRuntime, file: R) -> Result<Vec<u8>, CliFault> {
+fn whole_text<R: Read + Drop>(rt: &HostRuntime, file: R) -> Result<Vec<u8>, CliFault> {
     let mut text = Vec::new(rt.alloc());
     match file.take(MOST).read_to_end(&mut text) {
         Ok(_) => Ok(text),
@@ -67,11 +67,11 @@ fn printed(rt: &HostRuntime, text: &[u8], to_error: bool) -> Result<(), CliFault
 }
 
 /// The command `simulate` over files. The report is printed once the output is written out.
-pub fn simulate_files(
-    rt: &HostRuntime,
-    scenario: &str,
-    input: &str,
-    output: &str,
+pub fn simulate_files<'x>(
+    rt: &'x HostRuntime,
+    scenario: &'x str,
+    input: &'x str,
+    output: &'x str,
     list: bool,
 ) -> Result<(), CliFault> {
     let text = scenario_text(rt, scenario)?;
