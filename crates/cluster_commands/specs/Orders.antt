@@ -1,7 +1,8 @@
 -- What the steps of a scenario tell the drivers of a cluster's nodes.
-use Rattle.std.specs.Prelude.{◌<◌, ◌==◌, ℕ, List, map, reverse, filter}
+use Rattle.std.specs.Prelude.{◌≡◌, ◌<◌, ◌==◌, ℕ, Bool, true, false, not, List, None, map, reverse, filter}
 use Rattle.cluster_node.specs.declared.packets.Packet.{Packet}
 use Rattle.cluster_node.specs.declared.events.Event.{Event}
+use Rattle.cluster_node.specs.declared.events.Event.TheVariants.{Install, Arrive, Serve, Restart}
 use Rattle.cluster_node.specs.Records.{node_of}
 use Rattle.node_records.specs.declared.command.Command.{Command}
 use Rattle.node_records.specs.declared.command.Command.TheVariants.{Publish, Offer}
@@ -11,7 +12,8 @@ use Rattle.scenario_steps.specs.declared.Step.{Step}
 use Rattle.spreader.specs.Choices.{Choice}
 use Rattle.course.specs.Cluster.{Cluster}
 use Rattle.course.specs.Course.{Course}
-use Rattle.course.specs.Steps.{world_of, run, start, below}
+use Rattle.course.specs.Steps.{none_marked, world_of, run, start, below}
+use Rattle.cluster_commands.specs.Knowing.{first_unknown_of}
 use Rattle.cluster_commands.specs.Noting.{noting}
 
 -- the events of a course, the first in front
@@ -42,3 +44,20 @@ abbrev pub IsThere : ℕ → Command → Type 0
 IsThere count (Publish v) = Unit {0}
 IsThere count (Offer k) = k < count
 IsThere count commands.Restart = Unit {0}
+
+abbrev pub is_serve : Event → Bool
+is_serve (Install n v) = false
+is_serve (Arrive n k marks) = false
+is_serve (Serve n w v r) = true
+is_serve (Restart n) = false
+
+-- the event of a command, where no worker refuses
+abbrev pub event_of : ℕ → Command → Event
+event_of n (Publish v) = Install n v
+event_of n (Offer k) = Arrive n k none_marked
+event_of n commands.Restart = Restart n
+
+-- Where all steps are known, the commands tell all: what a course has of a node is what the node's commands say, and servings.
+abbrev pub KnownStepsAreTold : Type 0
+KnownStepsAreTold = (cluster : Cluster) (choice : Choice) (packets : List Packet) (steps : List Step) (nodes n : ℕ) → first_unknown_of steps ≡ None
+    → filter (λ e. not (is_serve e)) (filter (λ e. node_of e == n) (events_of (course_on cluster choice packets steps nodes))) ≡ map (event_of n) (commands_on n (events_of (course_on cluster choice packets steps nodes)))

@@ -14,11 +14,13 @@
 
 mod drivers;
 mod known;
+mod laws;
 mod notes;
 mod told;
 
 pub use drivers::orders;
 pub use known::first_unknown;
+pub use laws::known_steps_are_told;
 pub use told::Orders;
 
 #[cfg(test)]
