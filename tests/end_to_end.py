@@ -510,7 +510,7 @@ def test_examples():
     text, data = (folder / "failover.toml").read_text(), (folder / "failover.pcap").read_bytes()
     expected = model.Run(text, data)
     commands = commands_of((folder / "README.md").read_text())
-    check("the examples' commands", [words[1] for words, _ in commands] == ["simulate"] + ["explain"] * 4, repr(commands))
+    check("the examples' commands", [words[1] for words, _ in commands] == ["simulate"] + ["explain"] * 4 + ["run"], repr(commands))
     with tempfile.TemporaryDirectory() as made:
         for (_, command, *words), printed in commands:
             out = pathlib.Path(made) / "sent.pcap"
@@ -518,6 +518,8 @@ def test_examples():
             if command == "simulate":
                 check("the examples' listing and report", printed == expected.listing() + expected.report(), printed)
                 check("what the example sends", out.read_bytes() == expected.output())
+            elif command == "run":
+                check("the example's report on threads", printed == expected.report() + "audit agrees\n", printed)
             else:
                 check("an example explained", printed == expected.explained(int(words[-2]), int(words[-1])), printed)
         other = pathlib.Path(made) / "in.pcap"

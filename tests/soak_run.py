@@ -1,0 +1,213 @@
+#!/usr/bin/env python3
+"""soak_run.py [FIRST COUNT]: runs random scenarios on threads, and judges what is printed and written by the model.
+
+Which version a packet is served under, which ring is full and how workers' packets mix is left to the schedule. What isn't
+is compared with tests/model.py: the counts of records, what came to each node, which drops a driver judges, that what a
+node sends came to it in that life and went to a backend that is up in a version that may have been used, and, where no ring
+gets full, that a worker's packets go out in the order in which they came. The last line is 'N passed, N failed'.
+"""
+import collections
+import pathlib
+import random
+import subprocess
+import sys
+import tempfile
+
+import model
+
+TOP = pathlib.Path(__file__).resolve().parent.parent
+PROGRAM = str(TOP / "bin" / "maglev")
+
+# A TCP and a UDP packet of the flow's last byte, and a TCP packet that is a fragment.
+TCP = "450000280000400040066eb40a0000{:02x}c000020103e80050" + "00" * 8 + "5000" + "00" * 6
+UDP = "4500001c00000000401100000a0000{:02x}c000020103e8003500080000"
+
+Arrival = collections.namedtuple("Arrival", "place flow versions")
+
+
+def packet(source):
+    """A datagram of one of a few flows, some of them spoiled."""
+    data = bytearray.fromhex(source.choice([TCP, TCP, UDP]).format(source.randrange(1, 9)))
+    data[10:12] = bytes(2)
+    data[10:12] = (65535 - model.folded(bytes(data[:20]))).to_bytes(2, "big")
+    if source.random() < 0.1:
+        data[source.choice([0, 6, 8, 9, 12])] ^= 1 << source.randrange(8)
+    return bytes(data)
+
+
+def random_steps(source, nodes):
+    """Steps of all kinds that a cluster on threads knows."""
+    steps = [f"install {node} 1" for node in range(nodes) if source.random() < 0.9]
+    for _ in range(source.randrange(30)):
+        node = source.randrange(nodes)
+        live = " ".join(str(one) for one in source.sample(range(nodes), source.randrange(nodes + 1)))
+        kinds = [f"install {node} {source.randrange(1, 6)}", f"lose {source.randrange(3)}", f"again {source.randrange(40)}"]
+        kinds += [f"take {source.randrange(20)}"] * 4 + [f"live {live}".strip(), f"restart {node}"]
+        steps.append(source.choice(kinds))
+    return steps
+
+
+def random_scenario(source):
+    """A scenario of any size, scheme and rings."""
+    nodes, ring = source.randrange(1, 5), source.choice([1, 2, 8, 1024])
+    text = f'format = 1\nsize = {source.choice([7, 13, 251])}\nhash = "{source.choice(["fnv", "sum"])}"\n'
+    text += f'scheme = "{source.choice(["maglev", "maglev", "plain", "round"])}"\nspread = "{source.choice(["hash", "turn"])}"\n'
+    text += f"workers = {source.randrange(1, 5)}\ncapacity = {source.randrange(1, 9)}\nring = {ring}\n"
+    text += f"nodes = {[f'10.9.0.{node + 1}' for node in range(nodes)]}\nsteps = {random_steps(source, nodes)}\n"
+    for number in range(1, 5):
+        text += f"[[versions]]\nnumber = {number}\nservices = ["
+        for proto, port in [("tcp", 80), ("udp", 53)]:
+            if source.random() < 0.9:
+                members = [f"{name}@10.8.0.{ord(name)}{source.choice(['', '', '/down'])}" for name in source.sample("ABCDEFG", 5)]
+                text += f'{{ vip = "192.0.2.1", proto = "{proto}", port = {port}, members = {members} }}, '
+        text += "]\n"
+    return text
+
+
+def lives_of(expected, node):
+    """What was placed on a node by the model, life by life, with the versions under which each packet may be served."""
+    lives, installed, open_ones = [[]], [], []
+    for event, outcome, _ in expected.events:
+        word, where, *more = event.split(" ")
+        if int(where) != node:
+            continue
+        if outcome == "installed":
+            installed.append(int(more[0]))
+            for one in open_ones:
+                one.versions.append(int(more[0]))
+        elif word == "arrive" and outcome.startswith("placed"):
+            place = int(more[0])
+            flow, _ = model.read_packet(expected.link, expected.records[place][2], True)
+            open_ones.append(Arrival(place, flow, [installed[-1]]))
+            lives[-1].append(open_ones[-1])
+        elif word == "restart":
+            lives.append([])
+            open_ones = []
+    return lives
+
+
+def backends_of(expected, arrival):
+    """The backends to which a packet may go."""
+    return {up[1] for version in arrival.versions for up in expected.service(version, arrival.flow) or []}
+
+
+def by_lives(expected, node, sends):
+    """The sends of a node split by its lives, as much as fits in each; None where something is left."""
+    found = []
+    for life in lives_of(expected, node):
+        waiting, taken = list(life), []
+        for place, backend in sends:
+            fits = [one for one in waiting if one.place == place and backend in backends_of(expected, one)]
+            if not fits:
+                break
+            waiting.remove(fits[0])
+            taken.append((place, backend))
+        sends = sends[len(taken) :]
+        found.append((life, taken))
+    return None if sends else found
+
+
+def is_part(few, many):
+    """The one list is the other with some left out."""
+    rest = iter(many)
+    return all(any(one == other for other in rest) for one in few)
+
+
+def faults_of_life(expected, life, taken):
+    """What is wrong with the sends of a life in which no ring was full."""
+    flows = {one.place: one.flow for one in life}
+    for worker in range(expected.workers):
+        came = [one.place for one in life if expected.plain(b"w" + one.flow) % expected.workers == worker]
+        went = [place for place, _ in taken if expected.plain(b"w" + flows[place]) % expected.workers == worker]
+        if not is_part(went, came):
+            yield f"the order of worker {worker}: {went} of {came}"
+    versions = {version for one in life for version in one.versions}
+    if len(versions) == 1 and expected.scenario["scheme"] != "round":
+        (version,) = versions
+        for place, backend in taken:
+            ups = expected.service(version, flows[place])
+            if expected.chosen(ups, flows[place], 0)[1] != backend:
+                yield f"record {place} went to {backend}"
+        if len(taken) != sum(bool(expected.service(version, one.flow)) for one in life):
+            yield f"{len(taken)} of {len(life)} packets were sent"
+
+
+def sends_of(expected, output):
+    """What each node sent, as places of records and backends, and whether node follows node."""
+    _, records, cut = model.read_capture(output)
+    nodes = [model.address(text) for text in expected.scenario["nodes"]]
+    sends, order = [[] for _ in nodes], []
+    for _, place, data in records:
+        _, datagram = model.read_packet(expected.link, expected.records[place][2], True)
+        node = nodes.index(data[12:16])
+        if data != model.wrapped(datagram, data[12:16], data[16:20]):
+            return None
+        order.append(node)
+        sends[node].append((place, model.dotted(data[16:20])))
+    return None if cut or order != sorted(order) else sends
+
+
+def faults_of_report(expected, printed, sent):
+    """What is wrong with a report."""
+    lines = [line.rsplit(" ", 1) for line in printed.splitlines()]
+    simulated = [line.rsplit(" ", 1) for line in expected.report().splitlines()]
+    if lines.pop() != ["audit", "agrees"]:
+        yield "the audit"
+    told, known = dict(lines), dict(simulated)
+    served = ["forwarded", "drop NoService", "drop NoBackend", "drop RingsFull"]
+    for key in known.keys() | told.keys():
+        if key not in served and told.get(key) != known.get(key):
+            yield f"{key}: {told.get(key)}, simulated {known.get(key)}"
+    if sum(int(told.get(key, 0)) for key in served) != sum(int(known.get(key, 0)) for key in served):
+        yield f"what was served: {told}"
+    if int(told["forwarded"]) != sent:
+        yield f"{told['forwarded']} forwarded, {sent} written"
+
+
+def faults_of(text, data, printed, output):
+    """What is wrong with a run."""
+    expected = model.Run(text, data)
+    sends = sends_of(expected, output)
+    if sends is None:
+        yield "OUTPUT isn't a capture of what the nodes send, node by node"
+        return
+    yield from faults_of_report(expected, printed, sum(map(len, sends)))
+    for node, own in enumerate(sends):
+        lives = by_lives(expected, node, own)
+        if lives is None:
+            yield f"node {node} sent what it may not: {own}"
+        elif all(len(life) <= expected.scenario["ring"] for life, _ in lives):
+            for life, taken in lives:
+                yield from faults_of_life(expected, life, taken)
+
+
+def judged(seed, folder):
+    """The faults of one run."""
+    source = random.Random(seed)
+    text = random_scenario(source)
+    packets = [packet(source) for _ in range(source.randrange(80))]
+    records = [(1, place, data) for place, data in enumerate(packets)]
+    data = model.written(records)
+    (folder / "s.toml").write_text(text)
+    (folder / "in.pcap").write_bytes(data)
+    words = [PROGRAM, "run", "s.toml", "in.pcap", "out.pcap"]
+    done = subprocess.run(words, cwd=folder, capture_output=True, timeout=120)
+    if done.returncode or done.stderr:
+        return [f"status {done.returncode}: {done.stderr!r}"]
+    return list(faults_of(text, data, done.stdout.decode(), (folder / "out.pcap").read_bytes()))
+
+
+def main():
+    first, count = (int(word) for word in sys.argv[1:3]) if len(sys.argv) > 2 else (0, 60)
+    failed = 0
+    with tempfile.TemporaryDirectory() as folder:
+        for seed in range(first, first + count):
+            faults = judged(seed, pathlib.Path(folder))
+            failed += bool(faults)
+            for fault in faults:
+                print(f"FAILED run {seed}: {fault}")
+    print(f"{count - failed} passed, {failed} failed")
+    sys.exit(failed > 0)
+
+
+main()
