@@ -92,7 +92,10 @@ def backends_of(expected, arrival):
 
 
 def by_lives(expected, node, sends):
-    """The sends of a node split by its lives, as much as fits in each; None where something is left."""
+    """The sends of a node split by its lives, as much as fits in each; None where something is left.
+
+    Of two arrivals of one record the later may go to no other backends than the earlier, so that it is taken first.
+    """
     found = []
     for life in lives_of(expected, node):
         waiting, taken = list(life), []
@@ -100,7 +103,7 @@ def by_lives(expected, node, sends):
             fits = [one for one in waiting if one.place == place and backend in backends_of(expected, one)]
             if not fits:
                 break
-            waiting.remove(fits[0])
+            waiting.remove(fits[-1])
             taken.append((place, backend))
         sends = sends[len(taken) :]
         found.append((life, taken))
