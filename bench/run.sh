@@ -1,0 +1,48 @@
+#!/usr/bin/env bash
+# run.sh: times `run` over 1,000,000 packets of 100,000 flows, with 1, 2 and 4 nodes of 1, 2 and 4 workers and rings of
+# 65,536 places, beside `simulate` on the same scenario. A driver that is faster than its workers finds the rings full, and
+# those packets are dropped: so the packets that were sent are told too. Of five runs the fastest counts.
+source "$(dirname "$(readlink -f "${BASH_SOURCE[0]}")")/common.sh"
+"$top/bin/maglev" --help >/dev/null # builds it
+maglev=$top/crates/maglev/out/maglev
+python3 "$top/bench/make_capture.py" "$work/input.pcap" 1000000 100000
+
+# scenario NODES WORKERS: prints a scenario in which every node gets its share of the capture.
+scenario() {
+    local addresses='"10.9.0.1"' installs='"install 0 1"' node
+    for ((node = 1; node < $1; node++)); do
+        addresses+=", \"10.9.0.$((node + 1))\""
+        installs+=", \"install $node 1\""
+    done
+    cat <<END
+format = 1
+size = 65537
+hash = "fnv"
+scheme = "maglev"
+spread = "hash"
+workers = $2
+capacity = 100000
+ring = 65536
+nodes = [$addresses]
+steps = [$installs, "take 1000000"]
+[[versions]]
+number = 1
+[[versions.services]]
+vip = "192.0.2.1"
+proto = "tcp"
+port = 80
+members = ["A@10.8.0.1", "B@10.8.0.2", "C@10.8.0.3"]
+END
+}
+
+for nodes in 1 2 4; do
+    for workers in 1 2 4; do
+        scenario "$nodes" "$workers" >"$work/scenario.toml"
+        words=("$work/scenario.toml" "$work/input.pcap" "$work/sent.pcap")
+        report=$("$maglev" run "${words[@]}") || { echo "run failed: $report" >&2; exit 1; }
+        sent=$(awk '$1 == "forwarded" { print $2 }' <<<"$report")
+        a=$(best "$maglev" run "${words[@]}") b=$(best "$maglev" simulate "${words[@]}")
+        awk -v n="$nodes" -v w="$workers" -v a="$a" -v b="$b" -v s="$sent" -v v="$(tail -n 1 <<<"$report")" \
+            'BEGIN { printf "%s nodes of %s workers: run %.3f s, simulate %.3f s, ratio %.2f, sent %d, %s\n", n, w, a, b, a / b, s, v }'
+    done
+done

@@ -1,0 +1,4 @@
+pub mod Telling
+pub mod Alike
+pub mod Offered
+pub mod Unmarked

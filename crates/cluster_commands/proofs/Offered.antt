@@ -1,0 +1,61 @@
+-- Each packet that is offered is of a record that was read.
+use Rattle.std.proofs.Common.{◌≡◌, ℕ, zero, suc, Bool, true, false, List, [], ◌∷◌, map, length, Option, sym, arith, subst}
+use Rattle.std.specs.Prelude.{◌==◌, cond, All}
+use Rattle.std.proofs.lemmas.List.{length-map, get_or-map}
+use Rattle.std.proofs.lemmas.List.Elements.{All-append, All-map}
+use Rattle.cluster_node.specs.declared.packets.Packet.{Packet}
+use Rattle.cluster_node.specs.declared.events.Event.{Event}
+use Rattle.cluster_node.specs.declared.events.Event.TheVariants.{Install, Arrive, Serve, Restart}
+use Rattle.cluster_node.specs.declared.events.Said.{Said}
+use Rattle.cluster_node.specs.Records.{node_of}
+use Rattle.node_records.specs.declared.command.Command.{Command}
+use Rattle.node_records.specs.Histories.{commands_of}
+use Rattle.spreader.specs.Choices.{Choice}
+use Rattle.scenario_steps.specs.declared.Step.{Step}
+use Rattle.course.specs.Sums.{IsOfRecord, AreOfRecords}
+use Rattle.course.specs.Steps.{world_of, below}
+use Rattle.course.proofs.Adding.{courses_add_up}
+use Rattle.course.specs.Course.{Course}
+use Rattle.cluster_commands.specs.Noting.{noting}
+use Rattle.cluster_commands.specs.Orders.{commands_on, events_of, orders_in, plan_of, orders_of, IsThere}
+use Rattle.cluster_commands.proofs.Alike.{told_to, told_more}
+
+none_there : (read : ℕ) → All (IsThere read) []
+none_there read k d h = absurd (omega (arith, h))
+
+one_there : (read : ℕ) (c : Command) → IsThere read c → All (IsThere read) (c ∷ [])
+one_there read c i zero d h = i
+one_there read c i (suc k) d h = absurd (omega (arith, h))
+
+event_there : (packets : List Packet) (read : ℕ) (e : Event) (p : Option Packet) → IsOfRecord packets read e p → All (IsThere read) (commands_of (e ∷ []))
+event_there packets read (Install n v) p h = one_there read _ tt
+event_there packets read (Arrive n k marks) p h = one_there read _ h.0
+event_there packets read (Serve n w v r) p h = none_there read
+event_there packets read (Restart n) p h = one_there read _ tt
+
+on_there : (packets : List Packet) (read n : ℕ) (e : Event) (p : Option Packet) → IsOfRecord packets read e p → All (IsThere read) (commands_on n (e ∷ []))
+on_there packets read n e p h = go (node_of e == n)
+  where
+    go : (b : Bool) → All (IsThere read) (commands_of (cond b (e ∷ []) []))
+    go true = event_there packets read e p h
+    go false = none_there read
+
+told_there : (packets : List Packet) (read n : ℕ) (past : List Said) → AreOfRecords packets read past → All (IsThere read) (told_to n past)
+told_there packets read n [] h = none_there read
+told_there packets read n (s ∷ past) h =
+    subst (λ (cs : List Command). All (IsThere read) cs) (sym (told_more n s past))
+    (All-append (IsThere read) (told_to n past) (commands_on n (s.event ∷ [])) (told_there packets read n past h.1) (on_there packets read n s.event s.packet h.0))
+
+orders_there : (packets : List Packet) (read nodes : ℕ) (c : Course) → AreOfRecords packets read c.past → All (All (IsThere read)) (orders_in nodes (events_of c))
+orders_there packets read nodes c h = All-map (All (IsThere read)) (λ n. commands_on n (events_of c)) (below nodes) (λ k d lt. told_there packets read _ c.past h)
+
+-- of all that are made from some, of these
+all_of : {V : Type 0} (items : V → List Command) (P : List Command → Type 0) (vs : List V) → All P (map items vs) → All (λ v. P (items v)) vs
+all_of items P vs h k d lt = subst P (get_or-map items vs k d (items d) lt) (h k (items d) (let e : length (map items vs) ≡ length vs = length-map vs items in omega arith))
+
+pub told_are_there : {V : Type 0} (items : V → List Command) (choice : Choice) (packets : List Packet) (ss : List Step) (nodes : ℕ) (vs : List V) → map items vs ≡ orders_of choice packets ss nodes
+    → All (λ v. All (IsThere (plan_of choice packets ss nodes).read) (items v)) vs
+told_are_there items choice packets ss nodes vs e =
+    let c : Course = plan_of choice packets ss nodes in
+    all_of items (All (IsThere c.read)) vs
+    (subst (λ (css : List (List Command)). All (All (IsThere c.read)) css) (sym e) (orders_there packets c.read nodes c (courses_add_up (world_of noting choice packets) ss nodes).1.records))

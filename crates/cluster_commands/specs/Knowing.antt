@@ -1,0 +1,20 @@
+-- The steps that a cluster on threads knows.
+use Rattle.std.specs.Prelude.{ℕ, Bool, true, false, not, List, Option, position}
+use Rattle.scenario_steps.specs.declared.Step.{Step}
+use Rattle.scenario_steps.specs.declared.Step.TheVariants as steps
+
+-- what a driver can be told: workers that refuse, or serve nothing for a while, it can't
+abbrev pub is_known : Step → Bool
+is_known (steps.Install n v) = true
+is_known (steps.Live ns) = true
+is_known (steps.Take k) = true
+is_known (steps.Lose k) = true
+is_known (steps.Again k) = true
+is_known (steps.Full n m) = false
+is_known (steps.Hold n) = false
+is_known (steps.Drain n) = false
+is_known (steps.Restart n) = true
+
+-- the place of the first that isn't known
+abbrev pub first_unknown_of : List Step → Option ℕ
+first_unknown_of ss = position (λ s. not (is_known s)) ss

@@ -1,0 +1,4 @@
+pub mod Knowing
+pub mod Noting
+pub mod Orders
+pub mod PrivateTelling

@@ -1,0 +1,63 @@
+-- What the steps of a scenario tell the drivers of a cluster's nodes.
+use Rattle.std.specs.Prelude.{◌≡◌, ◌<◌, ◌==◌, ℕ, Bool, true, false, not, List, None, map, reverse, filter}
+use Rattle.cluster_node.specs.declared.packets.Packet.{Packet}
+use Rattle.cluster_node.specs.declared.events.Event.{Event}
+use Rattle.cluster_node.specs.declared.events.Event.TheVariants.{Install, Arrive, Serve, Restart}
+use Rattle.cluster_node.specs.Records.{node_of}
+use Rattle.node_records.specs.declared.command.Command.{Command}
+use Rattle.node_records.specs.declared.command.Command.TheVariants.{Publish, Offer}
+use Rattle.node_records.specs.declared.command.Command.TheVariants as commands
+use Rattle.node_records.specs.Histories.{commands_of}
+use Rattle.scenario_steps.specs.declared.Step.{Step}
+use Rattle.spreader.specs.Choices.{Choice}
+use Rattle.course.specs.Cluster.{Cluster}
+use Rattle.course.specs.Course.{Course}
+use Rattle.course.specs.Steps.{none_marked, world_of, run, start, below}
+use Rattle.cluster_commands.specs.Knowing.{first_unknown_of}
+use Rattle.cluster_commands.specs.Noting.{noting}
+
+-- the events of a course, the first in front
+abbrev pub events_of : Course → List Event
+events_of c = map (λ s. s.event) (reverse c.past)
+
+-- what a node's driver is told of these events: those of the node, without the servings
+abbrev pub commands_on : ℕ → List Event → List Command
+commands_on n es = commands_of (filter (λ e. node_of e == n) es)
+
+-- what the drivers of so many nodes are told, in order
+abbrev pub orders_in : ℕ → List Event → List (List Command)
+orders_in nodes es = map (λ n. commands_on n es) (below nodes)
+
+-- the course of steps, from the start of so many nodes
+abbrev pub course_on : Cluster → Choice → List Packet → List Step → ℕ → Course
+course_on cluster choice packets steps nodes = run (world_of cluster choice packets) steps (start nodes)
+
+-- the course that the commands are read off
+abbrev pub plan_of : Choice → List Packet → List Step → ℕ → Course
+plan_of choice packets steps nodes = course_on noting choice packets steps nodes
+
+abbrev pub orders_of : Choice → List Packet → List Step → ℕ → List (List Command)
+orders_of choice packets steps nodes = orders_in nodes (events_of (plan_of choice packets steps nodes))
+
+-- a packet that is offered is one of so many
+abbrev pub IsThere : ℕ → Command → Type 0
+IsThere count (Publish v) = Unit {0}
+IsThere count (Offer k) = k < count
+IsThere count commands.Restart = Unit {0}
+
+abbrev pub is_serve : Event → Bool
+is_serve (Install n v) = false
+is_serve (Arrive n k marks) = false
+is_serve (Serve n w v r) = true
+is_serve (Restart n) = false
+
+-- the event of a command, where no worker refuses
+abbrev pub event_of : ℕ → Command → Event
+event_of n (Publish v) = Install n v
+event_of n (Offer k) = Arrive n k none_marked
+event_of n commands.Restart = Restart n
+
+-- Where all steps are known, the commands tell all: what a course has of a node is what the node's commands say, and servings.
+abbrev pub KnownStepsAreTold : Type 0
+KnownStepsAreTold = (cluster : Cluster) (choice : Choice) (packets : List Packet) (steps : List Step) (nodes n : ℕ) → first_unknown_of steps ≡ None
+    → filter (λ e. not (is_serve e)) (filter (λ e. node_of e == n) (events_of (course_on cluster choice packets steps nodes))) ≡ map (event_of n) (commands_on n (events_of (course_on cluster choice packets steps nodes)))
