@@ -1,23 +1,25 @@
 //! A cluster on threads: each node's run, with its driver in a thread of its own.
-ghost use Rattle.std.specs.Prelude.{◌≡◌, ◌≤◌, ◌<◌, ◌++◌, ◌∷◌, [], ℕ, List, length, map, None, Ok, IfOk, All};
+ghost use Rattle.std.specs.Prelude.{◌≡◌, ◌≤◌, ◌<◌, ◌++◌, ◌∷◌, [], ℕ, List, ◌↔◌, length, map, None, Some, Ok, IfOk, IsTrue, All, slice_get, slice_index_or};
 ghost use Rattle.cluster_core.specs.Setups.{Fixed, rules_for};
 ghost use Rattle.cluster_core.specs.Headline.{Agreement, Keeping};
 ghost use Rattle.cluster_core.specs.Histories.{IsSteady};
+ghost use Rattle.cluster_core.specs.Runs.{verdicts};
 ghost use Rattle.cluster_node.specs.declared.packets.Packet.{Packet};
+ghost use Rattle.cluster_node.specs.Records.{WasRead};
 ghost use Rattle.node_records.specs.declared.command.Command.{Command};
 ghost use Rattle.node_records.specs.declared.nodes.NodeRecord.{NodeRecord};
 ghost use Rattle.node_records.specs.Runs.{IsRunOf, AreRuns, JoinsRuns};
 ghost use Rattle.cluster_threads.specs.PrivateClusters.{AreNumbered, rank_of, first_fault};
 
 use cluster_core::Setup;
-use cluster_node::Packet;
+use cluster_node::{Event, Outcome, Packet};
 use connection_table::ConnTable;
 use hash_laws::FlowHash;
 use node_records::{Command, History, NodeRecord, join_runs};
 use node_threads::{Gate, RunFault, run_node};
 use pool_versions::Catalogue;
 use selection::Scheme;
-use std::alloc::Global;
+use std::alloc::{AllocError, Global};
 use std::sync::Wait;
 use std::thread;
 use std::thread::{Promise, PromisedHandle, Scope, Threads};
@@ -29,6 +31,49 @@ pub struct ClusterRun {
     pub nodes: Vec<NodeRecord>,
     /// One history of all nodes, node by node.
     pub history: History,
+}
+
+impl ClusterRun {
+    /// The events of all nodes, those of node 0 in front.
+    pub fn history(&self) -> &[Event]
+        ensures { result.now ≡ self.now.history.events.items }
+    {
+        self.history.events.as_slice()
+    }
+
+    /// What each event came to.
+    pub fn outcomes(&self) -> &[Outcome]
+        ensures { result.now ≡ self.now.history.outcomes.items }
+    {
+        self.history.outcomes.as_slice()
+    }
+
+    /// What a node that is there sent: for each of its lives the packets in the order in which they were gathered.
+    pub fn sent(&self, node: u16) -> &[Vec<Outcome>]
+        requires { node < length self.now.nodes.items }
+        ensures { (d : NodeRecord) → result.now ≡ (slice_index_or self.now.nodes.items node d).sent.items }
+    {
+        self.nodes[node as usize].sent.as_slice()
+    }
+
+    /// Whether the outcomes are what the events come to in this cluster, one after another: the events are replayed on
+    /// tables of their own. The packets were read, and the catalogue is one for the cluster's table size. So it is true
+    /// of what the run itself was given.
+    pub fn audit<S: Scheme, H: FlowHash, T: ConnTable>(
+        &self,
+        alloc: Global,
+        setup: &Setup<S, H>,
+        catalogue: &Catalogue,
+        packets: &[Packet],
+    ) -> Result<bool, AllocError>
+        requires size { catalogue.now.size ≡ setup.now.size }
+        requires read { (k : ℕ) (p : Packet) → slice_get packets.now k ≡ Some p → WasRead (Some p) }
+        ensures { let rules = rules_for (λ s z. S.pick s z) (λ h. H.plain h) setup.now catalogue.now in
+            IfOk result (λ b. IsTrue b ↔ (self.now.history.outcomes.items ≡ verdicts rules [] packets.now self.now.history.events.items)) }
+    {
+        self.history
+            .audit::<S, H, T>(alloc, setup, catalogue, packets)
+    }
 }
 
 /// What a driver's thread promises: that its record is one of its node's commands.

@@ -23,7 +23,7 @@ use Rattle.simulation.specs.Simulated.{InputIs, sendings, Begun, Simulated, Stop
 use Rattle.simulation.proofs.Sends.{unfailed_same, unfailed_both, first_all}
 use Rattle.simulation.proofs.Reaching.{passed_none}
 
-input_is : (left mid : Option (List ℕ)) (head : Head) (rs : List Record) (e : InputEnd) → HeadRead left mid (Ok head) → IsTold head mid rs e → InputIs left head rs e
+pub input_is : (left mid : Option (List ℕ)) (head : Head) (rs : List Record) (e : InputEnd) → HeadRead left mid (Ok head) → IsTold head mid rs e → InputIs left head rs e
 input_is None mid head rs e h t = tt
 input_is (Some text) None head rs e h t = absurd (no_rest h.1)
   where

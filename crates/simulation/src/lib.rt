@@ -13,4 +13,4 @@ mod staging;
 pub use fault::SimulationFault;
 pub use plan::Plan;
 pub use playing::{Played, play_capture};
-pub use sending::Wire;
+pub use sending::{Wire, send_record};

@@ -1,0 +1,4 @@
+pub mod Walks
+pub mod Ruled
+pub mod Told
+pub mod Halts

@@ -1,0 +1,54 @@
+//! The report of a run.
+ghost use Rattle.std.specs.Prelude.{◌≡◌, ◌≤◌, IfOk, string_bytes};
+ghost use Rattle.cluster_core.specs.Totals.{came_all, went_all};
+ghost use Rattle.scenario_play.specs.Answers.{totals_in, is_cut};
+ghost use Rattle.cluster_play.specs.Runs.{audit_line, run_report};
+
+use cluster_core::{Totals, totals};
+use cluster_node::Outcome;
+use course::Tally;
+use listing::report_text;
+use pcap_file::InputEnd;
+use std::alloc::{AllocError, Global};
+
+fn totals_of(outcomes: &[Outcome]) -> Totals
+    requires { went_all outcomes.now ≤ came_all outcomes.now }
+    ensures { result ≡ totals_in outcomes.now }
+{
+    totals(outcomes)
+}
+
+fn is_cut(ending: InputEnd) -> bool
+    ensures { result ≡ is_cut ending }
+{
+    match ending {
+        InputEnd::End => false,
+        InputEnd::Cut => true,
+    }
+}
+
+fn audit_line(agrees: bool) -> &'static str
+    ensures { result.now ≡ audit_line agrees }
+{
+    if agrees {
+        "audit agrees\n"
+    } else {
+        "audit differs\n"
+    }
+}
+
+/// The report: the counts, and whether the history is what it came to.
+pub(crate) fn run_report(
+    alloc: Global,
+    tally: Tally,
+    outcomes: &[Outcome],
+    ending: InputEnd,
+    agrees: bool,
+) -> Result<String, AllocError>
+    requires { went_all outcomes.now ≤ came_all outcomes.now }
+    ensures { IfOk result (λ s. string_bytes s ≡ run_report tally (totals_in outcomes.now) (is_cut ending) agrees) }
+{
+    let mut text = report_text(alloc, tally, &totals_of(outcomes), is_cut(ending))?;
+    text.push_str(audit_line(agrees))?;
+    Ok(text)
+}

@@ -1,0 +1,100 @@
+//! Whether a record is what a replay of its events comes to.
+ghost use Rattle.std.specs.Prelude.{◌≡◌, ◌↔◌, [], ℕ, Some, IfOk, IsTrue, slice_get};
+ghost use Rattle.cluster_node.specs.declared.packets.Packet.{Packet};
+ghost use Rattle.cluster_node.specs.Records.{WasRead};
+ghost use Rattle.cluster_core.specs.Setups.{Fixed, rules_for};
+ghost use Rattle.cluster_core.specs.Runs.{verdicts};
+
+use crate::merging::is_same;
+use crate::nodes::{History, NodeRecord};
+use cluster_core::{Setup, replay};
+use cluster_node::{Event, Outcome, Packet};
+use connection_table::ConnTable;
+use hash_laws::FlowHash;
+use pool_versions::Catalogue;
+use selection::Scheme;
+use std::alloc::{AllocError, Global};
+
+// Whether the outcomes are those that were told.
+fn are_told(told: &[Outcome], outcomes: &[Outcome]) -> bool
+    ensures { IsTrue result ↔ (outcomes.now ≡ told.now) }
+{
+    if told.len() != outcomes.len() {
+        return false;
+    }
+    for at in 0..told.len() {
+        if !is_same(&outcomes[at], &told[at]) {
+            return false;
+        }
+    }
+    true
+}
+
+// Whether a replay of the events comes to these outcomes.
+fn agrees<S: Scheme, H: FlowHash, T: ConnTable>(
+    alloc: Global,
+    setup: &Setup<S, H>,
+    catalogue: &Catalogue,
+    packets: &[Packet],
+    events: &[Event],
+    outcomes: &[Outcome],
+) -> Result<bool, AllocError>
+    requires size { catalogue.now.size ≡ setup.now.size }
+    requires read { (k : ℕ) (p : Packet) → slice_get packets.now k ≡ Some p → WasRead (Some p) }
+    ensures { let rules = rules_for (λ s z. S.pick s z) (λ h. H.plain h) setup.now catalogue.now in
+        IfOk result (λ b. IsTrue b ↔ (outcomes.now ≡ verdicts rules [] packets.now events.now)) }
+{
+    let told = replay::<S, H, T>(alloc, setup, catalogue, packets, events)?;
+    Ok(are_told(told.as_slice(), outcomes))
+}
+
+impl NodeRecord {
+    /// Whether the outcomes are what the events come to in this cluster, one after another: the events are replayed on
+    /// tables of their own. The packets were read, and the catalogue is one for the cluster's table size.
+    pub fn audit<S: Scheme, H: FlowHash, T: ConnTable>(
+        &self,
+        alloc: Global,
+        setup: &Setup<S, H>,
+        catalogue: &Catalogue,
+        packets: &[Packet],
+    ) -> Result<bool, AllocError>
+        requires size { catalogue.now.size ≡ setup.now.size }
+        requires read { (k : ℕ) (p : Packet) → slice_get packets.now k ≡ Some p → WasRead (Some p) }
+        ensures { let rules = rules_for (λ s z. S.pick s z) (λ h. H.plain h) setup.now catalogue.now in
+            IfOk result (λ b. IsTrue b ↔ (self.now.outcomes.items ≡ verdicts rules [] packets.now self.now.events.items)) }
+    {
+        agrees::<S, H, T>(
+            alloc,
+            setup,
+            catalogue,
+            packets,
+            self.events.as_slice(),
+            self.outcomes.as_slice(),
+        )
+    }
+}
+
+impl History {
+    /// The same of all nodes: whether the outcomes are what the events come to in this cluster.
+    pub fn audit<S: Scheme, H: FlowHash, T: ConnTable>(
+        &self,
+        alloc: Global,
+        setup: &Setup<S, H>,
+        catalogue: &Catalogue,
+        packets: &[Packet],
+    ) -> Result<bool, AllocError>
+        requires size { catalogue.now.size ≡ setup.now.size }
+        requires read { (k : ℕ) (p : Packet) → slice_get packets.now k ≡ Some p → WasRead (Some p) }
+        ensures { let rules = rules_for (λ s z. S.pick s z) (λ h. H.plain h) setup.now catalogue.now in
+            IfOk result (λ b. IsTrue b ↔ (self.now.outcomes.items ≡ verdicts rules [] packets.now self.now.events.items)) }
+    {
+        agrees::<S, H, T>(
+            alloc,
+            setup,
+            catalogue,
+            packets,
+            self.events.as_slice(),
+            self.outcomes.as_slice(),
+        )
+    }
+}
