@@ -108,6 +108,11 @@ fn input<'a>(alloc: Global) -> Arg<'a> {
     file(alloc, "input", "INPUT", help)
 }
 
+fn output<'a>(alloc: Global) -> Arg<'a> {
+    let help = "capture that is written: what the cluster sends, in GRE";
+    file(alloc, "output", "OUTPUT", help)
+}
+
 fn event<'a>(alloc: Global, id: &'a str, name: &'a str) -> Arg<'a> {
     Arg::new(alloc, id)
         .value_name(name)
@@ -122,12 +127,6 @@ fn simulate<'a>(alloc: Global) -> Result<Command<'a>, Error> {
         .long("list")
         .help("print each event and what it came to before the report")
         .action(ArgAction::SetTrue);
-    let output = file(
-        alloc,
-        "output",
-        "OUTPUT",
-        "capture that is written: what the cluster sends, in GRE",
-    );
     let simulate = Command::new(alloc, "simulate")
         .about(
             "Plays a scenario over a capture, writes what the cluster sends, and prints a report",
@@ -138,7 +137,7 @@ fn simulate<'a>(alloc: Global) -> Result<Command<'a>, Error> {
         .arg(list)?
         .arg(scenario(alloc))?
         .arg(input(alloc))?
-        .arg(output)?;
+        .arg(output(alloc))?;
     Ok(simulate)
 }
 
@@ -155,6 +154,18 @@ fn explain<'a>(alloc: Global) -> Result<Command<'a>, Error> {
     Ok(explain)
 }
 
+fn run<'a>(alloc: Global) -> Result<Command<'a>, Error> {
+    let run = Command::new(alloc, "run")
+        .about(
+            "Runs a scenario's cluster on threads over a capture, writes what the nodes send, node by node, and prints a report with an audit",
+        )
+        .after_help("Example: maglev run examples/failover.toml examples/failover.pcap sent.pcap")
+        .arg(scenario(alloc))?
+        .arg(input(alloc))?
+        .arg(output(alloc))?;
+    Ok(run)
+}
+
 /// The command line of the program.
 pub fn command<'a>(alloc: Global) -> Result<Command<'a>, Error> {
     let whole = Command::new(alloc, "maglev")
@@ -164,6 +175,7 @@ pub fn command<'a>(alloc: Global) -> Result<Command<'a>, Error> {
         .subcommand(pick(alloc)?)?
         .subcommand(compare(alloc)?)?
         .subcommand(simulate(alloc)?)?
-        .subcommand(explain(alloc)?)?;
+        .subcommand(explain(alloc)?)?
+        .subcommand(run(alloc)?)?;
     Ok(whole)
 }

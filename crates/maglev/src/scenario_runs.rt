@@ -1,10 +1,12 @@
 //! The commands that play a scenario, over files.
 use crate::files::{InputFile, Kept, OutputFile};
-use maglev_cli::{CliFault, explain_run, simulate};
+use maglev_cli::{CliFault, explain_run, run, simulate};
 use pcap_file::{FromRead, PcapFault, ToWrite};
 use std::fs::File;
 use std::io;
 use std::io::{ErrorKind, Read, Write};
+use std::sync::Wait;
+use std::thread::Threads;
 
 /// The most bytes of a scenario that are read: one more than it may have.
 const MOST: u64 = 1_048_577;
@@ -53,6 +55,26 @@ fn printed(rt: &HostRuntime, text: &[u8]) -> Result<(), CliFault> {
     }
 }
 
+// The end of a command that wrote an output: it is written out, and then the report is printed, or the fault is told.
+fn ended(
+    rt: &HostRuntime,
+    outcome: Result<(), CliFault>,
+    input: FromRead<InputFile<'_>>,
+    output: ToWrite<OutputFile<'_>>,
+    report: ToWrite<Kept>,
+) -> Result<(), CliFault> {
+    let mut output = output.into_inner();
+    let report = report.into_inner();
+    flushed(&mut output)?;
+    match outcome {
+        Ok(()) => printed(rt, report.text()),
+        Err(fault) => {
+            let fault = of_input(fault, &input.into_inner());
+            Err(of_output(fault, &output, &report))
+        }
+    }
+}
+
 /// The command `simulate` over files. The report is printed once the output is written out.
 pub fn simulate_files(
     rt: &HostRuntime,
@@ -74,16 +96,30 @@ pub fn simulate_files(
         &mut report,
         list,
     );
-    let mut output = output.into_inner();
-    let report = report.into_inner();
-    flushed(&mut output)?;
-    match outcome {
-        Ok(()) => printed(rt, report.text()),
-        Err(fault) => {
-            let fault = of_input(fault, &input.into_inner());
-            Err(of_output(fault, &output, &report))
-        }
-    }
+    ended(rt, outcome, input, output, report)
+}
+
+/// The command `run` over files. The report is printed once the output is written out.
+pub fn run_files<T: Threads + Wait + Sync>(
+    rt: &HostRuntime,
+    threads: &T,
+    scenario: &str,
+    input: &str,
+    output: &str,
+) -> Result<(), CliFault> {
+    let text = scenario_text(rt, scenario)?;
+    let mut input = FromRead::new(InputFile::new(rt, input));
+    let mut output = ToWrite::new(OutputFile::new(rt, output));
+    let mut report = ToWrite::new(Kept::new(rt.alloc()));
+    let outcome = run(
+        threads,
+        rt.alloc(),
+        text.as_slice(),
+        &mut input,
+        &mut output,
+        &mut report,
+    );
+    ended(rt, outcome, input, output, report)
 }
 
 /// The command `explain` over files.
