@@ -421,6 +421,140 @@ def test_simulate_faults():
     misused("simulate without an output", ["simulate", "s.toml", "in.pcap"])
 
 
+def ran(text, data):
+    """Status, standard output, standard error and OUTPUT (None where there is none) of `run`."""
+
+    def use(folder):
+        answer = run(["run", "s.toml", "in.pcap", "out.pcap"], cwd=folder)
+        out = folder / "out.pcap"
+        return (*answer, out.read_bytes() if out.exists() else None)
+
+    return with_files(text, data, use)
+
+
+def runs(name, text, data, expected, output=None):
+    """`run` prints this report and `audit agrees`, and where OUTPUT is given writes exactly that."""
+    status, out, err, made = ran(text, data)
+    check(name, (status, out, err) == (0, (expected + "audit agrees\n").encode(), b""), f"{status} {out!r} {err!r}")
+    if output is not None:
+        check(name + ", what is written", made == output, repr(made))
+    return made
+
+
+def breaks_off(name, text, data, fault, output=None):
+    """`run` ends with this fault and nothing on standard output, and OUTPUT holds this (None: it wasn't made)."""
+    status, out, err, made = ran(text, data)
+    is_right = (status, out, err, made) == (1, b"", f"fault: {fault}\n".encode(), output)
+    check(name, is_right, f"{status} {out!r} {err!r} {made!r}")
+
+
+def records_of(data):
+    """The records of a capture that the program wrote, each with its 16 bytes in front."""
+    found, at = [], len(WRITTEN_HEAD)
+    while at < len(data):
+        length = 16 + struct.unpack_from("<I", data, at + 8)[0]
+        found.append(data[at : at + length])
+        at += length
+    return found
+
+
+def sent_to(node, port, backend):
+    """The record of the packet from this port that a node sends to a backend, but for the outer checksum."""
+    packet = P[:20] + port.to_bytes(2, "big") + P[22:]
+    outer = bytes.fromhex("4500004000004000402f") + bytes(2) + bytes([10, 9, 0, node, 10, 8, 0, backend])
+    return SENT_RECORD[:16] + outer + bytes.fromhex("00000800") + packet
+
+
+def without_sum(one):
+    """A record without the outer checksum."""
+    return one[:26] + bytes(2) + one[28:]
+
+
+def test_run_rows():
+    """A cluster on threads. What may differ by the schedule is left open."""
+    held = scenario(["install 0 1", "hold 0"], workers=2)
+    breaks_off("a step that no cluster on threads knows", held, HEAD, "BadStep 1")
+    simulates("the same step, simulated", held, HEAD, report(0, 0), WRITTEN_HEAD)
+    for step in ["drain 1", "full 0 1", "full 0"]:
+        breaks_off(f"the step {step}", scenario(["take 1", "install 0 1", step], workers=2), HEAD, "BadStep 2")
+    steps = ["install 0 1", "install 1 1", "take 3", "lose 1", "again 0", "install 0 2", "install 1 2", "take 2", "restart 0", "take 2"]
+    text = scenario(steps, workers=2, more="ring = 16\n").replace("capacity = 2", "capacity = 8")
+    for _ in range(20):
+        made = runs("two nodes with a restart", text, capture("yzyzyzyz"), report(8, 8, lost=1))
+        sent = [without_sum(one) for one in records_of(made)]
+        check("node 0 sends y four times, in two lives", sent[:4] == [sent_to(1, 1000, 1)] * 4, repr(sent))
+        later = sorted(sent[4:])
+        b_first, a_first = (sorted([sent_to(2, 1000, 1), sent_to(2, 1001, one), *[sent_to(2, 1001, 1)] * 2]) for one in (2, 1))
+        check("node 1 sends y once and z three times", later in (b_first, a_first), repr(sent))
+    one = scenario(["install 0 1", "take 1"])
+    output = WRITTEN_HEAD + SENT_RECORD
+    runs("one record", one, HEAD + record(P), report(1, 1), output)
+    runs("records behind the last step", one, capture("yzx"), report(3, 1, received=1, left=2), output)
+    runs("no record", one, HEAD, report(0, 0), WRITTEN_HEAD)
+    runs("a cut record", one, (HEAD + record(P))[:-1], report(0, 0, cut="yes"), WRITTEN_HEAD)
+    odd = scenario(["install 0 1", "again 0", "live", "take 1", "install 0 7"])
+    runs("counts", odd, capture("yy"), report(2, 0, received=0, unrouted=1, skipped=1, left=1, refused=1), WRITTEN_HEAD)
+    runs("round robin", scenario(["live 0", "install 0 1", "take 3"], scheme="round"), capture("yzx"), report(3, 3))
+    runs("plain hashing", scenario(["live 0", "install 0 1", "take 3"], scheme="plain"), capture("yzx"), report(3, 3))
+    drops = scenario(["live 0", "take 1", "install 0 1", "take 1"])
+    fragment = P[:6] + b"\x20" + P[7:10] + b"\x8e" + P[11:]
+    both = report(2, 0, drops="drop Fragment 1\ndrop NoVersion 1\n")
+    runs("drops of a driver", drops, capture("y") + record(fragment), both, WRITTEN_HEAD)
+
+
+def test_run_as_simulated():
+    """With one worker a node, one version, no restart and room in the rings each node sends what it sends simulated."""
+    for seed in range(20):
+        source = random.Random(seed)
+        nodes = source.randrange(1, 4)
+        steps = [f"install {node} 1" for node in range(nodes)]
+        for _ in range(source.randrange(12)):
+            live = " ".join(str(node) for node in source.sample(range(nodes), source.randrange(nodes + 1)))
+            more = [f"take {source.randrange(9)}", f"lose {source.randrange(3)}", f"again {source.randrange(20)}", f"live {live}".strip()]
+            steps.append(source.choice(more))
+        text = scenario(steps, scheme=source.choice(["maglev", "plain", "round"]))
+        text = text.replace('["10.9.0.1", "10.9.0.2"]', listed([f"10.9.0.{node + 1}" for node in range(nodes)]))
+        text = text.replace('"turn"', source.choice(['"turn"', '"hash"']))
+        data = random_capture(source)
+        status, printed, _, simulation = simulated(text, data)
+        check(f"scenario {seed}, simulated", status == 0, text)
+        by_node = sorted(records_of(simulation), key=lambda one: one[28:32])
+        runs(f"scenario {seed} on threads", text, data, printed.decode(), WRITTEN_HEAD + b"".join(by_node))
+
+
+def test_run_faults():
+    good = scenario(["install 0 1", "take 1"])
+    breaks_off("run: no TOML", "format = ", HEAD, "BadToml")
+    breaks_off("run: an unknown key before a step", "color = 1\n" + scenario(["hold 0"]), HEAD, "BadKey")
+    breaks_off("run: a step that isn't one before one that isn't known", scenario(["hold 0", "take"]), HEAD, "BadStep 1")
+    breaks_off("run: no scenario", None, HEAD, "OpenScenario")
+    breaks_off("run: no input", good, None, "OpenInput")
+    breaks_off("run: a step that isn't known and no input", scenario(["hold 0"]), None, "BadStep 0")
+    breaks_off("run: an empty file", good, b"", "ShortHeader")
+    breaks_off("run: pcapng", good, bytes.fromhex("0a0d0d0a") + bytes(40), "BadMagic")
+    long = struct.pack(">4I", 0, 0, 262145, 262145)
+    breaks_off("run: a record that is too long", good, HEAD + record(P) + long, "TooLong")
+
+    def use(folder):
+        words = ["run", "s.toml", "in.pcap"]
+        faults("run: a folder as a scenario", ["run", ".", "in.pcap", "out"], "ReadScenario", cwd=folder)
+        faults("run: a folder as an input", ["run", "s.toml", ".", "out"], "Read", cwd=folder)
+        check("run: OUTPUT isn't made", not (folder / "out").exists())
+        faults("run: a folder as an output", [*words, "."], "OpenOutput", cwd=folder)
+        faults("run: an output that can't be written", [*words, "/dev/full"], "Write", cwd=folder)
+        (folder / "old").write_bytes(b"old")
+        faults("run: a bad header", ["run", "s.toml", "s.toml", "old"], "BadMagic", cwd=folder)
+        check("run: OUTPUT isn't emptied", (folder / "old").read_bytes() == b"old")
+        with open("/dev/full", "wb") as full:
+            status, _, err = run([*words, "out"], cwd=folder, stdout=full)
+        check("run: a report that can't be written", (status, err) == (1, b"fault: Write\n"), f"{status} {err!r}")
+        check("run: OUTPUT stands before the report", (folder / "out").read_bytes() == WRITTEN_HEAD + SENT_RECORD)
+
+    with_files(good, capture("y"), use)
+    misused("run without an output", ["run", "s.toml", "in.pcap"])
+    misused("run with a list", ["run", "--list", "s.toml", "in.pcap", "out.pcap"])
+
+
 def random_capture(source):
     """A capture of datagrams of a few flows, some of which are spoiled."""
     packets = []
@@ -560,7 +694,7 @@ def test_command_line():
     misused("a negative size", ["table", "--size", "-7", "--hash", "sum", "A"])
     folder = TOP / "tests" / "texts"
     prints("the help", ["--help"], (folder / "maglev.txt").read_text())
-    for name in ["table", "pick", "compare", "simulate", "explain"]:
+    for name in ["table", "pick", "compare", "simulate", "explain", "run"]:
         prints(f"the help of {name}", [name, "--help"], (folder / f"{name}.txt").read_text())
     for name, words in [
         ("unknown_command", ["tables"]),

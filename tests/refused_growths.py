@@ -46,7 +46,9 @@ SENT = bytes.fromhex(
 )
 EVENTS = "0 install 0 1: installed\n1 arrive 0 0: placed 0\n2 serve 0 0 1: forward A@10.8.0.1 from 1\n"
 REPORT = "packets 1\nlost 0\nunrouted 0\nskipped 0\nleft 0\ncut no\nreceived 1\nforwarded 1\nwaiting 0\nrefused 0\n"
+AUDITED = REPORT + "audit agrees\n"
 FILES = {"s.toml": SCENARIO, "in.pcap": CAPTURE}
+LOST = (1, b"", b"fault: ThreadLost\n")
 
 
 @dataclasses.dataclass
@@ -59,6 +61,8 @@ class Case:
     # Files that lie where it runs, and those that it must have written where it printed its text.
     files: dict = dataclasses.field(default_factory=dict)
     written: dict = dataclasses.field(default_factory=dict)
+    # What else it may say: a growth that the system refuses while it starts a thread loses the thread.
+    faults: list = dataclasses.field(default_factory=list)
 
 
 CASES = [
@@ -68,6 +72,7 @@ CASES = [
     Case(["simulate", "s.toml", "in.pcap", "out.pcap"], REPORT, files=FILES, written={"out.pcap": SENT}),
     Case(["simulate", "--list", "s.toml", "in.pcap", "out.pcap"], EVENTS + REPORT, files=FILES, written={"out.pcap": SENT}),
     Case(["explain", "s.toml", "in.pcap", "2", "2"], "same\n", files=FILES),
+    Case(["run", "s.toml", "in.pcap", "out.pcap"], AUDITED, files=FILES, written={"out.pcap": SENT}, faults=[LOST]),
 ]
 
 
@@ -106,7 +111,7 @@ def run_refused(library, case, refused):
         is_ample = answer == (0, case.text.encode(), b"")
         if is_ample:
             is_ample = all((pathlib.Path(folder) / name).read_bytes() == content for name, content in case.written.items())
-        return is_ample, answer in FAULTS, was_refused, answer
+        return is_ample, answer in FAULTS + case.faults, was_refused, answer
 
 
 def refuse_each(library, case, behind):

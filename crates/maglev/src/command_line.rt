@@ -34,6 +34,16 @@ Faults, and what to do:
   Write                        make room, or open standard output
   Memory                       allow more memory, or take fewer slots, versions and entries";
 
+/// What stands below the help of `run`.
+const RUN_HELP: &str = "Example: maglev run examples/failover.toml examples/failover.pcap sent.pcap
+
+SCENARIO, INPUT and OUTPUT may be -, as for simulate. Steps are those of simulate but for full, hold and drain, which are BadStep.
+
+Faults are those of simulate, and:
+  ThreadLost           allow more threads, or take fewer nodes and workers
+  Foreign, RingLost, BookLost
+                       tell the authors: what the threads did isn't what was promised";
+
 /// What stands below the help of `explain`.
 const EXPLAIN_HELP: &str =
     "Example: maglev explain examples/failover.toml examples/failover.pcap 13 15
@@ -150,6 +160,11 @@ fn input<'a>(alloc: Global) -> Arg<'a> {
     file(alloc, "input", "INPUT", help)
 }
 
+fn output<'a>(alloc: Global) -> Arg<'a> {
+    let help = "capture that is written: what the cluster sends, in GRE";
+    file(alloc, "output", "OUTPUT", help)
+}
+
 fn event<'a>(alloc: Global, id: &'a str, name: &'a str) -> Arg<'a> {
     Arg::new(alloc, id)
         .value_name(name)
@@ -164,12 +179,6 @@ fn simulate<'a>(alloc: Global) -> Result<Command<'a>, Error> {
         .long("list")
         .help("print each event and what it came to before the report")
         .action(ArgAction::SetTrue);
-    let output = file(
-        alloc,
-        "output",
-        "OUTPUT",
-        "capture that is written: what the cluster sends, in GRE",
-    );
     let simulate = Command::new(alloc, "simulate")
         .about(
             "Plays a scenario over a capture, writes what the cluster sends, and prints a report",
@@ -178,7 +187,7 @@ fn simulate<'a>(alloc: Global) -> Result<Command<'a>, Error> {
         .arg(list)?
         .arg(scenario(alloc))?
         .arg(input(alloc))?
-        .arg(output)?;
+        .arg(output(alloc))?;
     Ok(simulate)
 }
 
@@ -195,6 +204,18 @@ fn explain<'a>(alloc: Global) -> Result<Command<'a>, Error> {
     Ok(explain)
 }
 
+fn run<'a>(alloc: Global) -> Result<Command<'a>, Error> {
+    let run = Command::new(alloc, "run")
+        .about(
+            "Runs a scenario's cluster on threads over a capture, writes what the nodes send, node by node, and prints a report with an audit",
+        )
+        .after_help(RUN_HELP)
+        .arg(scenario(alloc))?
+        .arg(input(alloc))?
+        .arg(output(alloc))?;
+    Ok(run)
+}
+
 /// The command line of the program.
 pub fn command<'a>(alloc: Global) -> Result<Command<'a>, Error> {
     let whole = Command::new(alloc, "maglev")
@@ -205,6 +226,7 @@ pub fn command<'a>(alloc: Global) -> Result<Command<'a>, Error> {
         .subcommand(pick(alloc)?)?
         .subcommand(compare(alloc)?)?
         .subcommand(simulate(alloc)?)?
-        .subcommand(explain(alloc)?)?;
+        .subcommand(explain(alloc)?)?
+        .subcommand(run(alloc)?)?;
     Ok(whole)
 }

@@ -1,10 +1,12 @@
 //! The commands that play a scenario, over files.
 use crate::files::{InputFile, Kept, OutputFile, is_standard, is_standard_output};
-use maglev_cli::{CliFault, explain_run, simulate};
+use maglev_cli::{CliFault, explain_run, run, simulate};
 use pcap_file::{FromRead, PcapFault, ToWrite};
 use std::fs::File;
 use std::io;
 use std::io::{ErrorKind, Read, Write};
+use std::sync::Wait;
+use std::thread::Threads;
 
 /// The most bytes of a scenario that are read: one more than it may have.
 const MOST: u64 = 1_048_577;
@@ -66,6 +68,27 @@ fn printed(rt: &HostRuntime, text: &[u8], to_error: bool) -> Result<(), CliFault
     }
 }
 
+// The end of a command that wrote an output: it is written out, and then the report is printed, or the fault is told.
+fn ended(
+    rt: &HostRuntime,
+    outcome: Result<(), CliFault>,
+    input: FromRead<InputFile<'_>>,
+    output: ToWrite<OutputFile<'_>>,
+    report: ToWrite<Kept>,
+    to_error: bool,
+) -> Result<(), CliFault> {
+    let mut output = output.into_inner();
+    let report = report.into_inner();
+    flushed(&mut output)?;
+    match outcome {
+        Ok(()) => printed(rt, report.text(), to_error),
+        Err(fault) => {
+            let fault = of_input(fault, &input.into_inner());
+            Err(of_output(fault, &output, &report))
+        }
+    }
+}
+
 /// The command `simulate` over files. The report is printed once the output is written out.
 pub fn simulate_files<'x>(
     rt: &'x HostRuntime,
@@ -79,25 +102,39 @@ pub fn simulate_files<'x>(
     let mut output = ToWrite::new(OutputFile::new(rt, output, [scenario, input]));
     let mut input = FromRead::new(InputFile::new(rt, input));
     let mut report = ToWrite::new(Kept::new(rt.alloc()));
-    let scenario = text.as_slice();
     let outcome = simulate(
         rt.alloc(),
-        scenario,
+        text.as_slice(),
         &mut input,
         &mut output,
         &mut report,
         list,
     );
-    let mut output = output.into_inner();
-    let report = report.into_inner();
-    flushed(&mut output)?;
-    match outcome {
-        Ok(()) => printed(rt, report.text(), to_error),
-        Err(fault) => {
-            let fault = of_input(fault, &input.into_inner());
-            Err(of_output(fault, &output, &report))
-        }
-    }
+    ended(rt, outcome, input, output, report, to_error)
+}
+
+/// The command `run` over files. The report is printed once the output is written out.
+pub fn run_files<'x, T: Threads + Wait + Sync>(
+    rt: &'x HostRuntime,
+    threads: &T,
+    scenario: &'x str,
+    input: &'x str,
+    output: &'x str,
+) -> Result<(), CliFault> {
+    let text = scenario_text(rt, scenario)?;
+    let to_error = is_standard_output(rt, output);
+    let mut output = ToWrite::new(OutputFile::new(rt, output, [scenario, input]));
+    let mut input = FromRead::new(InputFile::new(rt, input));
+    let mut report = ToWrite::new(Kept::new(rt.alloc()));
+    let outcome = run(
+        threads,
+        rt.alloc(),
+        text.as_slice(),
+        &mut input,
+        &mut output,
+        &mut report,
+    );
+    ended(rt, outcome, input, output, report, to_error)
 }
 
 /// The command `explain` over files.

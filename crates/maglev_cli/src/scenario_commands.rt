@@ -30,7 +30,7 @@ fn capture_fault(fault: PcapFault) -> CliFault
     }
 }
 
-fn scenario_fault(fault: ScenarioFault) -> CliFault
+pub(crate) fn scenario_fault(fault: ScenarioFault) -> CliFault
     ensures { result ≡ scenario_fault fault }
 {
     match fault {
@@ -45,7 +45,7 @@ fn scenario_fault(fault: ScenarioFault) -> CliFault
     }
 }
 
-fn run_fault(fault: SimulationFault) -> CliFault
+pub(crate) fn run_fault(fault: SimulationFault) -> CliFault
     ensures { result ≡ run_fault fault }
 {
     match fault {

@@ -1,0 +1,55 @@
+-- The command that runs a scenario's cluster on threads.
+use Rattle.std.specs.Prelude.{◌≡◌, List, ℕ}
+use Rattle.std.specs.Io.KnownBytes.{Appends}
+use Rattle.pcap_file.specs.Device.{Tape, Unfailed, PutRefused}
+use Rattle.node_threads.specs.declared.fault.RunFault.{RunFault}
+use Rattle.node_threads.specs.declared.fault.RunFault.TheVariants as threads
+use Rattle.scenario.specs.declared.reading.Scenario.{Scenario}
+use Rattle.scenario.specs.Meaning.{Means}
+use Rattle.cluster_play.specs.declared.stop.RunStop.{RunStop}
+use Rattle.cluster_play.specs.declared.stop.RunStop.TheVariants.{UnknownStep, Simulation, Threads}
+use Rattle.cluster_play.specs.Runs.{Ran, Halted}
+use Rattle.cluster_play.specs.Kept.{KeepsPromises}
+use Rattle.maglev_cli.specs.Scenarios.{run_fault}
+use Rattle.maglev_cli.specs.declared.fault.CliFault.{CliFault}
+use Rattle.maglev_cli.specs.declared.fault.CliFault.TheVariants.{BadStep, Write, Foreign, RingLost, ThreadLost, Memory}
+
+abbrev pub threads_fault : RunFault → CliFault
+threads_fault threads.Foreign = Foreign
+threads_fault threads.RingLost = RingLost
+threads_fault threads.ThreadLost = ThreadLost
+threads_fault threads.Memory = Memory
+
+-- the fault of a run that stopped, as the command's
+abbrev pub stop_fault : RunStop → CliFault
+stop_fault (UnknownStep place) = BadStep place
+stop_fault (Simulation fault) = run_fault fault
+stop_fault (Threads fault) = threads_fault fault
+
+-- the cluster of the scenario that the text means ran on threads over the input, the output got what the nodes sent, and the
+-- report the run's; and the run keeps the promises
+pub record Runs (text : List ℕ) (input input' output output' report report' : Tape) : Type 0 where
+  pub scenario : Scenario
+  pub means : Means text scenario
+  pub answer : List ℕ
+  pub ran : Ran scenario input input' output output' answer
+  pub kept : KeepsPromises scenario ran.head.link ran.records ran.history
+  pub written : Appends report.bytes report'.bytes answer
+  pub unfailed : Unfailed report report'
+
+-- the text means a scenario, and its run stopped by this fault
+pub record RunStops (fault : CliFault) (text : List ℕ) (input input' output output' : Tape) : Type 0 where
+  pub scenario : Scenario
+  pub means : Means text scenario
+  pub why : RunStop
+  pub named : fault ≡ stop_fault why
+  pub stopped : Halted scenario input input' output output' why
+
+-- the same as when the cluster ran, but the report was given up
+pub record RunReportFails (fault : CliFault) (text : List ℕ) (input input' output output' report report' : Tape) : Type 0 where
+  pub scenario : Scenario
+  pub means : Means text scenario
+  pub answer : List ℕ
+  pub ran : Ran scenario input input' output output' answer
+  pub named : fault ≡ Write
+  pub refused : PutRefused answer report report'

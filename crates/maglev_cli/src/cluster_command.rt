@@ -1,0 +1,66 @@
+//! The command that runs a scenario's cluster on threads.
+ghost use Rattle.std.specs.Prelude.{◌≡◌, ◌⊎◌, IfErr, OnOk};
+ghost use Rattle.maglev_cli.specs.Scenarios.{ScenarioFails};
+ghost use Rattle.maglev_cli.specs.Runs.{Runs, RunStops, RunReportFails, stop_fault, threads_fault};
+
+use super::fault::CliFault;
+use super::scenario_commands::{run_fault, scenario_fault};
+use super::writing::put_text;
+use cluster_play::{RunStop, run_scenario};
+use node_threads::RunFault;
+use pcap_file::{Sink, Source};
+use scenario::read;
+use std::alloc::Global;
+use std::sync::Wait;
+use std::thread::Threads;
+
+fn threads_fault(fault: RunFault) -> CliFault
+    ensures { result ≡ threads_fault fault }
+{
+    match fault {
+        RunFault::Foreign => CliFault::Foreign,
+        RunFault::RingLost => CliFault::RingLost,
+        RunFault::ThreadLost => CliFault::ThreadLost,
+        RunFault::Memory => CliFault::Memory,
+    }
+}
+
+fn stop_fault(stop: RunStop) -> CliFault
+    ensures { result ≡ stop_fault stop }
+{
+    match stop {
+        RunStop::UnknownStep(step) => CliFault::BadStep(step),
+        RunStop::Simulation(fault) => run_fault(fault),
+        RunStop::Threads(fault) => threads_fault(fault),
+    }
+}
+
+/// The command `run`: runs a scenario's cluster on threads over a capture, writes what the nodes sent as another capture,
+/// node by node, and then the report, which ends in `audit agrees`.
+///
+/// The devices aren't called before the scenario was accepted and none of its steps is `full`, `hold` or `drain`. After a
+/// fault that isn't `Write` nothing stands in the report, and the output is as it was, unless memory was refused while it was
+/// written: then it is cut between records.
+pub fn run<T: Threads + Wait + Sync, I: Source, O: Sink, R: Sink>(
+    rt: &T,
+    alloc: Global,
+    scenario: &[u8],
+    input: &mut I,
+    output: &mut O,
+    report: &mut R,
+) -> Result<(), CliFault>
+    ensures ran { OnOk result (Runs scenario.now (I.tape input.old) (I.tape input.new) (O.tape output.old) (O.tape output.new) (R.tape report.old) (R.tape report.new)) }
+    ensures stopped { IfErr result (λ fault.
+        (ScenarioFails fault scenario.now × (input.new ≡ input.old) × (output.new ≡ output.old) × (report.new ≡ report.old))
+        ⊎ ((RunStops fault scenario.now (I.tape input.old) (I.tape input.new) (O.tape output.old) (O.tape output.new) × (report.new ≡ report.old))
+        ⊎ RunReportFails fault scenario.now (I.tape input.old) (I.tape input.new) (O.tape output.old) (O.tape output.new) (R.tape report.old) (R.tape report.new))) }
+{
+    let scenario = match read(alloc, scenario) {
+        Ok(scenario) => scenario,
+        Err(fault) => return Err(scenario_fault(fault)),
+    };
+    match run_scenario(rt, alloc, &scenario, input, output) {
+        Ok(text) => put_text(report, text.as_str()),
+        Err(stop) => Err(stop_fault(stop)),
+    }
+}
