@@ -41,6 +41,11 @@ PROMISES = [
         "`run_node` of `node_threads`, on top of the definitions of the headline.",
         [("node_records", "Runs", "IsRunOf")],
     ),
+    (
+        "`run`: a scenario's cluster on threads over a capture, and what is written",
+        "`run` of `maglev_cli`, on top of all definitions above.",
+        [("maglev_cli", "Runs", "*")],
+    ),
 ]
 
 HEAD = re.compile(r"^(?:abbrev pub|unfoldable pub|pub record|pub data|abbrev|pub|record|data)\s+([^\s:({]+)")
