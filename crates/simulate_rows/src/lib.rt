@@ -8,8 +8,6 @@ mod devices;
 #[cfg(test)]
 mod limits;
 #[cfg(test)]
-mod runs;
-#[cfg(test)]
 mod scenarios;
 #[cfg(test)]
 mod tests;
