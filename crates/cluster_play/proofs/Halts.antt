@@ -1,5 +1,5 @@
 -- A run that stopped.
-use Rattle.std.proofs.Common.{◌≡◌, ℕ, List, refl, inl, inr}
+use Rattle.std.proofs.Common.{List, refl, inl, inr}
 use Rattle.pcap_file.specs.declared.format.Head.{Head}
 use Rattle.pcap_file.specs.declared.format.InputEnd.{InputEnd}
 use Rattle.pcap_file.specs.Device.{Tape}
@@ -8,7 +8,7 @@ use Rattle.scenario.specs.declared.reading.Scenario.{Scenario}
 use Rattle.simulation.specs.declared.fault.SimulationFault.TheVariants.{Capture, Write, Memory}
 use Rattle.cluster_play.specs.declared.stop.RunStop.{RunStop}
 use Rattle.cluster_play.specs.declared.stop.RunStop.TheVariants.{UnknownStep, Simulation, Threads}
-use Rattle.cluster_play.specs.Inputs.{IsReadWhole, WholeWasRead}
+use Rattle.cluster_play.specs.Inputs.{IsReadWhole}
 use Rattle.cluster_play.specs.Runs.{Halted}
 use Rattle.cluster_play.specs.PrivateStops.{IsOfThreads}
 

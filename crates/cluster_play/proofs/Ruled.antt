@@ -4,18 +4,14 @@ use Rattle.std.specs.Prelude.{is_some}
 use Rattle.hash_laws.specs.declared.any.AnyHash.{AnyHash}
 use Rattle.hash_laws.specs.Any.{plain_of}
 use Rattle.maglev_table.specs.Sizes.{is_table_size}
-use Rattle.forwarder.specs.Serving.{Pick, Candidates}
-use Rattle.five_tuple.specs.declared.Flow.{Flow}
+use Rattle.forwarder.specs.Serving.{Pick}
 use Rattle.ip_headers.specs.declared.Link.{Link}
 use Rattle.pcap_file.specs.Format.{Packet as Record}
 use Rattle.pool_versions.specs.Pool.{version_at, up_of}
-use Rattle.cluster_node.specs.Rules.{Rules}
-use Rattle.cluster_node.specs.declared.packets.Packet.{Packet}
 use Rattle.cluster_node.specs.declared.outcomes.Outcome.{Outcome}
 use Rattle.cluster_core.specs.Setups.{Fixed, rules_for}
 use Rattle.cluster_core.specs.Headline.{Agreement, Keeping}
 use Rattle.cluster_core.specs.Histories.{IsSteady}
-use Rattle.cluster_core.specs.Runs.{verdicts}
 use Rattle.cluster_core.proofs.Sends.{agreement}
 use Rattle.cluster_core.proofs.Keeps.{keeping}
 use Rattle.cluster_core.proofs.Slots.{tables_differ, tables_are_even}

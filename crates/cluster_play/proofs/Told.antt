@@ -11,9 +11,7 @@ use Rattle.cluster_node.specs.declared.outcomes.Outcome.{Outcome}
 use Rattle.cluster_core.specs.Totals.{came_all, went_all}
 use Rattle.cluster_core.proofs.Balanced.{lists_balance}
 use Rattle.course.specs.Cluster.{WereRead}
-use Rattle.course.specs.Steps.{below}
 use Rattle.course.specs.Tally.{tally_of}
-use Rattle.course.specs.declared.play.Tally.{Tally}
 use Rattle.cluster_commands.specs.Orders.{orders_of, plan_of}
 use Rattle.node_records.specs.declared.command.Command.{Command}
 use Rattle.node_records.specs.declared.nodes.NodeRecord.{NodeRecord}
@@ -23,7 +21,7 @@ use Rattle.scenario.specs.declared.reading.Scenario.{Scenario}
 use Rattle.scenario_play.specs.Described.{choice_in, plan_in}
 use Rattle.scenario_steps.specs.declared.Step.{Step}
 use Rattle.simulation.specs.declared.sending.Wire.{Wire}
-use Rattle.simulation.specs.Sent.{Sending, Traffic, packets_of}
+use Rattle.simulation.specs.Sent.{packets_of}
 use Rattle.simulation.specs.Simulated.{traffic_of}
 use Rattle.simulation.specs.Wires.{traffic}
 use Rattle.spreader.specs.Choices.{Choice}

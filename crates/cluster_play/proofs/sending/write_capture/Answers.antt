@@ -1,4 +1,4 @@
-use Rattle.std.proofs.Common.{inl, inr, refl}
+use Rattle.std.proofs.Common.{inl, refl}
 use Rattle.std.proofs.KnownBytes.{Appends-trans}
 use Rattle.simulation.proofs.Sends.{unfailed_both}
 use Rattle.cluster_play.proofs.sending.write_capture.Goals as goal
