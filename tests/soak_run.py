@@ -1,5 +1,6 @@
 #!/usr/bin/env python3
-"""soak_run.py [FIRST COUNT]: runs random scenarios on threads, and judges what is printed and written by the model.
+"""soak_run.py [FIRST COUNT TIMES]: runs random scenarios on threads, and one scenario that restarts so many times, and judges
+what is printed and written by the model.
 
 Which version a packet is served under, which ring is full and how workers' packets mix is left to the schedule. What isn't
 is compared with tests/model.py: the counts of records, what came to each node, which drops a driver judges, that what a
@@ -25,11 +26,17 @@ UDP = "4500001c00000000401100000a0000{:02x}c000020103e8003500080000"
 Arrival = collections.namedtuple("Arrival", "place flow versions")
 
 
-def packet(source):
-    """A datagram of one of a few flows, some of them spoiled."""
-    data = bytearray.fromhex(source.choice([TCP, TCP, UDP]).format(source.randrange(1, 9)))
+def datagram(text):
+    """The datagram of these hexadecimal digits, with its header's checksum."""
+    data = bytearray.fromhex(text)
     data[10:12] = bytes(2)
     data[10:12] = (65535 - model.folded(bytes(data[:20]))).to_bytes(2, "big")
+    return data
+
+
+def packet(source):
+    """A datagram of one of a few flows, some of them spoiled."""
+    data = datagram(source.choice([TCP, TCP, UDP]).format(source.randrange(1, 9)))
     if source.random() < 0.1:
         data[source.choice([0, 6, 8, 9, 12])] ^= 1 << source.randrange(8)
     return bytes(data)
@@ -167,9 +174,8 @@ def faults_of_report(expected, printed, sent):
         yield f"{told['forwarded']} forwarded, {sent} written"
 
 
-def faults_of(text, data, printed, output):
+def faults_of(expected, printed, output):
     """What is wrong with a run."""
-    expected = model.Run(text, data)
     sends = sends_of(expected, output)
     if sends is None:
         yield "OUTPUT isn't a capture of what the nodes send, node by node"
@@ -184,32 +190,58 @@ def faults_of(text, data, printed, output):
                 yield from faults_of_life(expected, life, taken)
 
 
-def judged(seed, folder):
-    """The faults of one run."""
+def captured(packets):
+    """A capture of these packets."""
+    return model.written([(1, place, data) for place, data in enumerate(packets)])
+
+
+def thrown(seed):
+    """A random scenario and a random capture."""
     source = random.Random(seed)
     text = random_scenario(source)
-    packets = [packet(source) for _ in range(source.randrange(80))]
-    records = [(1, place, data) for place, data in enumerate(packets)]
-    data = model.written(records)
+    return text, captured([packet(source) for _ in range(source.randrange(80))])
+
+
+def restarting():
+    """Two nodes of two workers: a packet is lost, one is repeated, a version takes a server out, and a node restarts."""
+    text = 'format = 1\nsize = 7\nhash = "sum"\nscheme = "maglev"\nspread = "turn"\nworkers = 2\ncapacity = 8\nring = 16\n'
+    steps = ["install 0 1", "install 1 1", "take 3", "lose 1", "again 0", "install 0 2", "install 1 2", "take 2", "restart 0", "take 2"]
+    text += f'nodes = ["10.9.0.1", "10.9.0.2"]\nsteps = {steps}\n'
+    for number, down in [(1, ""), (2, "/down")]:
+        members = ["A@10.8.0.1", f"B@10.8.0.2{down}", "C@10.8.0.3"]
+        text += f'[[versions]]\nnumber = {number}\n[[versions.services]]\nvip = "192.0.2.1"\nproto = "tcp"\nport = 80\nmembers = {members}\n'
+    even, odd = (bytes(datagram(TCP.format(1).replace("03e8", port))) for port in ["03e8", "03e9"])
+    return text, captured([even, odd] * 4)
+
+
+def case(name, text, data):
+    """A run's name, its scenario and capture, and what the model says of them."""
+    return name, text, data, model.Run(text, data)
+
+
+def judged(text, data, expected, folder):
+    """The faults of one run."""
     (folder / "s.toml").write_text(text)
     (folder / "in.pcap").write_bytes(data)
     words = [PROGRAM, "run", "s.toml", "in.pcap", "out.pcap"]
     done = subprocess.run(words, cwd=folder, capture_output=True, timeout=120)
     if done.returncode or done.stderr:
         return [f"status {done.returncode}: {done.stderr!r}"]
-    return list(faults_of(text, data, done.stdout.decode(), (folder / "out.pcap").read_bytes()))
+    return list(faults_of(expected, done.stdout.decode(), (folder / "out.pcap").read_bytes()))
 
 
 def main():
-    first, count = (int(word) for word in sys.argv[1:3]) if len(sys.argv) > 2 else (0, 60)
+    first, count, times = (int(word) for word in sys.argv[1:4]) if len(sys.argv) > 3 else (0, 60, 1000)
+    runs = [case(f"run {seed}", *thrown(seed)) for seed in range(first, first + count)]
+    runs += [case("the run that restarts", *restarting())] * times
     failed = 0
     with tempfile.TemporaryDirectory() as folder:
-        for seed in range(first, first + count):
-            faults = judged(seed, pathlib.Path(folder))
+        for name, *run in runs:
+            faults = judged(*run, pathlib.Path(folder))
             failed += bool(faults)
             for fault in faults:
-                print(f"FAILED run {seed}: {fault}")
-    print(f"{count - failed} passed, {failed} failed")
+                print(f"FAILED {name}: {fault}")
+    print(f"{len(runs) - failed} passed, {failed} failed")
     sys.exit(failed > 0)
 
 

@@ -9,6 +9,7 @@ use cluster_node::Outcome;
 use course::Tally;
 use listing::report_text;
 use pcap_file::InputEnd;
+use scenario_play::is_cut;
 use std::alloc::{AllocError, Global};
 
 fn totals_of(outcomes: &[Outcome]) -> Totals
@@ -16,15 +17,6 @@ fn totals_of(outcomes: &[Outcome]) -> Totals
     ensures { result ≡ totals_in outcomes.now }
 {
     totals(outcomes)
-}
-
-fn is_cut(ending: InputEnd) -> bool
-    ensures { result ≡ is_cut ending }
-{
-    match ending {
-        InputEnd::End => false,
-        InputEnd::Cut => true,
-    }
 }
 
 fn audit_line(agrees: bool) -> &'static str

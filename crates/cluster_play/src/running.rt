@@ -68,7 +68,7 @@ fn run_over<R: Threads + Wait + Sync>(
         packets.as_slice(),
         orders.commands.as_slice(),
     )?;
-    let outcomes = audited.run.history.outcomes.as_slice();
+    let outcomes = audited.run.outcomes();
     let text = run_report(
         alloc,
         orders.tally,

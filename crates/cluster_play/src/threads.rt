@@ -69,9 +69,7 @@ where
         scenario.ring,
         &OpenGate,
     )?;
-    let agrees = run
-        .history
-        .audit::<S, AnyHash, LruTable>(alloc, &setup, &scenario.catalogue, packets)?;
+    let agrees = run.audit::<S, AnyHash, LruTable>(alloc, &setup, &scenario.catalogue, packets)?;
     Ok(Audited { run, agrees })
 }
 

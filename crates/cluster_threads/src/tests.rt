@@ -150,7 +150,15 @@ fn two_nodes_serve_at_once(rt: HostRuntime) -> Result<(), Fail> {
         return Ok(());
     };
     assert!(rt; gate.missed.load(Ordering::SeqCst) == 0);
-    assert!(rt; run.nodes.len() == 2);
-    assert!(rt; run.history.outcomes.as_slice() == expected(&rt).as_slice());
+    assert!(rt; run.history().len() == 6);
+    assert!(rt; run.outcomes() == expected(&rt).as_slice());
+    if run.nodes.len() != 2 {
+        assert!(rt; false);
+        return Ok(());
+    }
+    assert!(rt; run.sent(1).len() == 1);
+    for life in run.sent(1) {
+        assert!(rt; life.as_slice() == [sent_by(&rt, 1)].as_slice());
+    }
     Ok(())
 }

@@ -28,7 +28,8 @@ fn totals(history: &[Said]) -> Totals
     totals_of(history)
 }
 
-fn is_cut(ending: InputEnd) -> bool
+/// Whether a capture ended inside a record.
+pub fn is_cut(ending: InputEnd) -> bool
     ensures { result ≡ is_cut ending }
 {
     match ending {

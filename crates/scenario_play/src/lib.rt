@@ -6,5 +6,6 @@ mod answering;
 mod asking;
 mod playing;
 
+pub use answering::is_cut;
 pub use asking::Asked;
 pub use playing::play_scenario;

@@ -1,8 +1,8 @@
-//! A soak program: many short runs of a node on threads, each thrown from a seed and judged afterwards.
+//! A soak program: many short runs of a cluster on threads, each thrown from a seed and judged afterwards.
 //!
-//! Arguments: a seed, and how many runs. Each run's history is replayed on both connection tables and compared with what
-//! the run told, and each list of what was sent is compared with what the workers sent. Prints how many runs and commands
-//! there were, how many runs had a fault, and how many differed from what was replayed: the last two are 0.
+//! Arguments: a seed, and how many runs. Each run's history is audited on both connection tables, each node's record is
+//! compared with its commands, and each list of what was sent with what the workers sent. Prints how many runs and commands
+//! there were, how many runs had a fault, and how many weren't what they should be: the last two are 0.
 #![tactic(auto)]
 
 ghost use Rattle.std.specs.Prelude.{◌≡◌, ◌<◌, ◌≤◌, ℕ, Some, length, slice_get};
@@ -16,15 +16,15 @@ mod scene;
 
 use crate::dice::Dice;
 use crate::jitter::Jitter;
-use crate::judging::{are_merges, is_kept, is_obeyed};
+use crate::judging::are_lived;
 use crate::scene::{Throw, catalogue, packets, setup, thrown};
-use cluster_core::{Setup, replay};
+use cluster_core::Setup;
 use cluster_node::Packet;
+use cluster_threads::{ClusterRun, run_cluster};
 use connection_table::{ConnTable, LruTable, PlainTable};
 use hash_laws::Fnv;
 use maglev_table::TableSize;
-use node_records::NodeRecord;
-use node_threads::run_node;
+use node_records::Command;
 use pool_versions::Catalogue;
 use selection::{Maglev, RoundRobin, Scheme};
 use std::alloc::{AllocError, Global};
@@ -41,39 +41,22 @@ struct Tally {
     differ: u64,
 }
 
-// Whether a replay on this table comes to what the run told.
-fn replays<S: Scheme, T: ConnTable>(
-    alloc: Global,
-    setup: &Setup<S, Fnv>,
-    catalogue: &Catalogue,
-    packets: &[Packet],
-    record: &NodeRecord,
-) -> Result<bool, AllocError>
-    requires size { catalogue.now.size ≡ setup.now.size }
-    requires read { (k : ℕ) (p : Packet) → slice_get packets.now k ≡ Some p → WasRead (Some p) }
-{
-    let outcomes = replay::<S, Fnv, T>(alloc, setup, catalogue, packets, record.events.as_slice())?;
-    Ok(outcomes.as_slice() == record.outcomes.as_slice())
-}
-
-// Whether a record is all that it should be.
+// Whether a run is all that it should be.
 fn agrees<S: Scheme>(
     alloc: Global,
     setup: &Setup<S, Fnv>,
     catalogue: &Catalogue,
     packets: &[Packet],
-    throw: &Throw,
-    record: &NodeRecord,
+    commands: &[Vec<Command>],
+    run: &ClusterRun,
 ) -> Result<bool, AllocError>
     requires size { catalogue.now.size ≡ setup.now.size }
     requires read { (k : ℕ) (p : Packet) → slice_get packets.now k ≡ Some p → WasRead (Some p) }
 {
     Ok(
-        is_obeyed(record, throw.commands.as_slice(), throw.node)
-            && is_kept(record)
-            && are_merges(alloc, record)?
-            && replays::<S, PlainTable>(alloc, setup, catalogue, packets, record)?
-            && replays::<S, LruTable>(alloc, setup, catalogue, packets, record)?,
+        are_lived(alloc, run.nodes.as_slice(), commands)?
+            && run.audit::<S, Fnv, PlainTable>(alloc, setup, catalogue, packets)?
+            && run.audit::<S, Fnv, LruTable>(alloc, setup, catalogue, packets)?,
     )
 }
 
@@ -89,34 +72,31 @@ fn soak_on<S: Scheme + Send + Sync, T: ConnTable + Send, R: Threads + Wait + Syn
 where
     S::Prepared: Send + Sync,
     requires size { catalogue.now.size ≡ setup.now.size }
-    requires nodes { length setup.now.nodes ≡ 3 }
-    requires node { throw.now.node < 3 }
     requires some { 0 < throw.now.ring }
     requires limit { throw.now.ring ≤ 64 }
 {
     let packets = packets();
     let gate = Jitter { seed: throw.gate };
-    let run = run_node::<S, Fnv, T, Jitter, R>(
-        rt,
-        alloc,
-        setup,
-        catalogue,
-        &packets,
-        throw.node,
-        throw.commands.as_slice(),
-        throw.ring,
-        &gate,
+    let commands = throw.commands.as_slice();
+    if commands.len() != setup.nodes().len() {
+        return Err(AllocError);
+    }
+    let ring = throw.ring;
+    let run = run_cluster::<S, Fnv, T, Jitter, R>(
+        rt, alloc, setup, catalogue, &packets, commands, ring, &gate,
     );
     match run {
-        Ok(record) => {
-            if !agrees(alloc, setup, catalogue, &packets, throw, &record)? {
+        Ok(run) => {
+            if !agrees(alloc, setup, catalogue, &packets, commands, &run)? {
                 tally.differ = tally.differ.wrapping_add(1);
             }
         }
         Err(_) => tally.faults = tally.faults.wrapping_add(1),
     }
     tally.runs = tally.runs.wrapping_add(1);
-    tally.commands = tally.commands.wrapping_add(throw.commands.len() as u64);
+    for list in commands {
+        tally.commands = tally.commands.wrapping_add(list.len() as u64);
+    }
     Ok(())
 }
 
@@ -134,7 +114,7 @@ where
 {
     let setup = setup(alloc, scheme, size, dice)?;
     let catalogue = catalogue(alloc, size, dice)?;
-    let throw = thrown(alloc, dice)?;
+    let throw = thrown(alloc, setup.nodes().len(), dice)?;
     soak_on::<S, PlainTable, R>(rt, alloc, &setup, &catalogue, &throw, tally)?;
     soak_on::<S, LruTable, R>(rt, alloc, &setup, &catalogue, &throw, tally)
 }

@@ -15,8 +15,8 @@ fn obeys(event: &Event, command: &Command, at: u16) -> bool {
     }
 }
 
-/// Without its servings the history is the commands in order, and no serving is refused or hindered.
-pub fn is_obeyed(record: &NodeRecord, commands: &[Command], node: u16) -> bool {
+// Without its servings the history is the commands in order, and no serving is refused or hindered.
+fn is_obeyed(record: &NodeRecord, commands: &[Command], node: u16) -> bool {
     let mut next = 0usize;
     for (event, outcome) in record.events.iter().zip(record.outcomes.iter()) {
         if let Event::Serve { refused, .. } = *event {
@@ -73,8 +73,8 @@ fn is_merge(alloc: Global, sent: &[Outcome], life: &[Outcome]) -> Result<bool, A
     Ok(count == sent.len())
 }
 
-/// For each life what was sent is a merge of what its workers sent.
-pub fn are_merges(alloc: Global, record: &NodeRecord) -> Result<bool, AllocError> {
+// For each life what was sent is a merge of what its workers sent.
+fn are_merges(alloc: Global, record: &NodeRecord) -> Result<bool, AllocError> {
     let lives = lives(alloc, record.outcomes.as_slice())?;
     if lives.len() != record.sent.len() {
         return Ok(false);
@@ -87,8 +87,8 @@ pub fn are_merges(alloc: Global, record: &NodeRecord) -> Result<bool, AllocError
     Ok(true)
 }
 
-/// What was placed was served, and nothing was lost.
-pub fn is_kept(record: &NodeRecord) -> bool {
+// What was placed was served, and nothing was lost.
+fn is_kept(record: &NodeRecord) -> bool {
     let mut placed = 0u64;
     let mut served = 0u64;
     for (event, outcome) in record.events.iter().zip(record.outcomes.iter()) {
@@ -102,4 +102,19 @@ pub fn is_kept(record: &NodeRecord) -> bool {
         }
     }
     placed == served
+}
+
+/// Each node did what it was told, served what was placed and sent what its workers sent.
+pub fn are_lived(
+    alloc: Global,
+    records: &[NodeRecord],
+    commands: &[Vec<Command>],
+) -> Result<bool, AllocError> {
+    for (node, (record, told)) in records.iter().zip(commands.iter()).enumerate() {
+        let obeyed = is_obeyed(record, told.as_slice(), node as u16);
+        if !obeyed || !is_kept(record) || !are_merges(alloc, record)? {
+            return Ok(false);
+        }
+    }
+    Ok(records.len() == commands.len())
 }

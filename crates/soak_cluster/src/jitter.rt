@@ -10,8 +10,9 @@ pub struct Jitter {
 }
 
 impl Jitter {
-    fn pause(&self, worker: u16, nth: u64) {
-        let seed = self.seed ^ nth.wrapping_mul(31) ^ u64::from(worker).wrapping_mul(65_537);
+    fn pause(&self, node: u16, worker: u16, nth: u64) {
+        let place = u64::from(node) * 65_537 + u64::from(worker);
+        let seed = self.seed ^ nth.wrapping_mul(31) ^ place.wrapping_mul(65_537);
         for _ in 0..Dice::new(seed).below(4) {
             yield_now();
         }
@@ -19,11 +20,11 @@ impl Jitter {
 }
 
 impl Gate for Jitter {
-    fn before(&self, _node: u16, worker: u16, nth: u64) {
-        self.pause(worker, nth);
+    fn before(&self, node: u16, worker: u16, nth: u64) {
+        self.pause(node, worker, nth);
     }
 
-    fn after(&self, _node: u16, worker: u16, nth: u64) {
-        self.pause(worker, nth.wrapping_add(7));
+    fn after(&self, node: u16, worker: u16, nth: u64) {
+        self.pause(node, worker, nth.wrapping_add(7));
     }
 }

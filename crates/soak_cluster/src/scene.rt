@@ -1,4 +1,4 @@
-//! The cluster that a run is made on, and what its node is told to do.
+//! The cluster that a run is made on, and what its nodes are told to do.
 ghost use Rattle.std.specs.Prelude.{◌≡◌, ◌≤◌, ◌<◌, ℕ, IfOk, Some, length, slice_get};
 ghost use Rattle.cluster_node.specs.declared.packets.Packet.{Packet};
 ghost use Rattle.cluster_node.specs.Records.{WasRead};
@@ -25,10 +25,8 @@ const VERSIONS: u32 = 5;
 /// What is thrown for one run, beside its cluster.
 #[derive(Drop)]
 pub struct Throw {
-    /// What the node is told to do.
-    pub commands: Vec<Command>,
-    /// The node's place.
-    pub node: u16,
+    /// What each node is told to do.
+    pub commands: Vec<Vec<Command>>,
     /// The places of a ring.
     pub ring: u32,
     /// The seed of the gate.
@@ -69,16 +67,19 @@ pub fn catalogue(alloc: Global, size: TableSize, dice: &mut Dice) -> Result<Cata
     Ok(catalogue)
 }
 
-/// A cluster of three nodes with 1 to 16 workers each, whose tables keep 1 to 4 entries.
+/// A cluster of 1 to 8 nodes with 1 to 16 workers each, whose tables keep 1 to 4 entries.
 pub fn setup<S: Scheme>(
     alloc: Global,
     scheme: S,
     size: TableSize,
     dice: &mut Dice,
 ) -> Result<Setup<S, Fnv>, AllocError>
-    ensures { IfOk result (λ s. (s.size ≡ size) × (length s.nodes ≡ 3)) }
+    ensures { IfOk result (λ s. s.size ≡ size) }
 {
-    let nodes = Vec::from_slice(alloc, &[0x0a09_0001, 0x0a09_0002, 0x0a09_0003])?;
+    let mut nodes = Vec::new(alloc);
+    for node in 0..1 + dice.below(8) {
+        nodes.push(0x0a09_0001 + node)?;
+    }
     let workers = 1 + dice.below(16) as u16;
     let capacity = 1 + dice.below(4);
     match Setup::new(Fnv, scheme, size, nodes, workers, capacity) {
@@ -129,22 +130,28 @@ fn command(dice: &mut Dice) -> Command {
     Command::Offer(dice.below(PACKETS + 2))
 }
 
-/// What is thrown for a run: up to 150 commands, on a node of three, with rings of 1 to 64 places.
-pub fn thrown(alloc: Global, dice: &mut Dice) -> Result<Throw, AllocError>
-    ensures node { IfOk result (λ t. t.node < 3) }
+// Up to 100 commands of one node.
+fn commands(alloc: Global, dice: &mut Dice) -> Result<Vec<Command>, AllocError> {
+    let mut commands = Vec::new(alloc);
+    for _ in 0..dice.below(100) {
+        commands.push(command(dice))?;
+    }
+    Ok(commands)
+}
+
+/// What is thrown for a run of so many nodes: commands of each, and rings of 1 to 64 places.
+pub fn thrown(alloc: Global, nodes: usize, dice: &mut Dice) -> Result<Throw, AllocError>
     ensures some { IfOk result (λ t. 0 < t.ring) }
     ensures limit { IfOk result (λ t. t.ring ≤ 64) }
 {
-    let mut commands = Vec::new(alloc);
-    for _ in 0..dice.below(150) {
-        commands.push(command(dice))?;
+    let mut lists = Vec::new(alloc);
+    for _ in 0..nodes {
+        lists.push(commands(alloc, dice)?)?;
     }
-    let node = dice.below(3) as u16;
     let ring = 1 + dice.below(64);
     let gate = u64::from(dice.below(1_000_000));
     Ok(Throw {
-        commands,
-        node,
+        commands: lists,
         ring,
         gate,
     })

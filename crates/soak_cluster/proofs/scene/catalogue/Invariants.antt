@@ -1,5 +1,5 @@
 use Rattle.std.proofs.Common.{◌≡◌}
-use Rattle.soak_node.proofs.scene.catalogue.Given as goal
+use Rattle.soak_cluster.proofs.scene.catalogue.Given as goal
 
 abbrev pub invariant-loop-number : goal.invariant-loop-number
 invariant-loop-number l = l.catalogue.size ≡ l.fn.size

@@ -1,0 +1,205 @@
+#!/usr/bin/env python3
+"""Input that means harm, each with the answer that it must get.
+
+Captures cut at each byte, headers with each value of a field, and scenarios and captures at the edges of what may be read.
+The last line is 'N passed, N failed'.
+"""
+import pathlib
+import struct
+import subprocess
+import sys
+import tempfile
+
+import model
+from harness import PROGRAM, check, run_tests
+
+# A datagram of 40 bytes from port 1000 of 10.0.0.1 to port 80 of 192.0.2.1.
+HEADER = bytes.fromhex("450000280000400040060000" + "0a000001" + "c0000201")
+P = HEADER[:10] + (65535 - model.folded(HEADER)).to_bytes(2, "big") + HEADER[12:]
+P += bytes.fromhex("03e80050" + "00000001" + "00000000" + "50022000" + "00000000")
+
+
+def scenario(steps=("install 0 1", "take 1"), **more):
+    """A scenario of one node and one service of three backends; a key given by name is put in place of its own."""
+    keys = {"format": 1, "size": 7, "hash": '"sum"', "scheme": '"maglev"', "spread": '"turn"', "workers": 1, "capacity": 2}
+    keys |= {"nodes": '["10.9.0.1"]', "steps": str(list(steps))} | more
+    text = "".join(f"{key} = {value}\n" for key, value in keys.items())
+    members = ["A@10.8.0.1", "B@10.8.0.2", "C@10.8.0.3"]
+    return text + f'[[versions]]\nnumber = 1\nservices = [{{ vip = "192.0.2.1", proto = "tcp", port = 80, members = {members} }}]\n'
+
+
+def head(link=101, magic=0xA1B2C3D4, version=(2, 4), order="<"):
+    """A capture's header."""
+    return struct.pack(order + "IHHiIII", magic, *version, 0, 0, 65535, link)
+
+
+def record(data, length=None, original=None):
+    """A record, whose two lengths may lie."""
+    length = len(data) if length is None else length
+    return struct.pack("<4I", 1, 0, length, length if original is None else original) + data
+
+
+def answered(text, data, command="simulate"):
+    """Status, the lines of the report, standard error and OUTPUT (None where there is none)."""
+    with tempfile.TemporaryDirectory() as name:
+        folder = pathlib.Path(name)
+        (folder / "s.toml").write_bytes(text if isinstance(text, bytes) else text.encode())
+        (folder / "in.pcap").write_bytes(data)
+        words = [PROGRAM, command, "s.toml", "in.pcap", "out.pcap"]
+        done = subprocess.run(words, cwd=folder, capture_output=True, timeout=60)
+        output = folder / "out.pcap"
+        made = output.read_bytes() if output.exists() else None
+        return done.returncode, done.stdout.decode().splitlines(), done.stderr.decode(), made
+
+
+def is_fault(answer, fault, output=None):
+    """The answer is this fault alone, with this OUTPUT."""
+    return answer == (1, [], f"fault: {fault}\n", output)
+
+
+def reports(answer, *lines):
+    """The answer is a report that has these lines."""
+    return answer[0] == 0 and answer[2] == "" and set(lines) <= set(answer[1])
+
+
+def test_cuts():
+    """A capture of one record, cut behind each of its bytes."""
+    data = head() + record(P)
+    whole = answered(scenario(), data)
+    sent = whole[3]
+    check("the whole capture", reports(whole, "packets 1", "cut no", "forwarded 1") and len(sent) == 24 + 16 + 64, repr(whole))
+    for command in ["simulate", "run"]:
+        for length in range(len(data)):
+            answer = answered(scenario(), data[:length], command)
+            if length < 24:
+                holds = is_fault(answer, "ShortHeader")
+            else:
+                cut = "no" if length == 24 else "yes"
+                holds = reports(answer, "packets 0", f"cut {cut}", "forwarded 0") and answer[3] == sent[:24]
+            check(f"{command}: the first {length} bytes", holds, repr(answer))
+
+
+def dropped(name, packets, forwarded, causes):
+    """Each of these packets is forwarded or dropped, as often for each cause as is said."""
+    text = scenario(["install 0 1", f"take {len(packets)}"], check="false")
+    answer = answered(text, head() + b"".join(map(record, packets)))
+    lines = [f"received {len(packets)}", f"forwarded {forwarded}", *(f"drop {cause} {count}" for cause, count in causes.items())]
+    drops = [line for line in answer[1] if line.startswith("drop ")]
+    check(name, reports(answer, *lines) and len(drops) == len(causes), repr(answer[:3]))
+
+
+def test_fields():
+    """Each value of the version and header length, of the total length, of the protocol and of the fragment's place."""
+    firsts = [bytes([value]) + P[1:] for value in range(256)]
+    causes = {"NotIpv4": 240, "BadHeader": 5, "BadTransport": 5, "Truncated": 5}
+    dropped("each value of the first byte", firsts, 1, causes)
+    lengths = [P[:2] + value.to_bytes(2, "big") + P[4:] for value in range(65536)]
+    dropped("each total length", lengths, 1, {"BadHeader": 20, "BadTransport": 20, "Truncated": 65495})
+    offsets = [bytes([flags]) + bytes([low]) for flags in (0x00, 0x20, 0x40, 0x60, 0x80, 0x1F) for low in (0, 1, 255)]
+    whole = [one for one in offsets if not (one[0] & 0x3F) % 64 and not one[1] or one == b"\x40\x00"]
+    dropped("fragments", [P[:6] + one + P[8:] for one in offsets], len(whole), {"Fragment": len(offsets) - len(whole)})
+
+
+def test_records():
+    """Records whose lengths lie, and those of the greatest and the least length."""
+    one = scenario(["install 0 1", "take 9"])
+    sent = answered(scenario(), head() + record(P))[3]
+    most = head() + record(bytes(262144)) + record(P)
+    check("262,144 bytes", reports(answered(one, most), "packets 2", "drop NotIpv4 1", "forwarded 1"))
+    over = answered(one, head() + record(P) + record(b"", 262145))
+    check("262,145 bytes", is_fault(over, "TooLong", sent), repr(over))
+    over = answered(one, head() + record(P) + record(b"", 2**32 - 1))
+    check("the greatest length that can be said", is_fault(over, "TooLong", sent), repr(over))
+    empty = answered(one, head() + record(b"") * 3 + record(P))
+    check("records without bytes", reports(empty, "packets 4", "drop Truncated 3", "forwarded 1"), repr(empty))
+    for original in [0, 39, 41, 2**32 - 1]:
+        said = answered(one, head() + record(P, original=original))
+        check(f"an original length of {original}", reports(said, "packets 1", "forwarded 1") and said[3] == sent, repr(said))
+    lies = answered(one, head() + record(P, 41))
+    check("a record that says one byte more", reports(lies, "packets 0", "cut yes"), repr(lies))
+
+
+def test_headers():
+    """Capture headers that are nearly right."""
+    one = scenario()
+    for name, data, fault in [
+        ("pcapng", bytes.fromhex("0a0d0d0a") + bytes(40), "BadMagic"),
+        ("the magic's bytes mixed", bytes.fromhex("b2a1d4c3") + head()[4:], "BadMagic"),
+        ("a modified capture's magic", head(magic=0xA1B2CD34), "BadMagic"),
+        ("gzip", bytes.fromhex("1f8b0800") + bytes(40), "BadMagic"),
+        ("version 2.3", head(version=(2, 3)), "BadVersion"),
+        ("version 4.2", head(version=(4, 2)), "BadVersion"),
+        ("a bad version of an unknown link", head(113, version=(3, 4)), "BadVersion"),
+        ("Linux cooked", head(113), "BadLink"),
+        ("null link", head(0), "BadLink"),
+        ("raw IP by the number of one system", head(12), "BadLink"),
+        ("a link type with a bit set above", head(101 + 2**31), "BadLink"),
+        ("a short header of a bad magic", bytes(23), "ShortHeader"),
+    ]:
+        for command in ["simulate", "run"]:
+            answer = answered(one, data, command)
+            check(f"{command}: {name}", is_fault(answer, fault), repr(answer))
+
+
+def test_scenarios():
+    """Scenarios at the edges of TOML and of what a scenario may say."""
+    good = scenario()
+    deep = "steps = " + "[" * 200_000
+    for name, text, fault in [
+        ("nothing", "", "BadFormat"),
+        ("zeros", bytes(1000), "BadToml"),
+        ("no UTF-8", b"\xff\xfe" + good.encode(), "BadToml"),
+        ("a surrogate's three bytes", b'format = "\xed\xa0\x80"\n', "BadToml"),
+        ("200,000 opened brackets", deep, "BadToml"),
+        ("200,000 tables in one another", "a = " + "{a=" * 200_000, "BadToml"),
+        ("a key of 100,000 parts", "a" + ".a" * 100_000 + " = 1\n", "BadFormat"),
+        ("a key given twice", good.replace("size = 7\n", "size = 7\nsize = 7\n"), "BadToml"),
+        ("a number of 5,000 digits", scenario(size="9" * 5000), "BadToml"),
+        ("a format of 2^63", scenario(format=2**63), "BadToml"),
+        ("a format that is real", scenario(format="1.0"), "BadFormat"),
+        ("a format in words", scenario(format='"1"'), "BadFormat"),
+        ("a size below 0", scenario(size=-7), "BadKey"),
+        ("a size of 7 + 2^32", scenario(size=7 + 2**32), "BadKey"),
+        ("a capacity of 0", scenario(capacity=0), "BadKey"),
+        ("workers of 2^64 - 1 + 2", scenario(workers=2**63 - 1), "BadKey"),
+        ("a node's address of five parts", scenario(nodes='["10.9.0.1.1"]'), "BadKey"),
+        ("a node's address of Arabic digits", scenario(nodes='["10.9.0.\u0661"]'), "BadKey"),
+        ("a step with a space in front", scenario([" take 1"]), "BadStep 0"),
+        ("a step with two spaces", scenario(["take  1"]), "BadStep 0"),
+        ("a step of 2^64", scenario(["take 18446744073709551616"]), "BadStep 0"),
+        ("a step with a sign", scenario(["take +1"]), "BadStep 0"),
+        ("a step with leading zeros", scenario(["take 01"]), "BadStep 0"),
+        ("a member with a space", good.replace("A@10.8.0.1", "A @10.8.0.1"), "BadMember"),
+        ("a member's name of 64 bytes", good.replace("A@", "A" * 64 + "@"), "BadMember"),
+    ]:
+        answer = answered(text, head())
+        check(f"a scenario of {name}", is_fault(answer, fault), repr(answer)[:300])
+    for name, text in [
+        ("with each line ended by two bytes", good.replace("\n", "\r\n")),
+        ("with a mark of byte order", "\ufeff" + good),
+        ("of bases and underscores", scenario(size="0x7", capacity="0b10", workers="0o1")),
+    ]:
+        try:
+            accepted = __import__("tomllib").loads(text.lstrip("\ufeff")) is not None
+        except ValueError:
+            accepted = False
+        answer = answered(text, head() + record(P))
+        check(f"a scenario {name}", reports(answer, "forwarded 1") if accepted else answer[0] == 1, repr(answer)[:300])
+
+
+def test_floods():
+    """A packet of each of 60,000 flows, in tables of 1,000 entries and of one."""
+    packets = [P[:20] + struct.pack(">H", 1000 + place) + P[22:] for place in range(60_000)]
+    data = head() + b"".join(map(record, packets))
+    for capacity in [1, 1000]:
+        text = scenario(["install 0 1", "take 60000"], capacity=capacity)
+        for command in ["simulate", "run"]:
+            answer = answered(text + "" if command == "simulate" else text.replace("format = 1\n", "format = 1\nring = 64\n"), data, command)
+            lines = dict(line.rsplit(" ", 1) for line in answer[1])
+            told = sum(int(lines.get(key, 0)) for key in ["forwarded", "drop RingsFull"])
+            holds = answer[0] == 0 and lines["received"] == "60000" and told == 60000 and lines["waiting"] == "0"
+            check(f"{command} with tables of {capacity}", holds, repr(answer[:3]))
+
+
+if __name__ == "__main__":
+    sys.exit(run_tests(globals()))
