@@ -14,7 +14,9 @@ import subprocess
 import sys
 import tempfile
 
-TOP = pathlib.Path(__file__).resolve().parent.parent
+import soak_run
+from harness import TOP
+
 PROGRAM = str(TOP / "crates" / "maglev" / "out" / "maglev")
 MOST_GROWTHS = 100_000
 # What a run says that was refused memory.
@@ -49,6 +51,10 @@ REPORT = "packets 1\nlost 0\nunrouted 0\nskipped 0\nleft 0\ncut no\nreceived 1\n
 AUDITED = REPORT + "audit agrees\n"
 FILES = {"s.toml": SCENARIO, "in.pcap": CAPTURE}
 LOST = (1, b"", b"fault: ThreadLost\n")
+# Two nodes of two workers each, of which one restarts.
+RESTARTING, EIGHT = soak_run.restarting()
+RESTARTED = AUDITED.replace(" 1\n", " 8\n").replace("lost 0", "lost 1")
+CLUSTER = {"s.toml": RESTARTING.encode(), "in.pcap": EIGHT}
 
 
 @dataclasses.dataclass
@@ -73,6 +79,7 @@ CASES = [
     Case(["simulate", "--list", "s.toml", "in.pcap", "out.pcap"], EVENTS + REPORT, files=FILES, written={"out.pcap": SENT}),
     Case(["explain", "s.toml", "in.pcap", "2", "2"], "same\n", files=FILES),
     Case(["run", "s.toml", "in.pcap", "out.pcap"], AUDITED, files=FILES, written={"out.pcap": SENT}, faults=[LOST]),
+    Case(["run", "s.toml", "in.pcap", "out.pcap"], RESTARTED, files=CLUSTER, faults=[LOST]),
 ]
 
 
@@ -137,18 +144,30 @@ def refuse_each(library, case, behind):
     return passed, failed + 1
 
 
-def main():
-    subprocess.run([str(TOP / "bin" / "maglev"), "--help"], stdout=subprocess.DEVNULL, check=True)
-    passed = failed = 0
-    with tempfile.TemporaryDirectory() as folder:
-        library = compiled(folder)
-        for case in CASES:
-            for behind in ["", "+"]:
-                more, less = refuse_each(library, case, behind)
-                passed += more
-                failed += less
+def refuse_all(folder, cases):
+    """Refuses each growth of each command in turn, alone and with all behind it. Gives how many runs were as they must be,
+    and were not."""
+    library = compiled(folder)
+    counts = [refuse_each(library, case, behind) for case in cases for behind in ["", "+"]]
+    return sum(passed for passed, _ in counts), sum(failed for _, failed in counts)
+
+
+def built(crate):
+    """Builds a program of this repository, and gives its path."""
+    subprocess.run(["rt", "run"], cwd=TOP / "crates" / crate, capture_output=True, check=True)
+    return str(TOP / "crates" / crate / "out" / crate)
+
+
+def told(passed, failed):
+    """Prints how many runs were as they must be, and gives the status to end with."""
     print(f"{passed} passed, {failed} failed")
     return 1 if failed else 0
+
+
+def main():
+    subprocess.run([str(TOP / "bin" / "maglev"), "--help"], stdout=subprocess.DEVNULL, check=True)
+    with tempfile.TemporaryDirectory() as folder:
+        return told(*refuse_all(folder, CASES))
 
 
 if __name__ == "__main__":

@@ -1,61 +1,60 @@
 #!/usr/bin/env python3
-"""Refuses each thread of a node's run in turn, and each growth of its memory, and compares what the program then says.
+"""Refuses each thread of a run in turn, and each growth of a node's memory, and compares what the program then says.
 
-The program `first_node` runs a node of two workers through two lives, on threads. It prints its whole answer, or why there
-is none, alone: `fault: ThreadLost` where a thread couldn't be started, and `fault: Memory` where memory was refused.
-`refuse_thread.c` refuses threads, and `refused_growths.py` has how growths are refused. A growth that the system refuses
-while it starts a thread loses the thread.
+The program `first_node` runs a node of two workers through two lives, on threads; `maglev run` runs two such nodes, of which
+one has two lives. They print their whole answer, or why there is none, alone: `fault: ThreadLost` where a thread couldn't be
+started, and `fault: Memory` where memory was refused. `refuse_thread.c` refuses threads, and `refused_growths.py` has how
+growths are refused. A growth that the system refuses while it starts a thread loses the thread.
 
 The last line is 'N passed, N failed', which counts runs.
 """
 import os
+import pathlib
 import subprocess
 import sys
 import tempfile
 
 import refused_growths as growths
 
-CRATE = growths.TOP / "crates" / "first_node"
-CASE = growths.Case(["node"], "1 from 1\n2 from 1\n1 from 2\n1 from 2\n")
+NODE = growths.Case(["node"], "1 from 1\n2 from 1\n1 from 2\n1 from 2\n")
 # Two workers and a mux in each of two lives.
-THREADS = 6
-LOST = (1, b"", b"fault: ThreadLost\n")
+NODE_THREADS = 6
+CLUSTER = growths.Case(["run", "s.toml", "in.pcap", "out.pcap"], growths.RESTARTED, files=growths.CLUSTER)
+# Those of three lives, and the nodes' drivers.
+CLUSTER_THREADS = 11
+LOST = growths.LOST
 
 
-def refuse_threads(folder):
-    """Refuses one thread after the other, and one that is never started. Gives how many runs were as they must be."""
-    library = growths.compiled(folder, "refuse_thread.c")
+def refuse_threads(library, words, case, threads):
+    """Refuses one thread after the other, and one that is never started. Gives how many runs were as they must be, and were
+    not."""
     passed = failed = 0
-    for number in range(1, THREADS + 2):
-        done = subprocess.run(
-            [growths.PROGRAM],
-            capture_output=True,
-            env={"LD_PRELOAD": library, "REFUSED_THREAD": str(number)},
-            timeout=60,
-        )
-        wanted = LOST if number <= THREADS else (0, CASE.text.encode(), b"")
-        if (done.returncode, done.stdout, done.stderr) == wanted:
-            passed += 1
-        else:
-            failed += 1
-            print(f"FAILED thread {number} refused: {done}")
-    print(f"node: {THREADS} threads, each refused")
+    with tempfile.TemporaryDirectory() as folder:
+        for name, content in case.files.items():
+            (pathlib.Path(folder) / name).write_bytes(content)
+        for number in range(1, threads + 2):
+            env = {"LD_PRELOAD": library, "REFUSED_THREAD": str(number)}
+            done = subprocess.run(words, capture_output=True, cwd=folder, env=env, timeout=60)
+            wanted = LOST if number <= threads else (0, case.text.encode(), b"")
+            if (done.returncode, done.stdout, done.stderr) == wanted:
+                passed += 1
+            else:
+                failed += 1
+                print(f"FAILED {case.arguments[0]}, thread {number} refused: {done}")
+    print(f"{case.arguments[0]}: {threads} threads, each refused")
     return passed, failed
 
 
 def main():
-    subprocess.run(["rt", "run"], cwd=CRATE, capture_output=True, check=True)
     growths.FAULTS.append(LOST)
-    growths.PROGRAM = str(CRATE / "out" / "first_node")
+    program = growths.PROGRAM
+    growths.PROGRAM = growths.built("first_node")
     with tempfile.TemporaryDirectory() as folder:
-        passed, failed = refuse_threads(folder)
-        library = growths.compiled(folder)
-        for behind in ["", "+"]:
-            more, less = growths.refuse_each(library, CASE, behind)
-            passed += more
-            failed += less
-    print(f"{passed} passed, {failed} failed")
-    return 1 if failed else 0
+        library = growths.compiled(folder, "refuse_thread.c")
+        counts = [refuse_threads(library, [growths.PROGRAM], NODE, NODE_THREADS)]
+        counts.append(refuse_threads(library, [program, *CLUSTER.arguments], CLUSTER, CLUSTER_THREADS))
+        counts.append(growths.refuse_all(folder, [NODE]))
+    return growths.told(sum(passed for passed, _ in counts), sum(failed for _, failed in counts))
 
 
 if __name__ == "__main__":

@@ -15,9 +15,7 @@ import sys
 import tempfile
 
 import model
-
-TOP = pathlib.Path(__file__).resolve().parent.parent
-PROGRAM = str(TOP / "bin" / "maglev")
+from harness import PROGRAM
 
 # A TCP and a UDP packet of the flow's last byte, and a TCP packet that is a fragment.
 TCP = "450000280000400040066eb40a0000{:02x}c000020103e80050" + "00" * 8 + "5000" + "00" * 6
@@ -245,4 +243,5 @@ def main():
     sys.exit(failed > 0)
 
 
-main()
+if __name__ == "__main__":
+    main()

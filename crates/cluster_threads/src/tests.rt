@@ -1,4 +1,4 @@
-//! Runs of two nodes at once.
+//! Runs of two nodes, and of two workers, at once.
 ghost use Rattle.std.specs.Prelude.{◌≡◌, length};
 
 use crate::run_cluster;
@@ -20,13 +20,16 @@ use std::thread;
 
 const VIP: u32 = 0xc000_0201;
 
-const FLOW: Flow = Flow {
-    src: 0x0a00_0001,
-    dst: VIP,
-    sport: 1000,
-    dport: 80,
-    proto: 6,
-};
+// The flow from a port to the service.
+fn flow(sport: u16) -> Flow {
+    Flow {
+        src: 0x0a00_0001,
+        dst: VIP,
+        sport,
+        dport: 80,
+        proto: 6,
+    }
+}
 
 fn backend(rt: &impl Abort) -> Backend {
     Backend {
@@ -60,28 +63,42 @@ fn catalogue(rt: &impl Abort, alloc: Global) -> Catalogue {
     all
 }
 
-// A cluster of two nodes of one worker each.
-fn two_nodes(rt: &impl Abort, alloc: Global) -> Setup<Maglev<SumHash>, SumHash>
-    ensures { length result.nodes ≡ 2 }
+// A cluster of these nodes, each of so many workers.
+fn cluster(
+    rt: &impl Abort,
+    alloc: Global,
+    nodes: &[u32],
+    workers: u16,
+) -> Setup<Maglev<SumHash>, SumHash>
+    ensures { length result.nodes ≡ length nodes.now }
 {
-    let nodes = Vec::from_slice(alloc, &[0x0a09_0001, 0x0a09_0002]).expect(rt, "memory");
+    let nodes = Vec::from_slice(alloc, nodes).expect(rt, "memory");
     let size = TableSize::new(7).expect(rt, "a size");
-    Setup::new(SumHash, Maglev { hash: SumHash }, size, nodes, 1, 2).expect(rt, "a setup")
+    Setup::new(SumHash, Maglev { hash: SumHash }, size, nodes, workers, 2).expect(rt, "a setup")
 }
 
-// Each node's worker waits in its first call for the other node's.
+// Of two workers, of one node or of two, each waits in its first call for the other.
 #[derive(Drop)]
-struct MeetNodes {
+struct Meet {
     came: [AtomicU64; 2],
     missed: AtomicU64,
 }
 
-impl Gate for MeetNodes {
-    fn before(&self, node: u16, _worker: u16, nth: u64) {
-        if nth > 0 || node > 1 {
+impl Meet {
+    fn new() -> Meet {
+        Meet {
+            came: [AtomicU64::new(0), AtomicU64::new(0)],
+            missed: AtomicU64::new(0),
+        }
+    }
+}
+
+impl Gate for Meet {
+    fn before(&self, node: u16, worker: u16, nth: u64) {
+        let me = usize::from(node | worker);
+        if nth > 0 || me > 1 {
             return;
         }
-        let me = usize::from(node);
         self.came[me].store(1, Ordering::SeqCst);
         for _ in 0..10_000_000u64 {
             if self.came[1 - me].load(Ordering::SeqCst) == 1 {
@@ -95,32 +112,42 @@ impl Gate for MeetNodes {
     fn after(&self, _node: u16, _worker: u16, _nth: u64) {}
 }
 
-const PLACED: Outcome = Outcome::Placed {
-    worker: 0,
-    floor: 1,
-};
+fn placed(worker: u16) -> Outcome {
+    Outcome::Placed { worker, floor: 1 }
+}
 
-// What a node sends.
-fn sent_by(rt: &impl Abort, node: u16) -> Outcome {
+// What a worker sends of the packet of this flow.
+fn sent_by(rt: &impl Abort, node: u16, worker: u16, packet: u32, flow: Flow) -> Outcome {
     Outcome::Forward {
         node,
-        worker: 0,
-        packet: 0,
-        flow: FLOW,
+        worker,
+        packet,
+        flow,
         backend: backend(rt),
         origin: 1,
     }
 }
 
-// The history of both nodes, node by node.
-fn expected(rt: &impl Abort) -> [Outcome; 6] {
+// The history of two nodes, node by node.
+fn by_nodes(rt: &impl Abort) -> [Outcome; 6] {
     [
         Outcome::Installed,
-        PLACED,
-        sent_by(rt, 0),
+        placed(0),
+        sent_by(rt, 0, 0, 0, flow(1000)),
         Outcome::Installed,
-        PLACED,
-        sent_by(rt, 1),
+        placed(0),
+        sent_by(rt, 1, 0, 0, flow(1000)),
+    ]
+}
+
+// The history of two workers, the servings worker by worker.
+fn by_workers(rt: &impl Abort) -> [Outcome; 5] {
+    [
+        Outcome::Installed,
+        placed(0),
+        placed(1),
+        sent_by(rt, 0, 0, 0, flow(1000)),
+        sent_by(rt, 0, 1, 1, flow(1001)),
     ]
 }
 
@@ -128,16 +155,13 @@ fn expected(rt: &impl Abort) -> [Outcome; 6] {
 #[test]
 fn two_nodes_serve_at_once(rt: HostRuntime) -> Result<(), Fail> {
     let alloc: Global = rt.alloc();
-    let setup = two_nodes(&rt, alloc);
+    let setup = cluster(&rt, alloc, &[0x0a09_0001, 0x0a09_0002], 1);
     let catalogue = catalogue(&rt, alloc);
     let packets = [Packet::Good {
-        flow: FLOW,
+        flow: flow(1000),
         len: 40,
     }];
-    let gate = MeetNodes {
-        came: [AtomicU64::new(0), AtomicU64::new(0)],
-        missed: AtomicU64::new(0),
-    };
+    let gate = Meet::new();
     let commands = [Command::Publish(1), Command::Offer(0)];
     let first = Vec::from_slice(alloc, &commands)?;
     let second = Vec::from_slice(alloc, &commands)?;
@@ -151,14 +175,45 @@ fn two_nodes_serve_at_once(rt: HostRuntime) -> Result<(), Fail> {
     };
     assert!(rt; gate.missed.load(Ordering::SeqCst) == 0);
     assert!(rt; run.history().len() == 6);
-    assert!(rt; run.outcomes() == expected(&rt).as_slice());
+    assert!(rt; run.outcomes() == by_nodes(&rt).as_slice());
     if run.nodes.len() != 2 {
         assert!(rt; false);
         return Ok(());
     }
     assert!(rt; run.sent(1).len() == 1);
     for life in run.sent(1) {
-        assert!(rt; life.as_slice() == [sent_by(&rt, 1)].as_slice());
+        assert!(rt; life.as_slice() == [sent_by(&rt, 1, 0, 0, flow(1000))].as_slice());
     }
+    Ok(())
+}
+
+// So do two workers of one node, whose homes the two flows are.
+#[test]
+fn two_workers_serve_at_once(rt: HostRuntime) -> Result<(), Fail> {
+    let alloc: Global = rt.alloc();
+    let setup = cluster(&rt, alloc, &[0x0a09_0001], 2);
+    let catalogue = catalogue(&rt, alloc);
+    let packets = [
+        Packet::Good {
+            flow: flow(1000),
+            len: 40,
+        },
+        Packet::Good {
+            flow: flow(1001),
+            len: 40,
+        },
+    ];
+    let gate = Meet::new();
+    let commands = [Command::Publish(1), Command::Offer(0), Command::Offer(1)];
+    let lists = [Vec::from_slice(alloc, &commands)?];
+    let run = run_cluster::<_, _, PlainTable, _, _>(
+        &rt, alloc, &setup, &catalogue, &packets, &lists, 16, &gate,
+    );
+    let Ok(run) = run else {
+        assert!(rt; false);
+        return Ok(());
+    };
+    assert!(rt; gate.missed.load(Ordering::SeqCst) == 0);
+    assert!(rt; run.outcomes() == by_workers(&rt).as_slice());
     Ok(())
 }
