@@ -175,29 +175,24 @@ def test_scenarios():
         answer = answered(text, head())
         check(f"a scenario of {name}", is_fault(answer, fault), repr(answer)[:300])
     for name, text in [
-        ("with each line ended by two bytes", good.replace("\n", "\r\n")),
-        ("with a mark of byte order", "\ufeff" + good),
-        ("of bases and underscores", scenario(size="0x7", capacity="0b10", workers="0o1")),
+        ("with lines that two bytes end", good.replace("\n", "\r\n")),
+        ("with numbers of other bases", scenario(size="0x7", capacity="0b10", workers="0o1")),
     ]:
-        try:
-            accepted = __import__("tomllib").loads(text.lstrip("\ufeff")) is not None
-        except ValueError:
-            accepted = False
         answer = answered(text, head() + record(P))
-        check(f"a scenario {name}", reports(answer, "forwarded 1") if accepted else answer[0] == 1, repr(answer)[:300])
+        check(f"a scenario {name}", reports(answer, "forwarded 1"), repr(answer)[:300])
 
 
 def test_floods():
-    """A packet of each of 60,000 flows, in tables of 1,000 entries and of one."""
+    """A packet of each of 60,000 flows, in tables of one entry and of 1,000, and in rings of 64 places."""
     packets = [P[:20] + struct.pack(">H", 1000 + place) + P[22:] for place in range(60_000)]
     data = head() + b"".join(map(record, packets))
     for capacity in [1, 1000]:
-        text = scenario(["install 0 1", "take 60000"], capacity=capacity)
+        text = scenario(["install 0 1", "take 60000"], capacity=capacity, ring=64)
         for command in ["simulate", "run"]:
-            answer = answered(text + "" if command == "simulate" else text.replace("format = 1\n", "format = 1\nring = 64\n"), data, command)
+            answer = answered(text, data, command)
             lines = dict(line.rsplit(" ", 1) for line in answer[1])
-            told = sum(int(lines.get(key, 0)) for key in ["forwarded", "drop RingsFull"])
-            holds = answer[0] == 0 and lines["received"] == "60000" and told == 60000 and lines["waiting"] == "0"
+            told = int(lines["forwarded"]) + int(lines.get("drop RingsFull", 0))
+            holds = reports(answer, "received 60000", "waiting 0") and told == 60_000
             check(f"{command} with tables of {capacity}", holds, repr(answer[:3]))
 
 
