@@ -17,7 +17,7 @@ run_named-requires-clause-nodes g c κs within =
     one ∙ sym (length-map c.in_ok-orders.orders.commands.items (λ l. l.items)) ∙ ap (λ l. length l) c.in_ok-orders.ensures.commands ∙ orders_long (length c.args.scenario.now.nodes.items) _
 
 pub run_report-requires : goal.run_report-requires
-run_report-requires g c = balanced _ _ _ c.in_ok-audited.audited.run.history c.as_slice-outcomes.result.now (subst (λ (l : List Packet). WereRead l) (sym c.as_slice-3.ensures.value) c.in_ok-packets.ensures.read) c.in_ok-audited.ensures.runs.1 c.as_slice-outcomes.ensures.value
+run_report-requires g c = balanced _ _ _ c.in_ok-audited.audited.run.history c.outcomes-outcomes.result.now (subst (λ (l : List Packet). WereRead l) (sym c.as_slice-3.ensures.value) c.in_ok-packets.ensures.read) c.in_ok-audited.ensures.runs.1 c.outcomes-outcomes.ensures
 
 pub returns-clause-report : goal.returns-clause-report
 returns-clause-report g c =
@@ -28,6 +28,6 @@ returns-clause-report g c =
     c.as_slice-2.ensures.value ∙ c.in_ok-packets.ensures.packets ∙ packets_are s c.wire_of-wire.result link c.as_slice.result.now c.args.captured.now.frames.items c.wire_of-wire.ensures.link c.wire_of-wire.ensures.check c.as_slice.ensures.value in
     let tally : c.in_ok-orders.orders.tally ≡ tally_in s link records = c.in_ok-orders.ensures.tally ∙ tally_is s link records c.as_slice-2.result.now are in
     c.in_ok-text.ensures
-    ∙ ap (λ (t : Tally). run_report t (totals_in c.as_slice-outcomes.result.now) (is_cut c.args.captured.now.ending) c.in_ok-audited.audited.agrees) tally
-    ∙ ap (λ (os : List Outcome). run_report (tally_in s link records) (totals_in os) (is_cut c.args.captured.now.ending) c.in_ok-audited.audited.agrees) c.as_slice-outcomes.ensures.value
+    ∙ ap (λ (t : Tally). run_report t (totals_in c.outcomes-outcomes.result.now) (is_cut c.args.captured.now.ending) c.in_ok-audited.audited.agrees) tally
+    ∙ ap (λ (os : List Outcome). run_report (tally_in s link records) (totals_in os) (is_cut c.args.captured.now.ending) c.in_ok-audited.audited.agrees) c.outcomes-outcomes.ensures
     ∙ ap (λ (b : Bool). run_report (tally_in s link records) (totals_in c.in_ok-audited.audited.run.history.outcomes.items) (is_cut c.args.captured.now.ending) b) c.in_ok-audited.ensures.audit
