@@ -14,9 +14,7 @@ import sys
 import tempfile
 
 import model
-
-TOP = pathlib.Path(__file__).resolve().parent.parent
-PROGRAM = str(TOP / "bin" / "maglev")
+from harness import PROGRAM
 
 # A TCP and a UDP packet of the flow's last byte, and a TCP packet that is a fragment.
 TCP = "450000280000400040066eb40a0000{:02x}c000020103e80050" + "00" * 8 + "5000" + "00" * 6

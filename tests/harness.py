@@ -1,0 +1,29 @@
+"""What the scripts of this folder share: comparisons that are counted, and a module's tests, run in turn."""
+import os
+import pathlib
+
+TOP = pathlib.Path(__file__).resolve().parent.parent
+PROGRAM = str(TOP / "bin" / "maglev")
+
+passed = 0
+failed = 0
+
+
+def check(name, holds, detail=""):
+    """Counts one comparison, and says which failed."""
+    global passed, failed
+    passed += bool(holds)
+    failed += not holds
+    if not holds:
+        print(f"FAILED {name}: {detail}")
+
+
+def run_tests(names):
+    """Calls each test among a module's names, in their order, from the top of the repository. The last line is
+    'N passed, N failed'; the answer is the status to end with."""
+    os.chdir(TOP)
+    for name, test in sorted(names.items()):
+        if name.startswith("test_"):
+            test()
+    print(f"{passed} passed, {failed} failed")
+    return 1 if failed else 0
