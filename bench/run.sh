@@ -5,7 +5,7 @@
 source "$(dirname "$(readlink -f "${BASH_SOURCE[0]}")")/common.sh"
 "$top/bin/maglev" --help >/dev/null # builds it
 maglev=$top/crates/maglev/out/maglev
-python3 "$top/bench/make_capture.py" "$work/input.pcap" 1000000 100000
+python3 "$top/bench/many_clients.py" "$work/input.pcap" 1000000 100000
 
 # scenario NODES WORKERS: prints a scenario in which every node gets its share of the capture.
 scenario() {

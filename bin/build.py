@@ -1,15 +1,23 @@
 #!/usr/bin/env python3
-"""Proves and builds a program of this repository with all that it stands on, as many crates side by side as there are
-processors and memory for. `build.py NAME` prints a line for each crate when it is proved; where one isn't, its lines.
+"""build.py NAME: proves and builds a program of this repository with all that it stands on, as many crates side by side as
+there are processors and memory for, those with the longest way to the program first. It prints a line for each crate when it
+is proved; where one isn't, its lines. `build.py --sources NAME` only lists what the program is built from.
+
+`rt` keeps others out of each crate that it reads, so that two runs of it over one lower crate wait for each other. So each
+library is proved in a tree of its own, whose files are links to those here.
 """
 import concurrent.futures
+import fcntl
 import os
 import pathlib
+import shutil
 import subprocess
 import sys
+import tempfile
 import time
 
 TOP = pathlib.Path(__file__).resolve().parent.parent
+CRATES = TOP / "crates"
 # What one check may take, in bytes.
 ROOM = 3 << 30
 
@@ -36,6 +44,21 @@ def needed(name, below):
     return seen
 
 
+def lines_of(name):
+    """The lines of a crate, which stand for the time that its proof takes."""
+    files = [path for part in ("src", "specs", "proofs") for path in (CRATES / name / part).rglob("*") if path.is_file()]
+    return sum(path.read_bytes().count(b"\n") for path in files)
+
+
+def ways(crates, below):
+    """From each crate to the lines of the longest way from it up to the program, its own among them."""
+    found = {}
+    for one in sorted(crates, key=lambda one: -len(needed(one, below))):
+        above = [found[other] for other in crates if one in below[other]]
+        found[one] = lines_of(one) + max(above, default=0)
+    return found
+
+
 def jobs():
     """How many checks run side by side."""
     pages = os.sysconf("SC_AVPHYS_PAGES") * os.sysconf("SC_PAGE_SIZE")
@@ -47,38 +70,119 @@ def taken(seconds):
     return f"{minutes} min {seconds} s" if minutes else f"{seconds} s"
 
 
-def prove(name):
-    """Proves a crate whose lower crates are proved. Its lines where that fails, else None; and the seconds."""
+def link(source, target):
+    """Makes a file that is another one's, or a copy of it where that can't be."""
+    try:
+        os.link(source, target)
+    except OSError:
+        shutil.copy2(source, target)
+
+
+def make_tree(tree, name, below):
+    """Links the crate, with what its earlier checks kept, and the libraries below it."""
+    for one in needed(name, below):
+        left = shutil.ignore_patterns("must-fail", *([] if one == name else ["incremental"]))
+        shutil.copytree(CRATES / one, tree / "crates" / one, copy_function=link, ignore=left)
+    (tree / "crates.txt").write_text("".join(f"{one}: {line}\n" for one, line in listed(needed(name, below))))
+
+
+def listed(crates):
+    """What crates.txt says of some crates, each with its words behind the colon."""
+    lines = [line.partition(":") for line in (TOP / "crates.txt").read_text().splitlines()]
+    return [(head, tail.strip()) for head, colon, tail in lines if colon and head.split()[0] in crates]
+
+
+def prove_library(name, below, trees, at_once):
+    """Proves a library in a tree of its own. What rt answered; and the seconds."""
     start = time.monotonic()
-    words = ["rt", "lib"] if (TOP / "crates" / name / "src" / "lib.rt").exists() else ["rt", "check"]
-    done = subprocess.run(words, cwd=TOP / "crates" / name, capture_output=True, text=True, check=False)
-    return (done.stdout + done.stderr if done.returncode else None), time.monotonic() - start
+    with tempfile.TemporaryDirectory(dir=trees) as folder:
+        make_tree(pathlib.Path(folder), name, below)
+        crate = pathlib.Path(folder) / "crates" / name
+        done = subprocess.run(["rt", "lib", "--jobs", str(at_once)], cwd=crate, capture_output=True, text=True, check=False)
+        shutil.rmtree(CRATES / name / "out", ignore_errors=True)
+        if (crate / "out").exists():
+            shutil.move(crate / "out", CRATES / name / "out")
+    return done, time.monotonic() - start
+
+
+class Progress:
+    """What is told of each crate."""
+
+    def __init__(self, whole):
+        self.whole = whole
+        self.proved = set()
+
+    def takes(self, name, done, seconds):
+        """Tells what became of a crate, and answers whether it was proved."""
+        if done.returncode:
+            print(f"{done.stdout}{done.stderr}{name} is not proved", flush=True)
+            return False
+        self.proved.add(name)
+        print(f"{len(self.proved)}/{self.whole} {name}, {taken(seconds)}", flush=True)
+        return True
+
+
+def prove_libraries(crates, below, trees, progress):
+    """Proves libraries, each once those below it are. Whether that worked."""
+    way = ways(crates, below)
+    waiting, running, places = set(crates), {}, jobs()
+    with concurrent.futures.ThreadPoolExecutor(places) as pool:
+        while waiting or running:
+            ready = sorted((one for one in waiting if progress.proved.issuperset(below[one])), key=lambda one: -way[one])
+            at_once = max(1, places // max(1, len(running) + len(ready)))
+            for one in ready[: places - len(running)]:
+                waiting.remove(one)
+                running[pool.submit(prove_library, one, below, trees, at_once)] = one
+            for future in concurrent.futures.wait(running, return_when=concurrent.futures.FIRST_COMPLETED).done:
+                if not progress.takes(running.pop(future), *future.result()):
+                    return False
+    return True
+
+
+def write_sources(name):
+    """Lists the code that the program is built from, and its folders, each ended by a zero byte. A definition or a proof
+    changes no program."""
+    folders = [CRATES / one / "src" for one in needed(name, stands_on())]
+    paths = [path for folder in folders for path in [folder, *folder.rglob("*")]]
+    words = [os.fsencode(path.relative_to(TOP)) + b"\0" for path in [TOP / "crates.txt", *paths]]
+    (CRATES / name / "out" / "sources").write_bytes(b"".join(words))
+
+
+def prove_program(name, progress):
+    """Proves and builds the program, over proved libraries. What rt answered; and the seconds."""
+    start = time.monotonic()
+    done = subprocess.run(["rt", "check"], cwd=CRATES / name, capture_output=True, text=True, check=False)
+    if done.returncode == 0:
+        # rt run builds what it runs.
+        done = subprocess.run(["rt", "run", "--", "--help"], cwd=CRATES / name, capture_output=True, text=True, check=False)
+    return progress.takes(name, done, time.monotonic() - start)
 
 
 def build(name):
-    """Proves the crate and all below it. Whether that worked."""
+    """Proves the program and all below it, and builds it. Whether that worked."""
+    start = time.time()
     below = stands_on()
-    crates = needed(name, below)
-    above = {one: sum(one in needed(other, below) for other in crates) for one in crates}
-    waiting, running, proved = set(crates), {}, set()
-    places = jobs()
-    with concurrent.futures.ThreadPoolExecutor(places) as pool:
-        while waiting or running:
-            ready = [one for one in waiting if proved.issuperset(below[one])]
-            for one in sorted(ready, key=lambda one: -above[one])[: places - len(running)]:
-                waiting.remove(one)
-                running[pool.submit(prove, one)] = one
-            for future in concurrent.futures.wait(running, return_when=concurrent.futures.FIRST_COMPLETED).done:
-                one = running.pop(future)
-                lines, seconds = future.result()
-                if lines is not None:
-                    print(lines, end="")
-                    print(f"{one} is not proved")
-                    return False
-                proved.add(one)
-                print(f"{len(proved)}/{len(crates)} {one}, {taken(seconds)}", flush=True)
+    libraries = [one for one in needed(name, below) if one != name]
+    progress = Progress(len(libraries) + 1)
+    out = CRATES / name / "out"
+    out.mkdir(exist_ok=True)
+    with open(out / "building", "w") as held:
+        fcntl.flock(held, fcntl.LOCK_EX)
+        trees = out / "trees"
+        shutil.rmtree(trees, ignore_errors=True)
+        trees.mkdir()
+        done = prove_libraries(libraries, below, trees, progress)
+        shutil.rmtree(trees)
+        if not (done and prove_program(name, progress)):
+            return False
+        # What was changed since the build began is newer.
+        os.utime(out / name, (start, start))
+        write_sources(name)
     return True
 
 
 if __name__ == "__main__":
-    sys.exit(0 if build(sys.argv[1]) else 1)
+    if sys.argv[1] == "--sources":
+        write_sources(sys.argv[2])
+    else:
+        sys.exit(0 if build(sys.argv[1]) else 1)

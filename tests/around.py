@@ -12,20 +12,10 @@ import subprocess
 import sys
 import tempfile
 
-TOP = pathlib.Path(__file__).resolve().parent.parent
+import model
+from harness import TOP, check, run_tests
+
 EXAMPLE = TOP / "examples" / "failover"
-
-passed = 0
-failed = 0
-
-
-def check(name, holds, detail=""):
-    """Counts one comparison, and says which failed."""
-    global passed, failed
-    passed += bool(holds)
-    failed += not holds
-    if not holds:
-        print(f"FAILED {name}: {detail}")
 
 
 def has(tool):
@@ -42,24 +32,10 @@ def did(words, **more):
     return done.returncode, done.stdout, done.stderr
 
 
-def datagrams():
-    """The datagrams of the example, whose frames are Ethernet, with their records' times."""
-    text = EXAMPLE.with_suffix(".pcap").read_bytes()
-    at, found = 24, []
-    while at < len(text):
-        secs, micros, length, _ = struct.unpack_from("<IIII", text, at)
-        found.append((secs, micros, text[at + 16 + 14:at + 16 + length]))
-        at += 16 + length
-    return found
-
-
 def capture(link, header):
-    """The example's datagrams as a capture of another link type, each behind a header."""
-    text = struct.pack("<IHHiIII", 0xA1B2C3D4, 2, 4, 0, 0, 65535, link)
-    for secs, micros, datagram in datagrams():
-        record = header + datagram
-        text += struct.pack("<IIII", secs, micros, len(record), len(record)) + record
-    return text
+    """The example's datagrams, whose frames are Ethernet, as a capture of another link type, each behind a header."""
+    _, records, _ = model.read_capture(EXAMPLE.with_suffix(".pcap").read_bytes())
+    return model.written([(secs, micros, header + frame[14:]) for secs, micros, frame in records], link)
 
 
 def using(start):
@@ -197,14 +173,54 @@ def test_install():
     check("bin/install of nothing", did([TOP / "bin" / "install"])[0] == 2)
 
 
-def main():
-    for name, test in sorted(globals().items()):
-        if name.startswith("test_"):
-            test()
-    print(f"{passed} passed, {failed} failed")
-    return 1 if failed else 0
+# An rt that takes every library for proved but those that have a file `wrong`, and whose programs print their arguments.
+RT = """#!/bin/sh
+if [ -e src/wrong ]; then echo "src/lib.rt: not proved"; exit 1; fi
+mkdir -p out
+if [ "$1" = run ]; then printf '#!/bin/sh\\necho "ran $*"\\n' > out/maglev; chmod +x out/maglev; fi
+"""
+
+
+def small_repository(top):
+    """A program over one library, a crate that it doesn't need, and an rt; gives the words and the environment of a call."""
+    shutil.copytree(TOP / "bin", top / "bin")
+    (top / "crates.txt").write_text("low:\nother: low\nmaglev: low clap\n")
+    for name, file in [("low", "lib.rt"), ("other", "lib.rt"), ("maglev", "main.rt")]:
+        (top / "crates" / name / "src").mkdir(parents=True)
+        (top / "crates" / name / "src" / file).write_text("code\n")
+    (top / "kit").mkdir()
+    (top / "kit" / "rt").write_text(RT)
+    (top / "kit" / "rt").chmod(0o755)
+    return [top / "bin" / "maglev", "a"], {**os.environ, "PATH": f"{top / 'kit'}:{os.environ['PATH']}"}
+
+
+def test_first_run():
+    """bin/maglev builds what the program needs where a source is newer than it, with a line for each crate, and not else."""
+    built = b"maglev: proving and building the program\n1/2 low\n2/2 maglev\n"
+
+    def call():
+        status, out, err = did(words, env=env)
+        return status, out, re.sub(rb", \d+ s", b"", err)
+
+    with tempfile.TemporaryDirectory() as made:
+        top = pathlib.Path(made)
+        words, env = small_repository(top)
+        sources = top / "crates" / "low" / "src"
+        check("the first run builds", call() == (0, b"ran a\n", built))
+        check("the second doesn't", call() == (0, b"ran a\n", b""))
+        check("nor from another folder", did(words, env=env, cwd="/") == (0, b"ran a\n", b""))
+        (top / "crates" / "other" / "src" / "lib.rt").write_text("changed\n")
+        check("nor where another crate changed", call() == (0, b"ran a\n", b""))
+        (sources / "lib.rt").write_text("changed\n")
+        check("a changed source", call() == (0, b"ran a\n", built))
+        (sources / "more.rt").write_text("code\n")
+        check("a new source", call() == (0, b"ran a\n", built))
+        check("neither is newer any more", call() == (0, b"ran a\n", b""))
+        (sources / "wrong").write_text("")
+        status, out, err = call()
+        lines = b"src/lib.rt: not proved\nlow is not proved\nmaglev: the program can't be built\n"
+        check("a crate that isn't proved", (status, out) == (3, b"") and err.endswith(lines), repr(err))
 
 
 if __name__ == "__main__":
-    os.chdir(TOP)
-    sys.exit(main())
+    sys.exit(run_tests(globals()))

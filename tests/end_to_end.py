@@ -14,22 +14,7 @@ import sys
 import tempfile
 
 import model
-
-TOP = pathlib.Path(__file__).resolve().parent.parent
-PROGRAM = str(TOP / "bin" / "maglev")
-
-passed = 0
-failed = 0
-
-
-def check(name, holds, detail=""):
-    """Counts one comparison, and says which failed."""
-    global passed, failed
-    if holds:
-        passed += 1
-    else:
-        failed += 1
-        print(f"FAILED {name}: {detail}")
+from harness import PROGRAM, TOP, check, run_tests
 
 
 def run(arguments, stdin=b"", cwd=None, stdout=subprocess.PIPE):
@@ -377,6 +362,33 @@ def test_simulate_captures():
     stops("an empty file", text, b"", "ShortHeader", None)
 
 
+def unprinted(arguments, folder):
+    """A report that can't be written is a fault."""
+    with open("/dev/full", "wb") as full:
+        status, _, err = run(arguments, cwd=folder, stdout=full)
+    check(f"{arguments[0]}: a report that can't be written", (status, err) == (1, b"fault: Write\n"), f"{status} {err!r}")
+
+
+def breaks_at_files(command):
+    """A command that writes an output says which of its files it can't use, and spoils none."""
+
+    def use(folder):
+        words = [command, "s.toml", "in.pcap"]
+        faults(f"{command}: a folder as a scenario", [command, ".", "in.pcap", "out"], "ReadScenario", cwd=folder)
+        faults(f"{command}: a folder as an input", [command, "s.toml", ".", "out"], "Read", cwd=folder)
+        check(f"{command}: OUTPUT isn't made", not (folder / "out").exists())
+        faults(f"{command}: a folder as an output", [*words, "."], "OpenOutput", cwd=folder)
+        faults(f"{command}: an output in no folder", [*words, "none/out"], "OpenOutput", cwd=folder)
+        faults(f"{command}: an output that can't be written", [*words, "/dev/full"], "Write", cwd=folder)
+        (folder / "old").write_bytes(b"old")
+        faults(f"{command}: a bad header", [command, "s.toml", "s.toml", "old"], "BadMagic", cwd=folder)
+        check(f"{command}: OUTPUT isn't emptied", (folder / "old").read_bytes() == b"old")
+        unprinted([*words, "out"], folder)
+        check(f"{command}: OUTPUT stands before the report", (folder / "out").read_bytes() == WRITTEN_HEAD + SENT_RECORD)
+
+    with_files(scenario(["install 0 1", "take 1"]), capture("y"), use)
+
+
 def test_simulate_faults():
     good = scenario(["install 0 1", "take 1"])
     stops("no TOML", "format = ", HEAD, "BadToml", None)
@@ -396,25 +408,8 @@ def test_simulate_faults():
     words = ["explain", "s.toml", "in.pcap", "0", "1"]
     answer = with_files(good, None, lambda folder: run(words, cwd=folder))
     check("explain of no input", answer == (1, b"", b"fault: OpenInput\n"), repr(answer))
-
-    def use(folder):
-        simulate = ["simulate", "s.toml", "in.pcap"]
-        faults("a folder as a scenario", ["simulate", ".", "in.pcap", "out"], "ReadScenario", cwd=folder)
-        faults("a folder as an input", ["simulate", "s.toml", ".", "out"], "Read", cwd=folder)
-        check("OUTPUT isn't made", not (folder / "out").exists())
-        faults("a folder as an output", [*simulate, "."], "OpenOutput", cwd=folder)
-        faults("an output in no folder", [*simulate, "none/out"], "OpenOutput", cwd=folder)
-        faults("an output that can't be written", [*simulate, "/dev/full"], "Write", cwd=folder)
-        (folder / "old").write_bytes(b"old")
-        faults("a bad header", ["simulate", "s.toml", "s.toml", "old"], "BadMagic", cwd=folder)
-        check("OUTPUT isn't emptied", (folder / "old").read_bytes() == b"old")
-        for arguments in [[*simulate, "out"], ["explain", "s.toml", "in.pcap", "0", "1"]]:
-            with open("/dev/full", "wb") as full:
-                status, _, err = run(arguments, cwd=folder, stdout=full)
-            check(f"{arguments[0]}: a report that can't be written", (status, err) == (1, b"fault: Write\n"), f"{status} {err!r}")
-        check("OUTPUT stands before the report", (folder / "out").read_bytes() == WRITTEN_HEAD + SENT_RECORD)
-
-    with_files(good, capture("y"), use)
+    with_files(good, capture("y"), lambda folder: unprinted(words, folder))
+    breaks_at_files("simulate")
     misused("explain of a word", ["explain", "s.toml", "in.pcap", "one", "2"])
     misused("explain of a number that doesn't fit", ["explain", "s.toml", "in.pcap", "0", str(2**64)])
     misused("explain of one event", ["explain", "s.toml", "in.pcap", "0"])
@@ -534,23 +529,7 @@ def test_run_faults():
     breaks_off("run: pcapng", good, bytes.fromhex("0a0d0d0a") + bytes(40), "BadMagic")
     long = struct.pack(">4I", 0, 0, 262145, 262145)
     breaks_off("run: a record that is too long", good, HEAD + record(P) + long, "TooLong")
-
-    def use(folder):
-        words = ["run", "s.toml", "in.pcap"]
-        faults("run: a folder as a scenario", ["run", ".", "in.pcap", "out"], "ReadScenario", cwd=folder)
-        faults("run: a folder as an input", ["run", "s.toml", ".", "out"], "Read", cwd=folder)
-        check("run: OUTPUT isn't made", not (folder / "out").exists())
-        faults("run: a folder as an output", [*words, "."], "OpenOutput", cwd=folder)
-        faults("run: an output that can't be written", [*words, "/dev/full"], "Write", cwd=folder)
-        (folder / "old").write_bytes(b"old")
-        faults("run: a bad header", ["run", "s.toml", "s.toml", "old"], "BadMagic", cwd=folder)
-        check("run: OUTPUT isn't emptied", (folder / "old").read_bytes() == b"old")
-        with open("/dev/full", "wb") as full:
-            status, _, err = run([*words, "out"], cwd=folder, stdout=full)
-        check("run: a report that can't be written", (status, err) == (1, b"fault: Write\n"), f"{status} {err!r}")
-        check("run: OUTPUT stands before the report", (folder / "out").read_bytes() == WRITTEN_HEAD + SENT_RECORD)
-
-    with_files(good, capture("y"), use)
+    breaks_at_files("run")
     misused("run without an output", ["run", "s.toml", "in.pcap"])
     misused("run with a list", ["run", "--list", "s.toml", "in.pcap", "out.pcap"])
 
@@ -715,15 +694,6 @@ def test_definitions():
     check("docs/DEFINITIONS.md lists the definitions", done.returncode == 0)
 
 
-def main():
-    subprocess.run([PROGRAM, "--help"], stdout=subprocess.DEVNULL, check=True)
-    for name, test in sorted(globals().items()):
-        if name.startswith("test_"):
-            test()
-    print(f"{passed} passed, {failed} failed")
-    return 1 if failed else 0
-
-
 if __name__ == "__main__":
-    os.chdir(TOP)
-    sys.exit(main())
+    subprocess.run([PROGRAM, "--help"], stdout=subprocess.DEVNULL, check=True)
+    sys.exit(run_tests(globals()))

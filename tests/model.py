@@ -118,9 +118,9 @@ def wrapped(datagram, node, backend):
     return head + b"\x00\x00\x08\x00" + datagram
 
 
-def written(records):
-    """A capture of these records."""
-    head = struct.pack("<IHHIIII", 0xA1B2C3D4, 2, 4, 0, 0, 65535, 101)
+def written(records, link=101):
+    """A capture of these records, of raw IP or of another link type."""
+    head = struct.pack("<IHHIIII", 0xA1B2C3D4, 2, 4, 0, 0, 65535, link)
     return head + b"".join(struct.pack("<4I", secs, micros, len(data), len(data)) + data for secs, micros, data in records)
 
 

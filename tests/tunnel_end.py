@@ -12,12 +12,13 @@ import os
 import pathlib
 import shutil
 import socket
-import struct
 import subprocess
 import sys
 import tempfile
 
-TOP = pathlib.Path(__file__).resolve().parent.parent
+import model
+from harness import TOP
+
 NEAR, FAR = f"maglev-near-{os.getpid()}", f"maglev-far-{os.getpid()}"
 # Of frames that are sent, the far device's address and the near one's.
 TO, FROM = "02:00:00:00:00:02", "02:00:00:00:00:01"
@@ -28,25 +29,10 @@ def quiet(*words):
     return subprocess.run(words, capture_output=True, check=False).returncode == 0
 
 
-def records(path):
-    """The records of a capture that the program wrote: little-endian, microseconds, raw IP."""
-    text = path.read_bytes()
-    at, found = 24, []
-    while at < len(text):
-        length = struct.unpack_from("<I", text, at + 8)[0]
-        found.append(text[at + 16:at + 16 + length])
-        at += 16 + length
-    return found
-
-
-def as_frames(datagrams, path):
-    """Writes a capture of Ethernet frames, since a link wants frames."""
+def as_frames(datagrams):
+    """A capture of Ethernet frames, since a link wants frames."""
     header = bytes.fromhex((TO + FROM).replace(":", "")) + b"\x08\x00"
-    text = struct.pack("<IHHiIII", 0xA1B2C3D4, 2, 4, 0, 0, 65535, 1)
-    for datagram in datagrams:
-        frame = header + datagram
-        text += struct.pack("<IIII", 0, 0, len(frame), len(frame)) + frame
-    path.write_bytes(text)
+    return model.written([(0, 0, header + datagram) for datagram in datagrams], 1)
 
 
 def joined(backends):
@@ -104,8 +90,8 @@ def compare():
         sent, frames = pathlib.Path(folder) / "sent.pcap", pathlib.Path(folder) / "frames.pcap"
         example = TOP / "examples" / "failover"
         subprocess.run([TOP / "bin" / "maglev", "simulate", f"{example}.toml", f"{example}.pcap", sent], capture_output=True, check=True)
-        datagrams = records(sent)
-        as_frames(datagrams, frames)
+        datagrams = [datagram for _, _, datagram in model.read_capture(sent.read_bytes())[1]]
+        frames.write_bytes(as_frames(datagrams))
         expected = [(socket.inet_ntoa(datagram[16:20]), datagram[24:]) for datagram in datagrams]
         try:
             if not joined(sorted({backend for backend, _ in expected})):

@@ -1,0 +1,122 @@
+use crate::{Flaw, Key, Place, key_place, member_place};
+use scenario::ScenarioFault;
+use std::alloc::Global;
+use std::process::Abort;
+
+const GOOD: &str = "format = 1
+size = 7
+hash = 'sum'
+scheme = 'maglev'
+spread = 'turn'
+workers = 1
+capacity = 2
+nodes = ['10.9.0.1', '10.9.0.2']
+steps = ['install 0 1', 'take 1']
+[[versions]]
+number = 1
+services = []
+[[versions]]
+number = 2
+[[versions.services]]
+vip = '192.0.2.1'
+proto = 'tcp'
+port = 80
+members = ['A@10.8.0.1', 'B@10.8.0.2/down']
+";
+
+// The place in the good scenario with the first of a text replaced. It is there where reading answers BadKey, and only there.
+fn place_with(rt: &impl Abort, alloc: Global, old: &str, new: &str) -> Option<Place> {
+    let text = GOOD.replacen(alloc, old, new, 1).expect(rt, "memory");
+    let table = toml::table_from_str(alloc, text.as_str()).expect(rt, "a document");
+    let place = key_place(alloc, &table).expect(rt, "memory");
+    let fault = scenario::read(alloc, text.as_bytes()).err();
+    assert_eq!(rt; fault == Some(ScenarioFault::BadKey), place.is_some());
+    place
+}
+
+#[test]
+fn places_of_the_setup(rt: HostRuntime) {
+    let alloc = rt.alloc();
+    let place = |old: &str, new: &str| place_with(&rt, alloc, old, new);
+    assert_eq!(rt; place("", ""), None);
+    assert_eq!(rt; place("", "color = 1\n"), Some(Place::Root(Flaw::Unknown)));
+    for (old, new, key) in [
+        ("size = 7", "size = 8", Key::Size),
+        ("'sum'", "'md5'", Key::Hash),
+        ("'maglev'", "1", Key::Scheme),
+        ("'turn'", "'turns'", Key::Spread),
+        ("workers = 1", "workers = 17", Key::Workers),
+        ("capacity = 2\n", "", Key::Capacity),
+        ("size = 7", "size = 7\nring = 0", Key::Ring),
+        ("size = 7", "size = 7\ncheck = 1", Key::Check),
+        ("['10.9.0.1', '10.9.0.2']", "[]", Key::Nodes),
+        ("['install 0 1', 'take 1']", "1", Key::Steps),
+    ] {
+        assert_eq!(rt; place(old, new), Some(Place::Root(Flaw::Value(key))));
+    }
+    let node = Place::Root(Flaw::Item(Key::Nodes, 1));
+    assert_eq!(rt; place("10.9.0.2", "10.9.0.02"), Some(node));
+    let step = Place::Root(Flaw::Item(Key::Steps, 1));
+    assert_eq!(rt; place("'take 1'", "3"), Some(step));
+}
+
+#[test]
+fn places_of_the_versions(rt: HostRuntime) {
+    let alloc = rt.alloc();
+    let place = |old: &str, new: &str| place_with(&rt, alloc, old, new);
+    let own = |version, flaw| Some(Place::Version(version, flaw));
+    assert_eq!(rt; place("number = 2", ""), own(1, Flaw::Value(Key::Number)));
+    assert_eq!(rt;
+        place("services = []", ""),
+        own(0, Flaw::Value(Key::Services))
+    );
+    assert_eq!(rt;
+        place("number = 2", "number = 2\nname = 'b'"),
+        own(1, Flaw::Unknown)
+    );
+    let service = |flaw| Some(Place::Service(1, 0, flaw));
+    assert_eq!(rt;
+        place("192.0.2.1", "192.0.2.256"),
+        service(Flaw::Value(Key::Vip))
+    );
+    assert_eq!(rt; place("'tcp'", "'sctp'"), service(Flaw::Value(Key::Proto)));
+    assert_eq!(rt;
+        place("port = 80", "port = 65536"),
+        service(Flaw::Value(Key::Port))
+    );
+    assert_eq!(rt;
+        place("port = 80", "port = 80\nweight = 1"),
+        service(Flaw::Unknown)
+    );
+    let item = Flaw::Item(Key::Members, 1);
+    assert_eq!(rt; place("'B@10.8.0.2/down'", "2"), service(item));
+    let none = Some(Place::Service(0, 0, Flaw::NoTable));
+    assert_eq!(rt; place("services = []", "services = [1]"), none);
+    assert_eq!(rt; place("B@", "B"), None);
+}
+
+// The place of a member word in the good scenario with the first of a text replaced. It is there where reading answers
+// BadMember, and only there.
+fn word_with(rt: &impl Abort, alloc: Global, old: &str, new: &str) -> Option<Place> {
+    let text = GOOD.replacen(alloc, old, new, 1).expect(rt, "memory");
+    let table = toml::table_from_str(alloc, text.as_str()).expect(rt, "a document");
+    let place = member_place(alloc, &table).expect(rt, "memory");
+    let fault = scenario::read(alloc, text.as_bytes()).err();
+    assert_eq!(rt; fault == Some(ScenarioFault::BadMember), place.is_some());
+    place
+}
+
+#[test]
+fn places_of_members(rt: HostRuntime) {
+    let alloc = rt.alloc();
+    assert_eq!(rt; word_with(&rt, alloc, "", ""), None);
+    let word = |n| Some(Place::Service(1, 0, Flaw::Item(Key::Members, n)));
+    assert_eq!(rt; word_with(&rt, alloc, "A@10", "A@010"), word(0));
+    assert_eq!(rt; word_with(&rt, alloc, "/down", "/up"), word(1));
+}
+
+#[test]
+fn names_of_keys(rt: HostRuntime) {
+    assert_eq!(rt; Key::Vip.name(), "vip");
+    assert_eq!(rt; Key::Members.name(), "members");
+}
