@@ -4,6 +4,7 @@
 The last line is 'N passed, N failed'. Expected values are worked out by hand or by another program, never taken from the
 program's own output.
 """
+import errno
 import os
 import pathlib
 import random
@@ -534,6 +535,76 @@ def test_run_faults():
     misused("run with a list", ["run", "--list", "s.toml", "in.pcap", "out.pcap"])
 
 
+def says(name, text, data, fault, line, words=("simulate", "s.toml", "in.pcap", "out.pcap")):
+    """With `--verbose` a second line stands behind the fault's, which begins so."""
+    command, *files = words
+    status, out, err = with_files(text, data, lambda folder: run([command, "-v", *files], cwd=folder))
+    first, _, second = err.decode().partition("\n")
+    is_right = (status, out, first) == (1, b"", f"fault: {fault}") and second.startswith(line) and second.count("\n") == 1
+    check(f"verbose: {name}", is_right, f"{status} {out!r} {err!r}")
+
+
+def test_verbose_of_a_scenario():
+    """The place in a scenario: its path, its line, what was found and what was expected."""
+    good = scenario(["install 0 1", "take 1"])
+    root = "format, size, hash, scheme, spread, workers, capacity, ring, check, nodes, steps, versions"
+    service = "versions[0].services[0]"
+    inline = 'services = [{ vip = "192.0.2.1", # one\n proto = "tcp", port = 80, members = [\n "A@10.8.0.1",\n 2 ] }]\n'
+    nested = good[: good.index("[[versions.services]]")] + inline
+    for name, changed, fault, line in [
+        ("no TOML", "format = 1\nsize = \n", "BadToml", "line 2, column 8: "),
+        ("no UTF-8", b"format = 1 # \xff\n", "BadToml", "line 1, column 14: "),
+        ("another format", good.replace("format = 1", "format = 2"), "BadFormat", "format, line 1: found 2, expected the number 1\n"),
+        ("an unknown key", "color = 1\n" + good, "BadKey", f"color, line 1: found 1, expected no key but {root}\n"),
+        ("a missing key", good.replace("capacity = 2\n", ""), "BadKey", "capacity is missing, expected a number from 1 to 1000000\n"),
+        ("a size", good.replace("size = 7", "size = 8"), "BadKey", "size, line 2: found 8, expected 7, 13, 251, 1021, 8191 or 65537\n"),
+        ("a node", good.replace("9.0.2", "9.0.02"), "BadKey", 'nodes[1], line 6: found "10.9.0.02", expected an address, as "10.9.0.1"\n'),
+        ("no node", good.replace('["10.9.0.1", "10.9.0.2"]', "[]"), "BadKey", "nodes, line 6: found an array, expected an array of 1 to 64"),
+        ("a port", good.replace("port = 80", "port = 65536", 1), "BadKey", f"{service}.port, line 15: found 65536, expected a number from 0 to 65535\n"),
+        ("a key of a service", good.replace("port = 80", "port = 80\nweight = 2", 1), "BadKey", f"{service}.weight, line 16: found 2, expected no key but vip,"),
+        ("an inline table", nested.replace('"tcp"', '"sctp"'), "BadKey", f'{service}.proto, line 13: found "sctp", expected "tcp" or "udp"\n'),
+        ("an item of an inline table", nested, "BadKey", f"{service}.members[1], line 15: found 2, expected a text\n"),
+        ("a member", good.replace("10.8.0.1", "10.8.0.01", 1), "BadMember", f'{service}.members[0], line 16: found "A@10.8.0.01", expected NAME@ADDRESS'),
+        ("a number twice", good.replace("number = 2", "number = 1"), "NumberTaken", "versions[1].number, line 18: found 1, expected a number that no"),
+        ("the number 0", good.replace("number = 2", "number = 0"), "BadNumber", "versions[1].number, line 18: found 0, expected a number from 1\n"),
+        ("a double name", good.replace("B@", "A@", 1), "DoubleName", f'{service}.members[1], line 16: found "A@10.8.0.2", expected a name that no'),
+        ("too many members", good.replace('"C@', '"D@10.8.0.4", "E@10.8.0.5", "F@10.8.0.6", "G@10.8.0.7", "H@10.8.0.8", "C@', 1), "TooMany", f'{service}.members[7], line 16: found "C@10.8.0.3", expected no more members than slots'),
+        ("a step", scenario(["install 0 1", "take 1", "install 2 1"]), "BadStep 2", 'steps[2], line 9: found "install 2 1", expected install N V,'),
+    ]:
+        says(name, changed, HEAD, fault, line)
+    twice = good + good[good.index("[[versions.services]]", good.index("number = 2")) :]
+    says("a double service", twice, HEAD, "DoubleService", "versions[1].services[1], line 24: found a table, expected an address, protocol and port that")
+    says("a step of run", scenario(["install 0 1", "hold 0"]), HEAD, "BadStep 1", 'steps[1], line 9: found "hold 0", expected ', ("run", "s.toml", "in.pcap", "out.pcap"))
+    says("explain", good.replace('"maglev"', "1"), HEAD, "BadKey", 'scheme, line 7: found 1, expected "maglev", "plain" or "round"\n', ("explain", "s.toml", "in.pcap", "0", "1"))
+    simulates("verbose: no fault", good, HEAD + record(P), report(1, 1), WRITTEN_HEAD + SENT_RECORD, ["-v"])
+
+
+def test_verbose_of_files():
+    """What a file is, which of its records is refused, and the system's reason."""
+    good = scenario(["install 0 1", "take 1"])
+    convert = "expected classic pcap: editcap -F pcap INPUT out.pcap\n"
+    long = struct.pack(">4I", 0, 0, 262145, 262145)
+    for name, data, fault, line in [
+        ("pcapng", bytes.fromhex("0a0d0d0a") + bytes(40), "BadMagic", f"in.pcap: found pcapng, {convert}"),
+        ("modified pcap", bytes.fromhex("34cdb2a1") + bytes(40), "BadMagic", f"in.pcap: found modified pcap, {convert}"),
+        ("gzip", bytes.fromhex("1f8b0800") + bytes(40), "BadMagic", "in.pcap: found gzip, expected classic pcap: gunzip -c INPUT > out.pcap\n"),
+        ("zstd", bytes.fromhex("28b52ffd") + bytes(40), "BadMagic", "in.pcap: found zstd, expected classic pcap: zstd -d -c INPUT > out.pcap\n"),
+        ("a cooked capture", HEAD[:23] + b"\x71", "BadLink", "in.pcap: found link type 113, Linux cooked capture, expected 1 (Ethernet)"),
+        ("an empty file", b"", "ShortHeader", "in.pcap: found 0 bytes, expected a header of 24\n"),
+        ("a record", HEAD + record(P) + long, "TooLong", "in.pcap, record 1: expected a record of at most 262144 bytes\n"),
+    ]:
+        says(name, good, data, fault, line)
+    missing = os.strerror(errno.ENOENT)
+    says("no scenario", None, HEAD, "OpenScenario", f"s.toml: {missing}")
+    says("no input", good, None, "OpenInput", f"in.pcap: {missing}")
+    says("a long scenario", good.ljust(1048577, "\n"), HEAD, "TooLong", "s.toml: expected at most 1048576 bytes\n")
+    of_folder = os.strerror(errno.EISDIR)
+    says("a folder as a scenario", good, HEAD, "ReadScenario", f".: {of_folder}", ("simulate", ".", "in.pcap", "out"))
+    says("a folder as an input", good, HEAD, "Read", f".: {of_folder}", ("simulate", "s.toml", ".", "out"))
+    says("a folder as an output", good, HEAD + record(P), "OpenOutput", f".: {of_folder}", ("simulate", "s.toml", "in.pcap", "."))
+    says("a full disk", good, HEAD + record(P), "Write", f"/dev/full: {os.strerror(errno.ENOSPC)}", ("simulate", "s.toml", "in.pcap", "/dev/full"))
+
+
 def random_capture(source):
     """A capture of datagrams of a few flows, some of which are spoiled."""
     packets = []
@@ -673,6 +744,7 @@ def test_command_line():
     misused("a negative size", ["table", "--size", "-7", "--hash", "sum", "A"])
     folder = TOP / "tests" / "texts"
     prints("the help", ["--help"], (folder / "maglev.txt").read_text())
+    prints("the help of help", ["help", "--help"], (folder / "maglev.txt").read_text())
     for name in ["table", "pick", "compare", "simulate", "explain", "run"]:
         prints(f"the help of {name}", [name, "--help"], (folder / f"{name}.txt").read_text())
     for name, words in [

@@ -174,6 +174,14 @@ fn event<'a>(alloc: Global, id: &'a str, name: &'a str) -> Arg<'a> {
         .value_parser(value_parser!(u64))
 }
 
+fn verbose<'a>(alloc: Global) -> Arg<'a> {
+    Arg::new(alloc, "verbose")
+        .short('v')
+        .long("verbose")
+        .help("with a fault, say where it is and what was expected, on standard error")
+        .action(ArgAction::SetTrue)
+}
+
 fn simulate<'a>(alloc: Global) -> Result<Command<'a>, Error> {
     let list = Arg::new(alloc, "list")
         .long("list")
@@ -185,6 +193,7 @@ fn simulate<'a>(alloc: Global) -> Result<Command<'a>, Error> {
         )
         .after_help(SIMULATE_HELP)
         .arg(list)?
+        .arg(verbose(alloc))?
         .arg(scenario(alloc))?
         .arg(input(alloc))?
         .arg(output(alloc))?;
@@ -197,6 +206,7 @@ fn explain<'a>(alloc: Global) -> Result<Command<'a>, Error> {
             "Plays a scenario over a capture, and prints why the packets of two events went where they went",
         )
         .after_help(EXPLAIN_HELP)
+        .arg(verbose(alloc))?
         .arg(scenario(alloc))?
         .arg(input(alloc))?
         .arg(event(alloc, "one", "I"))?
@@ -210,6 +220,7 @@ fn run<'a>(alloc: Global) -> Result<Command<'a>, Error> {
             "Runs a scenario's cluster on threads over a capture, writes what the nodes send, node by node, and prints a report with an audit",
         )
         .after_help(RUN_HELP)
+        .arg(verbose(alloc))?
         .arg(scenario(alloc))?
         .arg(input(alloc))?
         .arg(output(alloc))?;

@@ -1,4 +1,6 @@
 //! Files and standard streams that are opened at the first call.
+ghost use Rattle.std.specs.Io.{ReadsAtMost, WritesAtMost};
+
 use maglev_cli::CliFault;
 use std::alloc::Global;
 use std::fs::{File, metadata};
@@ -24,7 +26,11 @@ pub fn is_standard(path: &str) -> bool {
 /// Gives each standard stream that is closed a file that has nothing to read and can't be written, so that no file that is
 /// opened later takes its place. The files stand for the streams as long as they are kept.
 pub fn stand_for_closed(rt: &HostRuntime) -> [Option<File>; 3] {
-    [stand_in(rt), stand_in(rt), stand_in(rt)]
+    let first = stand_in(rt);
+    // Descriptors are given from the least one on, so that behind one above the streams' no stream is closed.
+    let second = first.as_ref().and_then(|_| stand_in(rt));
+    let third = second.as_ref().and_then(|_| stand_in(rt));
+    [first, second, third]
 }
 
 // A file of the least descriptor that is free, where that is a standard stream's.
@@ -32,6 +38,72 @@ fn stand_in(rt: &HostRuntime) -> Option<File> {
     match File::open(rt, "/dev/null") {
         Ok(file) if file.as_raw_fd() <= LAST_STANDARD => Some(file),
         _ => None,
+    }
+}
+
+/// What the system answered where it refused a file.
+#[derive(Clone, Copy)]
+pub struct Refusal {
+    kind: ErrorKind,
+    code: Option<i32>,
+}
+
+impl Refusal {
+    /// That of an error.
+    pub fn of(error: &io::Error) -> Refusal {
+        Refusal {
+            kind: error.kind(),
+            code: error.raw_os_error(),
+        }
+    }
+
+    // The fault of a file that can't be opened.
+    fn fault_or(self, fault: CliFault) -> CliFault {
+        match self.kind {
+            ErrorKind::OutOfMemory => CliFault::Memory,
+            _ => fault,
+        }
+    }
+
+    /// The error, which prints the system's words.
+    pub fn error(self) -> io::Error {
+        match self.code {
+            Some(code) => io::Error::from_raw_os_error(code),
+            None => io::Error::from(self.kind),
+        }
+    }
+}
+
+/// The bytes of a capture's file header, as far as they were read.
+#[derive(Clone, Copy)]
+pub struct Head {
+    bytes: [u8; 24],
+    length: usize,
+}
+
+impl Head {
+    /// No byte yet.
+    pub fn empty() -> Head {
+        Head {
+            bytes: [0; 24],
+            length: 0,
+        }
+    }
+
+    // Takes what is missing from the front of some bytes.
+    fn note(&mut self, bytes: &[u8]) {
+        let missing = self.bytes.len().saturating_sub(self.length);
+        for byte in bytes.iter().take(missing) {
+            if let Some(place) = self.bytes.get_mut(self.length) {
+                *place = *byte;
+                self.length = self.length.saturating_add(1);
+            }
+        }
+    }
+
+    /// The bytes.
+    pub fn bytes(&self) -> &[u8] {
+        self.bytes.get(..self.length).unwrap_or(&[])
     }
 }
 
@@ -86,7 +158,8 @@ pub struct InputFile<'a> {
     rt: &'a HostRuntime,
     path: &'a str,
     reader: Option<Reader>,
-    refusal: Option<ErrorKind>,
+    head: Head,
+    refusal: Option<Refusal>,
 }
 
 impl<'a> InputFile<'a> {
@@ -96,6 +169,7 @@ impl<'a> InputFile<'a> {
             rt,
             path,
             reader: None,
+            head: Head::empty(),
             refusal: None,
         }
     }
@@ -118,7 +192,7 @@ impl<'a> InputFile<'a> {
                 Ok(())
             }
             Err(error) => {
-                self.refusal = Some(error.kind());
+                self.refusal = Some(Refusal::of(&error));
                 Err(error)
             }
         }
@@ -126,10 +200,29 @@ impl<'a> InputFile<'a> {
 
     /// What opening the file was refused with, if it was.
     pub fn fault(&self) -> Option<CliFault> {
-        match self.refusal {
-            None => None,
-            Some(ErrorKind::OutOfMemory) => Some(CliFault::Memory),
-            Some(_) => Some(CliFault::OpenInput),
+        match (&self.reader, self.refusal) {
+            (None, Some(refusal)) => Some(refusal.fault_or(CliFault::OpenInput)),
+            _ => None,
+        }
+    }
+
+    /// What the system answered at the last refusal.
+    pub fn refusal(&self) -> Option<Refusal> {
+        self.refusal
+    }
+
+    /// The first bytes that were read.
+    pub fn head(&self) -> Head {
+        self.head
+    }
+
+    fn read_on(&mut self, buf: &mut [u8]) -> io::Result<usize>
+        ensures { ReadsAtMost result buf.new }
+    {
+        match &mut self.reader {
+            Some(Reader::File(reader)) => reader.read(buf),
+            Some(Reader::Standard(reader)) => reader.read(buf),
+            None => Ok(0),
         }
     }
 }
@@ -139,11 +232,12 @@ impl Read for InputFile<'_> {
         if self.reader.is_none() {
             self.opened()?;
         }
-        match &mut self.reader {
-            Some(Reader::File(reader)) => reader.read(buf),
-            Some(Reader::Standard(reader)) => reader.read(buf),
-            None => Ok(0),
+        let read = self.read_on(buf);
+        match &read {
+            Ok(length) => self.head.note(buf.get(..*length).unwrap_or(&[])),
+            Err(error) => self.refusal = Some(Refusal::of(error)),
         }
+        read
     }
 }
 
@@ -161,7 +255,7 @@ pub struct OutputFile<'a> {
     path: &'a str,
     read: [&'a str; 2],
     writer: Option<Writer<'a>>,
-    refusal: Option<ErrorKind>,
+    refusal: Option<Refusal>,
 }
 
 impl<'a> OutputFile<'a> {
@@ -206,7 +300,7 @@ impl<'a> OutputFile<'a> {
                 Ok(())
             }
             Err(error) => {
-                self.refusal = Some(error.kind());
+                self.refusal = Some(Refusal::of(&error));
                 Err(error)
             }
         }
@@ -214,10 +308,32 @@ impl<'a> OutputFile<'a> {
 
     /// What opening the file was refused with, if it was.
     pub fn fault(&self) -> Option<CliFault> {
-        match self.refusal {
-            None => None,
-            Some(ErrorKind::OutOfMemory) => Some(CliFault::Memory),
-            Some(_) => Some(CliFault::OpenOutput),
+        match (&self.writer, self.refusal) {
+            (None, Some(refusal)) => Some(refusal.fault_or(CliFault::OpenOutput)),
+            _ => None,
+        }
+    }
+
+    /// What the system answered at the last refusal.
+    pub fn refusal(&self) -> Option<Refusal> {
+        self.refusal
+    }
+
+    fn write_on(&mut self, buf: &[u8]) -> io::Result<usize>
+        ensures { WritesAtMost result buf.now }
+    {
+        match &mut self.writer {
+            Some(Writer::File(writer)) => writer.write(buf),
+            Some(Writer::Standard(writer)) => writer.write(buf),
+            None => Ok(0),
+        }
+    }
+
+    fn flush_on(&mut self) -> io::Result<()> {
+        match &mut self.writer {
+            Some(Writer::File(writer)) => writer.flush(),
+            Some(Writer::Standard(writer)) => writer.flush(),
+            None => Ok(()),
         }
     }
 }
@@ -227,19 +343,19 @@ impl Write for OutputFile<'_> {
         if self.writer.is_none() {
             self.opened()?;
         }
-        match &mut self.writer {
-            Some(Writer::File(writer)) => writer.write(buf),
-            Some(Writer::Standard(writer)) => writer.write(buf),
-            None => Ok(0),
+        let written = self.write_on(buf);
+        if let Err(error) = &written {
+            self.refusal = Some(Refusal::of(error));
         }
+        written
     }
 
     fn flush(&mut self) -> io::Result<()> {
-        match &mut self.writer {
-            Some(Writer::File(writer)) => writer.flush(),
-            Some(Writer::Standard(writer)) => writer.flush(),
-            None => Ok(()),
+        let flushed = self.flush_on();
+        if let Err(error) = &flushed {
+            self.refusal = Some(Refusal::of(error));
         }
+        flushed
     }
 }
 

@@ -1,33 +1,49 @@
 //! The commands that play a scenario, over files.
-use crate::files::{InputFile, Kept, OutputFile, is_standard, is_standard_output};
+use crate::files::{InputFile, Kept, OutputFile, Refusal, is_standard, is_standard_output};
+use crate::reasons::Trouble;
 use maglev_cli::{CliFault, explain_run, run, simulate};
-use pcap_file::{FromRead, PcapFault, ToWrite};
+use pcap_file::{Frame, FromRead, PcapFault, ToWrite, read_record_into, read_start};
 use std::fs::File;
 use std::io;
-use std::io::{ErrorKind, Read, Write};
+use std::io::{BufReader, ErrorKind, Read, Write};
 use std::sync::Wait;
 use std::thread::Threads;
+
+/// The paths of a command's files. `explain` has no output.
+#[derive(Clone, Copy)]
+pub struct Paths<'a> {
+    pub scenario: &'a str,
+    pub input: &'a str,
+    pub output: &'a str,
+}
+
+impl<'a> Paths<'a> {
+    // Those of files that are read.
+    fn read(&self) -> [&'a str; 2] {
+        [self.scenario, self.input]
+    }
+}
 
 /// The most bytes of a scenario that are read: one more than it may have.
 const MOST: u64 = 1_048_577;
 
-// The text of a scenario's file, up to the bytes that show that it is too long.
-fn scenario_text(rt: &HostRuntime, path: &str) -> Result<Vec<u8>, CliFault> {
+/// The text of a scenario's file, up to the bytes that show that it is too long.
+pub fn scenario_text(rt: &HostRuntime, path: &str) -> Result<Vec<u8>, Trouble> {
     if is_standard(path) {
         return whole_text(rt, rt.stdin());
     }
-    let Ok(file) = File::open(rt, path) else {
-        return Err(CliFault::OpenScenario);
-    };
-    whole_text(rt, file)
+    match File::open(rt, path) {
+        Ok(file) => whole_text(rt, file),
+        Err(error) => Err(Trouble::of_system(CliFault::OpenScenario, &error)),
+    }
 }
 
-fn whole_text<R: Read + Drop>(rt: &HostRuntime, file: R) -> Result<Vec<u8>, CliFault> {
+fn whole_text<R: Read + Drop>(rt: &HostRuntime, file: R) -> Result<Vec<u8>, Trouble> {
     let mut text = Vec::new(rt.alloc());
     match file.take(MOST).read_to_end(&mut text) {
         Ok(_) => Ok(text),
-        Err(error) if error.kind() == ErrorKind::OutOfMemory => Err(CliFault::Memory),
-        Err(_) => Err(CliFault::ReadScenario),
+        Err(error) if error.kind() == ErrorKind::OutOfMemory => Err(CliFault::Memory.into()),
+        Err(error) => Err(Trouble::of_system(CliFault::ReadScenario, &error)),
     }
 }
 
@@ -44,6 +60,19 @@ fn of_output(fault: CliFault, output: &OutputFile<'_>, report: &Kept) -> CliFaul
     match fault {
         CliFault::Write => output.fault().or(report.fault()).unwrap_or(fault),
         fault => fault,
+    }
+}
+
+// What became of a fault, with what the system answered and the first bytes of the input.
+fn trouble_of(fault: CliFault, input: &InputFile<'_>, output: Option<Refusal>) -> Trouble {
+    let system = match fault {
+        CliFault::Write | CliFault::OpenOutput => output,
+        _ => input.refusal(),
+    };
+    Trouble {
+        fault,
+        system,
+        head: input.head(),
     }
 }
 
@@ -76,40 +105,30 @@ fn ended(
     output: ToWrite<OutputFile<'_>>,
     report: ToWrite<Kept>,
     to_error: bool,
-) -> Result<(), CliFault> {
+) -> Result<(), Trouble> {
+    let input = input.into_inner();
     let mut output = output.into_inner();
     let report = report.into_inner();
-    flushed(&mut output)?;
-    match outcome {
-        Ok(()) => printed(rt, report.text(), to_error),
-        Err(fault) => {
-            let fault = of_input(fault, &input.into_inner());
-            Err(of_output(fault, &output, &report))
-        }
-    }
+    let outcome = match (flushed(&mut output), outcome) {
+        (Err(fault), _) => Err(fault),
+        (Ok(()), Ok(())) => return Ok(printed(rt, report.text(), to_error)?),
+        (Ok(()), Err(fault)) => Err(of_output(of_input(fault, &input), &output, &report)),
+    };
+    outcome.map_err(|fault| trouble_of(fault, &input, output.refusal()))
 }
 
 /// The command `simulate` over files. The report is printed once the output is written out.
 pub fn simulate_files<'x>(
     rt: &'x HostRuntime,
-    scenario: &'x str,
-    input: &'x str,
-    output: &'x str,
+    files: &Paths<'x>,
+    text: &[u8],
     list: bool,
-) -> Result<(), CliFault> {
-    let text = scenario_text(rt, scenario)?;
-    let to_error = is_standard_output(rt, output);
-    let mut output = ToWrite::new(OutputFile::new(rt, output, [scenario, input]));
-    let mut input = FromRead::new(InputFile::new(rt, input));
+) -> Result<(), Trouble> {
+    let to_error = is_standard_output(rt, files.output);
+    let mut output = ToWrite::new(OutputFile::new(rt, files.output, files.read()));
+    let mut input = FromRead::new(InputFile::new(rt, files.input));
     let mut report = ToWrite::new(Kept::new(rt.alloc()));
-    let outcome = simulate(
-        rt.alloc(),
-        text.as_slice(),
-        &mut input,
-        &mut output,
-        &mut report,
-        list,
-    );
+    let outcome = simulate(rt.alloc(), text, &mut input, &mut output, &mut report, list);
     ended(rt, outcome, input, output, report, to_error)
 }
 
@@ -117,19 +136,17 @@ pub fn simulate_files<'x>(
 pub fn run_files<'x, T: Threads + Wait + Sync>(
     rt: &'x HostRuntime,
     threads: &T,
-    scenario: &'x str,
-    input: &'x str,
-    output: &'x str,
-) -> Result<(), CliFault> {
-    let text = scenario_text(rt, scenario)?;
-    let to_error = is_standard_output(rt, output);
-    let mut output = ToWrite::new(OutputFile::new(rt, output, [scenario, input]));
-    let mut input = FromRead::new(InputFile::new(rt, input));
+    files: &Paths<'x>,
+    text: &[u8],
+) -> Result<(), Trouble> {
+    let to_error = is_standard_output(rt, files.output);
+    let mut output = ToWrite::new(OutputFile::new(rt, files.output, files.read()));
+    let mut input = FromRead::new(InputFile::new(rt, files.input));
     let mut report = ToWrite::new(Kept::new(rt.alloc()));
     let outcome = run(
         threads,
         rt.alloc(),
-        text.as_slice(),
+        text,
         &mut input,
         &mut output,
         &mut report,
@@ -140,17 +157,35 @@ pub fn run_files<'x, T: Threads + Wait + Sync>(
 /// The command `explain` over files.
 pub fn explain_files(
     rt: &HostRuntime,
-    scenario: &str,
-    input: &str,
+    files: &Paths<'_>,
+    text: &[u8],
     one: u64,
     other: u64,
-) -> Result<(), CliFault> {
-    let text = scenario_text(rt, scenario)?;
-    let mut input = FromRead::new(InputFile::new(rt, input));
+) -> Result<(), Trouble> {
+    let mut input = FromRead::new(InputFile::new(rt, files.input));
     let mut report = ToWrite::new(io::writer(rt));
-    let scenario = text.as_slice();
-    match explain_run(rt.alloc(), scenario, &mut input, one, other, &mut report) {
+    match explain_run(rt.alloc(), text, &mut input, one, other, &mut report) {
         Ok(()) => Ok(()),
-        Err(fault) => Err(of_input(fault, &input.into_inner())),
+        Err(fault) => {
+            let input = input.into_inner();
+            Err(trouble_of(of_input(fault, &input), &input, None))
+        }
     }
+}
+
+/// How many whole records stand in front of the one at which reading a capture stops. Standard input can't be read again.
+pub fn records_before(rt: &HostRuntime, path: &str) -> Option<u32> {
+    if is_standard(path) {
+        return None;
+    }
+    let file = File::open(rt, path).ok()?;
+    let mut source = FromRead::new(BufReader::new(rt.alloc(), file).ok()?);
+    let head = read_start(&mut source).ok()?;
+    let mut frame = Frame::empty(rt.alloc());
+    for given in 0..u32::MAX {
+        if read_record_into(&mut source, head, given, &mut frame).is_err() {
+            return Some(given);
+        }
+    }
+    None
 }

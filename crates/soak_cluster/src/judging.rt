@@ -4,19 +4,19 @@ use node_records::{Command, NodeRecord};
 use std::alloc::{AllocError, Global};
 
 // The event is the node's own step for this command.
-fn obeys(event: &Event, command: &Command, at: u16) -> bool {
+fn obeys(event: &Event, command: &Command, at: usize) -> bool {
     match (*event, *command) {
-        (Event::Install { node, version }, Command::Publish(number)) => node == at
+        (Event::Install { node, version }, Command::Publish(number)) => usize::from(node) == at
             && version == number,
-        (Event::Arrive { node, packet, .. }, Command::Offer(number)) => node == at
+        (Event::Arrive { node, packet, .. }, Command::Offer(number)) => usize::from(node) == at
             && packet == number,
-        (Event::Restart { node }, Command::Restart) => node == at,
+        (Event::Restart { node }, Command::Restart) => usize::from(node) == at,
         _ => false,
     }
 }
 
 // Without its servings the history is the commands in order, and no serving is refused or hindered.
-fn is_obeyed(record: &NodeRecord, commands: &[Command], node: u16) -> bool {
+fn is_obeyed(record: &NodeRecord, commands: &[Command], node: usize) -> bool {
     let mut next = 0usize;
     for (event, outcome) in record.events.iter().zip(record.outcomes.iter()) {
         if let Event::Serve { refused, .. } = *event {
@@ -111,7 +111,7 @@ pub fn are_lived(
     commands: &[Vec<Command>],
 ) -> Result<bool, AllocError> {
     for (node, (record, told)) in records.iter().zip(commands.iter()).enumerate() {
-        let obeyed = is_obeyed(record, told.as_slice(), node as u16);
+        let obeyed = is_obeyed(record, told.as_slice(), node);
         if !obeyed || !is_kept(record) || !are_merges(alloc, record)? {
             return Ok(false);
         }

@@ -1,0 +1,196 @@
+//! What `--verbose` says behind a fault: where it is, what was found there and what was expected.
+use crate::files::{Head, Refusal};
+use crate::scenario_runs::Paths;
+use fault_words::words_of;
+use maglev_cli::CliFault;
+use pcap_file::PcapFault;
+use scenario::ScenarioFault;
+use std::alloc::Global;
+use std::io;
+
+/// A fault of a command, what the system said where it refused a file, and the first bytes of INPUT.
+#[derive(Clone, Copy)]
+pub struct Trouble {
+    pub fault: CliFault,
+    pub system: Option<Refusal>,
+    pub head: Head,
+}
+
+impl Trouble {
+    /// That of a file which the system refused.
+    pub fn of_system(fault: CliFault, error: &io::Error) -> Trouble {
+        Trouble {
+            fault,
+            system: Some(Refusal::of(error)),
+            head: Head::empty(),
+        }
+    }
+}
+
+impl From<CliFault> for Trouble {
+    fn from(fault: CliFault) -> Trouble {
+        Trouble {
+            fault,
+            system: None,
+            head: Head::empty(),
+        }
+    }
+}
+
+/// What is known of a command's files.
+#[derive(Clone, Copy)]
+pub struct Files<'a> {
+    pub paths: Paths<'a>,
+    /// The scenario's text, empty where it couldn't be read.
+    pub text: &'a [u8],
+    /// The records of INPUT in front of the fault, where it could be read again.
+    pub records: Option<u32>,
+}
+
+/// What is said of a fault, None where nothing more is known or memory was refused.
+pub fn reason(alloc: Global, trouble: &Trouble, files: &Files<'_>) -> Option<String> {
+    match trouble.fault {
+        CliFault::OpenScenario | CliFault::ReadScenario => {
+            system(alloc, files.paths.scenario, trouble.system)
+        }
+        CliFault::OpenInput => system(alloc, files.paths.input, trouble.system),
+        CliFault::OpenOutput | CliFault::Write => system(alloc, files.paths.output, trouble.system),
+        CliFault::TooLong => {
+            let path = files.paths.scenario;
+            format!(in alloc; "{path}: expected at most 1048576 bytes").ok()
+        }
+        CliFault::Capture(fault) => capture(alloc, fault, trouble, files),
+        fault => words_of(alloc, files.text, scenario_fault(fault)?),
+    }
+}
+
+// What the system said of a file.
+fn system(alloc: Global, path: &str, refusal: Option<Refusal>) -> Option<String> {
+    match refusal {
+        Some(refusal) => {
+            let error = refusal.error();
+            format!(in alloc; "{path}: {error}").ok()
+        }
+        None => String::from_str(alloc, path).ok(),
+    }
+}
+
+fn capture(
+    alloc: Global,
+    fault: PcapFault,
+    trouble: &Trouble,
+    files: &Files<'_>,
+) -> Option<String> {
+    match fault {
+        PcapFault::TooLong => record(alloc, files, "expected a record of at most 262144 bytes"),
+        PcapFault::Read => match trouble.system {
+            Some(refusal) => {
+                let error = refusal.error();
+                let words = format!(in alloc; "{error}").ok()?;
+                record(alloc, files, words.as_str())
+            }
+            None => record(alloc, files, "it can't be read"),
+        },
+        PcapFault::Write => system(alloc, files.paths.output, trouble.system),
+        PcapFault::Memory => None,
+        fault => header(alloc, fault, files.paths.input, trouble.head.bytes()),
+    }
+}
+
+// What is wrong with the header of a capture.
+fn header(alloc: Global, fault: PcapFault, path: &str, head: &[u8]) -> Option<String> {
+    match fault {
+        PcapFault::ShortHeader => {
+            let bytes = head.len();
+            format!(in alloc; "{path}: found {bytes} bytes, expected a header of 24").ok()
+        }
+        PcapFault::BadMagic => {
+            let (form, command) = form_of(head);
+            format!(in alloc; "{path}: found {form}, expected classic pcap: {command}").ok()
+        }
+        PcapFault::BadVersion => {
+            format!(in alloc; "{path}: expected version 2.4 of classic pcap").ok()
+        }
+        PcapFault::BadLink => {
+            let number = link_number(head)?;
+            let name = link_name(number);
+            format!(in alloc;
+                "{path}: found link type {number}, {name}, expected 1 (Ethernet), 101 or 228 (raw IP): docs/USING.md has commands"
+            ).ok()
+        }
+        _ => None,
+    }
+}
+
+// What is wrong with a record of INPUT.
+fn record(alloc: Global, files: &Files<'_>, what: &str) -> Option<String> {
+    let path = files.paths.input;
+    match files.records {
+        Some(records) => format!(in alloc; "{path}, record {records}: {what}").ok(),
+        None => format!(in alloc; "{path}: {what}").ok(),
+    }
+}
+
+// The format of a file that begins so, and what makes classic pcap of it.
+fn form_of(head: &[u8]) -> (&'static str, &'static str) {
+    let convert = "editcap -F pcap INPUT out.pcap";
+    if head.starts_with(&[0x0a, 0x0d, 0x0d, 0x0a]) {
+        ("pcapng", convert)
+    } else if head.starts_with(&[0x1f, 0x8b]) {
+        ("gzip", "gunzip -c INPUT > out.pcap")
+    } else if head.starts_with(&[0x28, 0xb5, 0x2f, 0xfd]) {
+        ("zstd", "zstd -d -c INPUT > out.pcap")
+    } else if head.starts_with(&[0xa1, 0xb2, 0xcd, 0x34])
+        || head.starts_with(&[0x34, 0xcd, 0xb2, 0xa1])
+    {
+        ("modified pcap", convert)
+    } else {
+        ("another format", "docs/USING.md has commands")
+    }
+}
+
+// The link type of a header that is whole, in its own byte order.
+fn link_number(head: &[u8]) -> Option<u32> {
+    let [first, .., a, b, c, d] = head else {
+        return None;
+    };
+    let bytes = [*a, *b, *c, *d];
+    if *first == 0xa1 {
+        Some(u32::from_be_bytes(bytes))
+    } else {
+        Some(u32::from_le_bytes(bytes))
+    }
+}
+
+// The name of a link type, of those that are seen most.
+fn link_name(number: u32) -> &'static str {
+    match number {
+        0 => "loopback of BSD",
+        9 => "PPP",
+        12 | 14 => "raw IP under a number of one system",
+        105 => "802.11",
+        108 => "loopback of OpenBSD",
+        113 => "Linux cooked capture",
+        127 => "802.11 with radiotap",
+        147..=162 => "of a user's own",
+        189 => "USB of Linux",
+        195 => "802.15.4",
+        229 => "IPv6",
+        239 => "netfilter log",
+        276 => "Linux cooked capture, version 2",
+        _ => "which isn't Ethernet or raw IP",
+    }
+}
+
+// A fault of a command that is its scenario's.
+fn scenario_fault(fault: CliFault) -> Option<ScenarioFault> {
+    match fault {
+        CliFault::BadToml => Some(ScenarioFault::BadToml),
+        CliFault::BadFormat => Some(ScenarioFault::BadFormat),
+        CliFault::BadKey => Some(ScenarioFault::BadKey),
+        CliFault::BadMember => Some(ScenarioFault::BadMember),
+        CliFault::Pool(fault) => Some(ScenarioFault::Pool(fault)),
+        CliFault::BadStep(step) => Some(ScenarioFault::BadStep(step)),
+        _ => None,
+    }
+}
