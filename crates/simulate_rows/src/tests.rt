@@ -10,9 +10,9 @@ use std::alloc::{AllocError, Global};
 use std::process::Abort;
 use std::test::Fail;
 
-const APART: &str = "'install 0 1', 'install 1 2', 'take 2'";
+pub(crate) const APART: &str = "'install 0 1', 'install 1 2', 'take 2'";
 
-const TWO_SENT: &str =
+pub(crate) const TWO_SENT: &str =
     "packets 2\nlost 0\nunrouted 0\nskipped 0\nleft 0\ncut no\nreceived 2\nforwarded 2\nwaiting 0\nrefused 0\n";
 
 // What is written where a scenario is played over a capture in memory.
@@ -367,7 +367,7 @@ fn refused_captures(rt: HostRuntime) {
     assert_eq!(rt; done, Err(CliFault::Capture(PcapFault::TooLong)));
 }
 
-fn source(bytes: &[u8], fails_at: u64) -> FailingSource<'_> {
+pub(crate) fn source(bytes: &[u8], fails_at: u64) -> FailingSource<'_> {
     FailingSource {
         bytes,
         fails_at,
@@ -375,7 +375,7 @@ fn source(bytes: &[u8], fails_at: u64) -> FailingSource<'_> {
     }
 }
 
-fn sink(alloc: Global, fails_at: u64) -> FailingSink {
+pub(crate) fn sink(alloc: Global, fails_at: u64) -> FailingSink {
     FailingSink {
         bytes: Vec::new(alloc),
         fails_at,
