@@ -24,3 +24,28 @@ seconds() {
 best() {
     for _ in 1 2 3 4 5; do seconds "$@"; done | sort -g | head -n 1
 }
+
+# scenario WORKERS CAPACITY NODES STEPS [KEY]: prints a scenario of tables of 65,537 slots, in which flows are spread over the
+# nodes by their hash, and the one version has a service of three servers. NODES and STEPS are strings of TOML with commas
+# between them, KEY is one more key.
+scenario() {
+    cat <<END
+format = 1
+size = 65537
+hash = "fnv"
+scheme = "maglev"
+spread = "hash"
+workers = $1
+capacity = $2
+nodes = [$3]
+steps = [$4]
+${5:-}
+[[versions]]
+number = 1
+[[versions.services]]
+vip = "192.0.2.1"
+proto = "tcp"
+port = 80
+members = ["A@10.8.0.1", "B@10.8.0.2", "C@10.8.0.3"]
+END
+}

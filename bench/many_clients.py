@@ -1,6 +1,7 @@
 #!/usr/bin/env python3
-"""many_clients.py OUT PACKETS FLOWS: writes a capture of TCP packets of so many clients to 192.0.2.1:80, the clients in a
-mixed order that is the same each time. The packets are those of examples/make_capture.py.
+"""many_clients.py OUT PACKETS FLOWS [CLIENTS]: writes a capture of TCP packets of so many clients to 192.0.2.1:80, the clients
+in a mixed order that is the same each time. The packets are those of examples/make_capture.py. The file CLIENTS has the
+clients, an address and a port a line, in place of those that are made up.
 """
 import pathlib
 import struct
@@ -16,9 +17,16 @@ def client(number):
     return f"10.0.{at // 256}.{at % 256}", 1024 + number % 50_000
 
 
+def clients_of(path):
+    """The clients of a file."""
+    lines = [line.split() for line in pathlib.Path(path).read_text().splitlines()]
+    return [(address, int(port)) for address, port in lines]
+
+
 def main():
     packets, flows = int(sys.argv[2]), int(sys.argv[3])
-    frames = [frame(client(number), 80, 0) for number in range(flows)]
+    clients = clients_of(sys.argv[4]) if len(sys.argv) > 4 else map(client, range(flows))
+    frames = [frame(one, 80, 0) for one in clients]
     with open(sys.argv[1], "wb") as out:
         out.write(struct.pack("<IHHiIII", 0xA1B2C3D4, 2, 4, 0, 0, 65535, 1))
         for at in range(packets):

@@ -7,37 +7,19 @@ source "$(dirname "$(readlink -f "${BASH_SOURCE[0]}")")/common.sh"
 maglev=$top/crates/maglev/out/maglev
 python3 "$top/bench/many_clients.py" "$work/input.pcap" 1000000 100000
 
-# scenario NODES WORKERS: prints a scenario in which every node gets its share of the capture.
-scenario() {
+# cluster NODES WORKERS: prints a scenario in which every node gets its share of the capture.
+cluster() {
     local addresses='"10.9.0.1"' installs='"install 0 1"' node
     for ((node = 1; node < $1; node++)); do
         addresses+=", \"10.9.0.$((node + 1))\""
         installs+=", \"install $node 1\""
     done
-    cat <<END
-format = 1
-size = 65537
-hash = "fnv"
-scheme = "maglev"
-spread = "hash"
-workers = $2
-capacity = 100000
-ring = 65536
-nodes = [$addresses]
-steps = [$installs, "take 1000000"]
-[[versions]]
-number = 1
-[[versions.services]]
-vip = "192.0.2.1"
-proto = "tcp"
-port = 80
-members = ["A@10.8.0.1", "B@10.8.0.2", "C@10.8.0.3"]
-END
+    scenario "$2" 100000 "$addresses" "$installs, \"take 1000000\"" "ring = 65536"
 }
 
 for nodes in 1 2 4; do
     for workers in 1 2 4; do
-        scenario "$nodes" "$workers" >"$work/scenario.toml"
+        cluster "$nodes" "$workers" >"$work/scenario.toml"
         words=("$work/scenario.toml" "$work/input.pcap" "$work/sent.pcap")
         report=$("$maglev" run "${words[@]}") || { echo "run failed: $report" >&2; exit 1; }
         sent=$(awk '$1 == "forwarded" { print $2 }' <<<"$report")

@@ -18,6 +18,22 @@ def check(name, holds, detail=""):
         print(f"FAILED {name}: {detail}")
 
 
+def told(passed, failed):
+    """Prints how many comparisons held and how many didn't, a script's last line. The status to end with."""
+    print(f"{passed} passed, {failed} failed")
+    return 1 if failed else 0
+
+
+def judge_all(cases):
+    """Counts cases, each a name with the faults that were found, and prints each fault. The status to end with."""
+    counts = [0, 0]
+    for name, faults in cases:
+        counts[bool(faults)] += 1
+        for fault in faults:
+            print(f"FAILED {name}: {fault}")
+    return told(*counts)
+
+
 def run_tests(names):
     """Calls each test among a module's names, in their order, from the top of the repository. The last line is
     'N passed, N failed'; the answer is the status to end with."""
@@ -25,5 +41,4 @@ def run_tests(names):
     for name, test in sorted(names.items()):
         if name.startswith("test_"):
             test()
-    print(f"{passed} passed, {failed} failed")
-    return 1 if failed else 0
+    return told(passed, failed)

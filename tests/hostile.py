@@ -89,14 +89,15 @@ def dropped(name, packets, forwarded, causes):
 
 
 def test_fields():
-    """Each value of the version and header length, of the total length, of the protocol and of the fragment's place."""
+    """Each value of the first byte and of the total length, and some of the flags and the fragment's place."""
     firsts = [bytes([value]) + P[1:] for value in range(256)]
     causes = {"NotIpv4": 240, "BadHeader": 5, "BadTransport": 5, "Truncated": 5}
     dropped("each value of the first byte", firsts, 1, causes)
     lengths = [P[:2] + value.to_bytes(2, "big") + P[4:] for value in range(65536)]
     dropped("each total length", lengths, 1, {"BadHeader": 20, "BadTransport": 20, "Truncated": 65495})
-    offsets = [bytes([flags]) + bytes([low]) for flags in (0x00, 0x20, 0x40, 0x60, 0x80, 0x1F) for low in (0, 1, 255)]
-    whole = [one for one in offsets if not (one[0] & 0x3F) % 64 and not one[1] or one == b"\x40\x00"]
+    offsets = [bytes([flags, low]) for flags in (0x00, 0x20, 0x40, 0x60, 0x80, 0x1F) for low in (0, 1, 255)]
+    # More fragments and the place; the two bits in front say nothing of it.
+    whole = [one for one in offsets if one[0] & 0x3F == 0 and one[1] == 0]
     dropped("fragments", [P[:6] + one + P[8:] for one in offsets], len(whole), {"Fragment": len(offsets) - len(whole)})
 
 
@@ -161,7 +162,7 @@ def test_scenarios():
         ("a size below 0", scenario(size=-7), "BadKey"),
         ("a size of 7 + 2^32", scenario(size=7 + 2**32), "BadKey"),
         ("a capacity of 0", scenario(capacity=0), "BadKey"),
-        ("workers of 2^64 - 1 + 2", scenario(workers=2**63 - 1), "BadKey"),
+        ("workers of 2^63 - 1", scenario(workers=2**63 - 1), "BadKey"),
         ("a node's address of five parts", scenario(nodes='["10.9.0.1.1"]'), "BadKey"),
         ("a node's address of Arabic digits", scenario(nodes='["10.9.0.\u0661"]'), "BadKey"),
         ("a step with a space in front", scenario([" take 1"]), "BadStep 0"),

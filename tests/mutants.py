@@ -16,7 +16,7 @@ import threading
 
 import hostile
 import model
-from harness import PROGRAM
+from harness import PROGRAM, judge_all
 
 SECONDS = 30
 MEGABYTES = 700
@@ -119,12 +119,14 @@ def faults_of(answer, output):
 
 def faults_of_report(text, data, answer):
     """Where a report isn't the model's."""
-    long = any(length > 262_144 for length in lengths_of(data))
-    if long:
-        if answer[2] != b"fault: TooLong\n":
-            yield f"{answer[2]!r} of a record that is too long"
-    elif answer[1].decode() != model.Run(text, data).report():
-        yield f"the report is {answer[1]!r}, and the model's {model.Run(text, data).report()!r}"
+    _, said, told, _ = answer
+    if any(length > 262_144 for length in lengths_of(data)):
+        if told != b"fault: TooLong\n":
+            yield f"{told!r} of a record that is too long"
+        return
+    report = model.Run(text, data).report()
+    if said.decode() != report:
+        yield f"the report is {said!r}, and the model's {report!r}"
 
 
 def lengths_of(data):
@@ -157,15 +159,9 @@ def judged(seed, folder):
 
 def main():
     first, count = (int(word) for word in sys.argv[1:3]) if len(sys.argv) > 2 else (0, 300)
-    failed = 0
     with tempfile.TemporaryDirectory() as folder:
-        for seed in range(first, first + count):
-            faults = judged(seed, pathlib.Path(folder))
-            failed += bool(faults)
-            for fault in faults:
-                print(f"FAILED seed {seed}: {fault}")
-    print(f"{count - failed} passed, {failed} failed")
-    sys.exit(failed > 0)
+        return judge_all((f"seed {seed}", judged(seed, pathlib.Path(folder))) for seed in range(first, first + count))
 
 
-main()
+if __name__ == "__main__":
+    sys.exit(main())

@@ -15,7 +15,7 @@ import sys
 import tempfile
 
 import soak_run
-from harness import TOP
+from harness import TOP, told
 
 PROGRAM = str(TOP / "crates" / "maglev" / "out" / "maglev")
 MOST_GROWTHS = 100_000
@@ -156,12 +156,6 @@ def built(crate):
     """Builds a program of this repository, and gives its path."""
     subprocess.run(["rt", "run"], cwd=TOP / "crates" / crate, capture_output=True, check=True)
     return str(TOP / "crates" / crate / "out" / crate)
-
-
-def told(passed, failed):
-    """Prints how many runs were as they must be, and gives the status to end with."""
-    print(f"{passed} passed, {failed} failed")
-    return 1 if failed else 0
 
 
 def main():

@@ -1,8 +1,9 @@
 #!/usr/bin/env python3
-"""Refuses each growth of memory of a replay in turn, and compares what it then says.
+"""Refuses each growth of memory of a replay in turn, and of wrapping, and compares what is then said.
 
-The program `first_replay` replays one list of events on both connection tables. It prints its whole answer where it never
-needed what was refused, and `fault: Memory` alone otherwise. `refused_growths.py` has how it is done.
+The program `first_replay` replays one list of events on both connection tables, and `first_tunnel` wraps a datagram. Each
+prints its whole answer where it never needed what was refused, and `fault: Memory` alone otherwise. `refused_growths.py` has
+how it is done.
 
 The last line is 'N passed, N failed', which counts runs.
 """
@@ -11,15 +12,27 @@ import sys
 import tempfile
 
 import refused_growths as growths
+from harness import told
 
 SENT = "1 from 1\n1 from 2\n1 from 2\n1 from 1\n1 from 2\n1 from 2\n3 from 2\n"
-CASE = growths.Case(["replay"], SENT + SENT)
+OUTER = "4500004000004000402f267d0a0900010a080001" + "00000800"
+DATAGRAM = "45000028000100004006aecd0a000001c0000201" + "03e80050000000010000000050022000" + "00000000"
+CASES = {
+    "first_replay": growths.Case(["replay"], SENT + SENT),
+    "first_tunnel": growths.Case(["wrap"], f"{OUTER}{DATAGRAM}\n"),
+}
+
+
+def refuse_all(program, case):
+    """Refuses each growth of one of these programs in turn."""
+    growths.PROGRAM = growths.built(program)
+    with tempfile.TemporaryDirectory() as folder:
+        return growths.refuse_all(folder, [case])
 
 
 def main():
-    growths.PROGRAM = growths.built("first_replay")
-    with tempfile.TemporaryDirectory() as folder:
-        return growths.told(*growths.refuse_all(folder, [CASE]))
+    counts = [refuse_all(program, case) for program, case in CASES.items()]
+    return told(sum(passed for passed, _ in counts), sum(failed for _, failed in counts))
 
 
 if __name__ == "__main__":

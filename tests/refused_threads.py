@@ -15,6 +15,7 @@ import sys
 import tempfile
 
 import refused_growths as growths
+from harness import told
 
 NODE = growths.Case(["node"], "1 from 1\n2 from 1\n1 from 2\n1 from 2\n")
 # Two workers and a mux in each of two lives.
@@ -54,7 +55,7 @@ def main():
         counts = [refuse_threads(library, [growths.PROGRAM], NODE, NODE_THREADS)]
         counts.append(refuse_threads(library, [program, *CLUSTER.arguments], CLUSTER, CLUSTER_THREADS))
         counts.append(growths.refuse_all(folder, [NODE]))
-    return growths.told(sum(passed for passed, _ in counts), sum(failed for _, failed in counts))
+    return told(sum(passed for passed, _ in counts), sum(failed for _, failed in counts))
 
 
 if __name__ == "__main__":

@@ -15,7 +15,7 @@ import sys
 import tempfile
 
 import model
-from harness import PROGRAM
+from harness import PROGRAM, judge_all
 
 # A TCP and a UDP packet of the flow's last byte, and a TCP packet that is a fragment.
 TCP = "450000280000400040066eb40a0000{:02x}c000020103e80050" + "00" * 8 + "5000" + "00" * 6
@@ -232,16 +232,9 @@ def main():
     first, count, times = (int(word) for word in sys.argv[1:4]) if len(sys.argv) > 3 else (0, 60, 1000)
     runs = [case(f"run {seed}", *thrown(seed)) for seed in range(first, first + count)]
     runs += [case("the run that restarts", *restarting())] * times
-    failed = 0
     with tempfile.TemporaryDirectory() as folder:
-        for name, *run in runs:
-            faults = judged(*run, pathlib.Path(folder))
-            failed += bool(faults)
-            for fault in faults:
-                print(f"FAILED {name}: {fault}")
-    print(f"{len(runs) - failed} passed, {failed} failed")
-    sys.exit(failed > 0)
+        return judge_all((name, judged(*run, pathlib.Path(folder))) for name, *run in runs)
 
 
 if __name__ == "__main__":
-    main()
+    sys.exit(main())

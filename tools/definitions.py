@@ -39,7 +39,7 @@ PROMISES = [
     (
         "A node on threads",
         "`run_node` of `node_threads`, on top of the definitions of the headline.",
-        [("node_records", "Runs", "IsRunOf")],
+        [("node_records", "Runs", "IsRunOf"), ("node_duties", "Counts", "AreTotals")],
     ),
     (
         "`run`: a scenario's cluster on threads over a capture, and what is written",

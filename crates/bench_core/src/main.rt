@@ -1,7 +1,11 @@
-//! A benchmark: one node of the cluster judges packets of many flows, one event after another. `bench/core.sh` times it.
+//! A benchmark: one node of the cluster judges packets of many flows, one event after another. `bench/core.sh` and
+//! `bench/versions.sh` time it.
 //!
-//! Arguments: how many packets, and how many flows. Each packet is two events, its arrival and its serving. Prints how
-//! many packets were forwarded: all of them.
+//! Arguments: how many packets, how many flows, how many versions, how many services a version, how many members a service,
+//! and 1 where each version has other addresses in one service than the version before, 0 where all versions are alike;
+//! without them 1000, 100, 1, 1, 100 and 0. All versions are installed on another node, the first one on the node that
+//! judges: so it is the one that was prepared longest ago. Each packet is two events, its arrival and its serving. Prints
+//! how many packets were forwarded: all of them.
 #![tactic(auto)]
 
 ghost use Rattle.std.specs.Prelude.{◌≡◌, IfOk, Some};
@@ -19,48 +23,77 @@ use std::env;
 
 const VIP: u32 = 0xc000_0201;
 
-/// One service with 100 members, all up.
-fn services(alloc: Global) -> Result<Vec<Service>, AllocError> {
+/// What is measured.
+#[derive(Clone, Copy)]
+struct Load {
+    packets: u32,
+    flows: u32,
+    versions: u32,
+    services: u32,
+    members: u32,
+    is_changing: bool,
+}
+
+/// So many members, all up, at addresses that follow one another.
+fn members(alloc: Global, count: u32, addr: u32) -> Result<Vec<Member>, AllocError> {
     let mut members = Vec::new(alloc);
-    for number in 0..100u32 {
+    for number in 0..count {
         let text = format!(in alloc; "b{number}")?;
         if let Some(name) = Name::new(text.as_bytes()) {
-            let backend = Backend { name, addr: number };
+            let addr = addr.wrapping_add(number);
+            let backend = Backend { name, addr };
             members.push(Member { backend, up: true })?;
         }
     }
+    Ok(members)
+}
+
+/// The first address of a service's members in a version: another one than in the version before at one service a version.
+fn first_address(load: Load, version: u32, service: u32) -> u32 {
+    if !load.is_changing {
+        return 0;
+    }
+    version.wrapping_add(load.services).wrapping_sub(service) / load.services.max(1)
+}
+
+/// The services of a version, at addresses that follow one another.
+fn services(alloc: Global, load: Load, version: u32) -> Result<Vec<Service>, AllocError> {
     let mut services = Vec::new(alloc);
-    services.push(Service {
-        vip: VIP,
-        proto: 6,
-        port: 80,
-        members,
-    })?;
+    for number in 0..load.services {
+        services.push(Service {
+            vip: VIP.wrapping_add(number),
+            proto: 6,
+            port: 80,
+            members: members(alloc, load.members, first_address(load, version, number))?,
+        })?;
+    }
     Ok(services)
 }
 
-fn catalogue(alloc: Global, size: TableSize) -> Result<Catalogue, AllocError>
+fn catalogue(alloc: Global, size: TableSize, load: Load) -> Result<Catalogue, AllocError>
     ensures { IfOk result (λ c. c.size ≡ size) }
 {
     let mut catalogue = Catalogue::new(alloc, size);
-    let version = Version {
-        number: 1,
-        services: services(alloc)?,
-    };
-    match catalogue.add(version) {
-        Ok(()) => Ok(catalogue),
-        Err(_) => Err(AllocError),
+    for number in 0..load.versions {
+        let version = Version {
+            number: number.wrapping_add(1),
+            services: services(alloc, load, number)?,
+        };
+        let Ok(()) = catalogue.add(version) else {
+            return Err(AllocError);
+        };
     }
+    Ok(catalogue)
 }
 
-/// A packet of the flow of a number.
-fn packet_of(number: u32) -> Packet
+/// A packet of the flow of a number, to one of so many services.
+fn packet_of(number: u32, services: u32) -> Packet
     ensures { WasRead (Some result) }
 {
     Packet::Good {
         flow: Flow {
             src: number,
-            dst: VIP,
+            dst: VIP.wrapping_add(number % services.max(1)),
             sport: 1000,
             dport: 80,
             proto: 6,
@@ -77,10 +110,11 @@ fn judge(
     setup: &Cluster,
     catalogue: &Catalogue,
     number: u32,
+    services: u32,
 ) -> Result<bool, AllocError>
     requires { catalogue.now.size ≡ setup.now.size }
 {
-    let packet = packet_of(number);
+    let packet = packet_of(number, services);
     let arrival = Event::Arrive {
         node: 0,
         packet: number,
@@ -99,25 +133,50 @@ fn judge(
     }
 }
 
+/// Installs all versions on the node 1, and the first one on the node 0.
+fn install(
+    run: &mut Run<Maglev<Fnv>, LruTable>,
+    setup: &Cluster,
+    catalogue: &Catalogue,
+    versions: u32,
+) -> Result<(), AllocError>
+    requires { catalogue.now.size ≡ setup.now.size }
+{
+    for number in 0..versions {
+        let everywhere = Event::Install {
+            node: 1,
+            version: number.wrapping_add(1),
+        };
+        let _installed = run.step(setup, catalogue, &everywhere, None)?;
+    }
+    let here = Event::Install {
+        node: 0,
+        version: 1,
+    };
+    let _installed = run.step(setup, catalogue, &here, None)?;
+    Ok(())
+}
+
 /// How many of the packets are forwarded.
 fn forwarded(
     alloc: Global,
     setup: &Cluster,
     catalogue: &Catalogue,
-    packets: u32,
-    flows: u32,
+    load: Load,
 ) -> Result<u64, AllocError>
     requires { catalogue.now.size ≡ setup.now.size }
 {
     let mut run: Run<Maglev<Fnv>, LruTable> = Run::make(alloc, setup)?;
-    let install = Event::Install {
-        node: 0,
-        version: 1,
-    };
-    let _installed = run.step(setup, catalogue, &install, None)?;
+    install(&mut run, setup, catalogue, load.versions)?;
     let mut count = 0u64;
-    for packet in 0..packets {
-        if judge(&mut run, setup, catalogue, packet % flows.max(1))? {
+    for packet in 0..load.packets {
+        if judge(
+            &mut run,
+            setup,
+            catalogue,
+            packet % load.flows.max(1),
+            load.services,
+        )? {
             count = count.wrapping_add(1);
         }
     }
@@ -131,16 +190,17 @@ fn number_at(words: &[String], place: usize, default: u32) -> u32 {
     }
 }
 
-/// Judges so many packets of so many flows on a cluster of one node with one worker.
-fn bench(alloc: Global, packets: u32, flows: u32) -> Result<u64, AllocError> {
+/// Judges the packets on a cluster of two nodes with one worker each.
+fn bench(alloc: Global, load: Load) -> Result<u64, AllocError> {
     let Some(size) = TableSize::new(65537) else {
         return Ok(0);
     };
-    let catalogue = catalogue(alloc, size)?;
+    let catalogue = catalogue(alloc, size, load)?;
     let mut nodes = Vec::new(alloc);
     nodes.push(0x0a09_0001)?;
+    nodes.push(0x0a09_0002)?;
     match Setup::new(Fnv, Maglev { hash: Fnv }, size, nodes, 1, 65536) {
-        Ok(setup) => forwarded(alloc, &setup, &catalogue, packets, flows),
+        Ok(setup) => forwarded(alloc, &setup, &catalogue, load),
         Err(_) => Ok(0),
     }
 }
@@ -148,9 +208,15 @@ fn bench(alloc: Global, packets: u32, flows: u32) -> Result<u64, AllocError> {
 fn main(rt: HostRuntime) -> anyhow::Result<()> {
     let alloc = rt.alloc();
     let words: Vec<String> = env::args(&rt)?.collect(alloc)?;
-    let packets = number_at(words.as_slice(), 1, 1000);
-    let flows = number_at(words.as_slice(), 2, 100);
-    let count = bench(alloc, packets, flows)?;
+    let load = Load {
+        packets: number_at(words.as_slice(), 1, 1000),
+        flows: number_at(words.as_slice(), 2, 100),
+        versions: number_at(words.as_slice(), 3, 1),
+        services: number_at(words.as_slice(), 4, 1),
+        members: number_at(words.as_slice(), 5, 100),
+        is_changing: number_at(words.as_slice(), 6, 0) == 1,
+    };
+    let count = bench(alloc, load)?;
     println!(rt; "{count}")?;
     Ok(())
 }

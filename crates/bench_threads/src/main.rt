@@ -14,8 +14,8 @@ use connection_table::LruTable;
 use five_tuple::Flow;
 use hash_laws::Fnv;
 use maglev_table::{Name, TableSize};
-use node_records::{Command, NodeRecord};
-use node_threads::{OpenGate, run_node};
+use node_records::Command;
+use node_threads::{NodeRun, OpenGate, run_node};
 use pool_versions::{Backend, Catalogue, Member, Service, Version};
 use selection::Maglev;
 use std::alloc::{AllocError, Global};
@@ -143,7 +143,7 @@ fn threaded<R: Threads + Wait + Sync>(
     catalogue: &Catalogue,
     offers: u32,
     flows: u32,
-) -> Result<Option<NodeRecord>, AllocError>
+) -> Result<Option<NodeRun>, AllocError>
     requires { length setup.now.nodes ≡ 1 }
 {
     let packets = packets(alloc, flows)?;
@@ -160,7 +160,7 @@ fn threaded<R: Threads + Wait + Sync>(
         &OpenGate,
     );
     match run {
-        Ok(record) => Ok(Some(record)),
+        Ok(run) => Ok(Some(run)),
         Err(_) => Ok(None),
     }
 }
@@ -184,13 +184,13 @@ fn main(rt: HostRuntime) -> anyhow::Result<()> {
     let setup = setup(alloc, size, workers)?;
     let catalogue = catalogue(alloc, size)?;
     let start = Instant::now(&rt)?;
-    let Some(record) = threaded(&rt, alloc, &setup, &catalogue, offers, flows)? else {
+    let Some(run) = threaded(&rt, alloc, &setup, &catalogue, offers, flows)? else {
         println!(rt; "fault")?;
         return Ok(());
     };
     let threads = start.elapsed(&rt)?;
     let start = Instant::now(&rt)?;
-    let sent = judged(alloc, &setup, &catalogue, record.events.as_slice())?;
+    let sent = judged(alloc, &setup, &catalogue, run.history())?;
     let core = start.elapsed(&rt)?;
     println!(rt; "offers {offers}")?;
     if words.len() > 4 {

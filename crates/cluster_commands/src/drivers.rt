@@ -96,9 +96,10 @@ pub fn orders<P: Spread>(
     ensures live { OnOk result (P.live spread.new ≡ (plan_of (P.choice spread.old) packets.now steps.now nodes).live) }
 {
     let mut play = Play::start(alloc, nodes)?;
-    play.run(alloc, &mut Notes, &(), spread, packets, steps)?;
+    let mut events = Vec::new(alloc);
+    play.run(alloc, &mut Notes, &(), spread, packets, steps, &mut events)?;
     Ok(Orders {
-        commands: commands_by(alloc, nodes, play.history())?,
+        commands: commands_by(alloc, nodes, events.as_slice())?,
         tally: play.tally(packets.len() as u32),
     })
 }

@@ -218,3 +218,17 @@ named_read packets (Arrive n k marks) h = go (slice_get packets k) refl
     go (Some p) e = h k p e
 named_read packets (Serve n w v r) h = tt
 named_read packets (Restart n) h = tt
+
+-- the packet that an event names was read, where all packets were
+pub was_read : (packets : List Packet) → ((k : ℕ) (p : Packet) → slice_get packets k ≡ Some p → WasRead (Some p)) → (e : Event) (x : Option Packet) → x ≡ packet_of packets e → WasRead x
+was_read packets all e x is = subst (λ (o : Option Packet). WasRead o) (sym is) (of_event e)
+  where
+    here : (k : ℕ) (o : Option Packet) → slice_get packets k ≡ o → WasRead o
+    here k None h = tt
+    here k (Some p) h = all k p h
+
+    of_event : (e : Event) → WasRead (packet_of packets e)
+    of_event (Install n v) = tt
+    of_event (Arrive n k marks) = here k (slice_get packets k) refl
+    of_event (Serve n w v r) = tt
+    of_event (Restart n) = tt

@@ -3,11 +3,10 @@ ghost use Rattle.std.specs.Prelude.{◌≡◌, ◌≤◌, ◌<◌, ◌+◌, ◌^
 ghost use Rattle.cluster_node.specs.declared.outcomes.Outcome.{Outcome};
 ghost use Rattle.cluster_core.specs.Tally.{number, at_serving, is_arrival, is_forward, lost_of, drop_counts, how_many, is_refused};
 ghost use Rattle.cluster_core.specs.Totals.{came_all, went_all};
-ghost use Rattle.cluster_core.specs.Histories.{outcomes_of};
 ghost use Rattle.cluster_core.specs.PrivateCounting.{kind, bumped, Leads, Fits, Totalled};
 
 use crate::counts::Totals;
-use cluster_node::{Cause, Outcome, Said};
+use cluster_node::{Cause, Outcome};
 
 fn at_serving(cause: Cause) -> bool
     ensures { result ≡ at_serving cause }
@@ -176,12 +175,6 @@ fn length_of(outcomes: &[Outcome]) -> usize
     outcomes.len()
 }
 
-fn length_of_history(history: &[Said]) -> usize
-    ensures { result ≡ length history.now }
-{
-    history.len()
-}
-
 fn counted(outcomes: &[Outcome]) -> Counter
     requires { Fits outcomes.now }
     ensures { Leads [] outcomes.now result.kinds result.received result.lost }
@@ -189,17 +182,6 @@ fn counted(outcomes: &[Outcome]) -> Counter
     let mut counter = Counter::new();
     for outcome in outcomes {
         counter.count(outcome);
-    }
-    counter
-}
-
-fn counted_history(history: &[Said]) -> Counter
-    requires { Fits (outcomes_of history.now) }
-    ensures { Leads [] (outcomes_of history.now) result.kinds result.received result.lost }
-{
-    let mut counter = Counter::new();
-    for said in history {
-        counter.count(&said.outcome);
     }
     counter
 }
@@ -217,18 +199,4 @@ pub fn totals(outcomes: &[Outcome]) -> Totals
 {
     let _length = length_of(outcomes);
     counted(outcomes).totals()
-}
-
-/// The same of a run's history.
-pub fn totals_of(history: &[Said]) -> Totals
-    requires { let outcomes = outcomes_of history.now in went_all outcomes ≤ came_all outcomes }
-    ensures received { result.received ≡ how_many (λ o. is_arrival o) (outcomes_of history.now) }
-    ensures forwarded { result.forwarded ≡ how_many (λ o. is_forward o) (outcomes_of history.now) }
-    ensures dropped { result.dropped ≡ drop_counts (outcomes_of history.now) }
-    ensures waiting { result.waiting + went_all (outcomes_of history.now) ≡ came_all (outcomes_of history.now) }
-    ensures law { result.received ≡ result.forwarded + (sum result.dropped + result.waiting) }
-    ensures refused { result.refused ≡ how_many (λ o. is_refused o) (outcomes_of history.now) }
-{
-    let _length = length_of_history(history);
-    counted_history(history).totals()
 }

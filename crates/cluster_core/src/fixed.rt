@@ -2,6 +2,7 @@
 ghost use Rattle.std.specs.Prelude.{◌≡◌, ◌≤◌, ◌<◌, ◌||◌, ◌==◌, length, Some, None, MatchResult};
 ghost use Rattle.cluster_core.specs.Setups.{Fixed, setup_fault};
 
+use connection_table::TableKey;
 use hash_laws::FlowHash;
 use maglev_table::TableSize;
 use selection::Scheme;
@@ -28,6 +29,7 @@ pub struct Setup<S: Scheme, H: FlowHash> {
     nodes: Vec<u32>,
     workers: u16,
     capacity: u32,
+    key: TableKey,
 }
 
 impl<S: Scheme, H: FlowHash> Model for Setup<S, H> {
@@ -81,8 +83,29 @@ impl<S: Scheme, H: FlowHash> Setup<S, H> {
                 nodes,
                 workers,
                 capacity,
+                key: TableKey::fixed(),
             }),
         }
+    }
+
+    /// The same cluster, whose connection tables hash by this key. No answer depends on it.
+    pub fn keyed(self, key: TableKey) -> Self
+        ensures { result ≡ self }
+    {
+        Setup {
+            hash: self.hash,
+            scheme: self.scheme,
+            size: self.size,
+            nodes: self.nodes,
+            workers: self.workers,
+            capacity: self.capacity,
+            key,
+        }
+    }
+
+    /// What the hash of each connection table begins with.
+    pub fn key(&self) -> TableKey {
+        self.key
     }
 
     /// The hash of flows.

@@ -18,7 +18,7 @@ mod replaying;
 mod running;
 
 pub use cluster_node::{Cause, Event, Item, Outcome, Packet, Reason, Said};
-pub use counting::{totals, totals_of};
+pub use counting::totals;
 pub use counts::Totals;
 pub use explaining::{Verdict, explain};
 pub use fixed::{Setup, SetupFault};

@@ -4,7 +4,7 @@ ghost use Rattle.pool_versions.specs.Pool.{Pools, version_at};
 ghost use Rattle.selection.specs.Readied.{Readied, readied_version};
 ghost use Rattle.cluster_node.specs.Rules.{Rules};
 ghost use Rattle.cluster_node.specs.declared.events.Said.{Said};
-ghost use Rattle.cluster_node.specs.Record.{fresh, prepared_at, newest_of, lines_of};
+ghost use Rattle.cluster_node.specs.Record.{fresh, newest_of, lines_of};
 ghost use Rattle.cluster_core.specs.Setups.{Fixed, rules_for};
 ghost use Rattle.cluster_core.specs.RunView.{RunView};
 ghost use Rattle.cluster_core.specs.Runs.{prepared_with, prepared_above, prepared_for, is_known_in, newest_at, waiting_on, newest_said, waiting_said, RunStands, RunGoes};
@@ -17,7 +17,7 @@ use connection_table::ConnTable;
 use hash_laws::FlowHash;
 use maglev_table::TableSize;
 use pool_versions::{Catalogue, Version};
-use selection::{PreparedVersion, Scheme};
+use selection::{PreparedVersion, PreparedVersions, Scheme};
 use std::alloc::{AllocError, Global};
 use std::marker::Model;
 
@@ -28,7 +28,7 @@ pub struct Run<S: Scheme, T: ConnTable> {
     alloc: Global,
     failed: bool,
     nodes: Vec<Node<S, T>>,
-    versions: Vec<PreparedVersion<S>>,
+    versions: PreparedVersions<S>,
 }
 
 impl<S: Scheme, T: ConnTable> Model for Run<S, T> {
@@ -36,7 +36,7 @@ impl<S: Scheme, T: ConnTable> Model for Run<S, T> {
 
     ghost Value = { RunView S };
 
-    ghost view = { λ r. record { failed = r.failed; nodes = r.nodes.items; versions = r.versions.items } };
+    ghost view = { λ r. record { failed = r.failed; nodes = r.nodes.items; versions = r.versions } };
 }
 
 // The node that an event names.
@@ -51,56 +51,55 @@ pub(crate) fn node_at(event: &Event) -> u16
     }
 }
 
-// The prepared version of a number.
-fn prepared_of<S: Scheme>(
-    versions: &[PreparedVersion<S>],
-    number: u32,
-) -> Option<&PreparedVersion<S>>
-    ensures { option_copied result ≡ prepared_at number versions.now }
+// Prepares a version after the one prepared last, with which its services share what they can.
+fn prepare_next<S: Scheme>(
+    alloc: Global,
+    versions: &PreparedVersions<S>,
+    scheme: &S,
+    size: TableSize,
+    version: &Version,
+) -> Result<PreparedVersion<S>, AllocError>
+    ensures { IfOk result (λ p. p ≡ readied_version scheme.now size version.now) }
 {
-    versions.iter().find(|version| version.number() == number)
-}
-
-fn is_prepared<S: Scheme>(versions: &[PreparedVersion<S>], number: u32) -> bool
-    ensures { result ≡ is_some (prepared_at number versions.now) }
-{
-    prepared_of(versions, number).is_some()
+    let prepared = match versions.last() {
+        None => PreparedVersion::make(alloc, scheme, size, version),
+        Some(before) => PreparedVersion::make_after(alloc, scheme, size, version, before),
+    };
+    match prepared {
+        Ok(prepared) => Ok(prepared),
+        // A version of a catalogue has no more backends than slots, so this is want of memory.
+        Err(_) => Err(AllocError),
+    }
 }
 
 // Prepares a version unless that was done before. The newest stands in front.
 fn prepare<S: Scheme>(
     alloc: Global,
-    versions: &mut Vec<PreparedVersion<S>>,
+    versions: &mut PreparedVersions<S>,
     scheme: &S,
     size: TableSize,
     version: &Version,
 ) -> Result<(), AllocError>
-    ensures { OnOk result (versions.new.items ≡ prepared_with scheme.now size version.now versions.old.items) }
+    ensures { OnOk result (versions.new ≡ prepared_with scheme.now size version.now versions.old) }
 {
-    if is_prepared(versions, version.number) {
+    if versions.find(version.number).is_some() {
         return Ok(());
     }
-    match PreparedVersion::make(alloc, scheme, size, version) {
-        Ok(prepared) => match versions.insert(0, prepared) {
-            Ok(()) => Ok(()),
-            Err(_) => Err(AllocError),
-        },
-        // A version of a catalogue has no more backends than slots, so this is want of memory.
-        Err(_) => Err(AllocError),
-    }
+    let prepared = prepare_next(alloc, versions, scheme, size, version)?;
+    versions.put(prepared)
 }
 
 /// Prepares a version of the catalogue that is above a node's newest, unless that was done before: it stands in front of the
 /// others then. A version that isn't above it is refused there, and so isn't prepared.
 pub fn prepare_newer<S: Scheme>(
     alloc: Global,
-    versions: &mut Vec<PreparedVersion<S>>,
+    versions: &mut PreparedVersions<S>,
     scheme: &S,
     size: TableSize,
     newest: u32,
     version: &Version,
 ) -> Result<(), AllocError>
-    ensures { OnOk result (versions.new.items ≡ prepared_above scheme.now size newest version.now versions.old.items) }
+    ensures { OnOk result (versions.new ≡ prepared_above scheme.now size newest version.now versions.old) }
 {
     if version.number <= newest {
         return Ok(());
@@ -111,7 +110,7 @@ pub fn prepare_newer<S: Scheme>(
 // Prepares the version that an event installs on a node of this newest version, and says whether the catalogue has it.
 fn prepare_for<S: Scheme>(
     alloc: Global,
-    versions: &mut Vec<PreparedVersion<S>>,
+    versions: &mut PreparedVersions<S>,
     scheme: &S,
     size: TableSize,
     catalogue: &Catalogue,
@@ -119,7 +118,7 @@ fn prepare_for<S: Scheme>(
     event: &Event,
 ) -> Result<bool, AllocError>
     ensures known { IfOk result (λ known. known ≡ is_known_in catalogue.now event.now) }
-    ensures after { OnOk result (versions.new.items ≡ prepared_for scheme.now size catalogue.now newest event.now versions.old.items) }
+    ensures after { OnOk result (versions.new ≡ prepared_for scheme.now size catalogue.now newest event.now versions.old) }
 {
     match *event {
         Event::Install { version, .. } => match catalogue.get(version) {
@@ -149,13 +148,19 @@ impl<S: Scheme, T: ConnTable> Run<S, T> {
         let workers = setup.workers();
         let mut nodes = Vec::new(alloc);
         for _ in 0..setup.nodes().len() {
-            nodes.push(Node::make(alloc, setup.scheme(), setup.capacity(), workers)?)?;
+            nodes.push(Node::make(
+                alloc,
+                setup.scheme(),
+                setup.capacity(),
+                setup.key(),
+                workers,
+            )?)?;
         }
         Ok(Run {
             alloc,
             failed: false,
             nodes,
-            versions: Vec::new(alloc),
+            versions: PreparedVersions::new(alloc),
         })
     }
 
@@ -259,12 +264,6 @@ impl<S: Scheme, T: ConnTable> Run<S, T> {
             event,
         )?;
         let one = &mut self.nodes[at];
-        one.step(
-            &setup.hash(),
-            self.versions.as_slice(),
-            known,
-            *event,
-            packet,
-        )
+        one.step(&setup.hash(), &self.versions, known, *event, packet)
     }
 }

@@ -5,3 +5,4 @@ pub mod NodeView
 pub mod Record
 pub mod PrivateSteps
 pub mod Records
+pub mod Installed

@@ -71,11 +71,14 @@ one_prepared pick_of n w u (Some p) r = record {
   after = (step_of (pick_of p.scheme p.size) (λ x. ups_in p x) u p.number r).after;
 }
 
-abbrev pub one_step : {S : Type 0} → (S → ℕ → Pick) → List (Readied S) → List ℕ → ℕ → ℕ → WorkerView → ℕ → Bool → OneStep
-one_step pick_of ps installed n w u v r =
+abbrev pub one_if : {S : Type 0} → (S → ℕ → Pick) → List (Readied S) → Bool → ℕ → ℕ → WorkerView → ℕ → Bool → OneStep
+one_if pick_of ps installed n w u v r =
     if length u.queue == 0 then record { outcome = Refused Idle; after = u }
-    else if list_any (λ j. j == v) installed then one_prepared pick_of n w u (prepared_at v ps) r
+    else if installed then one_prepared pick_of n w u (prepared_at v ps) r
     else record { outcome = Refused UnknownVersion; after = u }
+
+abbrev pub one_step : {S : Type 0} → (S → ℕ → Pick) → List (Readied S) → List ℕ → ℕ → ℕ → WorkerView → ℕ → Bool → OneStep
+one_step pick_of ps installed n w u v r = one_if pick_of ps (list_any (λ j. j == v) installed) n w u v r
 
 abbrev pub serve_at : {S : Type 0} → (S → ℕ → Pick) → List (Readied S) → NodeView → ℕ → ℕ → ℕ → Bool → Option WorkerView → NodeStep
 serve_at pick_of ps n place w v r None = refuse (Refused NoWorker) n

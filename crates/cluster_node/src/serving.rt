@@ -4,7 +4,7 @@ ghost use Rattle.forwarder.specs.Serving.{ups_in};
 ghost use Rattle.cluster_node.specs.WorkerView.{WorkerView};
 ghost use Rattle.cluster_node.specs.Book.{step_of};
 
-use connection_table::ConnTable;
+use connection_table::{ConnTable, TableKey};
 use five_tuple::Flow;
 use forwarder::{Choice, Forwarder};
 use selection::{PreparedVersion, Scheme};
@@ -49,7 +49,12 @@ impl<S: Scheme, T: ConnTable> Model for Worker<S, T> {
 
 impl<S: Scheme, T: ConnTable> Worker<S, T> {
     // A worker that has done nothing.
-    pub(crate) fn make(alloc: Global, scheme: S, capacity: u32) -> Result<Self, AllocError>
+    pub(crate) fn make(
+        alloc: Global,
+        scheme: S,
+        capacity: u32,
+        key: TableKey,
+    ) -> Result<Self, AllocError>
         requires some { 0 < capacity }
         requires limit { capacity ≤ 1000000 }
         ensures { IfOk result (λ w. w ≡ record { queue = []; used = 0; forwarding = record { capacity = capacity; entries = []; turn = 0 } }) }
@@ -57,7 +62,7 @@ impl<S: Scheme, T: ConnTable> Worker<S, T> {
         Ok(Worker {
             queue: VecDeque::new(alloc),
             used: 0,
-            forwarder: Forwarder::make(alloc, scheme, capacity)?,
+            forwarder: Forwarder::keyed(alloc, scheme, capacity, key)?,
         })
     }
 

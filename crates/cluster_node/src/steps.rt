@@ -1,22 +1,22 @@
 //! One node: its versions, its steerer and its workers.
-ghost use Rattle.std.specs.Prelude.{◌≡◌, ◌≤◌, ◌<◌, ◌%◌, ◌^◌, ◌==◌, ◌∷◌, [], ℕ, Bool, List, length, map, Option, Some, None, IfOk, OnOk, OnErr, slice_get, slice_set, replicate};
+ghost use Rattle.std.specs.Prelude.{◌≡◌, ◌≤◌, ◌<◌, ◌%◌, ◌^◌, ◌==◌, ◌∷◌, [], ℕ, Bool, List, length, map, Option, Some, None, IfOk, OnOk, OnErr, slice_get, slice_set, replicate, nat_eq};
 ghost use Rattle.std.specs.List.{list_any};
-ghost use Rattle.std.specs.Option.{option_copied};
 ghost use Rattle.cluster_node.specs.Rules.{Rules};
 ghost use Rattle.cluster_node.specs.NodeView.{NodeView};
-ghost use Rattle.cluster_node.specs.PrivateSteps.{install_step, arrive_step, one_step, serve_step, restarted};
-ghost use Rattle.cluster_node.specs.Record.{of_taken, of_choice, node_verdict, prepared_at, ArePrepared, IsKnown, installed_of, waits, waiting_at, fresh, cleared, NodeStands, NodeGoes};
+ghost use Rattle.cluster_node.specs.PrivateSteps.{install_step, arrive_step, one_if, serve_step, restarted};
+ghost use Rattle.cluster_node.specs.Record.{of_taken, of_choice, node_verdict, ArePrepared, IsKnown, installed_of, waits, waiting_at, fresh, cleared, NodeStands, NodeGoes};
 ghost use Rattle.cluster_node.specs.declared.events.Said.{Said};
 
 use crate::events::Event;
 use crate::outcomes::{Cause, Outcome, Reason};
 use crate::packets::Packet;
 use crate::serving::{Item, Taken, Worker};
-use connection_table::ConnTable;
+use connection_table::{ConnTable, TableKey};
 use forwarder::Choice;
 use hash_laws::FlowHash;
-use selection::{PreparedVersion, Scheme};
+use selection::{PreparedVersions, Scheme};
 use std::alloc::{AllocError, Global};
+use std::collections::HashSet;
 use std::marker::Model;
 use steering::{Placed, Steerer};
 
@@ -25,35 +25,23 @@ use steering::{Placed, Steerer};
 pub struct Node<S: Scheme, T: ConnTable> {
     newest: u32,
     installed: Vec<u32>,
+    // The same versions, found without a walk.
+    known: HashSet<u32>,
     steerer: Steerer,
     workers: Vec<Worker<S, T>>,
 }
 
 impl<S: Scheme, T: ConnTable> Model for Node<S, T> {
-    ghost use Rattle.std.specs.Prelude.{◌≡◌, ◌<◌, length};
+    ghost use Rattle.std.specs.Prelude.{◌≡◌, ◌<◌, length, nat_eq};
+    ghost use Rattle.std.specs.HashSet.{contains};
     ghost use Rattle.cluster_node.specs.NodeView.{NodeView};
+    ghost use Rattle.cluster_node.specs.Installed.{AreThose};
 
     ghost Value = { NodeView };
 
     ghost view = { λ n. record { newest = n.newest; installed = n.installed.items; cursor = n.steerer.cursor; workers = n.workers.items } };
 
-    ghost invariant = { λ n. length n.workers.items ≡ n.steerer.workers };
-}
-
-// The prepared version of a number. The newest ones are in front.
-fn prepared_of<S: Scheme>(
-    versions: &[PreparedVersion<S>],
-    number: u32,
-) -> Option<&PreparedVersion<S>>
-    ensures { option_copied result ≡ prepared_at number versions.now }
-{
-    versions.iter().find(|version| version.number() == number)
-}
-
-fn has(versions: &[u32], version: u32) -> bool
-    ensures { result ≡ list_any (λ u. u == version) versions.now }
-{
-    versions.iter().any(|other| *other == version)
+    ghost invariant = { λ n. (length n.workers.items ≡ n.steerer.workers) × AreThose (contains nat_eq n.known) n.installed.items };
 }
 
 fn sent(node: u16, worker: u16, item: &Item, choice: Choice) -> Outcome
@@ -92,23 +80,23 @@ fn outcome_of(node: u16, worker: u16, taken: Taken) -> Outcome
 // A worker's part of a serving.
 fn serve_one<S: Scheme, T: ConnTable>(
     one: &mut Worker<S, T>,
-    versions: &[PreparedVersion<S>],
-    installed: &[u32],
+    versions: &PreparedVersions<S>,
+    installed: bool,
     node: u16,
     worker: u16,
     version: u32,
     refused: bool,
 ) -> Result<Outcome, AllocError>
-    ensures outcome { IfOk result (λ o. o ≡ (one_step (λ s z. S.pick s z) versions.now installed.now node worker one.old version refused).outcome) }
-    ensures after { OnOk result (one.new ≡ (one_step (λ s z. S.pick s z) versions.now installed.now node worker one.old version refused).after) }
+    ensures outcome { IfOk result (λ o. o ≡ (one_if (λ s z. S.pick s z) versions.now installed node worker one.old version refused).outcome) }
+    ensures after { OnOk result (one.new ≡ (one_if (λ s z. S.pick s z) versions.now installed node worker one.old version refused).after) }
 {
     if one.is_idle() {
         return Ok(Outcome::Refused(Reason::Idle));
     }
-    if !has(installed, version) {
+    if !installed {
         return Ok(Outcome::Refused(Reason::UnknownVersion));
     }
-    let Some(prepared) = prepared_of(versions, version) else {
+    let Some(prepared) = versions.find(version) else {
         return Ok(Outcome::Refused(Reason::UnknownVersion));
     };
     let taken = one.take(prepared, refused)?;
@@ -129,8 +117,15 @@ fn clear_all<S: Scheme, T: ConnTable>(workers: &mut Vec<Worker<S, T>>) -> u64
 }
 
 impl<S: Scheme, T: ConnTable> Node<S, T> {
-    /// A node of 1 to 16 workers on which nothing has happened. Each worker has a connection table of so many entries.
-    pub fn make(alloc: Global, scheme: S, capacity: u32, workers: u16) -> Result<Self, AllocError>
+    /// A node of 1 to 16 workers on which nothing has happened. Each worker has a connection table of so many entries, whose
+    /// hash begins with the key.
+    pub fn make(
+        alloc: Global,
+        scheme: S,
+        capacity: u32,
+        key: TableKey,
+        workers: u16,
+    ) -> Result<Self, AllocError>
         requires capacity { 0 < capacity }
         requires entries { capacity ≤ 1000000 }
         requires workers { 0 < workers }
@@ -139,11 +134,12 @@ impl<S: Scheme, T: ConnTable> Node<S, T> {
     {
         let mut all = Vec::new(alloc);
         for _ in 0..workers {
-            all.push(Worker::make(alloc, scheme, capacity)?)?;
+            all.push(Worker::make(alloc, scheme, capacity, key)?)?;
         }
         Ok(Node {
             newest: 0,
             installed: Vec::new(alloc),
+            known: HashSet::new(alloc),
             steerer: Steerer::new(workers),
             workers: all,
         })
@@ -177,6 +173,8 @@ impl<S: Scheme, T: ConnTable> Node<S, T> {
         if version <= self.newest {
             return Ok(Outcome::Refused(Reason::NotNewer));
         }
+        self.installed.reserve(1)?;
+        self.known.insert(version)?;
         self.installed.insert(0, version)?;
         self.newest = version;
         Ok(Outcome::Installed)
@@ -224,9 +222,19 @@ impl<S: Scheme, T: ConnTable> Node<S, T> {
         }
     }
 
+    // Whether a version was installed. The newest is asked for most.
+    fn has(&self, version: u32) -> bool
+        ensures { result ≡ list_any (λ u. u == version) self.now.installed }
+    {
+        match self.installed.first() {
+            Some(newest) if *newest == version => true,
+            _ => self.known.contains(&version),
+        }
+    }
+
     fn serve(
         &mut self,
-        versions: &[PreparedVersion<S>],
+        versions: &PreparedVersions<S>,
         node: u16,
         worker: u16,
         version: u32,
@@ -240,16 +248,9 @@ impl<S: Scheme, T: ConnTable> Node<S, T> {
         if at >= self.workers.len() {
             return Ok(Outcome::Refused(Reason::NoWorker));
         }
+        let installed = self.has(version);
         let one = &mut self.workers[at];
-        serve_one(
-            one,
-            versions,
-            &self.installed,
-            node,
-            worker,
-            version,
-            refused,
-        )
+        serve_one(one, versions, installed, node, worker, version, refused)
     }
 
     fn restart(&mut self) -> u64
@@ -269,7 +270,7 @@ impl<S: Scheme, T: ConnTable> Node<S, T> {
     pub fn step<H: FlowHash>(
         &mut self,
         hash: &H,
-        versions: &[PreparedVersion<S>],
+        versions: &PreparedVersions<S>,
         known: bool,
         event: Event,
         packet: Option<Packet>,

@@ -16,6 +16,7 @@ use crate::stop::RunStop;
 use crate::threads::run_named;
 use cluster_commands::first_unknown;
 use cluster_threads::ClusterRun;
+use connection_table::TableKey;
 use ip_headers::Link;
 use pcap_file::{Sink, Source};
 use scenario::Scenario;
@@ -48,6 +49,7 @@ fn wire_of(scenario: &Scenario, link: Link) -> Wire<'_>
 fn run_over<R: Threads + Wait + Sync>(
     rt: &R,
     alloc: Global,
+    key: TableKey,
     scenario: &Scenario,
     captured: &Captured,
 ) -> Result<Done, RunStop>
@@ -64,6 +66,7 @@ fn run_over<R: Threads + Wait + Sync>(
     let audited = run_named(
         rt,
         alloc,
+        key,
         scenario,
         packets.as_slice(),
         orders.commands.as_slice(),
@@ -85,7 +88,7 @@ fn run_over<R: Threads + Wait + Sync>(
 /// Runs a scenario's cluster on threads over a capture, and answers the report, which ends in `audit agrees` where a replay
 /// of the run's history comes to what it came to: by the clause `ok` it always does. The capture is read to its end before
 /// any thread starts, and the steps become the nodes' commands. Once all threads are joined, what the nodes sent is written
-/// as another capture: node by node, and of each node life by life.
+/// as another capture: node by node, and of each node life by life. The connection tables hash by the key.
 ///
 /// Before anything is called the steps are looked at: `full`, `hold` and `drain` are none of a cluster on threads. Whatever
 /// goes wrong before the writing leaves the output as it was. Where memory for a datagram in a tunnel is refused the output
@@ -99,6 +102,7 @@ fn run_over<R: Threads + Wait + Sync>(
 pub fn run_scenario<R: Threads + Wait + Sync, I: Source, O: Sink>(
     rt: &R,
     alloc: Global,
+    key: TableKey,
     scenario: &Scenario,
     input: &mut I,
     output: &mut O,
@@ -116,7 +120,7 @@ pub fn run_scenario<R: Threads + Wait + Sync, I: Source, O: Sink>(
         None => {}
     }
     let captured = read_whole(alloc, input)?;
-    let done = run_over(rt, alloc, scenario, &captured)?;
+    let done = run_over(rt, alloc, key, scenario, &captured)?;
     let wire = wire_of(scenario, captured.head.link);
     let frames = captured.frames.as_slice();
     let nodes = done.run.nodes.as_slice();

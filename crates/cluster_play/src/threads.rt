@@ -11,7 +11,7 @@ use crate::stop::RunStop;
 use cluster_core::Setup;
 use cluster_node::Packet;
 use cluster_threads::{ClusterRun, run_cluster};
-use connection_table::LruTable;
+use connection_table::{LruTable, TableKey};
 use hash_laws::AnyHash;
 use node_records::Command;
 use node_threads::OpenGate;
@@ -32,6 +32,7 @@ pub(crate) struct Audited {
 fn run_by<S: Scheme + Send + Sync, R: Threads + Wait + Sync>(
     rt: &R,
     alloc: Global,
+    key: TableKey,
     scheme: S,
     scenario: &Scenario,
     packets: &[Packet],
@@ -59,6 +60,7 @@ where
     ) else {
         unreachable!()
     };
+    let setup = setup.keyed(key);
     let run = run_cluster::<S, AnyHash, LruTable, OpenGate, R>(
         rt,
         alloc,
@@ -77,6 +79,7 @@ where
 pub(crate) fn run_named<R: Threads + Wait + Sync>(
     rt: &R,
     alloc: Global,
+    key: TableKey,
     scenario: &Scenario,
     packets: &[Packet],
     commands: &[Vec<Command>],
@@ -91,8 +94,16 @@ pub(crate) fn run_named<R: Threads + Wait + Sync>(
 {
     let hash = scenario.hash;
     match scenario.scheme {
-        SchemeKind::Maglev => run_by(rt, alloc, Maglev { hash }, scenario, packets, commands),
-        SchemeKind::Plain => run_by(rt, alloc, PlainHash { hash }, scenario, packets, commands),
-        SchemeKind::Round => run_by(rt, alloc, RoundRobin, scenario, packets, commands),
+        SchemeKind::Maglev => run_by(rt, alloc, key, Maglev { hash }, scenario, packets, commands),
+        SchemeKind::Plain => run_by(
+            rt,
+            alloc,
+            key,
+            PlainHash { hash },
+            scenario,
+            packets,
+            commands,
+        ),
+        SchemeKind::Round => run_by(rt, alloc, key, RoundRobin, scenario, packets, commands),
     }
 }

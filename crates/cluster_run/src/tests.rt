@@ -1,10 +1,9 @@
 //! Two worked scenarios on both tables.
-ghost use Rattle.std.specs.Prelude.{◌≡◌, ◌<◌, ◌^◌, [], length, reverse};
-ghost use Rattle.cluster_run.specs.Ruling.{IsBalanced};
+ghost use Rattle.std.specs.Prelude.{◌≡◌, ◌<◌, ◌^◌, [], length};
 
-use crate::{Balancers, Rules};
-use cluster_core::{Setup, Totals, totals_of};
-use cluster_node::{Outcome, Packet};
+use crate::{Balancers, Counts, Notes, Rules, Task};
+use cluster_core::{Setup, Totals};
+use cluster_node::{Event, Outcome, Packet, Said};
 use connection_table::{ConnTable, LruTable, PlainTable};
 use course::{Core, Play, Step, all_live};
 use five_tuple::Flow;
@@ -13,7 +12,7 @@ use maglev_table::{Name, TableSize};
 use pool_versions::{Backend, Catalogue, Member, Service, Version};
 use selection::Maglev;
 use spreader::TurnSpread;
-use std::alloc::Global;
+use std::alloc::{AllocError, Global};
 use std::process::Abort;
 
 const VIP: u32 = 0xc000_0201;
@@ -57,6 +56,22 @@ fn catalogue(rt: &impl Abort, alloc: Global, slots: u32) -> Catalogue {
 
 type Sums = Maglev<SumHash>;
 
+// The counts alone are kept; nothing is asked.
+impl Notes for Counts {
+    type Asked = ();
+
+    ghost use Rattle.cluster_core.specs.Histories.{outcomes_of};
+    ghost use Rattle.cluster_run.specs.Noting.{CountsAre};
+
+    ghost are_of = { λ asked past counts. CountsAre (outcomes_of past) counts };
+
+    fn note(&mut self, asked: &(), event: &Event, outcome: &Outcome) -> Result<(), AllocError> {
+        let _ = asked;
+        let _ = event;
+        self.count(outcome)
+    }
+}
+
 // Two nodes of one worker, whose tables have 7 slots and keep two entries.
 fn setup(rt: &impl Abort, alloc: Global) -> Setup<Sums, SumHash> {
     let nodes = Vec::from_slice(alloc, &[0x0a09_0001, 0x0a09_0002]).expect(rt, "memory");
@@ -76,6 +91,7 @@ fn played_by<C: Core>(
     setup: &C::Setup,
     port: u16,
     steps: &[Step],
+    events: &mut Vec<Said>,
 ) -> Play
     requires stands { C.stands setup.now [] core.old }
     requires few { length steps.now < 2 ^ 32 }
@@ -91,22 +107,31 @@ fn played_by<C: Core>(
     let packets = [Packet::Good { flow, len: 40 }; 3];
     let mut spread = TurnSpread::new(all_live(alloc, 2).expect(rt, "memory"));
     let mut play = Play::start(alloc, 2).expect(rt, "memory");
-    play.run(alloc, core, setup, &mut spread, &packets, steps)
+    play.run(alloc, core, setup, &mut spread, &packets, steps, events)
         .expect(rt, "memory");
     play
 }
 
-fn played<T: ConnTable>(rt: &impl Abort, alloc: Global, port: u16, steps: &[Step]) -> Play
+// The totals of a run, whose events are told.
+fn played<T: ConnTable>(
+    rt: &impl Abort,
+    alloc: Global,
+    port: u16,
+    steps: &[Step],
+    events: &mut Vec<Said>,
+) -> Totals
     requires { length steps.now < 2 ^ 32 }
-    ensures { IsBalanced (reverse result.past) }
 {
     let rules = rules(rt, alloc);
-    let mut balancers: Balancers<Sums, SumHash, T> = Balancers::make(alloc, &rules).expect(
-        rt, "memory",
-    );
-    let play = played_by(rt, alloc, &mut balancers, &rules, port, steps);
-    balancers.keep_balance(&rules);
-    play
+    let task = Task { rules, asked: () };
+    let mut balancers = Balancers::<Sums, SumHash, T, Counts>::make(
+        alloc,
+        &task.rules,
+        Counts::new(),
+    ).expect(rt, "memory");
+    let _play = played_by(rt, alloc, &mut balancers, &task, port, steps, events);
+    balancers.keep_balance(&task.rules);
+    balancers.into_notes().totals()
 }
 
 // Of a Forward the last byte of the backend's address and the origin.
@@ -124,8 +149,7 @@ fn told(outcome: &Outcome) -> (&'static str, u64, u32) {
     }
 }
 
-fn shows(rt: &impl Abort, play: &Play, want: &[(&'static str, u64, u32)]) {
-    let history = play.history();
+fn shows(rt: &impl Abort, history: &[Said], want: &[(&'static str, u64, u32)]) {
     assert_eq!(rt; history.len(), want.len(), "how many events");
     for (at, (said, want)) in history.iter().zip(want).enumerate() {
         assert_eq!(rt; told(&said.outcome), *want, "event {at}");
@@ -145,7 +169,8 @@ fn two_versions<T: ConnTable>(rt: &impl Abort, alloc: Global) {
         },
         Step::Take(2),
     ];
-    let play = played::<T>(rt, alloc, 1006, &steps);
+    let mut events = Vec::new(alloc);
+    let _ = played::<T>(rt, alloc, 1006, &steps, &mut events);
     let want = [
         ("installed", 0, 0),
         ("installed", 0, 0),
@@ -154,7 +179,7 @@ fn two_versions<T: ConnTable>(rt: &impl Abort, alloc: Global) {
         ("placed", 0, 2),
         ("forward", 3, 2),
     ];
-    shows(rt, &play, &want);
+    shows(rt, events.as_slice(), &want);
 }
 
 // Two packets are lost at a restart, and one is sent.
@@ -171,7 +196,6 @@ fn totalled<T: ConnTable>(rt: &impl Abort, alloc: Global) {
         Step::Restart(0),
         Step::Take(1),
     ];
-    let play = played::<T>(rt, alloc, 1000, &steps);
     let want = Totals {
         received: 3,
         forwarded: 1,
@@ -179,7 +203,8 @@ fn totalled<T: ConnTable>(rt: &impl Abort, alloc: Global) {
         waiting: 0,
         refused: 0,
     };
-    assert_eq!(rt; totals_of(play.history()), want);
+    let mut events = Vec::new(alloc);
+    assert_eq!(rt; played::<T>(rt, alloc, 1000, &steps, &mut events), want);
 }
 
 // Two packets wait when the node restarts; the next is served at once, and so is what is drained.
@@ -200,7 +225,8 @@ fn held<T: ConnTable>(rt: &impl Abort, alloc: Global) {
         Step::Again(1),
         Step::Drain(0),
     ];
-    let play = played::<T>(rt, alloc, 1006, &steps);
+    let mut events = Vec::new(alloc);
+    let _ = played::<T>(rt, alloc, 1006, &steps, &mut events);
     let want = [
         ("installed", 0, 0),
         ("placed", 0, 1),
@@ -213,7 +239,7 @@ fn held<T: ConnTable>(rt: &impl Abort, alloc: Global) {
         ("forward", 1, 1),
         ("forward", 1, 1),
     ];
-    shows(rt, &play, &want);
+    shows(rt, events.as_slice(), &want);
 }
 
 #[test]
@@ -235,13 +261,18 @@ fn scenarios_with_a_table_over_links(rt: HostRuntime) {
 fn what_fits(rt: HostRuntime) {
     let alloc = rt.alloc();
     assert!(&rt; Rules::new(setup(&rt, alloc), catalogue(&rt, alloc, 13)).is_none());
-    let rules = rules(&rt, alloc);
+    let task = Task {
+        rules: rules(&rt, alloc),
+        asked: (),
+    };
+    let workers = <Balancers<Sums, SumHash, LruTable, Counts> as Core>::workers(&task);
+    let rules = &task.rules;
     assert_eq!(&rt;
         (
             rules.setup().workers(),
             rules.setup().size().slots(),
             rules.catalogue().size().slots(),
-            <Balancers<Sums, SumHash, LruTable> as Core>::workers(&rules)
+            workers
         ),
         (1, 7, 7, 1)
     );

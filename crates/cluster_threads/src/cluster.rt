@@ -1,5 +1,5 @@
 //! A cluster on threads: each node's run, with its driver in a thread of its own.
-ghost use Rattle.std.specs.Prelude.{◌≡◌, ◌≤◌, ◌<◌, ◌++◌, ◌∷◌, [], ℕ, List, ◌↔◌, length, map, None, Some, Ok, IfOk, IsTrue, All, slice_get, slice_index_or};
+ghost use Rattle.std.specs.Prelude.{◌≡◌, ◌≤◌, ◌<◌, ◌+◌, ◌*◌, ◌++◌, ◌∷◌, [], ℕ, List, ◌↔◌, length, map, None, Some, Ok, IfOk, IsTrue, All, slice_get, slice_index, slice_index_or};
 ghost use Rattle.cluster_core.specs.Setups.{Fixed, rules_for};
 ghost use Rattle.cluster_core.specs.Headline.{Agreement, Keeping};
 ghost use Rattle.cluster_core.specs.Histories.{IsSteady};
@@ -8,21 +8,30 @@ ghost use Rattle.cluster_node.specs.declared.packets.Packet.{Packet};
 ghost use Rattle.cluster_node.specs.Records.{WasRead};
 ghost use Rattle.node_records.specs.declared.command.Command.{Command};
 ghost use Rattle.node_records.specs.declared.nodes.NodeRecord.{NodeRecord};
-ghost use Rattle.node_records.specs.Runs.{IsRunOf, AreRuns, JoinsRuns};
-ghost use Rattle.cluster_threads.specs.PrivateClusters.{AreNumbered, rank_of, first_fault};
+ghost use Rattle.node_records.specs.Joins.{all_outcomes};
+ghost use Rattle.node_records.specs.Runs.{AreRuns, JoinsRuns};
+ghost use Rattle.node_duties.specs.Counts.{AreRead, AreTotals, counted, plus};
+ghost use Rattle.node_threads.specs.declared.run.CountedRun.{CountedRun};
+ghost use Rattle.cluster_threads.specs.Handed.{IsCounted};
+ghost use Rattle.cluster_threads.specs.PrivateClusters.{AreNumbered, rank_of, first_fault, AreCounted};
 
 use cluster_core::Setup;
 use cluster_node::{Event, Outcome, Packet};
 use connection_table::ConnTable;
 use hash_laws::FlowHash;
 use node_records::{Command, History, NodeRecord, join_runs};
-use node_threads::{Gate, RunFault, run_node};
+use node_threads::{CountedRun, Gate, RunFault, Task, run_counted};
 use pool_versions::Catalogue;
 use selection::Scheme;
+use stats_book::{Blanks, Names, Shares, Stats, StatsBook};
 use std::alloc::{AllocError, Global};
-use std::sync::Wait;
+use std::marker::Brand;
+use std::sync::{Mutex, Wait};
 use std::thread;
 use std::thread::{Promise, PromisedHandle, Scope, Threads};
+
+// Parts of the counts for 64 drivers and 16 workers of each, and one more.
+const PARTS: u64 = 64 * 17 + 1;
 
 /// What the nodes of a cluster did.
 #[derive(Drop)]
@@ -31,6 +40,8 @@ pub struct ClusterRun {
     pub nodes: Vec<NodeRecord>,
     /// One history of all nodes, node by node.
     pub history: History,
+    /// The counts of the run.
+    pub stats: Stats,
 }
 
 impl ClusterRun {
@@ -56,6 +67,13 @@ impl ClusterRun {
         self.nodes[node as usize].sent.as_slice()
     }
 
+    /// The counts of the run.
+    pub fn stats(&self) -> Stats
+        ensures { result ≡ self.now.stats }
+    {
+        self.stats
+    }
+
     /// Whether the outcomes are what the events come to in this cluster, one after another: the events are replayed on
     /// tables of their own. The packets were read, and the catalogue is one for the cluster's table size. So it is true
     /// of what the run itself was given.
@@ -76,7 +94,63 @@ impl ClusterRun {
     }
 }
 
-/// What a driver's thread promises: that its record is one of its node's commands.
+// What all nodes are to do: there is a list of commands for each, and a ring has places.
+struct Tasks<'e, S: Scheme, H: FlowHash, G, B: Names> {
+    setup: &'e Setup<S, H>,
+    catalogue: &'e Catalogue,
+    packets: &'e [Packet],
+    lists: &'e [Vec<Command>],
+    gate: &'e G,
+    book: &'e Mutex<StatsBook<B>>,
+    ring: u32,
+    ghost each: { length lists.now ≡ length setup.now.nodes },
+    ghost some: { 0 < ring },
+    ghost limit: { ring ≤ 65536 },
+}
+
+// Shares for all nodes, on which nothing was counted: parts for 64 drivers and 16 workers of each, and one more.
+#[derive(Drop)]
+struct Supply<B: Names> {
+    shares: Shares<B>,
+    ghost enough: { 64 * 17 < shares.parts },
+    ghost fresh: { shares ≡ counted shares.parts [] },
+}
+
+impl<'e, S: Scheme, H: FlowHash, G, B: Names> Clone for Tasks<'e, S, H, G, B> {
+    fn clone(&self) -> Result<Self, AllocError> {
+        Ok(*self)
+    }
+}
+
+impl<'e, S: Scheme, H: FlowHash, G, B: Names> Copy for Tasks<'e, S, H, G, B> {}
+
+impl<'e, S: Scheme, H: FlowHash, G, B: Names> Tasks<'e, S, H, G, B> {
+    // What a node is to do.
+    fn task_of(self, node: u16, commands: &'e [Command], shares: Shares<B>) -> Task<'e, S, H, G, B>
+        requires there { node < length self.setup.now.nodes }
+        requires parts { shares.parts ≡ self.setup.now.workers + 1 }
+        requires fresh { shares ≡ counted shares.parts [] }
+        ensures setup { result.setup.now ≡ self.entry.setup.now }
+        ensures catalogue { result.catalogue.now ≡ self.entry.catalogue.now }
+        ensures packets { result.packets.now ≡ self.entry.packets.now }
+        ensures commands { result.commands.now ≡ commands.now }
+        ensures place { (result.node ≡ node) × (result.ring ≡ self.entry.ring) }
+    {
+        Task {
+            setup: self.setup,
+            catalogue: self.catalogue,
+            packets: self.packets,
+            commands,
+            gate: self.gate,
+            book: self.book,
+            node,
+            ring: self.ring,
+            shares,
+        }
+    }
+}
+
+/// What a driver's thread promises: that its record is one of its node's commands, and that it counted what it came to.
 #[derive(Drop)]
 pub struct OfNode<'e, S: Scheme, H: FlowHash> {
     /// The cluster.
@@ -93,21 +167,33 @@ pub struct OfNode<'e, S: Scheme, H: FlowHash> {
     pub ring: u32,
 }
 
-impl<'e, S: Scheme, H: FlowHash> Promise<Result<NodeRecord, RunFault>> for OfNode<'e, S, H> {
-    ghost kept_by = { λ p r. IfOk r (λ run. IsRunOf (rules_for (λ s z. S.pick s z) (λ h. H.plain h) p.setup.now p.catalogue.now) p.packets.now p.node p.ring p.commands.now run) };
+impl<'e, S: Scheme, H: FlowHash, B: Names> Promise<Result<CountedRun<B>, RunFault>>
+    for OfNode<'e, S, H> {
+    ghost kept_by = { λ p r. IfOk r (λ run. IsCounted (rules_for (λ s z. S.pick s z) (λ h. H.plain h) p.setup.now p.catalogue.now) p.packets.now p.node p.ring p.setup.now.workers p.commands.now run.record run.shares) };
 }
+
+// What a driver's thread answers.
+type Answer<B> = Result<CountedRun<B>, RunFault>;
 
 // The drivers' threads, and why not all were started.
 #[derive(Drop)]
-struct Drivers<'e, S: Scheme, H: FlowHash> {
-    handles: Vec<PromisedHandle<Result<NodeRecord, RunFault>, OfNode<'e, S, H>>>,
+struct Drivers<'e, S: Scheme, H: FlowHash, B: Names> {
+    handles: Vec<PromisedHandle<Answer<B>, OfNode<'e, S, H>>>,
     fault: Option<RunFault>,
 }
 
-// What was joined so far. Once there is a fault the records are kept for nothing.
+// What all nodes did, and what was counted.
 #[derive(Drop)]
-struct Joined {
+struct Gathered<B: Names> {
     nodes: Vec<NodeRecord>,
+    shares: Shares<B>,
+}
+
+// What was joined so far. Once there is a fault the rest is kept for nothing.
+#[derive(Drop)]
+struct Joined<B: Names> {
+    nodes: Vec<NodeRecord>,
+    shares: Shares<B>,
     fault: Option<RunFault>,
 }
 
@@ -120,6 +206,7 @@ fn rank(fault: RunFault) -> u8
         RunFault::ThreadLost => 1,
         RunFault::Foreign => 2,
         RunFault::RingLost => 3,
+        RunFault::BookLost => 4,
     }
 }
 
@@ -133,15 +220,17 @@ fn first_of(fault: Option<RunFault>, other: RunFault) -> RunFault
     }
 }
 
-impl Joined {
-    // Keeps a node's record.
-    fn keep(&mut self, answer: Result<NodeRecord, RunFault>)
-        ensures { self.new.fault ≡ None → (self.old.fault ≡ None) × ((r : NodeRecord) × (answer ≡ Ok r) × (self.new.nodes.items ≡ self.old.nodes.items ++ r ∷ [])) }
+impl<B: Names> Joined<B> {
+    // Keeps what a node did.
+    fn keep(&mut self, answer: Answer<B>)
+        ensures { self.new.fault ≡ None → (self.old.fault ≡ None) × ((r : CountedRun _) × (answer ≡ Ok r) × (self.new.nodes.items ≡ self.old.nodes.items ++ r.record ∷ []) × (self.new.shares ≡ plus self.old.shares r.shares)) }
     {
         match answer {
             Err(fault) => self.fault = Some(first_of(self.fault, fault)),
             Ok(run) => {
-                let Ok(()) = self.nodes.push(run) else {
+                let CountedRun { record, shares } = run;
+                self.shares.merge(shares);
+                let Ok(()) = self.nodes.push(record) else {
                     self.fault = Some(RunFault::Memory);
                     return;
                 };
@@ -150,22 +239,20 @@ impl Joined {
     }
 
     // Joins a driver.
-    fn join<'e, S: Scheme, H: FlowHash, R: Threads>(
+    fn join<'e, S: Scheme, H: FlowHash, G, R: Threads>(
         &mut self,
         rt: &R,
-        setup: &Setup<S, H>,
-        catalogue: &Catalogue,
-        packets: &[Packet],
-        ring: u32,
-        handle: PromisedHandle<Result<NodeRecord, RunFault>, OfNode<'e, S, H>>,
+        tasks: Tasks<'e, S, H, G, B>,
+        handle: PromisedHandle<Answer<B>, OfNode<'e, S, H>>,
     )
-        requires { (handle.promise.setup.now ≡ setup.now) × (handle.promise.catalogue.now ≡ catalogue.now) × (handle.promise.packets.now ≡ packets.now) × (handle.promise.ring ≡ ring) }
+        requires { (handle.promise.setup.now ≡ tasks.setup.now) × (handle.promise.catalogue.now ≡ tasks.catalogue.now) × (handle.promise.packets.now ≡ tasks.packets.now) × (handle.promise.ring ≡ tasks.ring) }
         ensures kept { self.new.fault ≡ None → self.old.fault ≡ None }
-        ensures runs { let rules = rules_for (λ s z. S.pick s z) (λ h. H.plain h) setup.now catalogue.now in
-            (cs : List (List Command)) → (self.old.fault ≡ None → AreRuns rules packets.now ring 0 cs self.old.nodes.items) → handle.entry.promise.node ≡ length cs → self.new.fault ≡ None →
-            AreRuns rules packets.now ring 0 (cs ++ handle.entry.promise.commands.now ∷ []) self.new.nodes.items }
+        ensures more { let rules = rules_for (λ s z. S.pick s z) (λ h. H.plain h) tasks.entry.setup.now tasks.entry.catalogue.now in
+            (cs : List (List Command)) → (self.old.fault ≡ None → AreCounted rules tasks.entry.packets.now tasks.entry.ring cs self.old.nodes.items self.old.shares) → handle.entry.promise.node ≡ length cs → self.new.fault ≡ None →
+            AreCounted rules tasks.entry.packets.now tasks.entry.ring (cs ++ handle.entry.promise.commands.now ∷ []) self.new.nodes.items self.new.shares }
+        ensures parts { self.new.fault ≡ None → self.new.shares.parts ≡ self.old.shares.parts + (tasks.entry.setup.now.workers + 1) }
     {
-        let _ = (setup.workers(), catalogue.size(), packets.len(), ring);
+        let _ = (tasks.setup.workers(), tasks.catalogue.size());
         let answer = handle.join(rt);
         self.keep(answer);
     }
@@ -179,56 +266,49 @@ fn start_drivers<
     H: FlowHash + Send + Sync + 'e,
     T: ConnTable + Send + 'e,
     G: Gate + Sync + 'e,
+    B: Names + Send + Sync + 'e,
     R: Threads + Wait + Sync + 'e,
 >(
     scope: &Scope<'s, &'e ()>,
     rt: &'e R,
     alloc: Global,
-    setup: &'e Setup<S, H>,
-    catalogue: &'e Catalogue,
-    packets: &'e [Packet],
-    lists: &'e [Vec<Command>],
-    ring: u32,
-    gate: &'e G,
-) -> Drivers<'e, S, H>
+    tasks: Tasks<'e, S, H, G, B>,
+    shares: &mut Shares<B>,
+) -> Drivers<'e, S, H, B>
 where
     S::Prepared: Send + Sync,
-    requires nodes { length lists.now ≡ length setup.now.nodes }
-    requires some { 0 < ring }
-    requires limit { ring ≤ 65536 }
-    ensures same { All (λ h. (h.promise.setup.now ≡ setup.now) × (h.promise.catalogue.now ≡ catalogue.now) × (h.promise.packets.now ≡ packets.now) × (h.promise.ring ≡ ring)) result.handles.items }
+    requires parts { 64 * 17 < shares.old.parts }
+    requires fresh { shares.old ≡ counted shares.old.parts [] }
+    ensures same { All (λ h. (h.promise.setup.now ≡ tasks.entry.setup.now) × (h.promise.catalogue.now ≡ tasks.entry.catalogue.now) × (h.promise.packets.now ≡ tasks.entry.packets.now) × (h.promise.ring ≡ tasks.entry.ring)) result.handles.items }
     ensures numbered { AreNumbered 0 (map (λ h. h.promise.node) result.handles.items) }
-    ensures lists { result.fault ≡ None → map (λ h. h.promise.commands.now) result.handles.items ≡ map (λ c. c.items) lists.now }
+    ensures lists { result.fault ≡ None → map (λ h. h.promise.commands.now) result.handles.items ≡ map (λ c. c.items) tasks.entry.lists.now }
+    ensures parts { result.fault ≡ None → shares.new.parts + length result.handles.items * (tasks.entry.setup.now.workers + 1) ≡ shares.old.parts }
+    ensures rest { shares.new ≡ record shares.old { parts = shares.new.parts } }
 {
-    let _few = setup.nodes();
+    let each = u64::from(tasks.setup.workers()) + 1;
+    let _few = tasks.setup.nodes();
     let mut handles = Vec::new(alloc);
-    for at in 0..lists.len() {
+    for at in 0..tasks.lists.len() {
         if handles.reserve(1).is_err() {
             let fault = Some(RunFault::Memory);
             return Drivers { handles, fault };
         }
         let node = at as u16;
-        let commands = lists[at].as_slice();
+        let commands = tasks.lists[at].as_slice();
         let promise = OfNode {
-            setup,
-            catalogue,
-            packets,
+            setup: tasks.setup,
+            catalogue: tasks.catalogue,
+            packets: tasks.packets,
             commands,
             node,
-            ring,
+            ring: tasks.ring,
         };
+        let task = tasks.task_of(node, commands, shares.split_off(each));
         match scope.spawn_with(
             promise,
-            move || -> Result<NodeRecord, RunFault>
-                requires node { node < length setup.now.nodes }
-                requires some { 0 < ring }
-                requires limit { ring ≤ 65536 }
-                ensures { IfOk result (λ run. IsRunOf (rules_for (λ s z. S.pick s z) (λ h. H.plain h) setup.entry.now catalogue.entry.now) packets.entry.now node ring commands.entry.now run) }
-            {
-                run_node::<S, H, T, G, R>(
-                    rt, alloc, setup, catalogue, packets, node, commands, ring, gate,
-                )
-            },
+            move || -> Result<CountedRun<B>, RunFault>
+                ensures { IfOk result (λ run. IsCounted (rules_for (λ s z. S.pick s z) (λ h. H.plain h) task.entry.setup.now task.entry.catalogue.now) task.entry.packets.now task.entry.node task.entry.ring task.entry.setup.now.workers task.entry.commands.now run.record run.shares) }
+            { run_counted::<S, H, T, G, B, R>(rt, alloc, task) },
         ) {
             Ok(handle) => handles.push_reserved(handle),
             Err(_) => {
@@ -251,39 +331,44 @@ fn run_drivers<
     H: FlowHash + Send + Sync + 'e,
     T: ConnTable + Send + 'e,
     G: Gate + Sync + 'e,
+    B: Names + Send + Sync + 'e,
     R: Threads + Wait + Sync + 'e,
 >(
     scope: &Scope<'s, &'e ()>,
     rt: &'e R,
     alloc: Global,
-    setup: &'e Setup<S, H>,
-    catalogue: &'e Catalogue,
-    packets: &'e [Packet],
-    lists: &'e [Vec<Command>],
-    ring: u32,
-    gate: &'e G,
-) -> Result<Vec<NodeRecord>, RunFault>
+    tasks: Tasks<'e, S, H, G, B>,
+    supply: Supply<B>,
+) -> Result<Gathered<B>, RunFault>
 where
     S::Prepared: Send + Sync,
-    requires nodes { length lists.now ≡ length setup.now.nodes }
-    requires some { 0 < ring }
-    requires limit { ring ≤ 65536 }
-    ensures { let rules = rules_for (λ s z. S.pick s z) (λ h. H.plain h) setup.now catalogue.now in IfOk result (λ v. AreRuns rules packets.now ring 0 (map (λ c. c.items) lists.now) v.items) }
+    ensures { IfOk result (λ v. AreCounted (rules_for (λ s z. S.pick s z) (λ h. H.plain h) tasks.entry.setup.now tasks.entry.catalogue.now) tasks.entry.packets.now tasks.entry.ring (map (λ c. c.items) tasks.entry.lists.now) v.nodes.items v.shares × (v.shares.parts ≡ supply.shares.parts)) }
 {
-    let drivers: Drivers<'e, S, H> = start_drivers::<S, H, T, G, R>(
-        scope, rt, alloc, setup, catalogue, packets, lists, ring, gate,
+    let Supply { shares } = supply;
+    let mut shares = shares;
+    let drivers: Drivers<'e, S, H, B> = start_drivers::<S, H, T, G, B, R>(
+        scope,
+        rt,
+        alloc,
+        tasks,
+        &mut shares,
     );
     let Drivers { handles, fault } = drivers;
     let mut joined = Joined {
         nodes: Vec::new(alloc),
+        shares,
         fault,
     };
     for handle in handles {
-        joined.join(rt, setup, catalogue, packets, ring, handle);
+        joined.join(rt, tasks, handle);
     }
-    let Joined { nodes, fault } = joined;
+    let Joined {
+        nodes,
+        shares,
+        fault,
+    } = joined;
     match fault {
-        None => Ok(nodes),
+        None => Ok(Gathered { nodes, shares }),
         Some(fault) => Err(fault),
     }
 }
@@ -295,38 +380,80 @@ fn run_nodes<
     H: FlowHash + Send + Sync + 'e,
     T: ConnTable + Send + 'e,
     G: Gate + Sync + 'e,
+    B: Names + Send + Sync + 'e,
     R: Threads + Wait + Sync + 'e,
 >(
     rt: &'e R,
     alloc: Global,
-    setup: &'e Setup<S, H>,
-    catalogue: &'e Catalogue,
-    packets: &'e [Packet],
-    lists: &'e [Vec<Command>],
-    ring: u32,
-    gate: &'e G,
-) -> Result<Vec<NodeRecord>, RunFault>
+    tasks: Tasks<'e, S, H, G, B>,
+    supply: Supply<B>,
+) -> Result<Gathered<B>, RunFault>
 where
     S::Prepared: Send + Sync,
-    requires nodes { length lists.now ≡ length setup.now.nodes }
-    requires some { 0 < ring }
-    requires limit { ring ≤ 65536 }
-    ensures { let rules = rules_for (λ s z. S.pick s z) (λ h. H.plain h) setup.now catalogue.now in IfOk result (λ v. AreRuns rules packets.now ring 0 (map (λ c. c.items) lists.now) v.items) }
+    ensures { IfOk result (λ v. AreCounted (rules_for (λ s z. S.pick s z) (λ h. H.plain h) tasks.entry.setup.now tasks.entry.catalogue.now) tasks.entry.packets.now tasks.entry.ring (map (λ c. c.items) tasks.entry.lists.now) v.nodes.items v.shares × (v.shares.parts ≡ supply.shares.parts)) }
 {
     thread::scope(
         thread::scope_env(),
         rt,
-        move |scope| -> Result<Vec<NodeRecord>, RunFault>
-            requires nodes { length lists.now ≡ length setup.now.nodes }
-            requires some { 0 < ring }
-            requires limit { ring ≤ 65536 }
-            ensures { IfOk result (λ v. AreRuns (rules_for (λ s z. S.pick s z) (λ h. H.plain h) setup.entry.now catalogue.entry.now) packets.entry.now ring 0 (map (λ c. c.items) lists.entry.now) v.items) }
-        {
-            run_drivers::<S, H, T, G, R>(
-                scope, rt, alloc, setup, catalogue, packets, lists, ring, gate,
-            )
-        },
+        move |scope| -> Result<Gathered<B>, RunFault>
+            ensures { IfOk result (λ v. AreCounted (rules_for (λ s z. S.pick s z) (λ h. H.plain h) tasks.entry.setup.now tasks.entry.catalogue.now) tasks.entry.packets.now tasks.entry.ring (map (λ c. c.items) tasks.entry.lists.now) v.nodes.items v.shares × (v.shares.parts ≡ supply.shares.parts)) }
+        { run_drivers::<S, H, T, G, B, R>(scope, rt, alloc, tasks, supply) },
     )
+}
+
+// The run of a cluster with a book of its own.
+fn run_booked<
+    S: Scheme + Send + Sync,
+    H: FlowHash + Send + Sync,
+    T: ConnTable + Send,
+    G: Gate + Sync,
+    B: Names + Send + Sync,
+    R: Threads + Wait + Sync,
+>(
+    rt: &R,
+    alloc: Global,
+    setup: &Setup<S, H>,
+    catalogue: &Catalogue,
+    packets: &[Packet],
+    commands: &[Vec<Command>],
+    ring: u32,
+    gate: &G,
+    blanks: Blanks,
+) -> Result<ClusterRun, RunFault>
+where
+    S::Prepared: Send + Sync,
+    requires nodes { length commands.now ≡ length setup.now.nodes }
+    requires some { 0 < ring }
+    requires limit { ring ≤ 65536 }
+    requires names { (n : ℕ) → slice_index blanks.names n ≡ B.names n }
+    requires parts { (blanks.parts ≡ B.parts) × (64 * 17 < B.parts) }
+    ensures runs { let rules = rules_for (λ s z. S.pick s z) (λ h. H.plain h) setup.now catalogue.now in IfOk result (λ run.
+        AreRuns rules packets.now ring 0 (map (λ c. c.items) commands.now) run.nodes.items × JoinsRuns rules packets.now run.nodes.items run.history) }
+    ensures stats { AreRead packets.now → IfOk result (λ run. AreTotals run.stats run.history.outcomes.items) }
+{
+    let (book, shares) = StatsBook::<B>::open(blanks);
+    let book = Mutex::new(book);
+    let tasks = Tasks {
+        setup,
+        catalogue,
+        packets,
+        lists: commands,
+        gate,
+        book: &book,
+        ring,
+    };
+    let supply = Supply { shares };
+    let gathered = run_nodes::<S, H, T, G, B, R>(rt, alloc, tasks, supply)?;
+    let Gathered { nodes, shares } = gathered;
+    let history = join_runs(alloc, nodes.as_slice())?;
+    let mut book = book.into_inner();
+    let mut shares = shares;
+    book.audit(&mut shares);
+    Ok(ClusterRun {
+        nodes,
+        history,
+        stats: book.stats(),
+    })
 }
 
 /// The runs of all nodes of a cluster at once, each as `run_node` does it, with its driver in a thread of its own. There
@@ -334,7 +461,7 @@ where
 ///
 /// Whatever the schedule was, each record is one of a run of its node's commands, and the history has all of them, node by
 /// node: what each event comes to in it is what it came to in its node. Of several faults Memory is told first, then
-/// ThreadLost, Foreign and RingLost. A driver that can't be started is ThreadLost, and so the others end first.
+/// ThreadLost, Foreign, RingLost and BookLost. A driver that can't be started is ThreadLost, and so the others end first.
 ///
 /// So what is promised of every list of events is promised of the run: two packets of one flow that were sent to different
 /// backends, by any nodes, were chosen under versions that pick these backends (`agreement`), and a worker keeps a flow's
@@ -367,10 +494,11 @@ where
         IfOk result (λ run. IsSteady rules → Agreement rules run.history.outcomes.items) }
     ensures keeping { let rules = rules_for (λ s z. S.pick s z) (λ h. H.plain h) setup.now catalogue.now in
         IfOk result (λ run. Keeping rules [] packets.now run.history.events.items run.history.outcomes.items) }
+    // where all packets were read, the counts are the totals of the outcomes, and nothing waits
+    ensures stats { AreRead packets.now → IfOk result (λ run. AreTotals run.stats run.history.outcomes.items) }
 {
-    let nodes = run_nodes::<S, H, T, G, R>(
-        rt, alloc, setup, catalogue, packets, commands, ring, gate,
-    )?;
-    let history = join_runs(alloc, nodes.as_slice())?;
-    Ok(ClusterRun { nodes, history })
+    let blanks = Blanks::new(PARTS);
+    run_booked::<S, H, T, G, Brand, R>(
+        rt, alloc, setup, catalogue, packets, commands, ring, gate, blanks,
+    )
 }

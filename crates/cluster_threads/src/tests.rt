@@ -12,6 +12,7 @@ use node_records::Command;
 use node_threads::Gate;
 use pool_versions::{Backend, Catalogue, Member, Service, Version};
 use selection::Maglev;
+use stats_book::Stats;
 use std::alloc::Global;
 use std::process::Abort;
 use std::sync::atomic::{AtomicU64, Ordering};
@@ -108,6 +109,8 @@ impl Gate for Meet {
         }
         self.missed.store(1, Ordering::SeqCst);
     }
+
+    fn counted(&self, _node: u16, _worker: u16, _stats: Stats) {}
 
     fn after(&self, _node: u16, _worker: u16, _nth: u64) {}
 }

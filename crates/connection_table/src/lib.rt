@@ -5,11 +5,13 @@
 //! keeps a vector, `LruTable` a hash map with links; both keep one law, that of `ConnTable`.
 #![tactic(auto)]
 
+mod key;
 mod laws;
 mod lru_table;
 mod plain;
 mod table;
 
+pub use key::TableKey;
 pub use laws::tables_stay_tables;
 pub use lru_table::LruTable;
 pub use plain::PlainTable;

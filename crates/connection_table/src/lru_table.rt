@@ -1,6 +1,7 @@
 //! A table that keeps its entries in a hash map with links.
 ghost use Rattle.std.specs.Prelude.{◌≡◌, ◌<◌};
 
+use crate::key::TableKey;
 use crate::table::{ConnTable, Entry};
 use five_tuple::Flow;
 use lru::LruCache;
@@ -11,7 +12,7 @@ use std::num::NonZeroUsize;
 /// A table over a cache by least recent use. A look and a store take constant time.
 #[derive(Drop)]
 pub struct LruTable {
-    cache: LruCache<Flow, Entry>,
+    cache: LruCache<Flow, Entry, TableKey>,
 }
 
 impl Model for LruTable {
@@ -30,16 +31,16 @@ impl ConnTable for LruTable {
 
     ghost entries = { λ t. t.pairs };
 
-    fn make(alloc: Global, limit: u32) -> Result<LruTable, AllocError> {
+    fn keyed(alloc: Global, limit: u32, key: TableKey) -> Result<LruTable, AllocError> {
         let places = NonZeroUsize::new(limit as usize).unwrap();
-        let cache = LruCache::sparse(alloc, places)?;
+        // The kit's `with_hasher` takes room for all places at once.
+        let mut cache = LruCache::unbounded_with_hasher(alloc, key)?;
+        cache.resize(places);
         Ok(LruTable { cache })
     }
 
     fn look(&mut self, flow: &Flow) -> Option<Entry> {
-        let found = self.cache.peek(flow).copied();
-        self.cache.promote(flow);
-        found
+        self.cache.get(flow).copied()
     }
 
     fn store(&mut self, flow: Flow, entry: Entry) -> Result<(), AllocError> {

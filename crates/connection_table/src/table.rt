@@ -3,6 +3,7 @@ ghost use Rattle.std.specs.Prelude.{◌≡◌, ◌≤◌, ◌<◌, ℕ, List, []
 ghost use Rattle.connection_table.specs.Recency.{renewed, stored};
 ghost use Rattle.connection_table.specs.Touches.{Touch, last_touch};
 
+use crate::key::TableKey;
 use five_tuple::Flow;
 use pool_versions::Backend;
 use std::alloc::{AllocError, Global};
@@ -22,12 +23,23 @@ pub trait ConnTable: Drop + Sized {
     /// The flows with their entries, the most recently used first.
     ghost entries: { Self → List Touch };
 
-    /// An empty table for 1 to 1,000,000 entries. Nothing of the capacity is reserved.
-    fn make(alloc: Global, limit: u32) -> Result<Self, AllocError>
+    /// An empty table for 1 to 1,000,000 entries, whose hash, if it has one, begins with a key. Nothing of the capacity is
+    /// reserved.
+    fn keyed(alloc: Global, limit: u32, key: TableKey) -> Result<Self, AllocError>
         requires some { 0 < limit }
         requires limit { limit ≤ 1000000 }
         ensures capacity { IfOk result (λ t. capacity t ≡ limit) }
         ensures empty { IfOk result (λ t. entries t ≡ []) };
+
+    /// An empty table by the key that everybody knows.
+    fn make(alloc: Global, limit: u32) -> Result<Self, AllocError>
+        requires some { 0 < limit }
+        requires limit { limit ≤ 1000000 }
+        ensures capacity { IfOk result (λ t. capacity t ≡ limit) }
+        ensures empty { IfOk result (λ t. entries t ≡ []) }
+    {
+        Self::keyed(alloc, limit, TableKey::fixed())
+    }
 
     /// The flow's entry, which is in front from now on. Where there is none nothing changes.
     fn look(&mut self, flow: &Flow) -> Option<Entry>

@@ -6,3 +6,4 @@ pub mod Readings
 pub mod Told
 pub mod Quiet
 pub mod Adding
+pub mod Behind

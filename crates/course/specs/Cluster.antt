@@ -1,5 +1,5 @@
 -- A cluster as a scenario's steps see it, and what they read off the record of all events. A record has the newest in front.
-use Rattle.std.specs.Prelude.{◌≡◌, ◌≤◌, ◌<◌, ℕ, ◌-◌, ◌&&◌, nat_lt, Bool, List, length, map, drop, Option, Some, None, if◌then◌else◌, slice_get}
+use Rattle.std.specs.Prelude.{◌≡◌, ◌≤◌, ◌<◌, ℕ, ◌-◌, ◌&&◌, nat_lt, Bool, List, ◌++◌, length, reverse, map, drop, Option, Some, None, if◌then◌else◌, slice_get}
 use Rattle.five_tuple.specs.declared.Flow.{Flow}
 use Rattle.cluster_node.specs.declared.packets.Packet.{Packet}
 use Rattle.cluster_node.specs.declared.packets.Packet.TheVariants.{Good, Bad}
@@ -41,6 +41,10 @@ flow_of (Bad c) = None
 -- all of a list are packets that reading gives
 abbrev pub WereRead : List Packet → Type 0
 WereRead ps = (k : ℕ) (p : Packet) → slice_get ps k ≡ Some p → WasRead (Some p)
+
+-- behind these events of a record, the oldest in front, come those
+abbrev pub Behind : List Said → List Said → List Said → Type 0
+Behind before past events = reverse past ≡ before ++ events
 
 -- the packets that wait for a worker, by their places, the first in front
 abbrev pub queue_by : List Line → List ℕ

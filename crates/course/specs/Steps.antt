@@ -4,6 +4,7 @@ use Rattle.five_tuple.specs.declared.Flow.{Flow}
 use Rattle.cluster_node.specs.declared.packets.Packet.{Packet}
 use Rattle.cluster_node.specs.declared.events.Event.{Event}
 use Rattle.cluster_node.specs.declared.events.Event.TheVariants.{Install, Arrive, Serve, Restart}
+use Rattle.cluster_node.specs.declared.events.Said.{Said}
 use Rattle.cluster_node.specs.declared.outcomes.Outcome.{Outcome}
 use Rattle.cluster_node.specs.declared.outcomes.Outcome.TheVariants.{Installed, Placed, Forward, Dropped, Restarted, Refused}
 use Rattle.spreader.specs.Choices.{Choice}
@@ -41,8 +42,8 @@ abbrev pub is_held : ℕ → Course → Bool
 is_held n c = true_or (slice_get c.held n)
 
 -- an event was said, with what it came to
-abbrev pub noted : Event → Option Packet → Outcome → Course → Course
-noted e p o c = record c { past = record { event = e; packet = p; outcome = o } ∷ c.past }
+abbrev pub noted : Said → Course → Course
+noted s c = record c { past = s ∷ c.past }
 
 -- an event, with what it comes to
 abbrev pub say : World → Event → Option Packet → Course → Course

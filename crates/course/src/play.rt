@@ -1,7 +1,7 @@
 //! A run of a scenario's steps.
 ghost use Rattle.std.specs.Prelude.{◌≡◌, ◌<◌, ◌≤◌, ◌+◌, ◌-◌, ◌^◌, ◌∷◌, ◌++◌, [], ℕ, List, Option, Some, None, length, take, drop, reverse, IfOk, OnOk, slice_get, slice_set, false};
 ghost use Rattle.cluster_node.specs.declared.events.Event.{Event};
-ghost use Rattle.course.specs.Cluster.{Cluster, WereRead, flow_of, said, newest_on, waiting_on};
+ghost use Rattle.course.specs.Cluster.{Cluster, WereRead, flow_of, said, newest_on, waiting_on, Behind};
 ghost use Rattle.cluster_node.specs.Records.{WasRead};
 ghost use Rattle.course.specs.Course.{Course};
 ghost use Rattle.course.specs.Steps.{World, SameChoice, world_of, marks_at, is_held, noted, placed_on, say, serve, follow, arrival, arrive, route, deliver, take_all, repeat, serve_times, drain_from, release, next_ones, names_records, after, run, start, below};
@@ -10,6 +10,7 @@ ghost use Rattle.course.specs.Room.{Room, Counted};
 
 use crate::machine::Core;
 use cluster_node::{Event, Outcome, Packet, Said};
+use past_log::Log;
 use scenario_steps::Step;
 use spreader::Spread;
 use std::alloc::{AllocError, Global};
@@ -46,10 +47,12 @@ pub fn all_live(alloc: Global, nodes: u16) -> Result<Vec<u16>, AllocError>
     Ok(live)
 }
 
-/// A run so far: the events that the steps defined, with what each came to, and what the steps fixed.
+/// A run so far: the events that the steps defined, with what each came to, and what the steps fixed. Of the events only
+/// their number is kept; the record of them is there for contracts alone.
 #[derive(Drop)]
 pub struct Play {
-    history: Vec<Said>,
+    past: Log<Said>,
+    count: u64,
     read: u32,
     live: Vec<u16>,
     marks: Vec<[bool; 16]>,
@@ -61,12 +64,14 @@ pub struct Play {
 }
 
 impl Model for Play {
-    ghost use Rattle.std.specs.Prelude.{reverse};
+    ghost use Rattle.std.specs.Prelude.{◌≡◌, length};
     ghost use Rattle.course.specs.Course.{Course};
 
     ghost Value = { Course };
 
-    ghost view = { λ p. record { past = reverse p.history.items; read = p.read; live = p.live.items; marks = p.marks.items; held = p.held.items; nth = p.nth; unrouted = p.unrouted; lost = p.lost; skipped = p.skipped } };
+    ghost view = { λ p. record { past = p.past.items; read = p.read; live = p.live.items; marks = p.marks.items; held = p.held.items; nth = p.nth; unrouted = p.unrouted; lost = p.lost; skipped = p.skipped } };
+
+    ghost invariant = { λ p. p.count ≡ length p.past.items };
 }
 
 impl Play {
@@ -114,35 +119,32 @@ impl Play {
     }
 
     /// How many events there were.
-    fn said_count(&self) -> usize
+    fn said_count(&self) -> u64
         ensures { result ≡ length self.now.past }
     {
-        self.history.len()
+        self.count
     }
 
-    fn note(
-        &mut self,
-        event: Event,
-        packet: Option<Packet>,
-        outcome: Outcome,
-    ) -> Result<(), AllocError>
-        ensures { OnOk result (self.new ≡ noted event packet outcome self.old) }
+    /// An event was said. Where their number has no room it is refused, as memory is.
+    fn note(&mut self, said: &Said) -> Result<(), AllocError>
+        ensures { OnOk result (self.new ≡ noted said.now self.old) }
     {
-        self.history.push(Said {
-            event,
-            packet,
-            outcome,
-        })?;
+        let Some(count) = self.count.checked_add(1) else {
+            return Err(AllocError);
+        };
+        self.past = self.past.and(said);
+        self.count = count;
         Ok(())
     }
 
-    /// An event, and the worker on which it placed a packet.
+    /// An event, which is put behind those that are told so far, and the worker on which it placed a packet.
     fn say<C: Core>(
         &mut self,
         core: &mut C,
         setup: &C::Setup,
         event: Event,
         packet: Option<Packet>,
+        events: &mut Vec<Said>,
     ) -> Result<Option<u16>, AllocError>
         requires stands { C.stands setup.now self.old.past core.old }
         requires read { WasRead packet }
@@ -150,11 +152,18 @@ impl Play {
         ensures stands { OnOk result (C.stands setup.now self.new.past core.new) }
         ensures live { OnOk result (self.new.live ≡ self.old.live) }
         ensures after { OnOk result ((w : World) → w.cluster ≡ C.cluster setup.now → self.new ≡ say w event packet self.old) }
+        ensures told { (before : List Said) → Behind before self.old.past events.old.items → OnOk result (Behind before self.new.past events.new.items) }
     {
         let _count = self.said_count();
         let outcome = core.step(setup, event, packet)?;
         let placed = placed_on(&outcome);
-        self.note(event, packet, outcome)?;
+        let said = Said {
+            event,
+            packet,
+            outcome,
+        };
+        self.note(&said)?;
+        events.push(said)?;
         Ok(placed)
     }
 
@@ -166,11 +175,13 @@ impl Play {
         setup: &C::Setup,
         node: u16,
         worker: u16,
+        events: &mut Vec<Said>,
     ) -> Result<(), AllocError>
         requires { C.stands setup.now self.old.past core.old }
         ensures stands { OnOk result (C.stands setup.now self.new.past core.new) }
         ensures live { OnOk result (self.new.live ≡ self.old.live) }
         ensures after { OnOk result ((w : World) → w.cluster ≡ C.cluster setup.now → self.new ≡ serve w node worker self.old) }
+        ensures told { (before : List Said) → Behind before self.old.past events.old.items → OnOk result (Behind before self.new.past events.new.items) }
     {
         let version = core.newest(setup, node);
         let event = Event::Serve {
@@ -179,7 +190,7 @@ impl Play {
             version,
             refused: false,
         };
-        self.say(core, setup, event, None)?;
+        self.say(core, setup, event, None, events)?;
         Ok(())
     }
 
@@ -190,14 +201,16 @@ impl Play {
         setup: &C::Setup,
         node: u16,
         placed: Option<u16>,
+        events: &mut Vec<Said>,
     ) -> Result<(), AllocError>
         requires { C.stands setup.now self.old.past core.old }
         ensures stands { OnOk result (C.stands setup.now self.new.past core.new) }
         ensures live { OnOk result (self.new.live ≡ self.old.live) }
         ensures after { OnOk result ((w : World) → w.cluster ≡ C.cluster setup.now → self.new ≡ follow w node placed self.old) }
+        ensures told { (before : List Said) → Behind before self.old.past events.old.items → OnOk result (Behind before self.new.past events.new.items) }
     {
         match placed {
-            Some(worker) if !self.is_held(node) => self.serve(core, setup, node, worker),
+            Some(worker) if !self.is_held(node) => self.serve(core, setup, node, worker, events),
             _ => Ok(()),
         }
     }
@@ -211,20 +224,22 @@ impl Play {
         node: u16,
         place: u32,
         packet: Packet,
+        events: &mut Vec<Said>,
     ) -> Result<(), AllocError>
         requires stands { C.stands setup.now self.old.past core.old }
         requires read { WasRead (Some packet) }
         ensures stands { OnOk result (C.stands setup.now self.new.past core.new) }
         ensures live { OnOk result (self.new.live ≡ self.old.live) }
         ensures after { OnOk result ((w : World) → w.cluster ≡ C.cluster setup.now → self.new ≡ arrive w node place packet self.old) }
+        ensures told { (before : List Said) → Behind before self.old.past events.old.items → OnOk result (Behind before self.new.past events.new.items) }
     {
         let event = Event::Arrive {
             node,
             packet: place,
             refused: self.marks_at(node),
         };
-        let placed = self.say(core, setup, event, Some(packet))?;
-        self.follow(core, setup, node, placed)
+        let placed = self.say(core, setup, event, Some(packet), events)?;
+        self.follow(core, setup, node, placed, events)
     }
 
     #[tactic(auto, unfolding(crate::specs::Steps::route))]
@@ -235,6 +250,7 @@ impl Play {
         place: u32,
         packet: Packet,
         chosen: Option<u16>,
+        events: &mut Vec<Said>,
     ) -> Result<(), AllocError>
         requires stands { C.stands setup.now self.old.past core.old }
         requires read { WasRead (Some packet) }
@@ -242,9 +258,10 @@ impl Play {
         ensures stands { OnOk result (C.stands setup.now self.new.past core.new) }
         ensures live { OnOk result (self.new.live ≡ self.old.live) }
         ensures after { OnOk result ((w : World) → w.cluster ≡ C.cluster setup.now → self.new ≡ route w place packet chosen self.old) }
+        ensures told { (before : List Said) → Behind before self.old.past events.old.items → OnOk result (Behind before self.new.past events.new.items) }
     {
         match chosen {
-            Some(node) => self.arrive(core, setup, node, place, packet),
+            Some(node) => self.arrive(core, setup, node, place, packet, events),
             None => {
                 self.unrouted += 1;
                 Ok(())
@@ -261,6 +278,7 @@ impl Play {
         spread: &P,
         place: u32,
         packet: Packet,
+        events: &mut Vec<Said>,
     ) -> Result<(), AllocError>
         requires stands { C.stands setup.now self.old.past core.old }
         requires live { P.live spread.now ≡ self.old.live }
@@ -270,10 +288,11 @@ impl Play {
         ensures stands { OnOk result (C.stands setup.now self.new.past core.new) }
         ensures live { OnOk result (self.new.live ≡ self.old.live) }
         ensures after { OnOk result ((w : World) → w.cluster ≡ C.cluster setup.now → SameChoice w.choice (P.choice spread.now) → self.new ≡ deliver w place packet self.old) }
+        ensures told { (before : List Said) → Behind before self.old.past events.old.items → OnOk result (Behind before self.new.past events.new.items) }
     {
         let chosen = choose(spread, &packet, self.nth);
         self.nth += 1;
-        self.route(core, setup, place, packet, chosen)
+        self.route(core, setup, place, packet, chosen, events)
     }
 
     /// A record is delivered again, or skipped where it isn't there.
@@ -285,6 +304,7 @@ impl Play {
         spread: &P,
         place: u32,
         packet: Option<Packet>,
+        events: &mut Vec<Said>,
     ) -> Result<(), AllocError>
         requires stands { C.stands setup.now self.old.past core.old }
         requires live { P.live spread.now ≡ self.old.live }
@@ -295,9 +315,10 @@ impl Play {
         ensures stands { OnOk result (C.stands setup.now self.new.past core.new) }
         ensures live { OnOk result (self.new.live ≡ self.old.live) }
         ensures after { OnOk result ((w : World) → w.cluster ≡ C.cluster setup.now → SameChoice w.choice (P.choice spread.now) → self.new ≡ repeat w place packet self.old) }
+        ensures told { (before : List Said) → Behind before self.old.past events.old.items → OnOk result (Behind before self.new.past events.new.items) }
     {
         match packet {
-            Some(packet) => self.deliver(core, setup, spread, place, packet),
+            Some(packet) => self.deliver(core, setup, spread, place, packet, events),
             None => {
                 self.skipped += 1;
                 Ok(())
@@ -314,14 +335,16 @@ impl Play {
         node: u16,
         worker: u16,
         times: u64,
+        events: &mut Vec<Said>,
     ) -> Result<(), AllocError>
         requires { C.stands setup.now self.old.past core.old }
         ensures stands { OnOk result (C.stands setup.now self.new.past core.new) }
         ensures live { OnOk result (self.new.live ≡ self.old.live) }
         ensures after { OnOk result ((w : World) → w.cluster ≡ C.cluster setup.now → self.new ≡ serve_times w node worker times self.old) }
+        ensures told { (before : List Said) → Behind before self.old.past events.old.items → OnOk result (Behind before self.new.past events.new.items) }
     {
         for _ in 0..times {
-            self.serve(core, setup, node, worker)?;
+            self.serve(core, setup, node, worker, events)?;
         }
         Ok(())
     }
@@ -333,15 +356,17 @@ impl Play {
         setup: &C::Setup,
         node: u16,
         workers: u16,
+        events: &mut Vec<Said>,
     ) -> Result<(), AllocError>
         requires { C.stands setup.now self.old.past core.old }
         ensures stands { OnOk result (C.stands setup.now self.new.past core.new) }
         ensures live { OnOk result (self.new.live ≡ self.old.live) }
         ensures after { OnOk result ((w : World) → w.cluster ≡ C.cluster setup.now → self.new ≡ drain_from w node 0 workers self.old) }
+        ensures told { (before : List Said) → Behind before self.old.past events.old.items → OnOk result (Behind before self.new.past events.new.items) }
     {
         for worker in 0..workers {
             let times = core.waiting(setup, node, worker);
-            self.serve_times(core, setup, node, worker, times)?;
+            self.serve_times(core, setup, node, worker, times, events)?;
         }
         Ok(())
     }
@@ -386,6 +411,7 @@ impl Play {
         setup: &C::Setup,
         spread: &P,
         packets: &[Packet],
+        events: &mut Vec<Said>,
     ) -> Result<(), AllocError>
         requires stands { C.stands setup.now self.old.past core.old }
         requires read { WereRead packets.now }
@@ -396,10 +422,11 @@ impl Play {
         ensures stands { OnOk result (C.stands setup.now self.new.past core.new) }
         ensures live { OnOk result (self.new.live ≡ self.old.live) }
         ensures after { OnOk result ((w : World) → w.cluster ≡ C.cluster setup.now → SameChoice w.choice (P.choice spread.now) → self.new ≡ take_all w packets.now self.old) }
+        ensures told { (before : List Said) → Behind before self.old.past events.old.items → OnOk result (Behind before self.new.past events.new.items) }
     {
         for packet in packets {
             let place = self.next_place();
-            self.deliver(core, setup, spread, place, *packet)?;
+            self.deliver(core, setup, spread, place, *packet, events)?;
         }
         Ok(())
     }
@@ -423,6 +450,7 @@ impl Play {
         setup: &C::Setup,
         spread: &mut P,
         step: &Step,
+        events: &mut Vec<Said>,
     ) -> Result<(), AllocError>
         requires stands { C.stands setup.now self.old.past core.old }
         requires live { P.live spread.old ≡ self.old.live }
@@ -430,6 +458,7 @@ impl Play {
         ensures choice { SameChoice (P.choice spread.old) (P.choice spread.new) }
         ensures stands { OnOk result (C.stands setup.now self.new.past core.new) }
         ensures after { OnOk result ((w : World) → w.cluster ≡ C.cluster setup.now → names_records step.now ≡ false → self.new ≡ after w step.now self.old) }
+        ensures told { (before : List Said) → Behind before self.old.past events.old.items → OnOk result (Behind before self.new.past events.new.items) }
     {
         match step {
             Step::Install { node, version } => {
@@ -437,7 +466,7 @@ impl Play {
                     node: *node,
                     version: *version,
                 };
-                self.say(core, setup, event, None)?;
+                self.say(core, setup, event, None, events)?;
                 Ok(())
             }
             Step::Live(nodes) => {
@@ -455,11 +484,11 @@ impl Play {
             }
             Step::Drain(node) => {
                 self.release(*node);
-                self.drain(core, setup, *node, C::workers(setup))
+                self.drain(core, setup, *node, C::workers(setup), events)
             }
             Step::Restart(node) => {
                 self.release(*node);
-                self.say(core, setup, Event::Restart { node: *node }, None)?;
+                self.say(core, setup, Event::Restart { node: *node }, None, events)?;
                 Ok(())
             }
             Step::Take(_) => Ok(()),
@@ -478,6 +507,7 @@ impl Play {
         spread: &mut P,
         packets: &[Packet],
         step: &Step,
+        events: &mut Vec<Said>,
     ) -> Result<(), AllocError>
         requires stands { C.stands setup.now self.old.past core.old }
         requires read { WereRead packets.now }
@@ -488,11 +518,12 @@ impl Play {
         ensures choice { SameChoice (P.choice spread.old) (P.choice spread.new) }
         ensures stands { OnOk result (C.stands setup.now self.new.past core.new) }
         ensures after { OnOk result ((w : World) → w.cluster ≡ C.cluster setup.now → SameChoice w.choice (P.choice spread.old) → w.packets ≡ packets.now → self.new ≡ after w step.now self.old) }
+        ensures told { (before : List Said) → Behind before self.old.past events.old.items → OnOk result (Behind before self.new.past events.new.items) }
     {
         match step {
             Step::Take(count) => {
                 let ones = self.next_ones(packets, *count);
-                self.take_all(core, setup, spread, ones)
+                self.take_all(core, setup, spread, ones, events)
             }
             Step::Lose(count) => {
                 let lost = self.next_ones(packets, *count).len() as u32;
@@ -501,9 +532,9 @@ impl Play {
             }
             Step::Again(place) => {
                 let packet = self.seen_one(packets, *place);
-                self.repeat(core, setup, spread, *place, packet)
+                self.repeat(core, setup, spread, *place, packet, events)
             }
-            _ => self.step_apart(alloc, core, setup, spread, step),
+            _ => self.step_apart(alloc, core, setup, spread, step, events),
         }
     }
 
@@ -519,7 +550,8 @@ impl Play {
             held.push(false)?;
         }
         Ok(Play {
-            history: Vec::new(alloc),
+            past: Log::new(),
+            count: 0,
             read: 0,
             live,
             marks,
@@ -540,6 +572,7 @@ impl Play {
         spread: &mut P,
         packets: &[Packet],
         steps: &[Step],
+        events: &mut Vec<Said>,
     ) -> Result<(), AllocError>
         requires stands { C.stands setup.now self.old.past core.old }
         requires read { WereRead packets.now }
@@ -551,18 +584,12 @@ impl Play {
         ensures counted { OnOk result (Counted (length packets.now) (length steps.now) self.new) }
         ensures stands { OnOk result (C.stands setup.now self.new.past core.new) }
         ensures live { OnOk result (P.live spread.new ≡ self.new.live) }
+        ensures told { (before : List Said) → Behind before self.old.past events.old.items → OnOk result (Behind before self.new.past events.new.items) }
     {
         for step in steps {
-            self.step(alloc, core, setup, spread, packets, step)?;
+            self.step(alloc, core, setup, spread, packets, step, events)?;
         }
         Ok(())
-    }
-
-    /// The events, with what each came to.
-    pub fn history(&self) -> &[Said]
-        ensures { result.now ≡ reverse self.entry.now.past }
-    {
-        self.history.as_slice()
     }
 
     /// What a report says of the records, where the capture has so many.

@@ -2,18 +2,22 @@
 //!
 //! A document is refused as `BadKey` where [`key_place`] finds a place in it, and only there. The order of places is that in
 //! which a scenario is read: the document's own keys, then the setup, the nodes, the versions with their services, and the
-//! steps. It is then refused as `BadMember` where [`member_place`] finds one, and only there.
+//! steps. It is then refused as `BadMember` where [`member_place`] finds one, and only there; and then by the catalogue of
+//! versions where [`pool_place`] finds one.
 #![tactic(auto)]
 
+mod doubles;
 mod holding;
 mod key;
 mod lookup;
 mod member_words;
 mod place;
+mod pools;
 
 pub use key::Key;
 pub use member_words::{member_place, one_word_or_all_members};
 pub use place::{Flaw, Place, key_place, one_place_or_a_draft};
+pub use pools::{one_place_or_a_catalogue, pool_place};
 
 #[cfg(test)]
 mod tests;

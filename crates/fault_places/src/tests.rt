@@ -1,5 +1,5 @@
-use crate::{Flaw, Key, Place, key_place, member_place};
-use scenario::ScenarioFault;
+use crate::{Flaw, Key, Place, key_place, member_place, pool_place};
+use scenario::{ScenarioFault, pools_in};
 use std::alloc::Global;
 use std::process::Abort;
 
@@ -119,4 +119,38 @@ fn places_of_members(rt: HostRuntime) {
 fn names_of_keys(rt: HostRuntime) {
     assert_eq!(rt; Key::Vip.name(), "vip");
     assert_eq!(rt; Key::Members.name(), "members");
+}
+
+// The place in the good scenario, with the first of a text replaced, at which a catalogue refuses its versions. It is there
+// where reading answers a fault of the pools, and only there.
+fn pool_place_with(rt: &impl Abort, alloc: Global, old: &str, new: &str) -> Option<Place> {
+    let text = GOOD.replacen(alloc, old, new, 1).expect(rt, "memory");
+    let table = toml::table_from_str(alloc, text.as_str()).expect(rt, "a document");
+    let pools = pools_in(alloc, &table).expect(rt, "memory");
+    let (size, versions) = pools.expect(rt, "versions");
+    let place = pool_place(alloc, size, versions.as_slice()).expect(rt, "memory");
+    let fault = scenario::read(alloc, text.as_bytes()).err();
+    assert_eq!(rt;
+        matches!(fault, Some(ScenarioFault::Pool(_))),
+        place.is_some()
+    );
+    place
+}
+
+#[test]
+fn places_of_the_pools(rt: HostRuntime) {
+    let place = |old: &str, new: &str| pool_place_with(&rt, rt.alloc(), old, new);
+    assert_eq!(rt; place("", ""), None);
+    let number = |at: usize| Some(Place::Version(at, Flaw::Value(Key::Number)));
+    assert_eq!(rt; place("number = 1", "number = 0"), number(0));
+    assert_eq!(rt; place("number = 1", "number = 2"), number(1));
+    let member = |at: usize| Some(Place::Service(1, 0, Flaw::Item(Key::Members, at)));
+    assert_eq!(rt; place("B@10.8.0.2", "A@10.8.0.2"), member(1));
+    let six =
+        "'A@10.8.0.1', 'C@10.8.0.3', 'D@10.8.0.4', 'E@10.8.0.5', 'F@10.8.0.6', 'G@10.8.0.7', 'H@10.8.0.8'";
+    assert_eq!(rt; place("'A@10.8.0.1'", six), member(7));
+    let service = "{ vip = '192.0.2.1', proto = 'udp', port = 53, members = [] }";
+    let twice = format!(in rt.alloc(); "services = [{service}, {service}]").expect(&rt, "memory");
+    let second = Place::Version(0, Flaw::Item(Key::Services, 1));
+    assert_eq!(rt; place("services = []", twice.as_str()), Some(second));
 }

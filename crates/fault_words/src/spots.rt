@@ -202,12 +202,10 @@ impl<'a> Spot<'a> {
     /// The number of the line, from 1, of the document on which it stands.
     pub fn line(self, document: &str) -> usize {
         let (Spot::Value(end) | Spot::Header(end)) = self;
-        let before = document.len().saturating_sub(end.len());
-        let bytes = document.as_bytes().iter().take(before);
-        bytes
-            .filter(|byte| **byte == b'\n')
-            .count()
-            .saturating_add(1)
+        line_of(
+            document.as_bytes(),
+            document.len().saturating_sub(end.len()),
+        )
     }
 
     /// The value, as it stands there.
@@ -217,6 +215,15 @@ impl<'a> Spot<'a> {
             Spot::Header(_) => Some("a table"),
         }
     }
+}
+
+/// The number of the line, from 1, on which this place of a document stands.
+pub fn line_of(document: &[u8], place: usize) -> usize {
+    let before = document.iter().take(place);
+    before
+        .filter(|byte| **byte == b'\n')
+        .count()
+        .saturating_add(1)
 }
 
 /// Where the value or the table of this path stands. None where the document has none, or memory was refused.

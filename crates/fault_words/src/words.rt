@@ -1,11 +1,9 @@
 //! The words.
-use crate::spots::{below, spot_of};
-use fault_places::{Flaw, Key, Place, key_place, member_place};
-use maglev_texts::member;
+use crate::spots::{below, line_of, spot_of};
+use fault_places::{Flaw, Key, Place, key_place, member_place, pool_place};
 use pool_versions::PoolFault;
-use scenario::ScenarioFault;
+use scenario::{ScenarioFault, pools_in};
 use std::alloc::Global;
-use std::collections::BTreeMap;
 use toml::{Table, Value};
 
 /// One line on a scenario's fault: the path of the key, as `versions[0].services[1].port`, with its line, what was found and
@@ -35,10 +33,9 @@ const STEPS: &str =
 
 fn bad_toml(alloc: Global, text: &[u8], error: &toml::de::Error) -> Option<String> {
     let start = error.span()?.start;
-    let before = text.get(..start)?;
-    let line = before.iter().filter(|byte| **byte == b'\n').count();
-    let line = line.saturating_add(1);
-    let column = before
+    let line = line_of(text, start);
+    let column = text
+        .get(..start)?
         .iter()
         .rev()
         .take_while(|byte| **byte != b'\n')
@@ -73,36 +70,39 @@ fn table_of(alloc: Global, place: Place) -> Option<(String, Flaw)> {
     }
 }
 
-// The path of a place. Of a table that has a key which it may not have it is the table's.
-fn path_of(alloc: Global, place: Place) -> Option<String> {
-    let (path, flaw) = table_of(alloc, place)?;
+// The path of what is wrong in a table of this path. Of a table that has a key which it may not have it is the table's.
+fn path_of(alloc: Global, table: String, flaw: Flaw) -> Option<String> {
     match flaw {
-        Flaw::NoTable | Flaw::Unknown => Some(path),
-        Flaw::Value(key) => below(alloc, path.as_str(), key.name()),
+        Flaw::NoTable | Flaw::Unknown => Some(table),
+        Flaw::Value(key) => below(alloc, table.as_str(), key.name()),
         Flaw::Item(key, n) => {
-            let path = below(alloc, path.as_str(), key.name())?;
+            let path = below(alloc, table.as_str(), key.name())?;
             format!(in alloc; "{path}[{n}]").ok()
         }
     }
 }
 
-fn bad_key(alloc: Global, text: &str, table: &Table) -> Option<String> {
-    let place = key_place(alloc, table).ok()??;
-    let path = path_of(alloc, place)?;
-    let (_, flaw) = table_of(alloc, place)?;
+fn bad_key(alloc: Global, text: &str, document: &Table) -> Option<String> {
+    let place = key_place(alloc, document).ok()??;
+    let (table, flaw) = table_of(alloc, place)?;
+    let path = path_of(alloc, table, flaw)?;
+    let path = path.as_str();
     match flaw {
-        Flaw::NoTable => at(alloc, text, path.as_str(), "a table"),
-        Flaw::Value(key) => at(alloc, text, path.as_str(), expected(key)),
-        Flaw::Item(key, _) => at(alloc, text, path.as_str(), expected_item(key)),
-        Flaw::Unknown => unknown_key(alloc, text, table, place),
+        Flaw::NoTable => at(alloc, text, path, "a table"),
+        Flaw::Value(key) => at(alloc, text, path, expected(key)),
+        Flaw::Item(key, _) => at(alloc, text, path, expected_item(key)),
+        Flaw::Unknown => {
+            let (table, keys) = keys_at(document, place)?;
+            unknown_key(alloc, text, path, table, keys)
+        }
     }
 }
 
-fn unknown_key(alloc: Global, text: &str, table: &Table, place: Place) -> Option<String> {
-    let (table, keys) = keys_at(table, place)?;
+// What is said of the first key of a table of this path that is none of these.
+fn unknown_key(alloc: Global, text: &str, path: &str, table: &Table, keys: &str) -> Option<String> {
     for key in table.keys() {
         if !keys.split(", ").any(|one| one == key.as_str()) {
-            let path = below(alloc, path_of(alloc, place)?.as_str(), key.as_str())?;
+            let path = below(alloc, path, key.as_str())?;
             let expected = format!(in alloc; "no key but {keys}").ok()?;
             return at(alloc, text, path.as_str(), expected.as_str());
         }
@@ -173,7 +173,8 @@ fn expected_item(key: Key) -> &'static str {
 
 fn bad_member(alloc: Global, text: &str, table: &Table) -> Option<String> {
     let place = member_place(alloc, table).ok()??;
-    let path = path_of(alloc, place)?;
+    let (table, flaw) = table_of(alloc, place)?;
+    let path = path_of(alloc, table, flaw)?;
     at(
         alloc,
         text,
@@ -182,118 +183,22 @@ fn bad_member(alloc: Global, text: &str, table: &Table) -> Option<String> {
     )
 }
 
-// The place, from 0, of the first text that stands in front of it too.
-fn first_repeated(alloc: Global, texts: &[String]) -> Option<usize> {
-    let mut seen: BTreeMap<&str, usize> = BTreeMap::new(alloc);
-    for (n, text) in texts.iter().enumerate() {
-        if seen.insert(text.as_str(), n).ok()?.is_some() {
-            return Some(n);
-        }
-    }
-    None
-}
-
-// The version, from 0, whose number is 0.
-fn zero_version(versions: &[Value]) -> Option<usize> {
-    for (v, version) in versions.iter().enumerate() {
-        if version.as_table()?.get("number")?.as_integer()? == 0 {
-            return Some(v);
-        }
-    }
-    None
-}
-
-// The version, from 0, whose number an earlier one has.
-fn repeated_version(alloc: Global, versions: &[Value]) -> Option<usize> {
-    let mut numbers: Vec<String> = Vec::new(alloc);
-    for version in versions {
-        let number = version.as_table()?.get("number")?.as_integer()?;
-        numbers.push(format!(in alloc; "{number}").ok()?).ok()?;
-    }
-    first_repeated(alloc, numbers.as_slice())
-}
-
-// The service, from 0, whose address, protocol and port an earlier one has.
-fn repeated_service(alloc: Global, services: &[Value]) -> Option<usize> {
-    let mut flows: Vec<String> = Vec::new(alloc);
-    for service in services {
-        let service = service.as_table()?;
-        let vip = service.get("vip")?.as_str()?;
-        let proto = service.get("proto")?.as_str()?;
-        let port = service.get("port")?.as_integer()?;
-        flows
-            .push(format!(in alloc; "{vip} {proto} {port}").ok()?)
-            .ok()?;
-    }
-    first_repeated(alloc, flows.as_slice())
-}
-
-// The member, from 0, whose name an earlier one has.
-fn repeated_name(alloc: Global, members: &[Value]) -> Option<usize> {
-    let mut names: Vec<String> = Vec::new(alloc);
-    for word in members {
-        let member = member(alloc, word.as_str()?.as_bytes()).ok()??;
-        let name = member.backend.name;
-        names.push(format!(in alloc; "{name}").ok()?).ok()?;
-    }
-    first_repeated(alloc, names.as_slice())
-}
-
-// What a version's services have wrong: the path inside the version, and what was expected.
-fn in_services(
-    alloc: Global,
-    services: &[Value],
-    fault: PoolFault,
-    most: usize,
-) -> Option<(String, &'static str)> {
-    if let (PoolFault::DoubleService, Some(n)) = (fault, repeated_service(alloc, services)) {
-        let path = format!(in alloc; "services[{n}]").ok()?;
-        return Some((
-            path,
-            "an address, protocol and port that no earlier service of the version has",
-        ));
-    }
-    for (s, service) in services.iter().enumerate() {
-        let members = items(service.as_table()?, "members");
-        if let (PoolFault::DoubleName, Some(n)) = (fault, repeated_name(alloc, members)) {
-            let path = format!(in alloc; "services[{s}].members[{n}]").ok()?;
-            return Some((path, "a name that no earlier member of the service has"));
-        }
-        if fault == PoolFault::TooMany && members.len() > most {
-            let path = format!(in alloc; "services[{s}].members[{most}]").ok()?;
-            return Some((path, "no more members than slots, and at most 4096"));
-        }
-    }
-    None
-}
-
 fn bad_pool(alloc: Global, text: &str, table: &Table, fault: PoolFault) -> Option<String> {
-    let versions = items(table, "versions");
-    let (v, path, expected) = match fault {
-        PoolFault::BadNumber => (zero_version(versions)?, "number", "a number from 1"),
-        PoolFault::NumberTaken => {
-            let v = repeated_version(alloc, versions)?;
-            (v, "number", "a number that no earlier version has")
+    let (size, versions) = pools_in(alloc, table).ok()??;
+    let place = pool_place(alloc, size, versions.as_slice()).ok()??;
+    let (table, flaw) = table_of(alloc, place)?;
+    let path = path_of(alloc, table, flaw)?;
+    let expected = match (fault, flaw) {
+        (PoolFault::BadNumber, _) => "a number from 1",
+        (PoolFault::NumberTaken, _) => "a number that no earlier version has",
+        (PoolFault::DoubleService, _) => {
+            "an address, protocol and port that no earlier service of the version has"
         }
-        _ => return bad_services(alloc, text, table, fault),
+        (PoolFault::DoubleName, _) => "a name that no earlier member of the service has",
+        (PoolFault::TooMany, Flaw::Item(Key::Versions, _)) => "at most 1024 versions",
+        (PoolFault::TooMany, Flaw::Item(Key::Services, _)) => "at most 256 services",
+        (PoolFault::TooMany, _) => "no more members than slots, and at most 4096",
+        (PoolFault::Memory, _) => return None,
     };
-    let path = format!(in alloc; "versions[{v}].{path}").ok()?;
     at(alloc, text, path.as_str(), expected)
-}
-
-fn bad_services(alloc: Global, text: &str, table: &Table, fault: PoolFault) -> Option<String> {
-    // A listed size, so that it isn't negative.
-    let most = table.get("size")?.as_integer()?.clamp(0, 4096) as usize;
-    for (v, version) in items(table, "versions").iter().enumerate() {
-        let services = items(version.as_table()?, "services");
-        if fault == PoolFault::TooMany && services.len() > 256 {
-            let path = format!(in alloc; "versions[{v}].services[256]").ok()?;
-            return at(alloc, text, path.as_str(), "at most 256 services");
-        }
-        if let Some((path, expected)) = in_services(alloc, services, fault, most) {
-            let path = format!(in alloc; "versions[{v}].{path}").ok()?;
-            return at(alloc, text, path.as_str(), expected);
-        }
-    }
-    at(alloc, text, "versions[1024]", "at most 1024 versions")
 }

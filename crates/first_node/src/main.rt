@@ -11,8 +11,8 @@ use connection_table::LruTable;
 use five_tuple::Flow;
 use hash_laws::SumHash;
 use maglev_table::{Name, TableSize};
-use node_records::{Command, NodeRecord};
-use node_threads::{OpenGate, RunFault, run_node};
+use node_records::Command;
+use node_threads::{NodeRun, OpenGate, RunFault, run_node};
 use pool_versions::{Backend, Catalogue, Member, Service, Version};
 use selection::Maglev;
 use std::alloc::{AllocError, Global};
@@ -80,7 +80,7 @@ fn packet(sport: u16) -> Packet {
 }
 
 /// Two flows under the version 1, and in the next life both under the version 2.
-fn run<R: Threads + Wait + Sync>(rt: &R, alloc: Global) -> Result<NodeRecord, RunFault> {
+fn run<R: Threads + Wait + Sync>(rt: &R, alloc: Global) -> Result<NodeRun, RunFault> {
     let Some(size) = TableSize::new(7) else {
         return Err(RunFault::Memory);
     };
@@ -117,8 +117,8 @@ fn print(rt: &HostRuntime, outcomes: &[Outcome]) -> io::Result<()> {
 
 fn main(rt: HostRuntime) -> anyhow::Result<ExitCode> {
     match run(&rt, rt.alloc()) {
-        Ok(record) => {
-            print(&rt, record.outcomes.as_slice())?;
+        Ok(run) => {
+            print(&rt, run.outcomes())?;
             Ok(ExitCode::from(0))
         }
         Err(fault) => {

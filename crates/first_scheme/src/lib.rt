@@ -48,6 +48,8 @@ impl Scheme for First {
 
     ghost pick_is_steady = { λ h s size ups x t u. refl };
 
+    ghost prepared_respects_eq = { λ a b e size ups p h. h };
+
     ghost pick_respects_eq = { λ a b e size ups x turn. refl };
 }
 

@@ -1,15 +1,15 @@
 ghost use Rattle.std.specs.Prelude.{◌≡◌, ◌<◌, ◌≤◌, ◌^◌, ℕ, length};
 
 use super::FirstWorker;
-use cluster_node::{Event, Packet};
+use cluster_node::{Event, Packet, Said};
 use course::{Play, Step, Tally, all_live};
 use five_tuple::Flow;
 use spreader::TurnSpread;
 use std::alloc::Global;
 use std::process::Abort;
 
-// The run of steps over four packets of one flow, on two nodes, with packets in turn.
-fn played(rt: &impl Abort, alloc: Global, steps: &[Step]) -> Play
+// The run of steps over four packets of one flow, on two nodes, with packets in turn, and its events.
+fn played(rt: &impl Abort, alloc: Global, steps: &[Step], events: &mut Vec<Said>) -> Play
     requires { length steps.now < 2 ^ 32 }
     ensures { result.read ≤ 4 }
 {
@@ -23,8 +23,16 @@ fn played(rt: &impl Abort, alloc: Global, steps: &[Step]) -> Play
     let packets = [Packet::Good { flow, len: 40 }; 4];
     let mut spread = TurnSpread::new(all_live(alloc, 2).expect(rt, "memory"));
     let mut play = Play::start(alloc, 2).expect(rt, "memory");
-    play.run(alloc, &mut FirstWorker, &1, &mut spread, &packets, steps)
-        .expect(rt, "memory");
+    play.run(
+        alloc,
+        &mut FirstWorker,
+        &1,
+        &mut spread,
+        &packets,
+        steps,
+        events,
+    )
+    .expect(rt, "memory");
     play
 }
 
@@ -32,8 +40,8 @@ fn played(rt: &impl Abort, alloc: Global, steps: &[Step]) -> Play
 fn comes_to(rt: &impl Abort, alloc: Global, steps: &[Step], events: &[Event], tally: Tally)
     requires { length steps.now < 2 ^ 32 }
 {
-    let play = played(rt, alloc, steps);
-    let history = play.history();
+    let mut history = Vec::new(alloc);
+    let play = played(rt, alloc, steps, &mut history);
     assert_eq!(rt; history.len(), events.len(), "how many events");
     for (said, event) in history.iter().zip(events) {
         assert_eq!(rt; said.event, *event, "an event");

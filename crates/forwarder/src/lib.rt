@@ -12,7 +12,7 @@ ghost use Rattle.forwarder.specs.declared.Choice.TheVariants.{Forward};
 ghost use Rattle.forwarder.specs.Forwarding.{Forwarding};
 ghost use Rattle.forwarder.specs.Serving.{Serving, kept, told_after, serve_as, after_told, forwarding_of, serving_of, told, IsForward};
 
-use connection_table::{ConnTable, Entry};
+use connection_table::{ConnTable, Entry, TableKey};
 use five_tuple::Flow;
 use pool_versions::Backend;
 use selection::{PreparedVersion, Ready, Scheme};
@@ -109,9 +109,18 @@ impl<S: Scheme, T: ConnTable> Forwarder<S, T> {
         requires limit { capacity ≤ 1000000 }
         ensures { IfOk result (λ f. f ≡ record { capacity = capacity; entries = []; turn = 0 }) }
     {
+        Forwarder::keyed(alloc, scheme, capacity, TableKey::fixed())
+    }
+
+    /// The same, with a key for the hash of its table.
+    pub fn keyed(alloc: Global, scheme: S, capacity: u32, key: TableKey) -> Result<Self, AllocError>
+        requires some { 0 < capacity }
+        requires limit { capacity ≤ 1000000 }
+        ensures { IfOk result (λ f. f ≡ record { capacity = capacity; entries = []; turn = 0 }) }
+    {
         Ok(Forwarder {
             scheme,
-            table: T::make(alloc, capacity)?,
+            table: T::keyed(alloc, capacity, key)?,
             turn: 0,
         })
     }

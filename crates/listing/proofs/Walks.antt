@@ -1,9 +1,8 @@
--- One line more of what is yet to be written.
-use Rattle.std.proofs.Common.{◌≡◌, ℕ, suc, ◌+◌, ◌<◌, ◌≤◌, List, [], ◌∷◌, ◌++◌, map, length, drop, get_or, refl, ap, sym, ◌∙◌, append_assoc, ◌⊎◌, inl, inr, add-one}
-use Rattle.std.proofs.lemmas.List.{append-nil, drop_all}
+-- One line more of what is written.
+use Rattle.std.proofs.Common.{◌≡◌, ℕ, suc, ◌+◌, List, [], ◌∷◌, ◌++◌, map, length, get_or, refl, ap, sym, ◌∙◌, append_assoc, ◌⊎◌, inl, inr, arith}
+use Rattle.std.proofs.lemmas.List.{append-nil}
 use Rattle.std.proofs.lemmas.List.FromFn.{fill_by_all}
 use Rattle.std.specs.List.{flat_map, zip, range_with_len}
-use Rattle.std.proofs.Math.Seq.{drop-cons}
 use Rattle.cluster_node.specs.declared.events.Said.{Said}
 use Rattle.cluster_node.specs.declared.outcomes.Cause.{Cause}
 use Rattle.listing.specs.Lines.{line_text, lines_from}
@@ -21,13 +20,12 @@ by_number counts h =
     let whole : counts ≡ map f (range_with_len 0 13) = fill_by_all f counts 13 0 h (λ k low. refl) in
     ap (λ (ns : List ℕ). drop_lines causes ns) whole
 
-pub line_more : (history : List Said) (k : ℕ) (said : Said) (old new whole : List ℕ) → k < length history → said ≡ get_or history k said → new ≡ old ++ line_text k said → old ++ lines_from k (drop k history) ≡ whole → new ++ lines_from (k + 1) (drop (k + 1) history) ≡ whole
-line_more history k said old new whole h at grown e =
-    let front : drop k history ≡ said ∷ drop (k + 1) history = rw add-one (drop-cons history k said h ∙ ap (λ (s : Said). s ∷ drop (suc k) history) (sym at)) in
-    rw grown (append_assoc old (line_text k said) (lines_from (k + 1) (drop (k + 1) history)) ∙ (ap (λ (rest : List Said). old ++ lines_from k rest) (sym front) ∙ e))
-
-pub lines_end : (history : List Said) (k : ℕ) (text whole : List ℕ) → length history ≤ k → text ++ lines_from k (drop k history) ≡ whole → text ≡ whole
-lines_end history k text whole h e = sym (append-nil text) ∙ (ap (λ (rest : List Said). text ++ lines_from k rest) (sym (drop_all k history h)) ∙ e)
+-- a listing with one event more
+pub lines_push : (k : ℕ) (history : List Said) (said : Said) → lines_from k (history ++ said ∷ []) ≡ lines_from k history ++ line_text (k + length history) said
+lines_push k [] said = append-nil (line_text k said) ∙ ap (λ (n : ℕ). line_text n said) (let e : k ≡ k + 0 = omega arith in e)
+lines_push k (first ∷ history) said =
+    ap (λ (rest : List ℕ). line_text k first ++ rest) (lines_push (k + 1) history said ∙ ap (λ (n : ℕ). lines_from (k + 1) history ++ line_text n said) (let e : k + 1 + length history ≡ k + length (first ∷ history) = omega arith in e))
+    ∙ sym (append_assoc (line_text k first) (lines_from (k + 1) history) (line_text (k + length (first ∷ history)) said))
 
 pub drop_more : (cs ds : List Cause) (ns ms : List ℕ) (cause : Cause) (count : ℕ) (old new whole : List ℕ) → cs ≡ cause ∷ ds → ns ≡ count ∷ ms → new ≡ old ++ drop_line cause count → old ++ drop_lines cs ns ≡ whole → new ++ drop_lines ds ms ≡ whole
 drop_more cs ds ns ms cause count old new whole front back grown e =

@@ -24,8 +24,11 @@ outcome_text (Restarted lost) = codes "restarted " ++ decimal lost
 outcome_text (Refused reason) = codes "refused " ++ reason_name reason
 
 -- `K EVENT: OUTCOME`
+abbrev pub line_of : ℕ → Event → Outcome → List ℕ
+line_of k event outcome = decimal k ++ (codes " " ++ (event_text event ++ (codes ": " ++ (outcome_text outcome ++ codes "\n"))))
+
 abbrev pub line_text : ℕ → Said → List ℕ
-line_text k said = decimal k ++ (codes " " ++ (event_text said.event ++ (codes ": " ++ (outcome_text said.outcome ++ codes "\n"))))
+line_text k said = line_of k said.event said.outcome
 
 -- a line for each event, numbered on from k
 abbrev pub lines_from : ℕ → List Said → List ℕ

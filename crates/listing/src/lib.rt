@@ -6,7 +6,7 @@ mod names;
 mod reports;
 mod verdicts;
 
-pub use lines::listing_text;
+pub use lines::push_line;
 pub use names::{CauseText, ReasonText};
 pub use reports::report_text;
 pub use verdicts::verdict_text;

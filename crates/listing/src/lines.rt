@@ -1,11 +1,11 @@
-//! The listing: a line for each event, with what it came to.
-ghost use Rattle.std.specs.Prelude.{◌≡◌, ◌++◌, IfOk, OnOk, string_bytes};
-ghost use Rattle.listing.specs.Lines.{line_text, listing};
+//! The lines of a listing: one for each event, with what it came to.
+ghost use Rattle.std.specs.Prelude.{◌≡◌, ◌++◌, OnOk, string_bytes};
+ghost use Rattle.listing.specs.Lines.{line_of};
 
 use crate::names::{CauseText, ReasonText};
-use cluster_node::{Event, Outcome, Said};
+use cluster_node::{Event, Outcome};
 use maglev_texts::BackendText;
-use std::alloc::{AllocError, Global};
+use std::alloc::AllocError;
 use std::fmt;
 
 #[derive(Clone, Copy)]
@@ -66,21 +66,16 @@ impl fmt::Display for OutcomeText {
     }
 }
 
-fn push_line(text: &mut String, number: usize, said: &Said) -> Result<(), AllocError>
-    ensures { OnOk result (string_bytes text.new ≡ string_bytes text.old ++ line_text number said.now) }
+/// Puts the line of an event behind a text: `K EVENT: OUTCOME`, where K is the event's number.
+pub fn push_line(
+    text: &mut String,
+    number: u64,
+    event: &Event,
+    outcome: &Outcome,
+) -> Result<(), AllocError>
+    ensures { OnOk result (string_bytes text.new ≡ string_bytes text.old ++ line_of number event.now outcome.now) }
 {
-    let event = EventText(said.event);
-    let outcome = OutcomeText(said.outcome);
+    let event = EventText(*event);
+    let outcome = OutcomeText(*outcome);
     write!(text, "{number} {event}: {outcome}\n")
-}
-
-/// The listing of a history, the oldest event first: `K EVENT: OUTCOME` for each, K from 0.
-pub fn listing_text(alloc: Global, history: &[Said]) -> Result<String, AllocError>
-    ensures { IfOk result (λ s. string_bytes s ≡ listing history.now) }
-{
-    let mut text = String::new(alloc);
-    for (number, said) in history.iter().enumerate() {
-        push_line(&mut text, number, said)?;
-    }
-    Ok(text)
 }

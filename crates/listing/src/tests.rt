@@ -1,11 +1,11 @@
-use super::{CauseText, ReasonText, listing_text, report_text, verdict_text};
+use super::{CauseText, ReasonText, push_line, report_text, verdict_text};
 use cluster_core::{Totals, Verdict};
 use cluster_node::{Cause, Event, Outcome, Reason, Said};
 use course::Tally;
 use five_tuple::Flow;
 use maglev_table::Name;
 use pool_versions::Backend;
-use std::alloc::AllocError;
+use std::alloc::{AllocError, Global};
 use std::process::Abort;
 
 fn shows(rt: &impl Abort, made: Result<String, AllocError>, text: &str) {
@@ -71,6 +71,15 @@ fn placed(floor: u32) -> Outcome {
     Outcome::Placed { worker: 0, floor }
 }
 
+// The lines of a history, numbered from 0.
+fn listed(alloc: Global, history: &[Said]) -> Result<String, AllocError> {
+    let mut text = String::new(alloc);
+    for (number, said) in history.iter().enumerate() {
+        push_line(&mut text, number as u64, &said.event, &said.outcome)?;
+    }
+    Ok(text)
+}
+
 #[test]
 fn a_listing(rt: HostRuntime) {
     let a = backend(&rt, "A", 0x0a08_0001);
@@ -85,7 +94,7 @@ fn a_listing(rt: HostRuntime) {
     ];
     shows(
         &rt,
-        listing_text(rt.alloc(), &history),
+        listed(rt.alloc(), &history),
         "0 install 0 1: installed
 1 arrive 0 0: placed 0
 2 serve 0 0 1: forward B@10.8.0.2 from 1
@@ -94,7 +103,7 @@ fn a_listing(rt: HostRuntime) {
 5 serve 0 0 2: forward A@10.8.0.1 from 2
 ",
     );
-    shows(&rt, listing_text(rt.alloc(), &[]), "");
+    shows(&rt, listed(rt.alloc(), &[]), "");
 }
 
 #[test]
@@ -110,7 +119,7 @@ fn other_outcomes(rt: HostRuntime) {
     ];
     shows(
         &rt,
-        listing_text(rt.alloc(), &history),
+        listed(rt.alloc(), &history),
         "0 arrive 0 4: drop RingsFull
 1 serve 0 7 9: refused UnknownVersion
 2 restart 1: restarted 2

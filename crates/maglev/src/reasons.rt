@@ -41,7 +41,7 @@ impl From<CliFault> for Trouble {
 #[derive(Clone, Copy)]
 pub struct Files<'a> {
     pub paths: Paths<'a>,
-    /// The scenario's text, empty where it couldn't be read.
+    /// The scenario's text, as far as it could be read.
     pub text: &'a [u8],
     /// The records of INPUT in front of the fault, where it could be read again.
     pub records: Option<u32>,

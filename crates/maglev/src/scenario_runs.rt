@@ -1,7 +1,7 @@
 //! The commands that play a scenario, over files.
 use crate::files::{InputFile, Kept, OutputFile, Refusal, is_standard, is_standard_output};
 use crate::reasons::Trouble;
-use maglev_cli::{CliFault, explain_run, run, simulate};
+use maglev_cli::{CliFault, TableKey, explain_keyed, run_keyed, simulate_keyed};
 use pcap_file::{Frame, FromRead, PcapFault, ToWrite, read_record_into, read_start};
 use std::fs::File;
 use std::io;
@@ -27,23 +27,37 @@ impl<'a> Paths<'a> {
 /// The most bytes of a scenario that are read: one more than it may have.
 const MOST: u64 = 1_048_577;
 
-/// The text of a scenario's file, up to the bytes that show that it is too long.
-pub fn scenario_text(rt: &HostRuntime, path: &str) -> Result<Vec<u8>, Trouble> {
+/// The text of a scenario's file, up to the bytes that show that it is too long, and what became of reading it: where it was
+/// refused the text is what came before.
+pub fn read_scenario(rt: &HostRuntime, path: &str) -> (Vec<u8>, Result<(), Trouble>) {
+    let mut text = Vec::new(rt.alloc());
+    let outcome = scenario_into(rt, path, &mut text);
+    (text, outcome)
+}
+
+fn scenario_into(rt: &HostRuntime, path: &str, text: &mut Vec<u8>) -> Result<(), Trouble> {
     if is_standard(path) {
-        return whole_text(rt, rt.stdin());
+        return text_into(rt.stdin(), text);
     }
     match File::open(rt, path) {
-        Ok(file) => whole_text(rt, file),
+        Ok(file) => text_into(file, text),
         Err(error) => Err(Trouble::of_system(CliFault::OpenScenario, &error)),
     }
 }
 
-fn whole_text<R: Read + Drop>(rt: &HostRuntime, file: R) -> Result<Vec<u8>, Trouble> {
-    let mut text = Vec::new(rt.alloc());
-    match file.take(MOST).read_to_end(&mut text) {
-        Ok(_) => Ok(text),
+fn text_into<R: Read + Drop>(file: R, text: &mut Vec<u8>) -> Result<(), Trouble> {
+    match file.take(MOST).read_to_end(text) {
+        Ok(_) => Ok(()),
         Err(error) if error.kind() == ErrorKind::OutOfMemory => Err(CliFault::Memory.into()),
         Err(error) => Err(Trouble::of_system(CliFault::ReadScenario, &error)),
+    }
+}
+
+// A key that nobody else knows; where the system has none, the one that everybody knows. No answer depends on it.
+fn table_key(rt: &HostRuntime) -> TableKey {
+    match TableKey::drawn(rt) {
+        Ok(key) => key,
+        Err(_) => TableKey::fixed(),
     }
 }
 
@@ -128,7 +142,15 @@ pub fn simulate_files<'x>(
     let mut output = ToWrite::new(OutputFile::new(rt, files.output, files.read()));
     let mut input = FromRead::new(InputFile::new(rt, files.input));
     let mut report = ToWrite::new(Kept::new(rt.alloc()));
-    let outcome = simulate(rt.alloc(), text, &mut input, &mut output, &mut report, list);
+    let outcome = simulate_keyed(
+        rt.alloc(),
+        table_key(rt),
+        text,
+        &mut input,
+        &mut output,
+        &mut report,
+        list,
+    );
     ended(rt, outcome, input, output, report, to_error)
 }
 
@@ -143,9 +165,10 @@ pub fn run_files<'x, T: Threads + Wait + Sync>(
     let mut output = ToWrite::new(OutputFile::new(rt, files.output, files.read()));
     let mut input = FromRead::new(InputFile::new(rt, files.input));
     let mut report = ToWrite::new(Kept::new(rt.alloc()));
-    let outcome = run(
+    let outcome = run_keyed(
         threads,
         rt.alloc(),
+        table_key(rt),
         text,
         &mut input,
         &mut output,
@@ -164,7 +187,8 @@ pub fn explain_files(
 ) -> Result<(), Trouble> {
     let mut input = FromRead::new(InputFile::new(rt, files.input));
     let mut report = ToWrite::new(io::writer(rt));
-    match explain_run(rt.alloc(), text, &mut input, one, other, &mut report) {
+    let key = table_key(rt);
+    match explain_keyed(rt.alloc(), key, text, &mut input, one, other, &mut report) {
         Ok(()) => Ok(()),
         Err(fault) => {
             let input = input.into_inner();

@@ -1,23 +1,24 @@
 -- The command that runs a scenario's cluster on threads.
-use Rattle.std.specs.Prelude.{◌≡◌, List, ℕ}
+use Rattle.std.specs.Prelude.{◌≡◌, ◌⊎◌, List, ℕ}
 use Rattle.std.specs.Io.KnownBytes.{Appends}
 use Rattle.pcap_file.specs.Device.{Tape, Unfailed, PutRefused}
-use Rattle.node_threads.specs.declared.fault.RunFault.{RunFault}
-use Rattle.node_threads.specs.declared.fault.RunFault.TheVariants as threads
+use Rattle.node_duties.specs.declared.fault.RunFault.{RunFault}
+use Rattle.node_duties.specs.declared.fault.RunFault.TheVariants as threads
 use Rattle.scenario.specs.declared.reading.Scenario.{Scenario}
 use Rattle.scenario.specs.Meaning.{Means}
 use Rattle.cluster_play.specs.declared.stop.RunStop.{RunStop}
 use Rattle.cluster_play.specs.declared.stop.RunStop.TheVariants.{UnknownStep, Simulation, Threads}
 use Rattle.cluster_play.specs.Runs.{Ran, Halted}
 use Rattle.cluster_play.specs.Kept.{KeepsPromises}
-use Rattle.maglev_cli.specs.Scenarios.{run_fault}
+use Rattle.maglev_cli.specs.Scenarios.{run_fault, ScenarioFails}
 use Rattle.maglev_cli.specs.declared.fault.CliFault.{CliFault}
-use Rattle.maglev_cli.specs.declared.fault.CliFault.TheVariants.{BadStep, Write, Foreign, RingLost, ThreadLost, Memory}
+use Rattle.maglev_cli.specs.declared.fault.CliFault.TheVariants.{BadStep, Write, Foreign, RingLost, ThreadLost, BookLost, Memory}
 
 abbrev pub threads_fault : RunFault → CliFault
 threads_fault threads.Foreign = Foreign
 threads_fault threads.RingLost = RingLost
 threads_fault threads.ThreadLost = ThreadLost
+threads_fault threads.BookLost = BookLost
 threads_fault threads.Memory = Memory
 
 -- the fault of a run that stopped, as the command's
@@ -53,3 +54,11 @@ pub record RunReportFails (fault : CliFault) (text : List ℕ) (input input' out
   pub ran : Ran scenario input input' output output' answer
   pub named : fault ≡ Write
   pub refused : PutRefused answer report report'
+
+-- the command stopped by this fault: the text is no scenario, and nothing was called; or the run stopped, and nothing was
+-- reported; or the report was given up
+abbrev pub RunCommandFails : CliFault → List ℕ → Tape → Tape → Tape → Tape → Tape → Tape → Type 0 → Type 0 → Type 0
+RunCommandFails fault text input input' output output' report report' Uncalled Unreported =
+    (ScenarioFails fault text × Uncalled)
+    ⊎ ((RunStops fault text input input' output output' × Unreported)
+    ⊎ RunReportFails fault text input input' output output' report report')

@@ -1,5 +1,5 @@
 -- The commands that play a scenario over a capture.
-use Rattle.std.specs.Prelude.{◌≡◌, ℕ, List, None}
+use Rattle.std.specs.Prelude.{◌≡◌, ◌≢◌, ◌⊎◌, ℕ, List, None}
 use Rattle.std.specs.Io.KnownBytes.{Appends}
 use Rattle.pool_versions.specs.declared.catalogue.PoolFault.{PoolFault}
 use Rattle.pool_versions.specs.declared.catalogue.PoolFault.TheVariants as pool
@@ -85,3 +85,18 @@ pub record ReportFails (fault : CliFault) (asked : Asked) (text : List ℕ) (inp
 -- the output of a command that keeps none, after so many calls: it tells no bytes, and never fails
 abbrev pub unkept : ℕ → Tape
 unkept calls = record { bytes = None; failures = 0; interruptions = 0; calls = calls }
+
+-- a command over a scenario stopped by this fault: the text is no scenario, and nothing was called; or the run stopped, and
+-- nothing was reported; or the report was given up
+abbrev pub PlayFails : CliFault → Asked → List ℕ → Tape → Tape → Tape → Tape → Tape → Tape → Type 0 → Type 0 → Type 0
+PlayFails fault asked text input input' output output' report report' Uncalled Unreported =
+    (ScenarioFails fault text × Uncalled)
+    ⊎ ((RunFails fault text input input' output output' × Unreported)
+    ⊎ ReportFails fault asked text input input' output output' report report')
+
+-- the same of a command that keeps no output, and so never fails in writing it
+abbrev pub ExplainFails : CliFault → ℕ → ℕ → List ℕ → Tape → Tape → Tape → Tape → Type 0 → Type 0 → Type 0
+ExplainFails fault one other text input input' report report' Uncalled Unreported =
+    (ScenarioFails fault text × Uncalled)
+    ⊎ (((calls : ℕ) × RunFails fault text input input' (unkept 0) (unkept calls) × (fault ≢ Write) × Unreported)
+    ⊎ ((calls : ℕ) × ReportFails fault (Asked.Events one other) text input input' (unkept 0) (unkept calls) report report'))

@@ -1,12 +1,12 @@
 //! The command that runs a scenario's cluster on threads.
-ghost use Rattle.std.specs.Prelude.{◌≡◌, ◌⊎◌, IfErr, OnOk};
-ghost use Rattle.maglev_cli.specs.Scenarios.{ScenarioFails};
-ghost use Rattle.maglev_cli.specs.Runs.{Runs, RunStops, RunReportFails, stop_fault, threads_fault};
+ghost use Rattle.std.specs.Prelude.{◌≡◌, IfErr, OnOk};
+ghost use Rattle.maglev_cli.specs.Runs.{Runs, RunCommandFails, stop_fault, threads_fault};
 
 use super::fault::CliFault;
 use super::scenario_commands::{run_fault, scenario_fault};
 use super::writing::put_text;
 use cluster_play::{RunStop, run_scenario};
+use connection_table::TableKey;
 use node_threads::RunFault;
 use pcap_file::{Sink, Source};
 use scenario::read;
@@ -21,6 +21,7 @@ fn threads_fault(fault: RunFault) -> CliFault
         RunFault::Foreign => CliFault::Foreign,
         RunFault::RingLost => CliFault::RingLost,
         RunFault::ThreadLost => CliFault::ThreadLost,
+        RunFault::BookLost => CliFault::BookLost,
         RunFault::Memory => CliFault::Memory,
     }
 }
@@ -50,16 +51,35 @@ pub fn run<T: Threads + Wait + Sync, I: Source, O: Sink, R: Sink>(
     report: &mut R,
 ) -> Result<(), CliFault>
     ensures ran { OnOk result (Runs scenario.now (I.tape input.old) (I.tape input.new) (O.tape output.old) (O.tape output.new) (R.tape report.old) (R.tape report.new)) }
-    ensures stopped { IfErr result (λ fault.
-        (ScenarioFails fault scenario.now × (input.new ≡ input.old) × (output.new ≡ output.old) × (report.new ≡ report.old))
-        ⊎ ((RunStops fault scenario.now (I.tape input.old) (I.tape input.new) (O.tape output.old) (O.tape output.new) × (report.new ≡ report.old))
-        ⊎ RunReportFails fault scenario.now (I.tape input.old) (I.tape input.new) (O.tape output.old) (O.tape output.new) (R.tape report.old) (R.tape report.new))) }
+    ensures stopped { IfErr result (λ fault. RunCommandFails fault scenario.now (I.tape input.old) (I.tape input.new) (O.tape output.old) (O.tape output.new) (R.tape report.old) (R.tape report.new)
+        ((input.new ≡ input.old) × (output.new ≡ output.old) × (report.new ≡ report.old)) (report.new ≡ report.old)) }
+{
+    let key = TableKey::fixed();
+    match run_keyed(rt, alloc, key, scenario, input, output, report) {
+        Ok(()) => Ok(()),
+        Err(fault) => Err(fault),
+    }
+}
+
+/// The same, with a key for the hash of the connection tables.
+pub fn run_keyed<T: Threads + Wait + Sync, I: Source, O: Sink, R: Sink>(
+    rt: &T,
+    alloc: Global,
+    key: TableKey,
+    scenario: &[u8],
+    input: &mut I,
+    output: &mut O,
+    report: &mut R,
+) -> Result<(), CliFault>
+    ensures ran { OnOk result (Runs scenario.now (I.tape input.old) (I.tape input.new) (O.tape output.old) (O.tape output.new) (R.tape report.old) (R.tape report.new)) }
+    ensures stopped { IfErr result (λ fault. RunCommandFails fault scenario.now (I.tape input.old) (I.tape input.new) (O.tape output.old) (O.tape output.new) (R.tape report.old) (R.tape report.new)
+        ((input.new ≡ input.old) × (output.new ≡ output.old) × (report.new ≡ report.old)) (report.new ≡ report.old)) }
 {
     let scenario = match read(alloc, scenario) {
         Ok(scenario) => scenario,
         Err(fault) => return Err(scenario_fault(fault)),
     };
-    match run_scenario(rt, alloc, &scenario, input, output) {
+    match run_scenario(rt, alloc, key, &scenario, input, output) {
         Ok(text) => put_text(report, text.as_str()),
         Err(stop) => Err(stop_fault(stop)),
     }

@@ -1,10 +1,11 @@
 //! The commands that play a scenario over a capture.
-ghost use Rattle.std.specs.Prelude.{◌≡◌, ◌≢◌, ◌⊎◌, ℕ, IfErr, OnOk};
-ghost use Rattle.maglev_cli.specs.Scenarios.{Plays, ScenarioFails, RunFails, ReportFails, unkept, pool_fault, capture_fault, scenario_fault, run_fault};
+ghost use Rattle.std.specs.Prelude.{◌≡◌, ℕ, IfErr, OnOk};
+ghost use Rattle.maglev_cli.specs.Scenarios.{Plays, PlayFails, ExplainFails, unkept, pool_fault, capture_fault, scenario_fault, run_fault};
 
 use super::fault::CliFault;
 use super::nowhere::Nowhere;
 use super::writing::put_text;
+use connection_table::TableKey;
 use pcap_file::{PcapFault, Sink, Source};
 use pool_versions::PoolFault;
 use scenario::{ScenarioFault, read};
@@ -58,6 +59,7 @@ pub(crate) fn run_fault(fault: SimulationFault) -> CliFault
 // Plays the scenario that a text means, and writes what was asked of it.
 fn play<I: Source, O: Sink, R: Sink>(
     alloc: Global,
+    key: TableKey,
     scenario: &[u8],
     asked: Asked,
     input: &mut I,
@@ -65,16 +67,14 @@ fn play<I: Source, O: Sink, R: Sink>(
     report: &mut R,
 ) -> Result<(), CliFault>
     ensures played { OnOk result (Plays asked scenario.now (I.tape input.old) (I.tape input.new) (O.tape output.old) (O.tape output.new) (R.tape report.old) (R.tape report.new)) }
-    ensures stopped { IfErr result (λ fault.
-        (ScenarioFails fault scenario.now × (input.new ≡ input.old) × (output.new ≡ output.old) × (report.new ≡ report.old))
-        ⊎ ((RunFails fault scenario.now (I.tape input.old) (I.tape input.new) (O.tape output.old) (O.tape output.new) × (report.new ≡ report.old))
-        ⊎ ReportFails fault asked scenario.now (I.tape input.old) (I.tape input.new) (O.tape output.old) (O.tape output.new) (R.tape report.old) (R.tape report.new))) }
+    ensures stopped { IfErr result (λ fault. PlayFails fault asked scenario.now (I.tape input.old) (I.tape input.new) (O.tape output.old) (O.tape output.new) (R.tape report.old) (R.tape report.new)
+        ((input.new ≡ input.old) × (output.new ≡ output.old) × (report.new ≡ report.old)) (report.new ≡ report.old)) }
 {
     let scenario = match read(alloc, scenario) {
         Ok(scenario) => scenario,
         Err(fault) => return Err(scenario_fault(fault)),
     };
-    match play_scenario(alloc, scenario, asked, input, output) {
+    match play_scenario(alloc, key, scenario, asked, input, output) {
         Ok(text) => put_text(report, text.as_str()),
         Err(fault) => Err(run_fault(fault)),
     }
@@ -94,13 +94,32 @@ pub fn simulate<I: Source, O: Sink, R: Sink>(
     list: bool,
 ) -> Result<(), CliFault>
     ensures played { OnOk result (Plays (Asked.Report list) scenario.now (I.tape input.old) (I.tape input.new) (O.tape output.old) (O.tape output.new) (R.tape report.old) (R.tape report.new)) }
-    ensures stopped { IfErr result (λ fault.
-        (ScenarioFails fault scenario.now × (input.new ≡ input.old) × (output.new ≡ output.old) × (report.new ≡ report.old))
-        ⊎ ((RunFails fault scenario.now (I.tape input.old) (I.tape input.new) (O.tape output.old) (O.tape output.new) × (report.new ≡ report.old))
-        ⊎ ReportFails fault (Asked.Report list) scenario.now (I.tape input.old) (I.tape input.new) (O.tape output.old) (O.tape output.new) (R.tape report.old) (R.tape report.new))) }
+    ensures stopped { IfErr result (λ fault. PlayFails fault (Asked.Report list) scenario.now (I.tape input.old) (I.tape input.new) (O.tape output.old) (O.tape output.new) (R.tape report.old) (R.tape report.new)
+        ((input.new ≡ input.old) × (output.new ≡ output.old) × (report.new ≡ report.old)) (report.new ≡ report.old)) }
+{
+    let key = TableKey::fixed();
+    match simulate_keyed(alloc, key, scenario, input, output, report, list) {
+        Ok(()) => Ok(()),
+        Err(fault) => Err(fault),
+    }
+}
+
+/// The same, with a key for the hash of the connection tables.
+pub fn simulate_keyed<I: Source, O: Sink, R: Sink>(
+    alloc: Global,
+    key: TableKey,
+    scenario: &[u8],
+    input: &mut I,
+    output: &mut O,
+    report: &mut R,
+    list: bool,
+) -> Result<(), CliFault>
+    ensures played { OnOk result (Plays (Asked.Report list) scenario.now (I.tape input.old) (I.tape input.new) (O.tape output.old) (O.tape output.new) (R.tape report.old) (R.tape report.new)) }
+    ensures stopped { IfErr result (λ fault. PlayFails fault (Asked.Report list) scenario.now (I.tape input.old) (I.tape input.new) (O.tape output.old) (O.tape output.new) (R.tape report.old) (R.tape report.new)
+        ((input.new ≡ input.old) × (output.new ≡ output.old) × (report.new ≡ report.old)) (report.new ≡ report.old)) }
 {
     let asked = Asked::Report { list };
-    match play(alloc, scenario, asked, input, output, report) {
+    match play(alloc, key, scenario, asked, input, output, report) {
         Ok(()) => Ok(()),
         Err(fault) => Err(fault),
     }
@@ -117,14 +136,33 @@ pub fn explain_run<I: Source, R: Sink>(
     report: &mut R,
 ) -> Result<(), CliFault>
     ensures played { OnOk result ((calls : ℕ) × Plays (Asked.Events one other) scenario.now (I.tape input.old) (I.tape input.new) (unkept 0) (unkept calls) (R.tape report.old) (R.tape report.new)) }
-    ensures stopped { IfErr result (λ fault.
-        (ScenarioFails fault scenario.now × (input.new ≡ input.old) × (report.new ≡ report.old))
-        ⊎ (((calls : ℕ) × RunFails fault scenario.now (I.tape input.old) (I.tape input.new) (unkept 0) (unkept calls) × (fault ≢ CliFault.Write) × (report.new ≡ report.old))
-        ⊎ ((calls : ℕ) × ReportFails fault (Asked.Events one other) scenario.now (I.tape input.old) (I.tape input.new) (unkept 0) (unkept calls) (R.tape report.old) (R.tape report.new)))) }
+    ensures stopped { IfErr result (λ fault. ExplainFails fault one other scenario.now (I.tape input.old) (I.tape input.new) (R.tape report.old) (R.tape report.new)
+        ((input.new ≡ input.old) × (report.new ≡ report.old)) (report.new ≡ report.old)) }
+{
+    let key = TableKey::fixed();
+    match explain_keyed(alloc, key, scenario, input, one, other, report) {
+        Ok(()) => Ok(()),
+        Err(fault) => Err(fault),
+    }
+}
+
+/// The same, with a key for the hash of the connection tables.
+pub fn explain_keyed<I: Source, R: Sink>(
+    alloc: Global,
+    key: TableKey,
+    scenario: &[u8],
+    input: &mut I,
+    one: u64,
+    other: u64,
+    report: &mut R,
+) -> Result<(), CliFault>
+    ensures played { OnOk result ((calls : ℕ) × Plays (Asked.Events one other) scenario.now (I.tape input.old) (I.tape input.new) (unkept 0) (unkept calls) (R.tape report.old) (R.tape report.new)) }
+    ensures stopped { IfErr result (λ fault. ExplainFails fault one other scenario.now (I.tape input.old) (I.tape input.new) (R.tape report.old) (R.tape report.new)
+        ((input.new ≡ input.old) × (report.new ≡ report.old)) (report.new ≡ report.old)) }
 {
     let asked = Asked::Events { one, other };
     let mut output = Nowhere::new();
-    match play(alloc, scenario, asked, input, &mut output, report) {
+    match play(alloc, key, scenario, asked, input, &mut output, report) {
         Ok(()) => Ok(()),
         Err(fault) => Err(fault),
     }

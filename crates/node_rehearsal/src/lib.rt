@@ -25,7 +25,7 @@ use node_records::{
     Command, Handled, Journal, LifeFault, NodeRecord, Rings, WorkerRecord, prepare_all,
 };
 use pool_versions::Catalogue;
-use selection::{PreparedVersion, Scheme};
+use selection::{PreparedVersions, Scheme};
 use std::alloc::{AllocError, Global};
 
 #[cfg(test)]
@@ -99,7 +99,7 @@ fn serve<'v, S: Scheme, H: FlowHash, T: ConnTable>(
     alloc: Global,
     setup: &Setup<S, H>,
     catalogue: &Catalogue,
-    versions: &'v [PreparedVersion<S>],
+    versions: &'v PreparedVersions<S>,
     newest: u32,
     items: &[Item],
 ) -> Result<WorkerRecord<'v, S, T>, AllocError>
@@ -118,7 +118,7 @@ fn serve_all<'v, S: Scheme, H: FlowHash, T: ConnTable>(
     alloc: Global,
     setup: &Setup<S, H>,
     catalogue: &Catalogue,
-    versions: &'v [PreparedVersion<S>],
+    versions: &'v PreparedVersions<S>,
     newest: u32,
     queues: &Queues,
 ) -> Result<Vec<WorkerRecord<'v, S, T>>, AllocError>
@@ -199,7 +199,7 @@ fn restart<S: Scheme, H: FlowHash, T: ConnTable>(
     journal: &mut Journal,
     setup: &Setup<S, H>,
     catalogue: &Catalogue,
-    versions: &[PreparedVersion<S>],
+    versions: &PreparedVersions<S>,
     newest: u32,
     queue: &Queues,
     node: u16,
@@ -225,7 +225,7 @@ fn end<S: Scheme, H: FlowHash, T: ConnTable>(
     journal: &mut Journal,
     setup: &Setup<S, H>,
     catalogue: &Catalogue,
-    versions: &[PreparedVersion<S>],
+    versions: &PreparedVersions<S>,
     newest: u32,
     queue: &Queues,
     node: u16,
@@ -278,7 +278,7 @@ pub fn rehearse<S: Scheme, H: FlowHash, T: ConnTable>(
                     &mut journal,
                     setup,
                     catalogue,
-                    versions.as_slice(),
+                    &versions,
                     newest,
                     &queue,
                     node,
@@ -293,7 +293,7 @@ pub fn rehearse<S: Scheme, H: FlowHash, T: ConnTable>(
         &mut journal,
         setup,
         catalogue,
-        versions.as_slice(),
+        &versions,
         newest,
         &queue,
         node,

@@ -205,10 +205,17 @@ fn prepared<S: Scheme, H: FlowHash>(
     setup: &Setup<S, H>,
     catalogue: &Catalogue,
     commands: &[Command],
-) -> Vec<PreparedVersion<S>>
-    ensures { AreGood (λ s z. S.pick s z) (rules_for (λ s z. S.pick s z) (λ h. H.plain h) setup.now catalogue.now) result.items }
+) -> PreparedVersions<S>
+    ensures { AreGood (λ s z. S.pick s z) (rules_for (λ s z. S.pick s z) (λ h. H.plain h) setup.now catalogue.now) result }
 {
     prepare_all(alloc, setup, catalogue, commands).expect(rt, "memory")
+}
+
+// The versions of these numbers are there.
+fn are_there<S: Scheme>(versions: &PreparedVersions<S>, numbers: &[u32]) -> bool {
+    numbers
+        .iter()
+        .all(|number| versions.find(*number).is_some())
 }
 
 // Workers that have handled nothing.
@@ -217,7 +224,7 @@ fn fresh_workers<'v, S: Scheme, H: FlowHash, T: ConnTable>(
     alloc: Global,
     setup: &Setup<S, H>,
     catalogue: &Catalogue,
-    versions: &'v [PreparedVersion<S>],
+    versions: &'v PreparedVersions<S>,
 ) -> Vec<WorkerRecord<'v, S, T>>
     requires { AreGood (λ s z. S.pick s z) (rules_for (λ s z. S.pick s z) (λ h. H.plain h) setup.now catalogue.now) versions.now }
 {
@@ -251,36 +258,26 @@ fn replays<S: Scheme>(
     assert!(rt; least_recent.as_slice() == outcomes);
 }
 
-// Node 0 does these steps, and each tells what is wanted. The packets are of source ports 1000, 1001 and 1006, and one of
-// no flow.
-fn plays<S: Scheme, T: ConnTable>(
+// Node 0 does these steps with these workers, and each tells what is wanted.
+fn plays_with<S: Scheme, T: ConnTable>(
     rt: &impl Abort,
     alloc: Global,
     setup: &Setup<S, SumHash>,
+    catalogue: &Catalogue,
+    mut workers: Vec<WorkerRecord<'_, S, T>>,
     ring: u32,
     steps: &[(Act, Told)],
 )
     requires { setup.now.size ≡ 7 }
 {
-    let catalogue = catalogue(rt, alloc);
     let packets = [packet(1000), packet(1001), packet(1006), fragment()];
-    let all = [1, 2, 3, 4, 5].map(|number| Command::Publish(number));
-    let versions = prepared(rt, alloc, setup, &catalogue, &all);
-    assert_eq!(rt; versions.len(), 5);
-    let mut workers = fresh_workers::<S, SumHash, T>(
-        rt,
-        alloc,
-        setup,
-        &catalogue,
-        versions.as_slice(),
-    );
     let mut journal = Journal::new(alloc, 0, ring, setup.workers()).expect(rt, "memory");
     let mut queues = empty_queues(alloc, setup.workers(), ring).expect(rt, "memory");
     for (at, (act, want)) in steps.iter().enumerate() {
         let got = acted(
             rt,
             &mut journal,
-            &catalogue,
+            catalogue,
             &packets,
             &mut queues,
             workers.as_mut_slice(),
@@ -293,6 +290,25 @@ fn plays<S: Scheme, T: ConnTable>(
         .expect(rt, "records that fit");
     assert!(rt; !journal.refused_early());
     replays(rt, alloc, setup, journal.events(), journal.outcomes());
+}
+
+// Node 0 does these steps, and each tells what is wanted. The packets are of source ports 1000, 1001 and 1006, and one of
+// no flow.
+fn plays<S: Scheme, T: ConnTable>(
+    rt: &impl Abort,
+    alloc: Global,
+    setup: &Setup<S, SumHash>,
+    ring: u32,
+    steps: &[(Act, Told)],
+)
+    requires { setup.now.size ≡ 7 }
+{
+    let catalogue = catalogue(rt, alloc);
+    let all = [1, 2, 3, 4, 5].map(|number| Command::Publish(number));
+    let versions = prepared(rt, alloc, setup, &catalogue, &all);
+    assert!(rt; are_there(&versions, &[1, 2, 3, 4, 5]));
+    let workers = fresh_workers::<S, SumHash, T>(rt, alloc, setup, &catalogue, &versions);
+    plays_with(rt, alloc, setup, &catalogue, workers, ring, steps);
 }
 
 const FIRST: u32 = 0;
@@ -546,11 +562,7 @@ fn fault_after(
     let all = [Command::Publish(1), Command::Publish(2)];
     let versions = prepared(rt, alloc, &setup, &catalogue, &all);
     let mut workers = fresh_workers::<Maglev<SumHash>, SumHash, PlainTable>(
-        rt,
-        alloc,
-        &setup,
-        &catalogue,
-        versions.as_slice(),
+        rt, alloc, &setup, &catalogue, &versions,
     );
     let mut journal = Journal::new(alloc, 0, 16, setup.workers()).expect(rt, "memory");
     let mut queues = empty_queues(alloc, count, 16).expect(rt, "memory");
@@ -722,11 +734,7 @@ fn a_life_that_is_not_drained(rt: HostRuntime) {
     let packets = [packet(1000)];
     let versions = prepared(&rt, alloc, &setup, &catalogue, &[Command::Publish(1)]);
     let mut workers = fresh_workers::<Maglev<SumHash>, SumHash, PlainTable>(
-        &rt,
-        alloc,
-        &setup,
-        &catalogue,
-        versions.as_slice(),
+        &rt, alloc, &setup, &catalogue, &versions,
     );
     let mut journal = Journal::new(alloc, 0, 16, 1).expect(&rt, "memory");
     let mut queues = empty_queues(alloc, 1, 16).expect(&rt, "memory");
@@ -780,11 +788,7 @@ fn finished(rt: &impl Abort, alloc: Global, gathered: &[usize]) -> Option<LifeFa
     let packets = [packet(1000), packet(1001)];
     let versions = prepared(rt, alloc, &setup, &catalogue, &[Command::Publish(1)]);
     let mut workers = fresh_workers::<Maglev<SumHash>, SumHash, LruTable>(
-        rt,
-        alloc,
-        &setup,
-        &catalogue,
-        versions.as_slice(),
+        rt, alloc, &setup, &catalogue, &versions,
     );
     let mut journal = Journal::new(alloc, 0, 16, 1).expect(rt, "memory");
     let mut queues = empty_queues(alloc, 1, 16).expect(rt, "memory");

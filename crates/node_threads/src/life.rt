@@ -1,47 +1,49 @@
 //! One life of a node: its threads are started, fed and joined.
-ghost use Rattle.std.specs.Prelude.{◌≡◌, ◌≤◌, ◌<◌, ◌++◌, ◌∷◌, [], ℕ, List, take, length, IfOk, OnOk, All};
+ghost use Rattle.std.specs.Prelude.{◌≡◌, ◌≤◌, ◌<◌, ◌+◌, ◌++◌, ◌∷◌, [], ℕ, Bool, List, take, length, None, IfOk, OnOk, All};
 ghost use Rattle.cluster_core.specs.Setups.{Fixed, rules_for};
 ghost use Rattle.cluster_core.specs.Runs.{AreGood};
 ghost use Rattle.version_board.specs.Seats.{IsWatcherOf};
+ghost use Rattle.cluster_node.specs.declared.outcomes.Outcome.{Outcome};
 ghost use Rattle.node_records.specs.Works.{WorkView, IsOf};
+ghost use Rattle.node_records.specs.Ends.{all_handled};
+ghost use Rattle.cluster_node.specs.Rules.{Rules};
 ghost use Rattle.cluster_node.specs.declared.packets.Packet.{Packet};
 ghost use Rattle.node_records.specs.declared.command.Command.{Command};
 ghost use Rattle.node_records.specs.declared.command.Command.TheVariants.{Restart};
 ghost use Rattle.node_records.specs.Histories.{past_of, NoneWaits};
 ghost use Rattle.node_records.specs.Journals.{JournalView, Tells, Drives, IsServed};
-ghost use Rattle.node_threads.specs.Going.{Going, IsDriven, IsEnded};
+ghost use Rattle.stats_book.specs.Counts.{Counted};
+ghost use Rattle.node_duties.specs.Counts.{AreRead, Counts, IsWork, served_from};
+ghost use Rattle.node_duties.specs.Going.{Going, IsDriven, IsEnded, Begins, IsLived};
 
-use crate::drive::drive;
-use crate::fault::{RunFault, fault_of};
-use crate::gate::Gate;
-use crate::mux::gather;
-use crate::plan::{Plan, Progress};
-use crate::post::{Desk, Post};
-use crate::promise::OfRun;
-use crate::ring::{Inputs, Output};
-use crate::work::{Outfit, work};
+use crate::begun::Begun;
 use cluster_core::Setup;
-use cluster_node::{Outcome, Packet};
+use cluster_node::Outcome;
 use connection_table::ConnTable;
 use hash_laws::FlowHash;
-use node_records::{Command, Journal, WorkerRecord};
+use node_duties::{
+    Desk, Gate, Inputs, OfRun, Outfit, Output, Plan, Post, Progress, RunFault, Tally, WorkerRun,
+    drive, fault_of, gather, work,
+};
+use node_records::{Journal, WorkerRecord};
 use pool_versions::Catalogue;
 use rtrb::{Consumer, RingBuffer};
-use selection::{PreparedVersion, Scheme};
+use selection::Scheme;
+use stats_book::Names;
 use std::alloc::{AllocError, Global};
 use std::sync::Wait;
 use std::thread;
 use std::thread::{PromisedHandle, Scope, Threads};
 use version_board::{Watcher, WordBoard};
 
-// What a worker's thread answers: its record, or that memory was refused.
-type Answer<'e, S, T> = Result<WorkerRecord<'e, S, T>, AllocError>;
+// What a worker's thread answers: what it did, or that memory was refused.
+type Answer<'e, S, T, B> = Result<WorkerRun<'e, S, T, B>, AllocError>;
 
 /// The rings of a life: what its workers own, the driver's ends and the mux's ends.
 #[derive(Drop)]
-pub struct Laid<'a> {
+pub struct Laid<'a, B: Names> {
     /// One for each worker.
-    pub outfits: Vec<Outfit<'a>>,
+    pub outfits: Vec<Outfit<'a, B>>,
     /// The driver's ends.
     pub inputs: Inputs,
     /// The mux's ends.
@@ -50,28 +52,33 @@ pub struct Laid<'a> {
 
 /// What a life leaves.
 #[derive(Drop)]
-pub struct LifeRun {
+pub struct LifeRun<B: Names> {
     /// How far the node got.
-    pub progress: Progress,
+    pub progress: Progress<B>,
     /// What was sent, as the mux gathered it.
     pub sent: Vec<Outcome>,
 }
 
 // The workers' threads, and why not all were started.
 #[derive(Drop)]
-struct Started<'e, S: Scheme, H: FlowHash, T: ConnTable> {
-    handles: Vec<PromisedHandle<Answer<'e, S, T>, OfRun<'e, 'e, S, H>>>,
+struct Started<'e, S: Scheme, H: FlowHash, T: ConnTable, B: Names> {
+    handles: Vec<PromisedHandle<Answer<'e, S, T, B>, OfRun<'e, 'e, S, H>>>,
     fault: Option<RunFault>,
 }
 
 /// The rings of a life, each of so many places, and what its workers own.
-pub fn lay<'a>(
+pub fn lay<'a, B: Names>(
     alloc: Global,
     board: &'a WordBoard,
     seats: Vec<Watcher>,
     places: u32,
-) -> Result<Laid<'a>, AllocError>
-    requires { All (λ w. IsWatcherOf board.now w) seats.items }
+    tally: &mut Tally<B>,
+) -> Result<Laid<'a, B>, AllocError>
+    requires seats { All (λ w. IsWatcherOf board.now w) seats.items }
+    requires parts { length seats.items < tally.old.shares.parts }
+    ensures outfits { IfOk result (λ l. length l.outfits.items ≡ length seats.items) }
+    ensures parts { OnOk result (tally.new.shares.parts + length seats.items ≡ tally.old.shares.parts) }
+    ensures same { OnOk result ((tally.new.shares ≡ record tally.old.shares { parts = tally.new.shares.parts }) × (tally.new.lost ≡ tally.old.lost)) }
 {
     let mut outfits = Vec::new(alloc);
     let mut rings = Vec::new(alloc);
@@ -86,6 +93,7 @@ pub fn lay<'a>(
             post: Post::new(board, seat),
             ring,
             out,
+            part: tally.part(),
             number,
         })?;
         number = number.wrapping_add(1);
@@ -105,18 +113,20 @@ fn start<
     H: FlowHash + Send + Sync + 'e,
     T: ConnTable + Send + 'e,
     G: Gate + Sync + 'e,
+    B: Names + Send + Sync + 'e,
     R: Threads + Wait + Sync + 'e,
 >(
     scope: &Scope<'s, &'e ()>,
     rt: &'e R,
     alloc: Global,
-    plan: Plan<'e, S, H, G>,
-    outfits: Vec<Outfit<'e>>,
-) -> Started<'e, S, H, T>
+    plan: Plan<'e, S, H, G, B>,
+    outfits: Vec<Outfit<'e, B>>,
+) -> Started<'e, S, H, T, B>
 where
     S::Prepared: Send + Sync,
     requires { AreGood (λ s z. S.pick s z) (rules_for (λ s z. S.pick s z) (λ h. H.plain h) plan.setup.now plan.catalogue.now) plan.versions.now }
-    ensures { All (λ h. (h.promise.setup.now ≡ plan.entry.setup.now) × (h.promise.catalogue.now ≡ plan.entry.catalogue.now)) result.handles.items }
+    ensures promises { All (λ h. (h.promise.setup.now ≡ plan.entry.setup.now) × (h.promise.catalogue.now ≡ plan.entry.catalogue.now)) result.handles.items }
+    ensures all { result.fault ≡ None → length result.handles.items ≡ length outfits.entry.items }
 {
     let mut handles = Vec::new(alloc);
     for outfit in outfits {
@@ -130,9 +140,9 @@ where
         };
         match scope.spawn_with(
             promise,
-            move || -> Result<WorkerRecord<'_, S, T>, AllocError>
+            move || -> Result<WorkerRun<'_, S, T, B>, AllocError>
                 requires { AreGood (λ s z. S.pick s z) (rules_for (λ s z. S.pick s z) (λ h. H.plain h) plan.setup.now plan.catalogue.now) plan.versions.now }
-                ensures { IfOk result (λ w. IsOf (λ s z. S.pick s z) (rules_for (λ s z. S.pick s z) (λ h. H.plain h) plan.entry.setup.now plan.entry.catalogue.now) w) }
+                ensures { IfOk result (λ w. IsWork (λ s z. S.pick s z) (rules_for (λ s z. S.pick s z) (λ h. H.plain h) plan.entry.setup.now plan.entry.catalogue.now) w.record w.tally.lost w.tally.shares) }
             { work(rt, alloc, plan, outfit) },
         ) {
             Ok(handle) => handles.push_reserved(handle),
@@ -148,23 +158,23 @@ where
     }
 }
 
-// Joins a worker, and keeps its record if it has one and there is memory.
-fn join_one<'v, 'e, S: Scheme, H: FlowHash, T: ConnTable, R: Threads>(
+// Joins a worker, and keeps what it did if it did it all and there is memory.
+fn join_one<'v, 'e, S: Scheme, H: FlowHash, T: ConnTable, B: Names, R: Threads>(
     rt: &R,
     setup: &Setup<S, H>,
     catalogue: &Catalogue,
-    workers: &mut Vec<WorkerRecord<'v, S, T>>,
-    handle: PromisedHandle<Result<WorkerRecord<'v, S, T>, AllocError>, OfRun<'e, 'e, S, H>>,
+    runs: &mut Vec<WorkerRun<'v, S, T, B>>,
+    handle: PromisedHandle<Answer<'v, S, T, B>, OfRun<'e, 'e, S, H>>,
 )
     requires { (handle.promise.setup.now ≡ setup.now) × (handle.promise.catalogue.now ≡ catalogue.now) }
-    ensures { All (λ w. IsOf (λ s z. S.pick s z) (rules_for (λ s z. S.pick s z) (λ h. H.plain h) setup.now catalogue.now) w) workers.old.items →
-        All (λ w. IsOf (λ s z. S.pick s z) (rules_for (λ s z. S.pick s z) (λ h. H.plain h) setup.now catalogue.now) w) workers.new.items }
+    ensures { All (λ w. IsWork (λ s z. S.pick s z) (rules_for (λ s z. S.pick s z) (λ h. H.plain h) setup.now catalogue.now) w.record w.tally.lost w.tally.shares) runs.old.items →
+        All (λ w. IsWork (λ s z. S.pick s z) (rules_for (λ s z. S.pick s z) (λ h. H.plain h) setup.now catalogue.now) w.record w.tally.lost w.tally.shares) runs.new.items }
 {
     let _ = setup.workers();
     let _ = catalogue.size();
     match handle.join(rt) {
         Err(_) => (),
-        Ok(worker) => match workers.push(worker) {
+        Ok(done) => match runs.push(done) {
             Ok(()) => (),
             Err(_) => (),
         },
@@ -172,35 +182,36 @@ fn join_one<'v, 'e, S: Scheme, H: FlowHash, T: ConnTable, R: Threads>(
 }
 
 // Joins all workers, whatever becomes of them.
-fn join_all<'v, 'e, S: Scheme, H: FlowHash, T: ConnTable, R: Threads>(
+fn join_all<'v, 'e, S: Scheme, H: FlowHash, T: ConnTable, B: Names, R: Threads>(
     rt: &R,
     alloc: Global,
     setup: &Setup<S, H>,
     catalogue: &Catalogue,
-    handles: Vec<PromisedHandle<Result<WorkerRecord<'v, S, T>, AllocError>, OfRun<'e, 'e, S, H>>>,
-) -> Result<Vec<WorkerRecord<'v, S, T>>, AllocError>
+    handles: Vec<PromisedHandle<Answer<'v, S, T, B>, OfRun<'e, 'e, S, H>>>,
+) -> Result<Vec<WorkerRun<'v, S, T, B>>, AllocError>
     requires { All (λ h. (h.promise.setup.now ≡ setup.now) × (h.promise.catalogue.now ≡ catalogue.now)) handles.items }
-    ensures { IfOk result (λ v. All (λ w. IsOf (λ s z. S.pick s z) (rules_for (λ s z. S.pick s z) (λ h. H.plain h) setup.now catalogue.now) w) v.items) }
+    ensures of { IfOk result (λ v. All (λ w. IsWork (λ s z. S.pick s z) (rules_for (λ s z. S.pick s z) (λ h. H.plain h) setup.now catalogue.now) w.record w.tally.lost w.tally.shares) v.items) }
+    ensures all { IfOk result (λ v. length v.items ≡ length handles.entry.items) }
 {
-    let mut workers = Vec::new(alloc);
+    let mut runs = Vec::new(alloc);
     let count = handles.len();
     for handle in handles {
-        join_one(rt, setup, catalogue, &mut workers, handle);
+        join_one(rt, setup, catalogue, &mut runs, handle);
     }
-    if workers.len() != count {
+    if runs.len() != count {
         return Err(AllocError);
     }
-    Ok(workers)
+    Ok(runs)
 }
 
 // Not all threads of a life could be started: those that were end, with nothing offered.
-fn give_up<'v, 'e, S: Scheme, H: FlowHash, T: ConnTable, R: Threads + Wait>(
+fn give_up<'v, 'e, S: Scheme, H: FlowHash, T: ConnTable, B: Names, R: Threads + Wait>(
     rt: &R,
     alloc: Global,
     setup: &Setup<S, H>,
     catalogue: &Catalogue,
     inputs: &mut Inputs,
-    handles: Vec<PromisedHandle<Result<WorkerRecord<'v, S, T>, AllocError>, OfRun<'e, 'e, S, H>>>,
+    handles: Vec<PromisedHandle<Answer<'v, S, T, B>, OfRun<'e, 'e, S, H>>>,
     fault: RunFault,
 ) -> RunFault
     requires { All (λ h. (h.promise.setup.now ≡ setup.now) × (h.promise.catalogue.now ≡ catalogue.now)) handles.items }
@@ -210,6 +221,29 @@ fn give_up<'v, 'e, S: Scheme, H: FlowHash, T: ConnTable, R: Threads + Wait>(
         Ok(_) => fault,
         Err(_) => RunFault::Memory,
     }
+}
+
+// What the workers counted comes to their driver's tally, and their records are kept.
+fn muster<'v, S: Scheme, T: ConnTable, B: Names>(
+    alloc: Global,
+    tally: &mut Tally<B>,
+    runs: Vec<WorkerRun<'v, S, T, B>>,
+) -> Result<Vec<WorkerRecord<'v, S, T>>, AllocError>
+    ensures of { (rules : Rules) → All (λ w. IsWork (λ s z. S.pick s z) rules w.record w.tally.lost w.tally.shares) runs.entry.items → IfOk result (λ v. All (λ w. IsOf (λ s z. S.pick s z) rules w) v.items) }
+    ensures parts { (rules : Rules) → All (λ w. IsWork (λ s z. S.pick s z) rules w.record w.tally.lost w.tally.shares) runs.entry.items → OnOk result (tally.new.shares.parts ≡ tally.old.shares.parts + length runs.entry.items) }
+    ensures counts { (rules : Rules) (os : List Outcome) (n : ℕ) → All (λ w. IsWork (λ s z. S.pick s z) rules w.record w.tally.lost w.tally.shares) runs.entry.items → Counts tally.old.lost tally.old.shares os →
+        IfOk result (λ v. Counts tally.new.lost tally.new.shares (os ++ served_from n 0 (all_handled v.items))) }
+{
+    let mut workers = Vec::new(alloc);
+    for done in runs {
+        let WorkerRun {
+            record,
+            tally: counted,
+        } = done;
+        tally.merge(counted);
+        workers.push(record)?;
+    }
+    Ok(workers)
 }
 
 // A life ended with a restart.
@@ -222,6 +256,7 @@ fn end_life<S: Scheme, H: FlowHash, T: ConnTable>(
     requires { All (λ w. IsOf (λ s z. S.pick s z) (rules_for (λ s z. S.pick s z) (λ h. H.plain h) setup.now catalogue.now) w) workers.now }
     ensures going { let rules = rules_for (λ s z. S.pick s z) (λ h. H.plain h) setup.now catalogue.now in
         (packets : List Packet) (cs : List Command) (n : ℕ) (places : ℕ) → Going rules packets cs n places journal.old → OnOk result (Going rules packets (cs ++ Restart ∷ []) n places journal.new) }
+    ensures counts { (lost : Bool) (shares : Counted) → Counts lost shares (journal.old.outcomes ++ served_from journal.old.node 0 (all_handled workers.now)) → OnOk result (Counts lost shares journal.new.outcomes) }
 {
     let _ = setup.workers();
     let _ = catalogue.size();
@@ -242,6 +277,7 @@ fn end<S: Scheme, H: FlowHash, T: ConnTable>(
     ensures ended { let rules = rules_for (λ s z. S.pick s z) (λ h. H.plain h) setup.now catalogue.now in
         (packets : List Packet) → Drives rules packets journal.old → OnOk result (Tells rules packets journal.new × NoneWaits (past_of rules packets journal.new.node journal.new.events)) }
     ensures served { OnOk result (IsServed journal.old journal.new) }
+    ensures counts { (lost : Bool) (shares : Counted) → Counts lost shares (journal.old.outcomes ++ served_from journal.old.node 0 (all_handled workers.now)) → OnOk result (Counts lost shares journal.new.outcomes) }
 {
     let _ = setup.workers();
     let _ = catalogue.size();
@@ -253,36 +289,45 @@ fn end<S: Scheme, H: FlowHash, T: ConnTable>(
 
 // A life that was driven ends as its commands say: the workers' records are compared with what was placed on them, and
 // written behind the driver's steps.
-fn end_driven<S: Scheme, H: FlowHash, T: ConnTable, G>(
-    plan: Plan<'_, S, H, G>,
+fn end_driven<S: Scheme, H: FlowHash, T: ConnTable, G, B: Names>(
+    alloc: Global,
+    plan: Plan<'_, S, H, G, B>,
     from: usize,
-    driven: Progress,
-    workers: &[WorkerRecord<'_, S, T>],
-) -> Result<Progress, RunFault>
+    driven: Progress<B>,
+    runs: Vec<WorkerRun<'_, S, T, B>>,
+) -> Result<Progress<B>, RunFault>
     requires driven { let rules = rules_for (λ s z. S.pick s z) (λ h. H.plain h) plan.setup.now plan.catalogue.now in IsDriven rules plan.packets.now plan.commands.now plan.node plan.ring from driven.at driven.journal }
-    requires of { All (λ w. IsOf (λ s z. S.pick s z) (rules_for (λ s z. S.pick s z) (λ h. H.plain h) plan.setup.now plan.catalogue.now) w) workers.now }
-    ensures { let rules = rules_for (λ s z. S.pick s z) (λ h. H.plain h) plan.entry.setup.now plan.entry.catalogue.now in IfOk result (λ d. IsEnded rules plan.entry.packets.now plan.entry.commands.now plan.entry.node plan.entry.ring from d.at d.journal) }
+    requires of { All (λ w. IsWork (λ s z. S.pick s z) (rules_for (λ s z. S.pick s z) (λ h. H.plain h) plan.setup.now plan.catalogue.now) w.record w.tally.lost w.tally.shares) runs.items }
+    requires counts { AreRead plan.packets.now → Counts driven.tally.lost driven.tally.shares driven.journal.outcomes }
+    ensures ended { let rules = rules_for (λ s z. S.pick s z) (λ h. H.plain h) plan.entry.setup.now plan.entry.catalogue.now in IfOk result (λ d. IsEnded rules plan.entry.packets.now plan.entry.commands.now plan.entry.node plan.entry.ring from d.at d.journal) }
+    ensures parts { IfOk result (λ d. d.tally.shares.parts ≡ driven.tally.shares.parts + length runs.entry.items) }
+    ensures counts { AreRead plan.entry.packets.now → IfOk result (λ d. Counts d.tally.lost d.tally.shares d.journal.outcomes) }
 {
     let _ = from;
     let Progress {
         journal,
         newest,
         at,
+        tally,
     } = driven;
     let mut journal = journal;
+    let mut tally = tally;
+    let workers = muster(alloc, &mut tally, runs)?;
     if at < plan.commands.len() {
-        end_life(&mut journal, plan.setup, plan.catalogue, workers)?;
+        end_life(&mut journal, plan.setup, plan.catalogue, workers.as_slice())?;
         return Ok(Progress {
             journal,
             newest,
             at,
+            tally,
         });
     }
-    end(&mut journal, plan.setup, plan.catalogue, workers)?;
+    end(&mut journal, plan.setup, plan.catalogue, workers.as_slice())?;
     Ok(Progress {
         journal,
         newest,
         at,
+        tally,
     })
 }
 
@@ -294,22 +339,21 @@ fn run_threads<
     H: FlowHash + Send + Sync + 'e,
     T: ConnTable + Send + 'e,
     G: Gate + Sync + 'e,
+    B: Names + Send + Sync + 'e,
     R: Threads + Wait + Sync + 'e,
 >(
     scope: &Scope<'s, &'e ()>,
     rt: &'e R,
     alloc: Global,
-    plan: Plan<'e, S, H, G>,
-    laid: Laid<'e>,
+    plan: Plan<'e, S, H, G, B>,
+    laid: Laid<'e, B>,
     desk: Desk<'e>,
-    progress: Progress,
-) -> Result<LifeRun, RunFault>
+    progress: Progress<B>,
+) -> Result<LifeRun<B>, RunFault>
 where
     S::Prepared: Send + Sync,
-    requires good { AreGood (λ s z. S.pick s z) (rules_for (λ s z. S.pick s z) (λ h. H.plain h) plan.setup.now plan.catalogue.now) plan.versions.now }
-    requires within { progress.at ≤ length plan.commands.now }
-    requires going { let rules = rules_for (λ s z. S.pick s z) (λ h. H.plain h) plan.setup.now plan.catalogue.now in Going rules plan.packets.now (take progress.at plan.commands.now) plan.node plan.ring progress.journal }
-    ensures { let rules = rules_for (λ s z. S.pick s z) (λ h. H.plain h) plan.entry.setup.now plan.entry.catalogue.now in IfOk result (λ r. IsEnded rules plan.entry.packets.now plan.entry.commands.now plan.entry.node plan.entry.ring progress.at r.progress.at r.progress.journal) }
+    requires { Begins (λ s z. S.pick s z) (rules_for (λ s z. S.pick s z) (λ h. H.plain h) plan.setup.now plan.catalogue.now) plan.versions.now plan.packets.now plan.commands.now plan.node plan.ring progress.at progress.journal progress.tally.lost progress.tally.shares }
+    ensures { IfOk result (λ r. IsLived (rules_for (λ s z. S.pick s z) (λ h. H.plain h) plan.entry.setup.now plan.entry.catalogue.now) plan.entry.packets.now plan.entry.commands.now plan.entry.node plan.entry.ring progress.at (progress.tally.shares.parts + length laid.entry.outfits.items) r.progress.at r.progress.journal r.progress.tally.lost r.progress.tally.shares) }
 {
     let Laid {
         outfits,
@@ -319,7 +363,7 @@ where
     let mut inputs = inputs;
     let mut desk = desk;
     let from = progress.at;
-    let started: Started<'e, S, H, T> = start(scope, rt, alloc, plan, outfits);
+    let started: Started<'e, S, H, T, B> = start(scope, rt, alloc, plan, outfits);
     let Started { handles, fault } = started;
     if let Some(fault) = fault {
         return Err(give_up(
@@ -343,14 +387,40 @@ where
             RunFault::ThreadLost,
         ));
     };
-    let driven = drive(plan, progress, &mut desk, &mut inputs);
+    let driven = drive(rt, plan, progress, &mut desk, &mut inputs);
     inputs.close(rt);
-    let workers = join_all(rt, alloc, plan.setup, plan.catalogue, handles);
+    let runs = join_all(rt, alloc, plan.setup, plan.catalogue, handles);
     let sent = mux.join(rt);
-    let workers = workers?;
+    let runs = runs?;
     let sent = sent?;
-    let progress = end_driven(plan, from, driven?, workers.as_slice())?;
+    let progress = end_driven(alloc, plan, from, driven?, runs)?;
     Ok(LifeRun { progress, sent })
+}
+
+// Takes apart what a life begins with.
+fn run_begun<
+    's,
+    'e: 's,
+    S: Scheme + Send + Sync + 'e,
+    H: FlowHash + Send + Sync + 'e,
+    T: ConnTable + Send + 'e,
+    G: Gate + Sync + 'e,
+    B: Names + Send + Sync + 'e,
+    R: Threads + Wait + Sync + 'e,
+>(
+    scope: &Scope<'s, &'e ()>,
+    rt: &'e R,
+    alloc: Global,
+    life: Begun<'e, S, H, G, B>,
+    laid: Laid<'e, B>,
+    desk: Desk<'e>,
+) -> Result<LifeRun<B>, RunFault>
+where
+    S::Prepared: Send + Sync,
+    ensures { IfOk result (λ r. IsLived (rules_for (λ s z. S.pick s z) (λ h. H.plain h) life.entry.setup life.entry.catalogue) life.entry.packets life.entry.commands life.entry.node life.entry.ring life.entry.start (life.entry.parts + length laid.entry.outfits.items) r.progress.at r.progress.journal r.progress.tally.lost r.progress.tally.shares) }
+{
+    let (plan, progress) = life.parts();
+    run_threads::<S, H, T, G, B, R>(scope, rt, alloc, plan, laid, desk, progress)
 }
 
 /// One life, on a board that holds the newest version: rings, threads, and the commands from one place on.
@@ -363,47 +433,24 @@ pub fn run_life<
     H: FlowHash + Send + Sync + 'e,
     T: ConnTable + Send + 'e,
     G: Gate + Sync + 'e,
+    B: Names + Send + Sync + 'e,
     R: Threads + Wait + Sync + 'e,
 >(
     rt: &'e R,
     alloc: Global,
-    setup: &'e Setup<S, H>,
-    catalogue: &'e Catalogue,
-    versions: &'e [PreparedVersion<S>],
-    packets: &'e [Packet],
-    commands: &'e [Command],
-    gate: &'e G,
-    node: u16,
-    ring: u32,
-    laid: Laid<'e>,
+    life: Begun<'e, S, H, G, B>,
+    laid: Laid<'e, B>,
     desk: Desk<'e>,
-    progress: Progress,
-) -> Result<LifeRun, RunFault>
+) -> Result<LifeRun<B>, RunFault>
 where
     S::Prepared: Send + Sync,
-    requires good { AreGood (λ s z. S.pick s z) (rules_for (λ s z. S.pick s z) (λ h. H.plain h) setup.now catalogue.now) versions.now }
-    requires within { progress.at ≤ length commands.now }
-    requires going { let rules = rules_for (λ s z. S.pick s z) (λ h. H.plain h) setup.now catalogue.now in Going rules packets.now (take progress.at commands.now) node ring progress.journal }
-    ensures { let rules = rules_for (λ s z. S.pick s z) (λ h. H.plain h) setup.now catalogue.now in IfOk result (λ r. IsEnded rules packets.now commands.now node ring progress.at r.progress.at r.progress.journal) }
+    ensures { IfOk result (λ r. IsLived (rules_for (λ s z. S.pick s z) (λ h. H.plain h) life.entry.setup life.entry.catalogue) life.entry.packets life.entry.commands life.entry.node life.entry.ring life.entry.start (life.entry.parts + length laid.entry.outfits.items) r.progress.at r.progress.journal r.progress.tally.lost r.progress.tally.shares) }
 {
-    let plan = Plan {
-        setup,
-        catalogue,
-        versions,
-        packets,
-        commands,
-        gate,
-        node,
-        ring,
-    };
     thread::scope(
         thread::scope_env(),
         rt,
-        move |scope| -> Result<LifeRun, RunFault>
-            requires good { AreGood (λ s z. S.pick s z) (rules_for (λ s z. S.pick s z) (λ h. H.plain h) plan.setup.now plan.catalogue.now) plan.versions.now }
-            requires within { progress.at ≤ length plan.commands.now }
-            requires going { Going (rules_for (λ s z. S.pick s z) (λ h. H.plain h) plan.setup.now plan.catalogue.now) plan.packets.now (take progress.at plan.commands.now) plan.node plan.ring progress.journal }
-            ensures { IfOk result (λ r. IsEnded (rules_for (λ s z. S.pick s z) (λ h. H.plain h) plan.entry.setup.now plan.entry.catalogue.now) plan.entry.packets.now plan.entry.commands.now plan.entry.node plan.entry.ring progress.at r.progress.at r.progress.journal) }
-        { run_threads::<S, H, T, G, R>(scope, rt, alloc, plan, laid, desk, progress) },
+        move |scope| -> Result<LifeRun<B>, RunFault>
+            ensures { IfOk result (λ r. IsLived (rules_for (λ s z. S.pick s z) (λ h. H.plain h) life.entry.setup life.entry.catalogue) life.entry.packets life.entry.commands life.entry.node life.entry.ring life.entry.start (life.entry.parts + length laid.entry.outfits.items) r.progress.at r.progress.journal r.progress.tally.lost r.progress.tally.shares) }
+        { run_begun::<S, H, T, G, B, R>(scope, rt, alloc, life, laid, desk) },
     )
 }

@@ -108,6 +108,11 @@ with_versions d (Some versions) = with_pools d versions (first_refused d.choices
 unfoldable pub plan_of_draft : PlainDraft → Result Plan ScenarioFault
 plan_of_draft d = with_versions d (all_of version_of d.versions)
 
+-- what a document says of the pools, where its keys are as they should be and its words are members: the size of the tables,
+-- and the versions
+abbrev pub pools_of : Members → Option (ℕ × List (PlainVersion Member))
+pools_of ms = option_and_then (λ d. option_map (λ versions. (d.choices.size, versions)) (all_of version_of d.versions)) (draft_in ms)
+
 abbrev pub with_draft : Option PlainDraft → Result Plan ScenarioFault
 with_draft None = Err fault.BadKey
 with_draft (Some d) = plan_of_draft d

@@ -16,7 +16,7 @@ mod versions;
 mod words;
 
 pub use fault::ScenarioFault;
-pub use reading::{Scenario, read};
+pub use reading::{Scenario, pools_in, read};
 pub use scenario_steps::Step;
 pub use words::{SchemeKind, SpreadKind};
 

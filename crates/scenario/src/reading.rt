@@ -3,7 +3,8 @@ ghost use Rattle.std.specs.Prelude.{◌≡◌, ◌≤◌, length, map, string_by
 ghost use Rattle.toml.specs.View.{table_view};
 ghost use Rattle.scenario.specs.Lookups.{all_of};
 ghost use Rattle.scenario.specs.Steps.{plain_step, step_of_text};
-ghost use Rattle.scenario.specs.Meaning.{IsDocument, IsRefused, IsDraftRefused, IsLimited, AreStepsRefused, HasLimits, Means, plan_of, plan_of_draft, plan_view, plain_draft, pool_refused};
+ghost use Rattle.scenario.specs.Plain.{plain_version};
+ghost use Rattle.scenario.specs.Meaning.{pools_of, IsDocument, IsRefused, IsDraftRefused, IsLimited, AreStepsRefused, HasLimits, Means, plan_of, plan_of_draft, plan_view, plain_draft, pool_refused};
 
 use crate::building::{catalogue_of, versions_of};
 use crate::draft::{Draft, draft_in};
@@ -13,7 +14,7 @@ use crate::step::read_step;
 use crate::words::{SchemeKind, SpreadKind};
 use hash_laws::AnyHash;
 use maglev_table::TableSize;
-use pool_versions::{Catalogue, PoolFault};
+use pool_versions::{Catalogue, PoolFault, Version};
 use scenario_steps::Step;
 use std::alloc::{AllocError, Global};
 use toml::Table;
@@ -132,6 +133,23 @@ fn scenario_of(alloc: Global, draft: Draft) -> Result<Scenario, ScenarioFault>
         catalogue,
         steps,
     })
+}
+
+/// What a document of format 1 says of the pools: the size of the tables, and the versions in order. None where a key isn't as
+/// it should be, or a word is no member.
+pub fn pools_in(
+    alloc: Global,
+    table: &Table,
+) -> Result<Option<(TableSize, Vec<Version>)>, AllocError>
+    ensures { IfOk result (λ o. option_map (λ p. (p.0, map plain_version p.1.items)) o ≡ pools_of (table_view table.now)) }
+{
+    let Some(draft) = draft_in(alloc, table)? else {
+        return Ok(None);
+    };
+    let Some(versions) = versions_of(alloc, draft.versions.as_slice())? else {
+        return Ok(None);
+    };
+    Ok(Some((draft.choices.size, versions)))
 }
 
 /// Reads a scenario: a TOML 1.1 document in UTF-8 of format 1.

@@ -1,47 +1,37 @@
 -- What a history has at an event, and what is explained of two.
-use Rattle.std.proofs.Common.{◌≡◌, ℕ, zero, suc, List, [], ◌∷◌, Option, Some, None, refl, sym, ap, ◌∙◌, subst}
-use Rattle.std.proofs.lemmas.Option.{none-some}
-use Rattle.std.specs.Prelude.{slice_get, option_and_then}
+use Rattle.std.proofs.Common.{◌≡◌, ℕ, List, reverse, Option, Some, None, Result, refl, sym, ap, ◌∙◌, subst, option_map}
+use Rattle.std.proofs.lemmas.Option.{slice_get-map}
+use Rattle.std.specs.Prelude.{slice_get, option_and_then, IfSome, IfOk}
 use Rattle.five_tuple.specs.declared.Flow.{Flow}
 use Rattle.cluster_node.specs.declared.events.Said.{Said}
+use Rattle.cluster_node.specs.declared.outcomes.Outcome.{Outcome}
 use Rattle.cluster_node.specs.Rules.{Rules}
-use Rattle.forwarder.specs.Serving.{Pick}
-use Rattle.pool_versions.specs.Pool.{Pools}
-use Rattle.selection.specs.Picks.{slot_of_flow}
-use Rattle.cluster_core.specs.Setups.{Fixed, rules_for}
-use Rattle.cluster_run.specs.Ruling.{Ruling, rules_of}
-use Rattle.cluster_core.specs.declared.explaining.Verdict.{Verdict}
-use Rattle.cluster_core.specs.declared.explaining.Verdict.TheVariants.{NotSent}
 use Rattle.cluster_core.specs.Histories.{outcomes_of}
 use Rattle.cluster_core.specs.Explain.{Send, send_of, explained, PickedSend, PickedSends}
-use Rattle.scenario_play.specs.Answers.{send_at}
+use Rattle.pcap_file.specs.declared.format.InputEnd.{InputEnd}
+use Rattle.course.specs.Course.{Course}
+use Rattle.listing.specs.Verdicts.{verdict_text}
+use Rattle.scenario_play.specs.declared.asking.Asked.{Asked}
+use Rattle.scenario_play.specs.declared.asking.Asked.TheVariants.{Events}
+use Rattle.scenario_play.specs.Answers.{send_at, answer_of}
 
-outcome_at : (h : List Said) (i : ℕ) (s : Said) → slice_get h i ≡ Some s → slice_get (outcomes_of h) i ≡ Some s.outcome
-outcome_at [] i s e = absurd (none-some s e)
-outcome_at (x ∷ h) zero s e = ap (λ (o : Option Said). option_and_then (λ (y : Said). Some y.outcome) o) e
-outcome_at (x ∷ h) (suc i) s e = outcome_at h i s e
+-- what was sent at an event, by its outcome
+pub send_told : (h : List Said) (k : ℕ) (o : Option Outcome) → o ≡ slice_get (outcomes_of h) k → option_and_then (λ q. send_of q) o ≡ send_at h k
+send_told h k o e = ap (option_and_then (λ (q : Outcome). send_of q)) (e ∙ slice_get-map (λ (s : Said). s.outcome) h k) ∙ through (slice_get h k)
+  where
+    through : (x : Option Said) → option_and_then (λ q. send_of q) (option_map (λ s. s.outcome) x) ≡ option_and_then (λ s. send_of s.outcome) x
+    through None = refl
+    through (Some s) = refl
 
-pub picked_at : (rules : Rules) (h : List Said) (i : ℕ) (s : Said) → PickedSends rules (outcomes_of h) → slice_get h i ≡ Some s → PickedSend rules (send_of s.outcome)
-picked_at rules h i s p e = p i s.outcome (outcome_at h i s e)
+pub picked_if : (rules : Rules) (outs : List Outcome) (k : ℕ) (o : Option Outcome) → PickedSends rules outs → o ≡ slice_get outs k → IfSome o (λ q. PickedSend rules (send_of q))
+picked_if rules outs k None p e = tt
+picked_if rules outs k (Some o) p e = p k o (sym e)
 
-pub none_first : (slot : Flow → ℕ) (h : List Said) (i j : ℕ) → slice_get h i ≡ None → NotSent ≡ explained slot (send_at h i) (send_at h j)
-none_first slot h i j e = ap (λ (o : Option Said). explained slot (option_and_then (λ (s : Said). send_of s.outcome) o) (send_at h j)) (sym e)
-
-not_sent : (slot : Flow → ℕ) (a : Option Send) → NotSent ≡ explained slot a None
-not_sent slot None = refl
-not_sent slot (Some a) = refl
-
-pub none_second : (slot : Flow → ℕ) (h : List Said) (i j : ℕ) → slice_get h j ≡ None → NotSent ≡ explained slot (send_at h i) (send_at h j)
-none_second slot h i j e = not_sent slot (send_at h i) ∙ ap (λ (o : Option Said). explained slot (send_at h i) (option_and_then (λ (s : Said). send_of s.outcome) o)) (sym e)
-
-pub both_sent : (slot : Flow → ℕ) (h : List Said) (i j : ℕ) (a b : Said) (v : Verdict) → slice_get h i ≡ Some a → slice_get h j ≡ Some b → v ≡ explained slot (send_of a.outcome) (send_of b.outcome) → v ≡ explained slot (send_at h i) (send_at h j)
-both_sent slot h i j a b v e f g =
-    g
-    ∙ ap (λ (o : Option Said). explained slot (option_and_then (λ (s : Said). send_of s.outcome) o) (send_of b.outcome)) (sym e)
-    ∙ ap (λ (o : Option Said). explained slot (send_at h i) (option_and_then (λ (s : Said). send_of s.outcome) o)) (sym f)
-
-pub same_rules : {S H : Type 0} (pick_of : S → ℕ → Pick) (plain_of : H → List ℕ → ℕ) (r : Ruling S H) (setup : Fixed S H) (pools : Pools) → setup ≡ r.setup → pools ≡ r.catalogue → rules_of pick_of plain_of r ≡ rules_for pick_of plain_of setup pools
-same_rules pick_of plain_of r setup pools e f = sym (ap (λ s. rules_for pick_of plain_of s pools) e ∙ ap (λ p. rules_for pick_of plain_of r.setup p) f)
-
-pub same_slots : {S H : Type 0} (plain_of : H → List ℕ → ℕ) (a b : Fixed S H) (v : Verdict) (s t : Option Send) → a ≡ b → v ≡ explained (λ x. slot_of_flow (plain_of a.hash) a.size x) s t → v ≡ explained (λ x. slot_of_flow (plain_of b.hash) b.size x) s t
-same_slots plain_of a b v s t e h = subst (λ f. v ≡ explained (λ x. slot_of_flow (plain_of f.hash) f.size x) s t) e h
+-- the line that says why two packets went where they went, by the outcomes of their events
+pub line_told : {X E : Type 0} (bytes : X → List ℕ) (r : Result X E) (slot : Flow → ℕ) (asked : Asked) (course : Course) (packets : ℕ) (ending : InputEnd) (i j : ℕ) (a b : Option Outcome)
+    → asked ≡ Events i j → a ≡ slice_get (outcomes_of (reverse course.past)) i → b ≡ slice_get (outcomes_of (reverse course.past)) j
+    → IfOk r (λ s. bytes s ≡ verdict_text (explained slot (option_and_then (λ o. send_of o) a) (option_and_then (λ o. send_of o) b))) → IfOk r (λ s. bytes s ≡ answer_of slot asked course packets ending)
+line_told bytes r slot asked course packets ending i j a b e f g h =
+    subst (λ (q : Asked). IfOk r (λ s. bytes s ≡ answer_of slot q course packets ending)) (sym e)
+    (subst (λ (x : Option Send). IfOk r (λ s. bytes s ≡ verdict_text (explained slot x (send_at (reverse course.past) j)))) (send_told (reverse course.past) i a f)
+    (subst (λ (y : Option Send). IfOk r (λ s. bytes s ≡ verdict_text (explained slot (option_and_then (λ o. send_of o) a) y))) (send_told (reverse course.past) j b g) h))

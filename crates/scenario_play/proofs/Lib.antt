@@ -2,3 +2,4 @@ pub mod Asks
 pub mod Runs
 pub mod Carries
 pub mod Keeping
+pub mod Noted

@@ -1,5 +1,5 @@
 -- What is asked of a scenario's run, and the text that answers it.
-use Rattle.std.specs.Prelude.{◌≡◌, ℕ, ◌-◌, Bool, true, false, List, [], ◌∷◌, ◌++◌, reverse, Option, option_and_then, slice_get}
+use Rattle.std.specs.Prelude.{◌≡◌, ℕ, ◌-◌, Bool, true, false, List, ◌++◌, reverse, Option, option_and_then, slice_get}
 use Rattle.five_tuple.specs.declared.Flow.{Flow}
 use Rattle.pcap_file.specs.declared.format.InputEnd.{InputEnd}
 use Rattle.pcap_file.specs.declared.format.InputEnd.TheVariants.{End, Cut}

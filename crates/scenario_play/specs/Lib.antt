@@ -1,3 +1,4 @@
 pub mod Described
 pub mod Answers
 pub mod Kept
+pub mod Notebooks

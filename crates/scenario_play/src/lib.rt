@@ -4,6 +4,7 @@
 
 mod answering;
 mod asking;
+mod notes;
 mod playing;
 
 pub use answering::is_cut;

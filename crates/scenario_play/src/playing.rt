@@ -13,9 +13,10 @@ ghost use Rattle.scenario_play.specs.Kept.{KeepsPromises};
 
 use crate::answering::answer;
 use crate::asking::Asked;
+use crate::notes::Notebook;
 use cluster_core::Setup;
-use cluster_run::{Balancers, Rules};
-use connection_table::LruTable;
+use cluster_run::{Balancers, Rules, Task};
+use connection_table::{LruTable, TableKey};
 use course::all_live;
 use hash_laws::AnyHash;
 use pcap_file::{Sink, Source};
@@ -28,27 +29,28 @@ use std::alloc::Global;
 // Plays the steps with this spreader, and answers.
 fn play_with<S: Scheme, P: Spread, I: Source, O: Sink>(
     alloc: Global,
-    rules: &Rules<S, AnyHash>,
+    task: &Task<S, AnyHash, Asked>,
     spread: &mut P,
     plan: Plan<'_>,
-    asked: Asked,
     input: &mut I,
     output: &mut O,
 ) -> Result<String, SimulationFault>
     requires live { P.live spread.old ≡ below (length plan.nodes.now) }
     requires nodes { length plan.nodes.now ≤ 64 }
     requires steps { length plan.steps.now ≤ 100000 }
-    requires cluster { length rules.now.setup.nodes ≡ length plan.nodes.now }
-    requires workers { rules.now.setup.workers ≤ 16 }
-    ensures ok { IfOk result (λ s. Answers (cluster_of (λ s z. S.pick s z) (λ h. plain_of h) rules.now) (P.choice spread.old) (planned plan.entry) (λ x. slot_of_flow (plain_of rules.now.setup.hash) rules.now.setup.size x) asked (I.tape input.old) (I.tape input.new) (O.tape output.old) (O.tape output.new) (string_bytes s)) }
-    ensures stopped { IfErr result (Stopped (cluster_of (λ s z. S.pick s z) (λ h. plain_of h) rules.now) (P.choice spread.old) (planned plan.entry) (I.tape input.old) (I.tape input.new) (O.tape output.old) (O.tape output.new)) }
+    requires cluster { length task.now.rules.setup.nodes ≡ length plan.nodes.now }
+    requires workers { task.now.rules.setup.workers ≤ 16 }
+    ensures ok { IfOk result (λ s. Answers (cluster_of (λ s z. S.pick s z) (λ h. plain_of h) task.now.rules) (P.choice spread.old) (planned plan.entry) (λ x. slot_of_flow (plain_of task.now.rules.setup.hash) task.now.rules.setup.size x) task.now.asked (I.tape input.old) (I.tape input.new) (O.tape output.old) (O.tape output.new) (string_bytes s)) }
+    ensures stopped { IfErr result (Stopped (cluster_of (λ s z. S.pick s z) (λ h. plain_of h) task.now.rules) (P.choice spread.old) (planned plan.entry) (I.tape input.old) (I.tape input.new) (O.tape output.old) (O.tape output.new)) }
 {
-    let mut balancers = Balancers::<S, AnyHash, LruTable>::make(alloc, rules)?;
+    let rules = &task.rules;
+    let notes = Notebook::new(alloc);
+    let mut balancers = Balancers::<S, AnyHash, LruTable, Notebook>::make(alloc, rules, notes)?;
     rules.keep_order();
-    match play_capture(alloc, plan, &mut balancers, rules, spread, input, output) {
+    match play_capture(alloc, plan, &mut balancers, task, spread, input, output) {
         Ok(played) => {
             balancers.keep_balance(rules);
-            match answer(alloc, rules, &played, asked) {
+            match answer(alloc, task, &played, balancers.into_notes()) {
                 Ok(text) => Ok(text),
                 Err(_) => Err(SimulationFault::Memory),
             }
@@ -60,29 +62,28 @@ fn play_with<S: Scheme, P: Spread, I: Source, O: Sink>(
 // Plays with the spreader that the scenario names.
 fn play_over<S: Scheme, I: Source, O: Sink>(
     alloc: Global,
-    rules: &Rules<S, AnyHash>,
+    task: &Task<S, AnyHash, Asked>,
     spread: SpreadKind,
     plan: Plan<'_>,
-    asked: Asked,
     input: &mut I,
     output: &mut O,
 ) -> Result<String, SimulationFault>
     requires nodes { length plan.nodes.now ≤ 64 }
     requires steps { length plan.steps.now ≤ 100000 }
-    requires cluster { length rules.now.setup.nodes ≡ length plan.nodes.now }
-    requires workers { rules.now.setup.workers ≤ 16 }
-    ensures ok { IfOk result (λ s. Answers (cluster_of (λ s z. S.pick s z) (λ h. plain_of h) rules.now) (choice_by spread (plain_of rules.now.setup.hash)) (planned plan.entry) (λ x. slot_of_flow (plain_of rules.now.setup.hash) rules.now.setup.size x) asked (I.tape input.old) (I.tape input.new) (O.tape output.old) (O.tape output.new) (string_bytes s)) }
-    ensures stopped { IfErr result (Stopped (cluster_of (λ s z. S.pick s z) (λ h. plain_of h) rules.now) (choice_by spread (plain_of rules.now.setup.hash)) (planned plan.entry) (I.tape input.old) (I.tape input.new) (O.tape output.old) (O.tape output.new)) }
+    requires cluster { length task.now.rules.setup.nodes ≡ length plan.nodes.now }
+    requires workers { task.now.rules.setup.workers ≤ 16 }
+    ensures ok { IfOk result (λ s. Answers (cluster_of (λ s z. S.pick s z) (λ h. plain_of h) task.now.rules) (choice_by spread (plain_of task.now.rules.setup.hash)) (planned plan.entry) (λ x. slot_of_flow (plain_of task.now.rules.setup.hash) task.now.rules.setup.size x) task.now.asked (I.tape input.old) (I.tape input.new) (O.tape output.old) (O.tape output.new) (string_bytes s)) }
+    ensures stopped { IfErr result (Stopped (cluster_of (λ s z. S.pick s z) (λ h. plain_of h) task.now.rules) (choice_by spread (plain_of task.now.rules.setup.hash)) (planned plan.entry) (I.tape input.old) (I.tape input.new) (O.tape output.old) (O.tape output.new)) }
 {
     let live = all_live(alloc, plan.nodes.len() as u16)?;
     match spread {
         SpreadKind::Hash => {
-            let mut spread = HashSpread::new(rules.setup().hash(), live);
-            play_with(alloc, rules, &mut spread, plan, asked, input, output)
+            let mut spread = HashSpread::new(task.rules.setup().hash(), live);
+            play_with(alloc, task, &mut spread, plan, input, output)
         }
         SpreadKind::Turn => {
             let mut spread = TurnSpread::new(live);
-            play_with(alloc, rules, &mut spread, plan, asked, input, output)
+            play_with(alloc, task, &mut spread, plan, input, output)
         }
     }
 }
@@ -90,6 +91,7 @@ fn play_over<S: Scheme, I: Source, O: Sink>(
 // Plays with this scheme.
 fn play_by<S: Scheme, I: Source, O: Sink>(
     alloc: Global,
+    key: TableKey,
     scheme: S,
     scenario: Scenario,
     asked: Asked,
@@ -118,15 +120,16 @@ fn play_by<S: Scheme, I: Source, O: Sink>(
     let Ok(setup) = Setup::new(hash, scheme, size, nodes, workers, capacity) else {
         unreachable!()
     };
-    let Some(rules) = Rules::new(setup, catalogue) else {
+    let Some(rules) = Rules::new(setup.keyed(key), catalogue) else {
         unreachable!()
     };
+    let task = Task { rules, asked };
     let plan = Plan {
-        nodes: rules.setup().nodes(),
+        nodes: task.rules.setup().nodes(),
         check,
         steps: steps.as_slice(),
     };
-    match play_over(alloc, &rules, spread, plan, asked, input, output) {
+    match play_over(alloc, &task, spread, plan, input, output) {
         Ok(text) => Ok(text),
         Err(fault) => Err(fault),
     }
@@ -135,6 +138,7 @@ fn play_by<S: Scheme, I: Source, O: Sink>(
 // Plays with the scheme that the scenario names.
 fn play_named<I: Source, O: Sink>(
     alloc: Global,
+    key: TableKey,
     scenario: Scenario,
     asked: Asked,
     input: &mut I,
@@ -147,15 +151,23 @@ fn play_named<I: Source, O: Sink>(
 {
     let hash = scenario.hash;
     match scenario.scheme {
-        SchemeKind::Maglev => play_by(alloc, Maglev { hash }, scenario, asked, input, output),
-        SchemeKind::Plain => play_by(alloc, PlainHash { hash }, scenario, asked, input, output),
-        SchemeKind::Round => play_by(alloc, RoundRobin, scenario, asked, input, output),
+        SchemeKind::Maglev => play_by(alloc, key, Maglev { hash }, scenario, asked, input, output),
+        SchemeKind::Plain => play_by(
+            alloc,
+            key,
+            PlainHash { hash },
+            scenario,
+            asked,
+            input,
+            output,
+        ),
+        SchemeKind::Round => play_by(alloc, key, RoundRobin, scenario, asked, input, output),
     }
 }
 
 /// Plays a scenario over a capture, and answers what is asked of the run. What the cluster sends is written as another
 /// capture, which is begun once the input's header was accepted. Whatever goes wrong but a write, the output is cut between
-/// records.
+/// records. The connection tables hash by the key.
 ///
 /// By the clause `kept` the run keeps the promises: for a scheme to which the turn doesn't matter two packets of one flow
 /// that were sent to different backends were chosen under versions that pick these backends, for Maglev under versions whose
@@ -163,6 +175,7 @@ fn play_named<I: Source, O: Sink>(
 /// every slot of Maglev's tables names an up backend, and backends' slot counts differ by at most one.
 pub fn play_scenario<I: Source, O: Sink>(
     alloc: Global,
+    key: TableKey,
     scenario: Scenario,
     asked: Asked,
     input: &mut I,
@@ -175,7 +188,7 @@ pub fn play_scenario<I: Source, O: Sink>(
     ensures stopped { IfErr result (Stopped (cluster_in scenario) (choice_in scenario) (plan_in scenario) (I.tape input.old) (I.tape input.new) (O.tape output.old) (O.tape output.new)) }
 {
     let _slots = scenario.size.slots();
-    match play_named(alloc, scenario, asked, input, output) {
+    match play_named(alloc, key, scenario, asked, input, output) {
         Ok(text) => Ok(text),
         Err(fault) => Err(fault),
     }

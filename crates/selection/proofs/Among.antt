@@ -1,5 +1,5 @@
 -- The test of a backend among others is that it is one of them.
-use Rattle.std.proofs.Common.{◌≡◌, ℕ, zero, suc, ◌<◌, Bool, true, false, ◌&&◌, ◌||◌, ◌==◌, ◌↔◌, List, [], ◌∷◌, length, Contains, refl, sym, ◌∙◌, ap, arith, inl, inr, nat_eq}
+use Rattle.std.proofs.Common.{◌≡◌, ℕ, suc, true, ◌==◌, ◌↔◌, List, [], ◌∷◌, Contains, refl, sym, ◌∙◌, ap, arith, inl, inr, nat_eq}
 use Rattle.std.specs.Cmp.Lexicographic.{pointwise}
 use Rattle.std.specs.List.{list_any}
 use Rattle.std.proofs.lemmas.Bool.{and_parts, and_from, or_cases, eqb-true, eq-eqb}
@@ -24,6 +24,9 @@ same_is a b h =
 pub is_same : (a : Backend) → same_backend a a ≡ true
 is_same a = and_from (pointwise nat_eq a.name a.name) (a.addr == a.addr)
     ((slice_eq-Decides Decides-eqb a.name a.name (pointwise nat_eq a.name a.name) refl).1 refl) (eq-eqb a.addr a.addr refl)
+
+pub same_iff : (a b : Backend) → (same_backend a b ≡ true) ↔ (a ≡ b)
+same_iff a b = (same_is a b, λ e. rw e (is_same b))
 
 contained_from_any : (b : Backend) (bs : List Backend) → list_any (same_backend b) bs ≡ true → Contains bs b
 contained_from_any b [] h = absurd cc

@@ -1,7 +1,7 @@
 -- How many backends are up.
-use Rattle.std.proofs.Common.{◌≡◌, ℕ, ◌<◌, ◌≤◌, Bool, true, false, List, [], ◌∷◌, length, map, filter, count_by, sym, ◌∙◌, arith}
-use Rattle.std.specs.List.{list_any, All}
-use Rattle.std.proofs.lemmas.Bool.{le-ltb, or_from, lt-ltb}
+use Rattle.std.proofs.Common.{◌≡◌, ℕ, false, List, length, filter, count_by, ◌∙◌, arith}
+use Rattle.std.specs.List.{list_any}
+use Rattle.std.proofs.lemmas.Bool.{le-ltb}
 use Rattle.std.proofs.lemmas.List.{length-map}
 use Rattle.std.proofs.lemmas.List.Elements.{All-weaker}
 use Rattle.std.proofs.lemmas.List.Folds.{list_any_none}
@@ -9,7 +9,7 @@ use Rattle.std.proofs.lemmas.List.Sums.{length-filter}
 use Rattle.std.proofs.lemmas.List.Sorted.{length_permutation}
 use Rattle.pool_versions.specs.declared.backend.Member.{Member}
 use Rattle.pool_versions.specs.declared.service.Version.{Version}
-use Rattle.pool_versions.specs.Pool.{ups, up_backends, IsWithinLimits, HasFewMembers}
+use Rattle.pool_versions.specs.Pool.{ups, IsWithinLimits, HasFewMembers}
 use Rattle.pool_versions.proofs.Ascending.{ups_permute, ups_are_members}
 use Rattle.selection.specs.Readied.{has_more_ups}
 

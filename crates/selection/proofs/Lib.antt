@@ -1,5 +1,6 @@
 pub mod Among
 pub mod Counts
 pub mod Halves
+pub mod Places
 pub mod Tables
 pub mod Versions

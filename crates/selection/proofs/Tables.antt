@@ -1,5 +1,5 @@
 -- The table of some backends: every slot names one of them, and their slot counts differ by at most one.
-use Rattle.std.proofs.Common.{true, ◌==◌, ◌-◌, ◌%◌, inl, inr, ◌≡◌, ℕ, ◌+◌, ◌<◌, ◌≤◌, List, [], ◌∷◌, length, map, slice_index, get_or, Option, Some, None, IfSome, refl, sym, ◌∙◌, ap, subst, arith}
+use Rattle.std.proofs.Common.{true, ◌==◌, ◌-◌, ◌%◌, inl, inr, ◌≡◌, ℕ, ◌+◌, ◌<◌, ◌≤◌, List, [], ◌∷◌, length, slice_index, get_or, Option, Some, None, IfSome, refl, ◌∙◌, ap, arith}
 use Rattle.std.specs.List.{All, list_any}
 use Rattle.std.proofs.lemmas.Bool.{or_cases, eqb-true}
 use Rattle.std.proofs.lemmas.Nat.{mod_below}
@@ -11,7 +11,7 @@ use Rattle.maglev_table.specs.Sizes.{is_table_size, table_sizes}
 use Rattle.maglev_table.specs.Turns.{Preference, Owners, maglev, preference_of, slots_of, IsProper}
 use Rattle.maglev_table.proofs.Whole.{whole_shared}
 use Rattle.pool_versions.specs.declared.backend.Backend.{Backend}
-use Rattle.selection.specs.Picks.{NamedTable, IsEvenTable, IsTable, IsTableOf, FitsTable, table_slots, table_of_ups, preferences, owners_in}
+use Rattle.selection.specs.Picks.{NamedTable, IsEvenTable, IsTable, IsTableOf, table_slots, table_of_ups, preferences, owners_in}
 use Rattle.selection.specs.PickLaws.{maglev_below}
 
 pub all_of_size : (plain : List ℕ → ℕ) (size : ℕ) (ups : List Backend) → All (λ p. p.size ≡ size) (preferences plain size ups)
@@ -36,11 +36,6 @@ no_backends : (plain : List ℕ → ℕ) (size : ℕ) (ups : List Backend) → p
 no_backends plain size [] e = refl
 no_backends plain size (b ∷ bs) e = absurd cc
 
-pub table_fits : (plain : List ℕ → ℕ) (size : ℕ) (ups : List Backend) (o : Option Owners) → (o ≡ None → preferences plain size ups ≡ []) → IfSome o (IsTable (preferences plain size ups) size) → FitsTable size ups o
-table_fits plain size ups None none some = no_backends plain size ups (none refl)
-table_fits plain size ups (Some t) none some =
-    even_owners plain size ups t.owners (λ (e : ups ≡ []). some.some (ap (preferences plain size) e)) some.long some.owners_are some.balanced
-
 listed_slots : (plain : List ℕ → ℕ) (size : ℕ) (ups : List Backend) → (ups ≡ [] → ⊥) → maglev (preferences plain size ups) size ≡ table_slots plain size ups
 unfolding table_slots
 listed_slots plain size [] some = absurd (some refl)
@@ -58,16 +53,16 @@ owners_of_table plain size ups (Some t) none some = some.owners_are ∙ listed_s
 named_table : ℕ → List Backend → List ℕ → NamedTable
 named_table size ups owners = record { size = size; ups = ups; owners = owners }
 
-even_if_some : (size : ℕ) (ups : List Backend) (o : Option Owners) → FitsTable size ups o → (ups ≡ [] → ⊥) → IsEvenTable (record { size = size; ups = ups; owners = owners_in o })
-even_if_some size ups None fits some = absurd (some fits)
-even_if_some size ups (Some t) fits some = fits
+pub even_table : (plain : List ℕ → ℕ) (size : ℕ) (ups : List Backend) (o : Option Owners) → (o ≡ None → preferences plain size ups ≡ []) → IfSome o (IsTable (preferences plain size ups) size) → (ups ≡ [] → ⊥) → IsEvenTable (record { size = size; ups = ups; owners = owners_in o })
+even_table plain size ups None none some any = absurd (any (no_backends plain size ups (none refl)))
+even_table plain size ups (Some t) none some any = even_owners plain size ups t.owners any some.long some.owners_are some.balanced
 
 pub is_table_of : (plain : List ℕ → ℕ) (size : ℕ) (ups : List Backend) (o : Option Owners) → (o ≡ None → preferences plain size ups ≡ []) → IfSome o (IsTable (preferences plain size ups) size) →
     IsTableOf plain size ups (record { size = size; ups = ups; owners = owners_in o })
 unfolding named_table
 is_table_of plain size ups o none some = record {
   made = ap (named_table size ups) (owners_of_table plain size ups o none some);
-  even = even_if_some size ups o (table_fits plain size ups o none some);
+  even = even_table plain size ups o none some;
 }
 
 -- listed sizes are neither small nor large

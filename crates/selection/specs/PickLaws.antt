@@ -1,17 +1,17 @@
 -- Laws of the picks.
-use Rattle.std.proofs.Common.{◌≡◌, ℕ, zero, suc, ◌+◌, ◌%◌, ◌<◌, ◌↔◌, List, [], ◌∷◌, length, map, slice_get, slice_index, get_or, Contains, Option, Some, None, refl, ap, sym, ◌∙◌, arith, unwrap_or, cond, inl, inr, ◌==◌}
+use Rattle.std.proofs.Common.{◌≡◌, ℕ, zero, suc, ◌%◌, ◌<◌, ◌↔◌, List, [], ◌∷◌, length, map, slice_get, slice_index, get_or, Contains, Some, None, refl, ap, arith, unwrap_or, ◌==◌, subst}
 use Rattle.std.proofs.Math.Path.{fun_ext}
-use Rattle.std.specs.List.{All, range_with_len}
+use Rattle.std.specs.List.{range_with_len}
 use Rattle.std.proofs.lemmas.Bool.{cond_both}
 use Rattle.std.proofs.lemmas.List.{length-map}
 use Rattle.std.proofs.lemmas.List.Elements.{All-map}
 use Rattle.std.proofs.lemmas.Nat.{mod_below}
 use Rattle.std.proofs.lemmas.Option.{slice_get_within, get_or_from_slice_get, slice_get-get_or}
 use Rattle.five_tuple.specs.declared.Flow.{Flow}
-use Rattle.maglev_table.specs.Turns.{Preference, preference_list, maglev, table_of, taker, claims, one_turn_each, turn_of}
+use Rattle.maglev_table.specs.Turns.{Preference, preference_list, maglev, taker, claims, one_turn_each, turn_of}
 use Rattle.maglev_table.proofs.Steps.{whose_turn}
 use Rattle.pool_versions.specs.declared.backend.Backend.{Backend}
-use Rattle.selection.specs.Picks.{pick_at, flow_hash, table_pick, table_slots, preferences, slot_of_flow}
+use Rattle.selection.specs.Picks.{NamedTable, IsTableOf, pick_at, flow_hash, table_pick, table_slots, preferences, slot_of_flow}
 
 -- what is read of a list is in it
 pub read_is_in : (ups : List Backend) (i : ℕ) (b : Backend) → slice_get ups i ≡ Some b → Contains ups b
@@ -78,3 +78,7 @@ table_pick_is_none plain size ups x = read_is_none ups _ (table_slots_below plai
 
 pub table_pick_respects : (p q : List ℕ → ℕ) → ((message : List ℕ) → p message ≡ q message) → (size : ℕ) (ups : List Backend) (x : Flow) → table_pick p size ups x ≡ table_pick q size ups x
 table_pick_respects p q e size ups x = ap (λ (plain : List ℕ → ℕ). table_pick plain size ups x) (fun_ext e)
+
+-- hashes that answer alike make one table
+pub table_respects : (p q : List ℕ → ℕ) → ((message : List ℕ) → p message ≡ q message) → (size : ℕ) (ups : List Backend) (t : NamedTable) → IsTableOf p size ups t → IsTableOf q size ups t
+table_respects p q e size ups t = subst (λ (plain : List ℕ → ℕ). IsTableOf plain size ups t) (fun_ext e)

@@ -61,11 +61,6 @@ abbrev pub owners_in : Option Owners → List ℕ
 owners_in None = []
 owners_in (Some t) = t.owners
 
--- there is a table where somebody is up, and it is an even one
-abbrev pub FitsTable : ℕ → List Backend → Option Owners → Type 0
-FitsTable size ups None = ups ≡ []
-FitsTable size ups (Some t) = IsEvenTable (record { size = size; ups = ups; owners = t.owners })
-
 -- what population makes of some lists
 pub record IsTable (lists : List Preference) (size : ℕ) (t : Owners) : Type 0 where
   pub some : lists ≡ [] → ⊥

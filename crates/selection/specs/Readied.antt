@@ -1,5 +1,5 @@
 -- What a prepared version stands for.
-use Rattle.std.specs.Prelude.{◌≡◌, ℕ, Bool, ◌&&◌, ◌==◌, nat_eq, nat_lt, List, [], ◌∷◌, map, find, length, Option, option_map, Contains, IsSomeAnd, refl}
+use Rattle.std.specs.Prelude.{◌≡◌, ℕ, Bool, ◌&&◌, ◌==◌, nat_eq, nat_lt, List, [], ◌∷◌, map, find, length, Option, option_map, Contains, IsSomeAnd}
 use Rattle.std.specs.Cmp.Lexicographic.{pointwise}
 use Rattle.five_tuple.specs.declared.Flow.{Flow}
 use Rattle.pool_versions.specs.declared.backend.Backend.{Backend}

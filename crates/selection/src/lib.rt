@@ -4,8 +4,10 @@
 //! [`RoundRobin`] by turns. A scheme of one's own is a type that meets the laws of [`Scheme`].
 #![tactic(auto)]
 
+mod choices;
 mod laws;
 mod maglev;
+mod numbered;
 mod plain;
 mod prepared;
 mod ready;
@@ -14,6 +16,7 @@ mod scheme;
 
 pub use laws::maglev_and_plain_hash_are_steady;
 pub use maglev::{Maglev, MaglevTable};
+pub use numbered::PreparedVersions;
 pub use plain::PlainHash;
 pub use prepared::PreparedVersion;
 pub use ready::Ready;

@@ -1,7 +1,8 @@
 //! Maglev's tables.
-ghost use Rattle.std.specs.Prelude.{◌≡◌, ◌<◌, ◌≤◌, ◌↔◌, true, [], length, None, IfOk, IfSome, IsErrOf, All, refl};
-ghost use Rattle.selection.specs.Picks.{table_pick, preferences, slot_names, IsTable, IsTableOf};
-ghost use Rattle.selection.specs.PickLaws.{table_pick_is_up, table_pick_is_none, table_pick_respects};
+ghost use Rattle.std.specs.Prelude.{◌≡◌, ◌<◌, ◌≤◌, ◌↔◌, true, [], length, slice_index, None, IfOk, IfSome, IsErrOf, All, refl};
+ghost use Rattle.selection.specs.Picks.{table_pick, preferences, slot_names, owners_in, IsTable, IsTableOf};
+ghost use Rattle.selection.specs.Kept.{owners_of};
+ghost use Rattle.selection.specs.PickLaws.{table_pick_is_up, table_pick_is_none, table_pick_respects, table_respects};
 
 use crate::scheme::{PrepareFault, Scheme};
 use five_tuple::Flow;
@@ -17,22 +18,34 @@ pub struct Maglev<H: FlowHash> {
     pub hash: H,
 }
 
+// How many backends two bytes a slot tell apart.
+const MOST_NARROW: usize = 65_536;
+
+/// For each slot the place of the backend that it names: in two bytes, or in four where there are more backends than two
+/// bytes tell apart.
+#[derive(Drop)]
+enum Slots {
+    Narrow(Vec<u16>),
+    Wide(Table),
+}
+
 /// A table of slots, and the backends that they name. Where nobody is up no slot names anybody.
 #[derive(Drop)]
 pub struct MaglevTable {
     size: TableSize,
     ups: Vec<Backend>,
-    table: Option<Table>,
+    slots: Slots,
 }
 
 impl Model for MaglevTable {
-    ghost use Rattle.selection.specs.Picks.{NamedTable, FitsTable, owners_in};
+    ghost use Rattle.selection.specs.Picks.{NamedTable};
+    ghost use Rattle.selection.specs.Kept.{owners_of, FitsSlots};
 
     ghost Value = { NamedTable };
 
-    ghost view = { λ t. record { size = t.size; ups = t.ups.items; owners = owners_in t.table } };
+    ghost view = { λ t. record { size = t.size; ups = t.ups.items; owners = owners_of t.slots } };
 
-    ghost invariant = { λ t. FitsTable t.size t.ups.items t.table };
+    ghost invariant = { λ t. FitsSlots t.size t.ups.items (owners_of t.slots) };
 }
 
 // The backends' preference lists, in the order of the backends.
@@ -69,6 +82,53 @@ fn filled(
     }
 }
 
+// The places of a table of few lists.
+fn narrowed(alloc: Global, size: TableSize, table: &Table) -> Result<Vec<u16>, AllocError>
+    requires long { length table.now.owners ≡ size }
+    requires few { table.now.lists ≤ 65536 }
+    ensures { IfOk result (λ v. v.items ≡ table.now.owners) }
+{
+    let mut places = Vec::with_capacity(alloc, size.slots() as usize)?;
+    for slot in 0..size.slots() {
+        places.push(table.slot(slot) as u16)?;
+    }
+    Ok(places)
+}
+
+// The slots of a table of so many lists, none where there is no table.
+fn slots_of(
+    alloc: Global,
+    size: TableSize,
+    lists: usize,
+    table: Option<Table>,
+) -> Result<Slots, AllocError>
+    requires { IfSome table (λ t. (length t.owners ≡ size) × (t.lists ≡ lists)) }
+    ensures { IfOk result (λ s. owners_of s ≡ owners_in table) }
+{
+    match table {
+        None => Ok(Slots::Narrow(Vec::new(alloc))),
+        Some(table) => {
+            if lists > MOST_NARROW {
+                return Ok(Slots::Wide(table));
+            }
+            Ok(Slots::Narrow(narrowed(alloc, size, &table)?))
+        }
+    }
+}
+
+impl Slots {
+    // The place that a slot names.
+    fn at(&self, slot: u32) -> usize
+        requires { slot < length (owners_of self.now) }
+        ensures { result ≡ slice_index (owners_of self.now) slot }
+    {
+        match self {
+            Slots::Narrow(places) => places[slot as usize] as usize,
+            Slots::Wide(table) => table.slot(slot) as usize,
+        }
+    }
+}
+
 impl MaglevTable {
     /// The number of slots.
     pub fn size(&self) -> TableSize
@@ -89,10 +149,10 @@ impl MaglevTable {
         requires { slot < self.now.size }
         ensures { result ≡ slot_names self.now.ups self.now.owners slot }
     {
-        match &self.table {
-            None => None,
-            Some(table) => self.ups.get(table.slot(slot) as usize).copied(),
+        if self.ups.is_empty() {
+            return None;
         }
+        self.ups.get(self.slots.at(slot)).copied()
     }
 }
 
@@ -112,8 +172,9 @@ impl<H: FlowHash> Maglev<H> {
         }
         let lists = lists_of(alloc, &self.hash, size, ups)?;
         let table = filled(alloc, lists.as_slice(), size)?;
+        let slots = slots_of(alloc, size, ups.len(), table)?;
         let ups = Vec::from_slice(alloc, ups)?;
-        Ok(MaglevTable { size, ups, table })
+        Ok(MaglevTable { size, ups, slots })
     }
 }
 
@@ -149,6 +210,8 @@ impl<H: FlowHash> Scheme for Maglev<H> {
     ghost pick_is_none = { λ s size ups x turn. table_pick_is_none (H.plain s.hash) size ups x };
 
     ghost pick_is_steady = { λ _ s size ups x t u. refl };
+
+    ghost prepared_respects_eq = { λ a b e size ups p. table_respects (H.plain a.hash) (H.plain b.hash) (H.equal_values_hash_alike a.hash b.hash e) size ups p };
 
     ghost pick_respects_eq = { λ a b e size ups x turn. table_pick_respects (H.plain a.hash) (H.plain b.hash) (H.equal_values_hash_alike a.hash b.hash e) size ups x };
 }

@@ -58,5 +58,7 @@ impl<H: FlowHash> Scheme for PlainHash<H> {
 
     ghost pick_is_steady = { λ _ s size ups x t u. refl };
 
+    ghost prepared_respects_eq = { λ a b e size ups p h. h };
+
     ghost pick_respects_eq = { λ a b e size ups x turn. plain_pick_respects (H.plain a.hash) (H.plain b.hash) (H.equal_values_hash_alike a.hash b.hash e) ups x };
 }

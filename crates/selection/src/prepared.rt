@@ -1,16 +1,19 @@
 //! A version, prepared for a scheme.
-ghost use Rattle.std.specs.Prelude.{◌≡◌, ◌<◌, ◌↔◌, true, option_copied, MatchOption, IsErrOf, IsSomeAnd, Contains, IfOk, IfSome, None, length, count_by};
+ghost use Rattle.std.specs.Prelude.{◌≡◌, ◌<◌, ◌↔◌, true, option_copied, MatchOption, IsErrOf, IsSomeAnd, Contains, IfOk, IfSome, None, [], length, count_by};
+ghost use Rattle.std.specs.HashMap.{get};
 ghost use Rattle.std.specs.List.{list_any};
 ghost use Rattle.five_tuple.specs.declared.Flow.{Flow};
 ghost use Rattle.pool_versions.specs.Pool.{ups, ups_under};
+ghost use Rattle.selection.specs.Places.{key_of_flow, same_key, ArePlaced};
 ghost use Rattle.selection.specs.Readied.{Readied, readied_version, ready_for, ups_for, has_more_ups, IsUpFor};
 
-use crate::ready::Ready;
+use crate::ready::{Ready, ServiceKey};
 use crate::scheme::{PrepareFault, Scheme};
 use five_tuple::Flow;
 use maglev_table::TableSize;
 use pool_versions::{Backend, Member, Service, Version};
-use std::alloc::Global;
+use std::alloc::{AllocError, Global};
+use std::collections::HashMap;
 use std::marker::Model;
 
 /// A version, prepared for a scheme and a table size: each of its services with its up backends.
@@ -20,16 +23,20 @@ pub struct PreparedVersion<S: Scheme> {
     size: TableSize,
     number: u32,
     services: Vec<Ready<S>>,
+    // How many services stand behind the first one of a key.
+    places: HashMap<ServiceKey, usize>,
 }
 
 impl<S: Scheme> Model for PreparedVersion<S> {
+    ghost use Rattle.std.specs.HashMap.{get};
+    ghost use Rattle.selection.specs.Places.{same_key, ArePlaced};
     ghost use Rattle.selection.specs.Readied.{Readied, AreFor};
 
     ghost Value = { Readied S };
 
     ghost view = { λ a. record { scheme = a.scheme; size = a.size; number = a.number; services = a.services.items } };
 
-    ghost invariant = { λ a. AreFor a.scheme a.size a.services.items };
+    ghost invariant = { λ a. AreFor a.scheme a.size a.services.items × ArePlaced (get same_key a.places) a.services.items };
 }
 
 // How many members are up.
@@ -53,7 +60,35 @@ fn any_has_more_ups(services: &[Service], size: TableSize) -> bool
     services.iter().any(|service| has_more_ups(service, size))
 }
 
+// For each key how many services stand behind the first one that has it.
+fn places_of<S: Scheme>(
+    alloc: Global,
+    services: &[Ready<S>],
+) -> Result<HashMap<ServiceKey, usize>, AllocError>
+    ensures { IfOk result (λ m. ArePlaced (get same_key m) services.now) }
+{
+    let mut places = HashMap::new(alloc);
+    for behind in 0..services.len() {
+        let service = &services[services.len() - 1 - behind];
+        places.insert(service.key(), behind)?;
+    }
+    Ok(places)
+}
+
 impl<S: Scheme> PreparedVersion<S> {
+    // A version of no services, before which nothing was prepared.
+    fn of_no_services(alloc: Global, scheme: &S, size: TableSize) -> PreparedVersion<S>
+        ensures { result ≡ record { scheme = scheme.now; size = size; number = 0; services = [] } }
+    {
+        PreparedVersion {
+            scheme: *scheme,
+            size,
+            number: 0,
+            services: Vec::new(alloc),
+            places: HashMap::new(alloc),
+        }
+    }
+
     /// Prepares a version for a scheme and a size. TooMany is answered exactly where a service has more up backends than
     /// there are slots, which no version of a catalogue of that size has.
     pub fn make(
@@ -66,21 +101,42 @@ impl<S: Scheme> PreparedVersion<S> {
         ensures ups { IfOk result (λ p. (x : Flow) → ups_for x p.services ≡ ups_under version.now x) }
         ensures too_many { IsErrOf result PrepareFault.TooMany ↔ (list_any (has_more_ups size) version.now.services.items ≡ true) }
     {
+        let nothing = Self::of_no_services(alloc, scheme, size);
+        Self::make_after(alloc, scheme, size, version, &nothing)
+    }
+
+    /// The same. A service whose up backends are those that a service of its address, protocol and port had in the version
+    /// before, prepared for an equal scheme and the same size, shares what was prepared there: it costs no memory of its
+    /// own and no table is made.
+    pub fn make_after(
+        alloc: Global,
+        scheme: &S,
+        size: TableSize,
+        version: &Version,
+        before: &PreparedVersion<S>,
+    ) -> Result<PreparedVersion<S>, PrepareFault>
+        ensures made { IfOk result (λ p. p ≡ readied_version scheme.now size version.now) }
+        ensures ups { IfOk result (λ p. (x : Flow) → ups_for x p.services ≡ ups_under version.now x) }
+        ensures too_many { IsErrOf result PrepareFault.TooMany ↔ (list_any (has_more_ups size) version.now.services.items ≡ true) }
+    {
         if any_has_more_ups(version.services.as_slice(), size) {
             return Err(PrepareFault::TooMany);
         }
         let mut services: Vec<Ready<S>> = Vec::new(alloc);
         for service in &version.services {
-            let ready = Ready::make(alloc, scheme, size, service)?;
+            let like = before.first_of(ServiceKey::of_service(service));
+            let ready = Ready::make(alloc, scheme, size, service, like)?;
             let Ok(()) = services.push(ready) else {
                 return Err(PrepareFault::Memory);
             };
         }
+        let places = places_of(alloc, services.as_slice())?;
         Ok(PreparedVersion {
             scheme: *scheme,
             size,
             number: version.number,
             services,
+            places,
         })
     }
 
@@ -105,10 +161,20 @@ impl<S: Scheme> PreparedVersion<S> {
         self.size
     }
 
+    // The first service of a key.
+    fn first_of(&self, key: ServiceKey) -> Option<&Ready<S>>
+        ensures { (x : Flow) → key ≡ key_of_flow x → option_copied result ≡ ready_for x self.now.services }
+    {
+        match self.places.get(&key) {
+            None => None,
+            Some(behind) => self.services.get(self.services.len() - 1 - *behind),
+        }
+    }
+
     fn first(&self, flow: &Flow) -> Option<&Ready<S>>
         ensures { option_copied result ≡ ready_for flow.now self.now.services }
     {
-        self.services.iter().find(|service| service.serves(flow))
+        self.first_of(ServiceKey::of_flow(flow))
     }
 
     /// The first service that a flow is of, prepared. Ask it for a backend: that needs no condition.

@@ -2,38 +2,74 @@
 ghost use Rattle.std.specs.Prelude.{◌≡◌, ◌↔◌, true, IfOk, IfErr, Contains};
 ghost use Rattle.std.specs.List.{list_any};
 ghost use Rattle.pool_versions.specs.Pool.{ups, AscendsByName};
+ghost use Rattle.std.specs.Arc.{arc_value};
 ghost use Rattle.selection.specs.PrivateHalves.{is_at_head};
-ghost use Rattle.selection.specs.Readied.{ReadiedService, readied_of, serves_readied, same_backend};
+ghost use Rattle.selection.specs.Places.{key_of_readied, key_of_service, key_of_flow};
+ghost use Rattle.selection.specs.Shared.{StandsFor};
+ghost use Rattle.selection.specs.Readied.{ReadiedService, readied_of, same_backend};
 ghost use Rattle.selection.specs.Faults.{IsPrepareFault};
 
+use crate::choices::Choices;
 use crate::scheme::{PrepareFault, Scheme};
 use five_tuple::Flow;
 use maglev_table::TableSize;
 use pool_versions::{Backend, Service};
 use std::alloc::Global;
 use std::marker::Model;
+use std::sync::Arc;
 
-/// A service's up backends, prepared for a scheme.
+/// What tells services apart: address, protocol and port.
+#[derive(Clone, Copy, PartialEq, Eq, Hash)]
+pub(crate) struct ServiceKey {
+    vip: u32,
+    proto: u8,
+    port: u16,
+}
+
+impl ServiceKey {
+    // A service's own.
+    pub(crate) fn of_service(service: &Service) -> ServiceKey
+        ensures { result ≡ key_of_service service.now }
+    {
+        ServiceKey {
+            vip: service.vip,
+            proto: service.proto,
+            port: service.port,
+        }
+    }
+
+    // That of the services that a flow is of.
+    pub(crate) fn of_flow(flow: &Flow) -> ServiceKey
+        ensures { result ≡ key_of_flow flow.now }
+    {
+        ServiceKey {
+            vip: flow.dst,
+            proto: flow.proto,
+            port: flow.dport,
+        }
+    }
+}
+
+/// A service's up backends, prepared for a scheme. Services of several versions whose up backends are the same share what
+/// was prepared.
 #[derive(Drop)]
 pub struct Ready<S: Scheme> {
     scheme: S,
     size: TableSize,
-    vip: u32,
-    proto: u8,
-    port: u16,
-    ups: Vec<Backend>,
-    prepared: S::Prepared,
+    key: ServiceKey,
+    choices: Arc<Choices<S>>,
 }
 
 impl<S: Scheme> Model for Ready<S> {
-    ghost use Rattle.pool_versions.specs.Pool.{AscendsByName};
+    ghost use Rattle.std.specs.Arc.{arc_value};
+    ghost use Rattle.selection.specs.Shared.{StandsFor};
     ghost use Rattle.selection.specs.Readied.{ReadiedService};
 
     ghost Value = { ReadiedService S };
 
-    ghost view = { λ a. record { scheme = a.scheme; size = a.size; vip = a.vip; proto = a.proto; port = a.port; ups = a.ups.items } };
+    ghost view = { λ a. record { scheme = a.scheme; size = a.size; vip = a.key.vip; proto = a.key.proto; port = a.key.port; ups = (arc_value a.choices).ups } };
 
-    ghost invariant = { λ a. S.is_prepared a.scheme a.size a.ups.items a.prepared × AscendsByName a.ups.items };
+    ghost invariant = { λ a. StandsFor (λ s z b p. S.is_prepared s z b p) a.scheme a.size (arc_value a.choices).ups (arc_value a.choices) };
 }
 
 // Whether a backend is among those of its name that a list begins with.
@@ -60,48 +96,67 @@ fn is_among(ups: &[Backend], backend: &Backend) -> bool
     is_at_head(&ups[first..], backend)
 }
 
+// What a scheme prepares of some backends: that of the version before, where it is of the same ones.
+fn choices_of<S: Scheme>(
+    alloc: Global,
+    scheme: &S,
+    size: TableSize,
+    ups: Vec<Backend>,
+    before: Option<&Ready<S>>,
+) -> Result<Arc<Choices<S>>, PrepareFault>
+    requires { AscendsByName ups.items }
+    ensures ok { IfOk result (λ a. StandsFor (λ s z b p. S.is_prepared s z b p) scheme.now size ups.items (arc_value a)) }
+    ensures err { IfErr result (IsPrepareFault size ups.items) }
+{
+    if let Some(ready) = before {
+        if let Some(shared) = Choices::shared(&ready.choices, scheme, size, ups.as_slice()) {
+            return Ok(shared);
+        }
+    }
+    Choices::make(alloc, scheme, size, ups)
+}
+
 impl<S: Scheme> Ready<S> {
+    // Prepares a service, after that of the same flows in the version before.
     pub(crate) fn make(
         alloc: Global,
         scheme: &S,
         size: TableSize,
         service: &Service,
+        before: Option<&Ready<S>>,
     ) -> Result<Ready<S>, PrepareFault>
         ensures ok { IfOk result (λ r. r ≡ readied_of scheme.now size service.now) }
         ensures err { IfErr result (IsPrepareFault size (ups service.now.members.items)) }
     {
         let ups = service.ups(alloc)?;
-        let prepared = scheme.prepare(alloc, size, ups.as_slice())?;
+        let choices = choices_of(alloc, scheme, size, ups, before)?;
         Ok(Ready {
             scheme: *scheme,
             size,
-            vip: service.vip,
-            proto: service.proto,
-            port: service.port,
-            ups,
-            prepared,
+            key: ServiceKey::of_service(service),
+            choices,
         })
     }
 
-    // Whether a flow is this service's.
-    pub(crate) fn serves(&self, flow: &Flow) -> bool
-        ensures { result ≡ serves_readied flow.now self.now }
+    // What tells this service from others.
+    pub(crate) fn key(&self) -> ServiceKey
+        ensures { result ≡ key_of_readied self.now }
     {
-        self.vip == flow.dst && self.proto == flow.proto && self.port == flow.dport
+        self.key
     }
 
     /// The backend of a flow at a turn: the scheme's pick of the service's up backends. None exactly where nobody is up.
     pub fn choose(&self, flow: &Flow, turn: u64) -> Option<Backend>
         ensures { result ≡ S.pick self.now.scheme self.now.size self.now.ups flow.now turn }
     {
-        self.scheme.choose(&self.prepared, flow, turn)
+        self.scheme.choose(self.prepared(), flow, turn)
     }
 
     /// What the scheme prepared.
     pub fn prepared(&self) -> &S::Prepared
         ensures { S.is_prepared self.now.scheme self.now.size self.now.ups result.now }
     {
-        &self.prepared
+        self.choices.prepared()
     }
 
     /// Whether a backend, as the pair of a name and an address, is one of the service's up backends.
@@ -110,6 +165,6 @@ impl<S: Scheme> Ready<S> {
         ensures among { (result ≡ true) ↔ Contains self.now.ups backend.now }
         ensures value { result ≡ list_any (same_backend backend.now) self.now.ups }
     {
-        is_among(self.ups.as_slice(), backend)
+        is_among(self.choices.ups(), backend)
     }
 }

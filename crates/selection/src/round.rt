@@ -47,5 +47,7 @@ impl Scheme for RoundRobin {
 
     ghost pick_is_steady = { λ h. Prim.search rules };
 
+    ghost prepared_respects_eq = { λ a b e size ups p h. h };
+
     ghost pick_respects_eq = { λ a b e size ups x turn. refl };
 }

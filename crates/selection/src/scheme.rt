@@ -32,7 +32,7 @@ impl From<AllocError> for PrepareFault {
 ///
 /// A choice is a function, `pick`, of the up backends, the table's size, the flow and the turn. It is one of those
 /// backends, and None exactly where there is none. Schemes that are equal by `==` have one pick. So two balancers with
-/// equal schemes choose alike under one version, whatever they served before.
+/// equal schemes choose alike under one version, whatever they served before; and what one of them prepared serves the other.
 pub trait Scheme: Copy + Eq {
     ghost STEADY: { Bool };
 
@@ -66,6 +66,8 @@ pub trait Scheme: Copy + Eq {
     ghost pick_is_none: { (s : Self) (size : ℕ) (ups : List Backend) (x : Flow) (turn : ℕ) → pick s size ups x turn ≡ None ↔ ups ≡ [] };
 
     ghost pick_is_steady: { STEADY ≡ true → (s : Self) (size : ℕ) (ups : List Backend) (x : Flow) (t u : ℕ) → pick s size ups x t ≡ pick s size ups x u };
+
+    ghost prepared_respects_eq: { (a b : Self) → Self.eq a b ≡ true → (size : ℕ) (ups : List Backend) (p : Self.Prepared) → is_prepared a size ups p → is_prepared b size ups p };
 
     ghost pick_respects_eq: { (a b : Self) → Self.eq a b ≡ true → (size : ℕ) (ups : List Backend) (x : Flow) (turn : ℕ) → pick a size ups x turn ≡ pick b size ups x turn };
 }

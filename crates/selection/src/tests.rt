@@ -1,9 +1,9 @@
 use super::{
-    Maglev, PlainHash, PrepareFault, PreparedVersion, RoundRobin, Scheme,
+    Maglev, PlainHash, PrepareFault, PreparedVersion, PreparedVersions, RoundRobin, Scheme,
     maglev_and_plain_hash_are_steady,
 };
 use five_tuple::Flow;
-use hash_laws::{Fnv, SumHash};
+use hash_laws::{AnyHash, Fnv, SumHash};
 use maglev_table::{Name, TableSize};
 use pool_versions::{Backend, Member, Service, Version};
 use std::alloc::Global;
@@ -260,4 +260,175 @@ fn each_up_backend_is_found(rt: HostRuntime) {
         which_are_up(&rt, alloc, b"bbbaaacc", b"bcbaaaac"),
         [true, false, true, true, true, true, false, false]
     );
+}
+
+// The addresses that the flows of the ports 1000, 1001 and 1006 have under a prepared version.
+fn addresses<S: Scheme>(prepared: &PreparedVersion<S>) -> [Option<u32>; 3] {
+    let mut addrs = [None; 3];
+    for (at, sport) in [1000u16, 1001, 1006].iter().enumerate() {
+        if let Some(ready) = prepared.ready(&flow(*sport)) {
+            addrs[at] = ready.choose(&flow(*sport), 0).map(|backend| backend.addr);
+        }
+    }
+    addrs
+}
+
+// By the tables of the sum hash for 7 slots: B A B C C A A of all, A A A C C C A without B.
+#[test]
+fn a_version_after_another(rt: HostRuntime) {
+    let alloc = rt.alloc();
+    let maglev = Maglev { hash: SumHash };
+    let all = version(&rt, alloc, [true, true, true]);
+    let without_b = version(&rt, alloc, [true, false, true]);
+    let of_all = [Some(A), Some(B), Some(A)];
+    let of_two = [Some(A), Some(A), Some(C)];
+    let first = PreparedVersion::make(alloc, &maglev, seven(&rt), &all).expect(&rt, "memory");
+    assert_eq!(rt; addresses(&first), of_all);
+    let same = PreparedVersion::make_after(alloc, &maglev, seven(&rt), &all, &first).expect(
+        &rt, "memory",
+    );
+    assert_eq!(rt; addresses(&same), of_all);
+    let changed = PreparedVersion::make_after(alloc, &maglev, seven(&rt), &without_b, &same).expect(
+        &rt, "memory",
+    );
+    assert_eq!(rt; addresses(&changed), of_two);
+    let back = PreparedVersion::make_after(alloc, &maglev, seven(&rt), &all, &changed).expect(
+        &rt, "memory",
+    );
+    drop(first);
+    drop(same);
+    assert_eq!(rt; addresses(&back), of_all);
+    let thirteen = TableSize::new(13).expect(&rt, "a size");
+    let larger = PreparedVersion::make_after(alloc, &maglev, thirteen, &all, &back).expect(
+        &rt, "memory",
+    );
+    let table = larger.find(&flow(1000)).expect(&rt, "a table");
+    assert_eq!(rt; table.size().slots(), 13);
+}
+
+// Hashes of two kinds: what one prepared doesn't serve the other.
+#[test]
+fn a_version_after_one_of_another_hash(rt: HostRuntime) {
+    let alloc = rt.alloc();
+    let all = version(&rt, alloc, [true, true, true]);
+    let by_fnv = Maglev { hash: AnyHash::Fnv };
+    let by_sum = Maglev { hash: AnyHash::Sum };
+    let first = PreparedVersion::make(alloc, &by_fnv, seven(&rt), &all).expect(&rt, "memory");
+    let second = PreparedVersion::make_after(alloc, &by_sum, seven(&rt), &all, &first).expect(
+        &rt, "memory",
+    );
+    assert_eq!(rt; addresses(&second), [Some(A), Some(B), Some(A)]);
+}
+
+// 600 services, of which each third has the key of the one before it, with the address of its only backend as its number.
+fn many_services(rt: &impl Abort, alloc: Global) -> Version {
+    let mut services = Vec::new(alloc);
+    for number in 0..600u32 {
+        let key = if number % 3 == 2 { number - 1 } else { number };
+        let mut members = Vec::new(alloc);
+        members
+            .push(Member {
+                backend: backend(rt, b"A", number),
+                up: true,
+            })
+            .expect(rt, "memory");
+        services
+            .push(Service {
+                vip: key / 4,
+                proto: (key % 2) as u8,
+                port: (key / 2 % 2) as u16,
+                members,
+            })
+            .expect(rt, "memory");
+    }
+    Version {
+        number: 1,
+        services,
+    }
+}
+
+#[test]
+fn a_service_among_many(rt: HostRuntime) {
+    let alloc = rt.alloc();
+    let version = many_services(&rt, alloc);
+    let prepared = PreparedVersion::make(alloc, &RoundRobin, seven(&rt), &version).expect(
+        &rt, "memory",
+    );
+    for key in 0..604u32 {
+        let found = prepared.ready(&Flow {
+            src: 1,
+            dst: key / 4,
+            sport: 1,
+            dport: (key / 2 % 2) as u16,
+            proto: (key % 2) as u8,
+        });
+        let addr = match found {
+            None => None,
+            Some(ready) => ready.choose(&flow(1000), 0).map(|backend| backend.addr),
+        };
+        let want = if key % 3 == 2 || key >= 600 {
+            None
+        } else {
+            Some(key)
+        };
+        assert_eq!(rt; addr, want, "key {key}");
+    }
+}
+
+#[test]
+fn versions_by_number(rt: HostRuntime) {
+    let alloc = rt.alloc();
+    let mut versions = PreparedVersions::new(alloc);
+    assert!(rt; versions.last().is_none());
+    for number in [700u32, 3, 4_294_967_295, 9, 3] {
+        let version = Version {
+            number,
+            services: Vec::new(alloc),
+        };
+        let prepared = PreparedVersion::make(alloc, &RoundRobin, seven(&rt), &version).expect(
+            &rt, "memory",
+        );
+        versions.put(prepared).expect(&rt, "memory");
+        assert_eq!(rt;
+            versions.last().map(|version| version.number()),
+            Some(number)
+        );
+    }
+    for number in [3u32, 9, 700, 4_294_967_295] {
+        assert_eq!(rt;
+            versions.find(number).map(|version| version.number()),
+            Some(number)
+        );
+    }
+    assert!(rt; versions.find(0).is_none());
+    assert!(rt; versions.find(8).is_none());
+}
+
+// As many backends as the largest table has slots, one more than two bytes tell apart: each has one slot.
+#[test]
+fn more_backends_than_two_bytes_tell_apart(rt: HostRuntime) {
+    let alloc = rt.alloc();
+    let size = TableSize::new(65537).expect(&rt, "a size");
+    let mut ups = Vec::new(alloc);
+    for number in 0..65537u32 {
+        let letters = [
+            b'a' + (number % 16) as u8,
+            b'a' + (number / 16 % 16) as u8,
+            b'a' + (number / 256 % 16) as u8,
+            b'a' + (number / 4096 % 16) as u8,
+            b'a' + (number / 65536) as u8,
+        ];
+        ups.push(backend(&rt, &letters, number))
+            .expect(&rt, "memory");
+    }
+    let table = Maglev { hash: Fnv }
+        .table(alloc, size, ups.as_slice())
+        .expect(&rt, "a table");
+    let mut named = vec![in alloc; false; 65537].expect(&rt, "memory");
+    for slot in 0..65537u32 {
+        let place = table.backend_at(slot).expect(&rt, "a backend").addr as usize;
+        assert!(rt; place < named.len());
+        assert!(rt; !named[place]);
+        named[place] = true;
+    }
 }

@@ -420,6 +420,34 @@ fn refused_scenarios(rt: HostRuntime) {
     is_refused(&rt, rt.alloc(), step, CliFault::BadStep(2));
 }
 
+// A capture of two records, cut behind each byte from its header on: the records that are whole are sent, and a cut inside
+// of one is told.
+#[test]
+fn each_cut(rt: HostRuntime) {
+    let capture = capture_of(rt.alloc(), "xy").expect(&rt, "memory");
+    let whole = played(rt.alloc(), plain(APART), capture.as_slice(), false).expect(&rt, "a run");
+    assert_eq!(rt; capture.len(), 24 + 2 * 56);
+    for length in 24..capture.len() {
+        let beginning = &capture.as_slice()[..length];
+        let written = played(rt.alloc(), plain(APART), beginning, false).expect(&rt, "a run");
+        let records = (length - 24) / 56;
+        let cut = if (length - 24) % 56 == 0 { "no" } else { "yes" };
+        let text = format!(in rt.alloc();
+            "packets {records}\nlost 0\nunrouted 0\nskipped 0\nleft 0\ncut {cut}\n"
+        );
+        let text = text.expect(&rt, "memory");
+        assert!(rt;
+            written.report.starts_with(text.as_bytes()),
+            "cut at {length}"
+        );
+        assert_eq!(rt; written.output.len(), 24 + records * 80, "cut at {length}");
+        assert!(rt;
+            whole.output.starts_with(written.output.as_slice()),
+            "cut at {length}"
+        );
+    }
+}
+
 // A length at which a capture of records of 64 bytes is cut between records.
 fn is_between(length: usize) -> bool {
     length == 0 || length >= 24 && (length - 24) % 80 == 0

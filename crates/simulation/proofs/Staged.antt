@@ -1,5 +1,5 @@
 -- How a run moves as events come behind it.
-use Rattle.std.proofs.Common.{◌≡◌, ◌⊎◌, ℕ, Bool, true, false, List, [], ◌∷◌, ◌++◌, length, drop, reverse, Some, Result, Ok, Err, refl, sym, ap, ◌∙◌, subst, arith, append_assoc, drop_at, slice_get, inl, inr, OnOk, IfErr}
+use Rattle.std.proofs.Common.{◌≡◌, ◌⊎◌, ℕ, Bool, true, false, List, [], ◌∷◌, ◌++◌, length, drop, reverse, Some, Result, Ok, Err, refl, sym, ap, ◌∙◌, subst, arith, append_assoc, append-nil, drop_at, slice_get, inl, inr, OnOk, IfErr}
 use Rattle.std.proofs.lemmas.List.{reverse-append, reverse-reverse}
 use Rattle.ip_headers.specs.declared.Link.{Link}
 use Rattle.pcap_file.specs.Device.{Tape}
@@ -9,7 +9,7 @@ use Rattle.cluster_node.specs.declared.events.Event.TheVariants.{Install, Arrive
 use Rattle.cluster_node.specs.declared.events.Said.{Said}
 use Rattle.cluster_node.specs.declared.packets.Packet.{Packet}
 use Rattle.cluster_node.specs.Records.{Judged}
-use Rattle.course.specs.Cluster.{Cluster}
+use Rattle.course.specs.Cluster.{Cluster, Behind}
 use Rattle.course.specs.Course.{Course}
 use Rattle.course.specs.Steps.{World, deliver, after, names_records}
 use Rattle.course.proofs.Quiet.{is_arrival, Quiet, Calm, Arrived, deliver_arrives, apart_calm}
@@ -34,10 +34,15 @@ pub record Moved (c d : Course) : Type 0 where
 pub history_moved : (c d : Course) (m : Moved c d) → reverse d.past ≡ reverse c.past ++ reverse m.news
 history_moved c d m = ap reverse m.is ∙ reverse-append m.news c.past
 
-pub events_of : (c d : Course) (m : Moved c d) (h i : List Said) (n : ℕ) → h ≡ reverse c.past → i ≡ reverse d.past → n ≡ length h → drop n i ≡ reverse m.news
-events_of c d m h i n e f k =
-    ap (λ (l : List Said). drop n l) (f ∙ history_moved c d m)
-    ∙ drop_at (reverse c.past) (reverse m.news) n (sym (k ∙ ap length e))
+-- what stands behind the history of the course that went on
+pub events_of : (c d : Course) (m : Moved c d) (events : List Said) → Behind (reverse c.past) d.past events → events ≡ reverse m.news
+events_of c d m events e =
+    let n : ℕ = length (reverse c.past) in
+    sym (drop_at (reverse c.past) events n refl) ∙ ap (λ (l : List Said). drop n l) (sym e ∙ history_moved c d m) ∙ drop_at (reverse c.past) (reverse m.news) n refl
+
+-- nothing stands behind the whole history
+pub none_behind : (c : Course) (events : List Said) → events ≡ [] → Behind (reverse c.past) c.past events
+none_behind c events e = sym (append-nil (reverse c.past)) ∙ ap (λ (l : List Said). reverse c.past ++ l) (sym e)
 
 onto_moved : (c d : Course) (m : Moved c d) → onto c.past (reverse m.news) ≡ d.past
 onto_moved c d m = onto_reverse c.past (reverse m.news) ∙ ap (λ (l : List Said). l ++ c.past) (reverse-reverse m.news) ∙ sym m.is

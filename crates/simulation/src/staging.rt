@@ -30,20 +30,14 @@ use scenario_steps::Step;
 use spreader::Spread;
 use std::alloc::{AllocError, Global};
 
-/// The course so far, the frames that wait, the records that come again, and those that are read.
+/// The course so far, the events of one move, the frames that wait, the records that come again, and those that are read.
 #[derive(Drop)]
 pub(crate) struct Stage {
     play: Play,
+    events: Vec<Said>,
     relay: Relay,
     kept: Kept,
     intake: Intake,
-}
-
-// The events of a history behind so many.
-fn behind(history: &[Said], count: usize) -> &[Said]
-    ensures { result.now ≡ drop count history.entry.now }
-{
-    &history[count.min(history.len())..]
 }
 
 impl Stage {
@@ -59,6 +53,7 @@ impl Stage {
         let nodes = plan.nodes.len() as u16;
         Ok(Stage {
             play: Play::start(alloc, nodes)?,
+            events: Vec::new(alloc),
             relay: Relay::new(alloc, nodes)?,
             kept: Kept::of_steps(alloc, plan.steps)?,
             intake: Intake::new(alloc, head),
@@ -105,13 +100,16 @@ impl Stage {
             IfErr result (λ fault. WroteUntil fault begun (O.tape output.new) (sent (traffic_of (planned plan.entry) self.old.intake.head.link all) (reverse (deliver w place (packet_in self.old.intake.head.link plan.entry.check self.old.intake.record_read) self.old.play).past))) }
     {
         let wire = self.wire(plan);
-        let before = self.play.history().len();
         let packet = wire.packet(self.intake.frame());
-        match self.play.deliver(core, setup, spread, place, packet) {
+        self.events.clear();
+        match self
+            .play
+            .deliver(core, setup, spread, place, packet, &mut self.events)
+        {
             Ok(()) => {}
             Err(_) => return Err(SimulationFault::Memory),
         }
-        let events = behind(self.play.history(), before);
+        let events = self.events.as_slice();
         self.relay
             .settle_delivered(alloc, &wire, events, &mut self.intake, output)
     }
@@ -144,12 +142,15 @@ impl Stage {
             IfErr result (λ fault. WroteUntil fault begun (O.tape output.new) (sent (traffic_of (planned plan.entry) self.old.intake.head.link all) (reverse (after w step.now self.old.play).past))) }
     {
         let wire = self.wire(plan);
-        let before = self.play.history().len();
-        match self.play.step_apart(alloc, core, setup, spread, step) {
+        self.events.clear();
+        match self
+            .play
+            .step_apart(alloc, core, setup, spread, step, &mut self.events)
+        {
             Ok(()) => {}
             Err(_) => return Err(SimulationFault::Memory),
         }
-        let events = behind(self.play.history(), before);
+        let events = self.events.as_slice();
         self.relay.settle_all(&wire, events, output)
     }
 
@@ -348,7 +349,10 @@ impl Stage {
                     Err(fault) => Err(fault),
                 }
             }
-            Ok(None) => match self.play.repeat(core, setup, spread, place, None) {
+            Ok(None) => match self
+                .play
+                .repeat(core, setup, spread, place, None, &mut self.events)
+            {
                 Ok(()) => Ok(()),
                 Err(_) => Err(SimulationFault::Memory),
             },
@@ -472,6 +476,7 @@ impl Stage {
     {
         let Stage {
             play,
+            events: _,
             relay: _,
             kept: _,
             mut intake,

@@ -1,9 +1,10 @@
 //! A gate that gives the processor up at random.
 use crate::dice::Dice;
 use node_threads::Gate;
+use stats_book::Stats;
 use std::thread::yield_now;
 
-/// Before and after each serving it yields up to three times, by its seed and what is served.
+/// Round each serving it yields up to three times, by its seed and what is served.
 #[derive(Drop)]
 pub struct Jitter {
     pub seed: u64,
@@ -22,6 +23,10 @@ impl Jitter {
 impl Gate for Jitter {
     fn before(&self, node: u16, worker: u16, nth: u64) {
         self.pause(node, worker, nth);
+    }
+
+    fn counted(&self, node: u16, worker: u16, stats: Stats) {
+        self.pause(node, worker, stats.forwarded);
     }
 
     fn after(&self, node: u16, worker: u16, nth: u64) {

@@ -1,6 +1,7 @@
 //! What a run's record is held to, apart from the contract of the run.
 use cluster_node::{Event, Outcome};
 use node_records::{Command, NodeRecord};
+use stats_book::Stats;
 use std::alloc::{AllocError, Global};
 
 // The event is the node's own step for this command.
@@ -102,6 +103,24 @@ fn is_kept(record: &NodeRecord) -> bool {
         }
     }
     placed == served
+}
+
+/// The counts of a run are what its outcomes come to, and nothing waits.
+pub fn are_counted(stats: &Stats, outcomes: &[Outcome]) -> bool {
+    let forwarded = outcomes
+        .iter()
+        .filter(|outcome| matches!(**outcome, Outcome::Forward { .. }))
+        .count() as u64;
+    let dropped = outcomes
+        .iter()
+        .filter(|outcome| matches!(**outcome, Outcome::Dropped { .. }))
+        .count() as u64;
+    let mut drops = 0u64;
+    for count in stats.dropped {
+        drops = drops.wrapping_add(count);
+    }
+    let received = forwarded.wrapping_add(dropped);
+    (stats.received, stats.forwarded, drops, stats.waiting) == (received, forwarded, dropped, 0)
 }
 
 /// Each node did what it was told, served what was placed and sent what its workers sent.

@@ -1,8 +1,9 @@
 //! A soak program: many short runs of a cluster on threads, each thrown from a seed and judged afterwards.
 //!
-//! Arguments: a seed, and how many runs. Each run's history is audited on both connection tables, each node's record is
-//! compared with its commands, and each list of what was sent with what the workers sent. Prints how many runs and commands
-//! there were, how many runs had a fault, and how many weren't what they should be: the last two are 0.
+//! Arguments: a seed, and how many runs. Each run's history and each node's record are audited on both connection tables, each
+//! node's record is compared with its commands, the counts with the outcomes, and each list of what was sent with what the
+//! workers sent. Prints how many runs and commands there were, how many runs had a fault, and how many weren't what they
+//! should be: the last two are 0.
 #![tactic(auto)]
 
 ghost use Rattle.std.specs.Prelude.{◌≡◌, ◌<◌, ◌≤◌, ℕ, Some, length, slice_get};
@@ -16,7 +17,7 @@ mod scene;
 
 use crate::dice::Dice;
 use crate::jitter::Jitter;
-use crate::judging::are_lived;
+use crate::judging::{are_counted, are_lived};
 use crate::scene::{Throw, catalogue, packets, setup, thrown};
 use cluster_core::Setup;
 use cluster_node::Packet;
@@ -41,6 +42,25 @@ struct Tally {
     differ: u64,
 }
 
+// Whether each node's record, and the history of them all, come to their outcomes when they are replayed on this table.
+fn are_audited<S: Scheme, T: ConnTable>(
+    alloc: Global,
+    setup: &Setup<S, Fnv>,
+    catalogue: &Catalogue,
+    packets: &[Packet],
+    run: &ClusterRun,
+) -> Result<bool, AllocError>
+    requires size { catalogue.now.size ≡ setup.now.size }
+    requires read { (k : ℕ) (p : Packet) → slice_get packets.now k ≡ Some p → WasRead (Some p) }
+{
+    for node in &run.nodes {
+        if !node.audit::<S, Fnv, T>(alloc, setup, catalogue, packets)? {
+            return Ok(false);
+        }
+    }
+    run.audit::<S, Fnv, T>(alloc, setup, catalogue, packets)
+}
+
 // Whether a run is all that it should be.
 fn agrees<S: Scheme>(
     alloc: Global,
@@ -54,9 +74,10 @@ fn agrees<S: Scheme>(
     requires read { (k : ℕ) (p : Packet) → slice_get packets.now k ≡ Some p → WasRead (Some p) }
 {
     Ok(
-        are_lived(alloc, run.nodes.as_slice(), commands)?
-            && run.audit::<S, Fnv, PlainTable>(alloc, setup, catalogue, packets)?
-            && run.audit::<S, Fnv, LruTable>(alloc, setup, catalogue, packets)?,
+        are_counted(&run.stats(), run.outcomes())
+            && are_lived(alloc, run.nodes.as_slice(), commands)?
+            && are_audited::<S, PlainTable>(alloc, setup, catalogue, packets, run)?
+            && are_audited::<S, LruTable>(alloc, setup, catalogue, packets, run)?,
     )
 }
 

@@ -135,6 +135,8 @@ impl<H: FlowHash> Spread for HashSpread<H> {
 
     fn node(&self, flow: Option<&Flow>, nth: u64) -> Option<u16> {
         match flow {
+            // A node that is live alone gets every flow, whatever its hash.
+            Some(_) if self.live.len() < 2 => node_at(self.live.as_slice(), 0),
             Some(flow) => node_at(self.live.as_slice(), self.hash.hash(b'e', &flow.bytes())),
             None => node_at(self.live.as_slice(), nth),
         }

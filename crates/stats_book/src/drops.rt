@@ -63,14 +63,14 @@ impl<B: Names> Model for DropShares<B> {
     ghost invariant = { λ d. (d.truncated.parts ≡ d.not_ipv4.parts) × (d.bad_header.parts ≡ d.not_ipv4.parts) × (d.bad_checksum.parts ≡ d.not_ipv4.parts) × (d.fragment.parts ≡ d.not_ipv4.parts) × (d.not_tcp_udp.parts ≡ d.not_ipv4.parts) × (d.bad_transport.parts ≡ d.not_ipv4.parts) × (d.too_large.parts ≡ d.not_ipv4.parts) × (d.no_service.parts ≡ d.not_ipv4.parts) × (d.no_backend.parts ≡ d.not_ipv4.parts) × (d.no_version.parts ≡ d.not_ipv4.parts) × (d.rings_full.parts ≡ d.not_ipv4.parts) × (d.lost_at_restart.parts ≡ d.not_ipv4.parts) };
 }
 
-// One part of a ledger, on which nothing is counted.
-pub(crate) fn one_part<L: Ledger>(share: &mut Share<L>) -> Share<L>
-    requires { 1 < share.old.parts }
-    ensures part { (result.parts ≡ 1) × (result.amount ≡ 0) }
-    ensures parts { share.new.parts + 1 ≡ share.old.parts }
+// Some parts of a ledger, on which nothing is counted.
+pub(crate) fn some_parts<L: Ledger>(share: &mut Share<L>, parts: u64) -> Share<L>
+    requires { parts < share.old.parts }
+    ensures part { (result.parts ≡ parts) × (result.amount ≡ 0) }
+    ensures parts { share.new.parts + parts ≡ share.old.parts }
     ensures amount { share.new.amount ≡ share.old.amount }
 {
-    share.split_off(1, 0)
+    share.split_off(parts, 0)
 }
 
 impl<B: Names> DropBooks<B> {
@@ -120,27 +120,27 @@ impl<B: Names> DropBooks<B> {
 }
 
 impl<B: Names> DropShares<B> {
-    // One part of each ledger, on which nothing is counted.
-    pub(crate) fn split(&mut self) -> DropShares<B>
-        requires { 1 < self.old.parts }
-        ensures part { result ≡ record { parts = 1; amounts = replicate 13 0 } }
-        ensures parts { self.new.parts + 1 ≡ self.old.parts }
+    // Some parts of each ledger, on which nothing is counted.
+    pub(crate) fn split_off(&mut self, parts: u64) -> DropShares<B>
+        requires { parts < self.old.parts }
+        ensures part { result ≡ record { parts = parts; amounts = replicate 13 0 } }
+        ensures parts { self.new.parts + parts ≡ self.old.parts }
         ensures amounts { self.new.amounts ≡ self.old.amounts }
     {
         DropShares {
-            not_ipv4: one_part(&mut self.not_ipv4),
-            truncated: one_part(&mut self.truncated),
-            bad_header: one_part(&mut self.bad_header),
-            bad_checksum: one_part(&mut self.bad_checksum),
-            fragment: one_part(&mut self.fragment),
-            not_tcp_udp: one_part(&mut self.not_tcp_udp),
-            bad_transport: one_part(&mut self.bad_transport),
-            too_large: one_part(&mut self.too_large),
-            no_service: one_part(&mut self.no_service),
-            no_backend: one_part(&mut self.no_backend),
-            no_version: one_part(&mut self.no_version),
-            rings_full: one_part(&mut self.rings_full),
-            lost_at_restart: one_part(&mut self.lost_at_restart),
+            not_ipv4: some_parts(&mut self.not_ipv4, parts),
+            truncated: some_parts(&mut self.truncated, parts),
+            bad_header: some_parts(&mut self.bad_header, parts),
+            bad_checksum: some_parts(&mut self.bad_checksum, parts),
+            fragment: some_parts(&mut self.fragment, parts),
+            not_tcp_udp: some_parts(&mut self.not_tcp_udp, parts),
+            bad_transport: some_parts(&mut self.bad_transport, parts),
+            too_large: some_parts(&mut self.too_large, parts),
+            no_service: some_parts(&mut self.no_service, parts),
+            no_backend: some_parts(&mut self.no_backend, parts),
+            no_version: some_parts(&mut self.no_version, parts),
+            rings_full: some_parts(&mut self.rings_full, parts),
+            lost_at_restart: some_parts(&mut self.lost_at_restart, parts),
         }
     }
 

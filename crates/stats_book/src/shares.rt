@@ -2,7 +2,7 @@
 ghost use Rattle.std.specs.Prelude.{◌≡◌, ◌+◌, ◌<◌, replicate};
 ghost use Rattle.stats_book.specs.Counts.{Counted, one_more, sums};
 
-use crate::drops::{DropBooks, DropShares, one_part};
+use crate::drops::{DropBooks, DropShares, some_parts};
 use crate::ledgers::{Names, Of};
 use cluster_node::Cause;
 use std::marker::Model;
@@ -28,17 +28,17 @@ impl<B: Names> Model for Shares<B> {
 }
 
 impl<B: Names> Shares<B> {
-    /// One part of each ledger, on which nothing was counted. The other parts, and all that was counted, stay.
-    pub fn split(&mut self) -> Shares<B>
-        requires { 1 < self.old.parts }
-        ensures part { result ≡ record { parts = 1; received = 0; forwarded = 0; dropped = replicate 13 0 } }
-        ensures parts { self.new.parts + 1 ≡ self.old.parts }
+    /// Some parts of each ledger, on which nothing was counted. The other parts, and all that was counted, stay.
+    pub fn split_off(&mut self, parts: u64) -> Shares<B>
+        requires { parts < self.old.parts }
+        ensures part { result ≡ record { parts = parts; received = 0; forwarded = 0; dropped = replicate 13 0 } }
+        ensures parts { self.new.parts + parts ≡ self.old.parts }
         ensures rest { self.new ≡ record self.old { parts = self.new.parts } }
     {
         Shares {
-            received: one_part(&mut self.received),
-            forwarded: one_part(&mut self.forwarded),
-            dropped: self.dropped.split(),
+            received: some_parts(&mut self.received, parts),
+            forwarded: some_parts(&mut self.forwarded, parts),
+            dropped: self.dropped.split_off(parts),
         }
     }
 

@@ -11,8 +11,8 @@ fn counted_by_two<B: Names>(blanks: Blanks) -> (Stats, bool)
     requires parts { (blanks.parts ≡ B.parts) × (B.parts ≡ 3) }
 {
     let (mut book, mut all) = StatsBook::<B>::open(blanks);
-    let mut one = all.split();
-    let mut two = all.split();
+    let mut one = all.split_off(1);
+    let mut two = all.split_off(1);
     // Nothing waits yet.
     let early = book.forwarded_one(&mut one) || book.dropped_one(&mut two, Cause::NoBackend);
     let came = book.receive(&mut one)

@@ -32,6 +32,10 @@ pub fn home<H: FlowHash>(hash: &H, flow: &Flow, workers: u16) -> u16
     ensures home { result ≡ home_of (H.plain hash.now) workers flow.now }
     ensures below { result < workers }
 {
+    // A worker that is alone is every flow's home, whatever its hash.
+    if workers == 1 {
+        return 0;
+    }
     (hash.hash(b'w', &flow.bytes()) % workers as u64) as u16
 }
 

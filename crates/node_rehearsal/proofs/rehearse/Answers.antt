@@ -1,8 +1,6 @@
-use Rattle.std.proofs.Common.{◌≤◌, ◌+◌, ℕ, List, length, take, sym, subst, ap, ◌∙◌, arith}
-use Rattle.selection.specs.Readied.{Readied}
+use Rattle.std.proofs.Common.{◌≤◌, ◌+◌, ℕ, length, take, sym, subst, ap, ◌∙◌, arith}
 use Rattle.cluster_node.specs.Rules.{Rules}
 use Rattle.cluster_core.specs.Setups.{rules_for}
-use Rattle.cluster_core.specs.Runs.{AreGood}
 use Rattle.node_records.specs.declared.command.Command.TheVariants.{Publish, Offer, Restart}
 use Rattle.node_records.specs.Histories.{commands_of}
 use Rattle.node_records.specs.Journals.{JournalView}
@@ -20,12 +18,6 @@ loop-command-init g c =
       node = ap (λ (j : JournalView). j.node) fresh;
       ring = ap (λ (j : JournalView). j.ring) fresh;
     }
-
-pub restart-requires : goal.restart-requires
-restart-requires g c = subst (λ (ps : List (Readied g.row.S.Denot)). AreGood (λ s z. g.S.Scheme.pick s z) (rules_for (λ s z. g.S.Scheme.pick s z) (λ h. g.H.FlowHash.plain h) c.args.setup.now c.args.catalogue.now) ps) (sym c.as_slice.ensures.value) c.in_ok-versions.ensures.good
-
-pub end-requires : goal.end-requires
-end-requires g c = subst (λ (ps : List (Readied g.row.S.Denot)). AreGood (λ s z. g.S.Scheme.pick s z) (rules_for (λ s z. g.S.Scheme.pick s z) (λ h. g.H.FlowHash.plain h) c.args.setup.now c.args.catalogue.now) ps) (sym c.as_slice-2.ensures.value) c.in_ok-versions.ensures.good
 
 pub loop-command-preserved : goal.loop-command-preserved
 loop-command-preserved g c =

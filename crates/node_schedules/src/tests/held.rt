@@ -4,12 +4,13 @@ ghost use Rattle.std.proofs.Common.{rules};
 ghost use Rattle.std.specs.Cmp.Rules.{comparing};
 ghost use Rattle.std.specs.Ordering.{on};
 
-use super::{count, forward, run, setup, x_to_a};
+use super::{forward, placed, run, setup, x_to_a};
 use cluster_node::Outcome;
 use connection_table::LruTable;
 use hash_laws::FlowHash;
 use node_records::Command;
 use node_threads::Gate;
+use stats_book::Stats;
 use std::alloc::Global;
 use std::process::Abort;
 use std::sync::atomic::{AtomicU64, Ordering};
@@ -32,6 +33,8 @@ impl Gate for Counts {
         }
     }
 
+    fn counted(&self, _node: u16, _worker: u16, _stats: Stats) {}
+
     fn after(&self, _node: u16, _worker: u16, nth: u64) {
         if self.after.fetch_add(1, Ordering::SeqCst) != nth {
             self.missed.store(1, Ordering::SeqCst);
@@ -39,8 +42,8 @@ impl Gate for Counts {
     }
 }
 
-// A hash by which every flow is at home at worker 0. The driver asks it once for each packet that it steers, and it answers
-// once all packets before it were served.
+// A hash by which every flow is at home at worker 0. A driver of several workers asks it once for each packet that it steers,
+// and it answers once all packets before it were served.
 #[derive(Clone, Copy)]
 struct Holding<'a> {
     counts: &'a Counts,
@@ -96,7 +99,7 @@ fn a_full_ring_takes_again(rt: HostRuntime) -> Result<(), Fail> {
         missed: AtomicU64::new(0),
     };
     let hash = Holding { counts: &counts };
-    let setup = setup(&rt, alloc, hash, 1);
+    let setup = setup(&rt, alloc, hash, 2);
     let commands = [
         Command::Publish(1),
         Command::Offer(2),
@@ -105,14 +108,14 @@ fn a_full_ring_takes_again(rt: HostRuntime) -> Result<(), Fail> {
         Command::Offer(2),
         Command::Offer(1),
     ];
-    let record = run::<LruTable, _, _, _>(&rt, alloc, &setup, &commands, 1, &counts);
+    let run = run::<LruTable, _, _, _>(&rt, alloc, &setup, &commands, 1, &counts);
     assert!(rt; counts.missed.load(Ordering::SeqCst) == 0);
     assert!(rt;
         counts.before.load(Ordering::SeqCst) == 4 && counts.after.load(Ordering::SeqCst) == 4
     );
-    assert!(rt; count(&record, true) == 4);
-    assert!(rt; record.sent.len() == 1);
-    for list in &record.sent {
+    assert!(rt; placed(&run) == 4);
+    assert!(rt; run.sent().len() == 1);
+    for list in run.sent() {
         assert!(rt; list.as_slice() == sent(&rt).as_slice());
     }
     Ok(())

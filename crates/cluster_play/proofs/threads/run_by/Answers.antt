@@ -6,5 +6,5 @@ use Rattle.cluster_play.proofs.threads.run_by.Goals as goal
 
 pub returns-clause-runs : goal.returns-clause-runs
 returns-clause-runs g c =
-    let is = same_rules (λ s z. g.S.Scheme.pick s z) c.args.scheme c.args.scenario.now c.in-Ok.setup c.requires.picks (c.in-Ok.ensures.1 ∙ same_fixed c.args.scheme c.args.scenario.now c.in_ok-nodes.nodes.items (c.in_ok-nodes.ensures.items ∙ c.as_slice.ensures.value)) in
+    let is = same_rules (λ s z. g.S.Scheme.pick s z) c.args.scheme c.args.scenario.now c.keyed-setup.result c.requires.picks (c.keyed-setup.ensures ∙ c.in-Ok.ensures.1 ∙ same_fixed c.args.scheme c.args.scenario.now c.in_ok-nodes.nodes.items (c.in_ok-nodes.ensures.items ∙ c.as_slice.ensures.value)) in
     subst (λ (rules : Rules). AreRuns rules c.args.packets.now c.args.scenario.now.ring 0 (map (λ l. l.items) c.args.commands.now) c.in_ok-run.run'.nodes.items × JoinsRuns rules c.args.packets.now c.in_ok-run.run'.nodes.items c.in_ok-run.run'.history) is c.in_ok-run.ensures.runs

@@ -25,7 +25,7 @@ returns-in-Ok-play_scenario-clause-played g c =
 pub returns-in-Ok-play_scenario-clause-stopped : goal.returns-in-Ok-play_scenario-clause-stopped
 returns-in-Ok-play_scenario-clause-stopped g c =
     IfErr-weaker c.put_text.result (λ fault. (fault ≡ Write) × PutRefused c.as_str.result.now (g.R.Sink.tape c.args.report.now) (g.R.Sink.tape c.put_text.new.sink))
-    (λ fault. (ScenarioFails fault c.args.scenario.now × (c.play_scenario.new.input ≡ c.args.input.now) × (c.play_scenario.new.output ≡ c.args.output.now) × (c.put_text.new.sink ≡ c.args.report.now))
+    (λ fault. (ScenarioFails fault c.args.scenario.now × ((c.play_scenario.new.input ≡ c.args.input.now) × (c.play_scenario.new.output ≡ c.args.output.now) × (c.put_text.new.sink ≡ c.args.report.now)))
     ⊎ ((RunFails fault c.args.scenario.now (g.I.Source.tape c.args.input.now) (g.I.Source.tape c.play_scenario.new.input) (g.O.Sink.tape c.args.output.now) (g.O.Sink.tape c.play_scenario.new.output) × (c.put_text.new.sink ≡ c.args.report.now))
     ⊎ ReportFails fault c.args.asked c.args.scenario.now (g.I.Source.tape c.args.input.now) (g.I.Source.tape c.play_scenario.new.input) (g.O.Sink.tape c.args.output.now) (g.O.Sink.tape c.play_scenario.new.output) (g.R.Sink.tape c.args.report.now) (g.R.Sink.tape c.put_text.new.sink)))
     (λ _ is. inr (inr (record {

@@ -1,9 +1,12 @@
-use Rattle.std.proofs.Common.{List, sym, subst}
-use Rattle.std.specs.Prelude.{All}
-use Rattle.cluster_core.specs.Setups.{rules_for}
-use Rattle.node_records.specs.Works.{WorkView, IsOf}
+use Rattle.std.proofs.Common.{◌≡◌, rules, arith}
+use Rattle.std.specs.Prelude.{None}
 use Rattle.node_threads.proofs.life.run_threads.Goals as goal
 
-pub end_driven-requires-clause-of : goal.end_driven-requires-clause-of
-end_driven-requires-clause-of g c =
-    subst (λ (l : List (WorkView g.row.S.Denot)). All (λ w. IsOf (λ s z. g.S.Scheme.pick s z) (rules_for (λ s z. g.S.Scheme.pick s z) (λ h. g.H.FlowHash.plain h) c.args.plan.setup.now c.args.plan.catalogue.now) w) l) (sym c.as_slice.ensures.value) c.in_ok-workers.ensures
+pub returns : goal.returns
+returns g c =
+    let all : c.start-started.result.fault ≡ None = search rules in
+    record {
+      ended = c.in_ok-progress.ensures.ended;
+      parts_are = omega (arith, c.in_ok-progress.ensures.parts, c.in_ok-driven.ensures.parts, c.in_ok-runs.ensures.all, c.start-started.ensures.all all);
+      counts = λ read. c.in_ok-progress.ensures.counts read;
+    }

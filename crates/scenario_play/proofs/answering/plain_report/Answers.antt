@@ -1,8 +1,12 @@
-use Rattle.std.proofs.Common.{ap, ◌∙◌, string_bytes}
+use Rattle.std.proofs.Common.{◌∙◌, string_bytes}
 use Rattle.cluster_core.specs.Histories.{outcomes_of}
-use Rattle.scenario_play.specs.Answers.{totals_in}
+use Rattle.cluster_run.proofs.Counted.{balanced_record}
+use Rattle.scenario_play.proofs.Noted.{totals_told}
 use Rattle.scenario_play.proofs.Runs.{told}
 use Rattle.scenario_play.proofs.answering.plain_report.Goals as goal
 
+pub totals-totals-requires : goal.totals-totals-requires
+totals-totals-requires c = (outcomes_of c.args.played.now.play.past, c.requires.counts, balanced_record c.args.played.now.play.past c.requires.balance)
+
 pub returns : goal.returns
-returns c = told string_bytes c.report_text.result _ _ _ _ _ _ c.tally-tally.ensures (c.totals-totals.ensures ∙ ap (λ h. totals_in (outcomes_of h)) c.history.ensures) c.is_cut.ensures c.report_text.ensures
+returns c = told string_bytes c.report_text.result _ _ _ _ _ _ c.tally-tally.ensures (c.totals-totals.ensures ∙ totals_told c.args.played.now.play.past c.args.counts.now c.requires.counts) c.is_cut.ensures c.report_text.ensures

@@ -1,7 +1,13 @@
+use Rattle.std.proofs.Common.{[], subst, sym}
 use Rattle.simulation.specs.Plans.{planned}
+use Rattle.scenario_play.specs.Notebooks.{AreOf}
+use Rattle.scenario_play.specs.declared.notes.Notebook.{Notebook}
 use Rattle.scenario_play.proofs.Runs.{judged}
 use Rattle.simulation.proofs.Joined.{whole_unanswered}
 use Rattle.scenario_play.proofs.playing.play_with.Goals as goal
+
+pub play_capture-requires-clause-fresh : goal.play_capture-requires-clause-fresh
+play_capture-requires-clause-fresh g c = (c.in_ok-balancers.ensures.run, subst (λ (n : Notebook). AreOf c.args.task.now.asked [] n) (sym c.in_ok-balancers.ensures.notes) (c.new-notes.ensures c.args.task.now.asked))
 
 pub answer-requires-clause-judged : goal.answer-requires-clause-judged
 answer-requires-clause-judged g c = judged _ _ (planned c.args.plan) _ _ _ _ _ _ _ c.in-Ok.ensures.ok

@@ -1,11 +1,7 @@
-use Rattle.std.proofs.Common.{sym, subst}
 use Rattle.course.specs.Cluster.{newest_on}
-use Rattle.cluster_core.specs.RunView.{RunView}
-use Rattle.cluster_core.specs.Runs.{RunStands}
 use Rattle.cluster_run.specs.Ruling.{rules_of}
 use Rattle.cluster_run.proofs.balancers.BalancersCore.newest.Goals as goal
 
 pub returns : goal.returns
 unfolding newest_on
-returns g c = λ past st. c.newest.ensures.said (rules_of (λ s z. g.S.Scheme.pick s z) (λ h. g.H.FlowHash.plain h) c.args.setup.now) past
-    (subst (λ (r : RunView g.row.S.Denot). RunStands (λ s z. g.S.Scheme.pick s z) (rules_of (λ s z. g.S.Scheme.pick s z) (λ h. g.H.FlowHash.plain h) c.args.setup.now) past r) (sym c.self.view_is) st)
+returns g c = λ past st. c.newest.ensures.said (rules_of (λ s z. g.S.Scheme.pick s z) (λ h. g.H.FlowHash.plain h) c.args.setup.now.rules) past st.0

@@ -14,6 +14,7 @@ loop-step-preserved g c =
     record {
       stands = c.in_ok-step.ensures.stands;
       live = c.in_ok-step.ensures.live;
+      told = λ before h. c.in_ok-step.ensures.told before (c.loop-step.invariant.told before h);
       choice = λ live flow nth. c.loop-step.invariant.choice live flow nth ∙ c.in_ok-step.ensures.choice live flow nth;
       counted = subst (λ (d : Course). Counted (length c.args.packets.now) (c.loop-step.step-index + 1) d) (sym e) (counted_after w c.loop-step.step-index _ c.loop-step.self c.loop-step.invariant.counted);
       rest = run_next w c.args.steps.now c.loop-step.step-index _ c.loop-step.self _ (omega arith) c.step-item.is e ∙ c.loop-step.invariant.rest;

@@ -1,4 +1,6 @@
-use Rattle.std.proofs.Common.{◌≡◌, ◌-◌}
+use Rattle.std.proofs.Common.{List, ◌≡◌, ◌-◌}
+use Rattle.cluster_node.specs.declared.events.Said.{Said}
+use Rattle.course.specs.Cluster.{Behind}
 use Rattle.course.specs.Steps.{World, serve_times}
 use Rattle.course.proofs.play.Play.serve_times.Given as goal
 
@@ -6,5 +8,6 @@ abbrev pub invariant-loop : goal.invariant-loop
 invariant-loop g l = record {
   stands : g.C.Core.stands l.setup l.self.past l.core;
   live : l.self.live ≡ l.initial.self.live;
+  told : (before : List Said) → Behind before l.initial.self.past l.initial.events.items → Behind before l.self.past l.events.items;
   rest : (w : World) → w.cluster ≡ g.C.Core.cluster l.setup → serve_times w l.node l.worker (l.times - l.counter) l.self ≡ serve_times w l.node l.worker l.times l.initial.self;
 }

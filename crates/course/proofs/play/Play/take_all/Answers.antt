@@ -1,6 +1,7 @@
-use Rattle.std.proofs.Common.{List, [], sym, ◌∙◌, ap, arith, refl}
+use Rattle.std.proofs.Common.{List, [], sym, ◌∙◌, ap, arith, refl, subst}
 use Rattle.std.proofs.lemmas.List.{drop_all}
 use Rattle.cluster_node.specs.declared.packets.Packet.{Packet}
+use Rattle.course.specs.Cluster.{Behind}
 use Rattle.course.specs.Course.{Course}
 use Rattle.course.specs.Steps.{world_of, take_all}
 use Rattle.course.proofs.Repeats.{delivered_next, take_none}
@@ -15,6 +16,7 @@ loop-packet-preserved g c =
     record {
       stands = c.in_ok-deliver.ensures.stands;
       live = c.in_ok-deliver.ensures.live ∙ ap (λ (d : Course). d.live) c.next_place-place.ensures.after ∙ c.loop-packet.invariant.live;
+      told = λ before h. c.in_ok-deliver.ensures.told before (subst (λ (d : Course). Behind before d.past c.loop-packet.events.items) (sym c.next_place-place.ensures.after) (c.loop-packet.invariant.told before h));
       read = omega (arith, moved.0);
       nth = omega (arith, moved.1);
       unrouted = omega (arith, moved.2);

@@ -1,4 +1,6 @@
-use Rattle.std.proofs.Common.{◌≡◌, ◌+◌, ◌≤◌, drop}
+use Rattle.std.proofs.Common.{List, ◌≡◌, ◌+◌, ◌≤◌, drop}
+use Rattle.cluster_node.specs.declared.events.Said.{Said}
+use Rattle.course.specs.Cluster.{Behind}
 use Rattle.course.specs.Steps.{World, SameChoice, take_all}
 use Rattle.course.proofs.play.Play.take_all.Given as goal
 
@@ -6,6 +8,7 @@ abbrev pub invariant-loop-packet : goal.invariant-loop-packet
 invariant-loop-packet g l = record {
   stands : g.C.Core.stands l.setup l.self.past l.core;
   live : l.self.live ≡ l.initial.self.live;
+  told : (before : List Said) → Behind before l.initial.self.past l.initial.events.items → Behind before l.self.past l.events.items;
   read : l.self.read ≡ l.initial.self.read + l.packet-index;
   nth : l.self.nth ≡ l.initial.self.nth + l.packet-index;
   unrouted : l.self.unrouted ≤ l.initial.self.unrouted + l.packet-index;

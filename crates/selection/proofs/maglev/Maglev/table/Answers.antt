@@ -1,7 +1,6 @@
-use Rattle.std.proofs.Common.{◌≡◌, ◌∙◌, List}
-use Rattle.maglev_table.specs.Turns.{Preference}
+use Rattle.std.proofs.Common.{◌≡◌, ◌∙◌}
 use Rattle.selection.specs.Picks.{preferences}
-use Rattle.selection.proofs.Tables.{all_of_size, table_fits, is_table_of}
+use Rattle.selection.proofs.Tables.{all_of_size, even_table, is_table_of}
 use Rattle.selection.proofs.maglev.Maglev.table.Goals as goal
 
 pub filled-requires-clause-sized : goal.filled-requires-clause-sized
@@ -12,11 +11,11 @@ invariant_of-result g c =
     let made : c.as_slice.result.now ≡ preferences (g.H.FlowHash.plain c.args.self.now.hash) c.args.size c.args.ups.now = c.as_slice.ensures.value ∙ c.in_ok-lists.ensures in
     let none = rw made at c.in_ok-table.ensures.none in
     let some = rw made at c.in_ok-table.ensures.some in
-    rw c.in_ok-ups.ensures.items (table_fits (g.H.FlowHash.plain c.args.self.now.hash) c.args.size c.args.ups.now c.in_ok-table.table none some)
+    rw (c.in_ok-ups.ensures.items, c.in_ok-slots.ensures) (even_table (g.H.FlowHash.plain c.args.self.now.hash) c.args.size c.args.ups.now c.in_ok-table.table none some)
 
 pub returns-clause-table : goal.returns-clause-table
 returns-clause-table g c =
     let made : c.as_slice.result.now ≡ preferences (g.H.FlowHash.plain c.args.self.now.hash) c.args.size c.args.ups.now = c.as_slice.ensures.value ∙ c.in_ok-lists.ensures in
     let none = rw made at c.in_ok-table.ensures.none in
     let some = rw made at c.in_ok-table.ensures.some in
-    rw c.in_ok-ups.ensures.items (is_table_of (g.H.FlowHash.plain c.args.self.now.hash) c.args.size c.args.ups.now c.in_ok-table.table none some)
+    rw (c.in_ok-ups.ensures.items, c.in_ok-slots.ensures) (is_table_of (g.H.FlowHash.plain c.args.self.now.hash) c.args.size c.args.ups.now c.in_ok-table.table none some)

@@ -44,7 +44,7 @@ returns-in-Ok-repeat-clause-reached g c = λ choice text begun left ss same name
     let cluster = g.C.Core.cluster c.args.setup.now in
     let plan = planned c.args.plan in
     let old = c.args.self.now in
-    let new : Stage = record { play = c.repeat.new.self; relay = old.relay; kept = old.kept; intake = old.intake } in
+    let new : Stage = record { play = c.repeat.new.self; events = c.repeat.new.events; relay = old.relay; kept = old.kept; intake = old.intake } in
     let w0 = world_of cluster choice [] in
     let skip = c.in-Ok-repeat.ensures.after w0 refl same ∙ repeat_none w0 c.args.place old.play in
     let given : old.intake.given ≡ old.play.read = r.read.count ∙ sym r.place in

@@ -1,4 +1,4 @@
-use Rattle.std.proofs.Common.{◌∙◌, List, Some, length, refl, sym, subst, ap, OnOk, IfErr, [], reverse}
+use Rattle.std.proofs.Common.{◌∙◌, List, Some, refl, sym, subst, ap, OnOk, IfErr, [], reverse}
 use Rattle.pcap_file.specs.Format.{Packet as Record, packet}
 use Rattle.cluster_node.specs.declared.events.Said.{Said}
 use Rattle.cluster_node.specs.declared.packets.Packet.{Packet}
@@ -14,7 +14,7 @@ use Rattle.simulation.specs.Simulated.{traffic_of}
 use Rattle.simulation.specs.Wires.{traffic}
 use Rattle.simulation.specs.PrivateGoing.{onto}
 use Rattle.simulation.specs.Following.{ArrivesFirst}
-use Rattle.simulation.proofs.Staged.{Arriving, delivered, delivered_told, events_of, can_settle, sound_after, cut_before, cut_after}
+use Rattle.simulation.proofs.Staged.{Arriving, delivered, delivered_told, events_of, none_behind, can_settle, sound_after, cut_before, cut_after}
 use Rattle.simulation.proofs.staging.Stage.deliver.Goals as goal
 
 pub deliver-requires-clause-read : goal.deliver-requires-clause-read
@@ -36,11 +36,11 @@ returns-clause-sound g c = λ all begun s here.
     let e = c.in-Ok.ensures.after w0 refl (λ live flow nth. refl) in
     let a : Arriving all r c0 c.deliver.new.self = delivered w0 c.args.place c.packet-packet.result all r c0 c.deliver.new.self e here in
     let told = delivered_told w0 k c.args.place c.packet-packet.result c0 c.deliver.new.self refl e s.judged in
-    let ev = c.behind-events.ensures ∙ events_of c0 c.deliver.new.self a.moved c.history-before.result.now c.history.result.now (length c.history-before.result.now) c.history-before.ensures c.history.ensures refl in
-    let can = can_settle k (planned c.args.plan) c.args.self.now.intake.head.link all c0 c.deliver.new.self a.moved c.behind-events.result.now c.args.self.now.relay.waiting begun _ s told ev in
+    let ev = c.as_slice-events.ensures.value ∙ events_of c0 c.deliver.new.self a.moved c.deliver.new.events.items (c.in-Ok.ensures.told (reverse c0.past) (none_behind c0 c.clear.new.self.items c.clear.ensures.items)) in
+    let can = can_settle k (planned c.args.plan) c.args.self.now.intake.head.link all c0 c.deliver.new.self a.moved c.as_slice-events.result.now c.args.self.now.relay.waiting begun _ s told ev in
     let first = subst (λ (l : List Said). ArrivesFirst all r l) (sym ev) a.first in
-    sound_after k (planned c.args.plan) c.args.self.now.intake.head.link all c0 c.deliver.new.self a.moved c.behind-events.result.now c.args.self.now.relay.waiting c.settle_delivered.new.self.waiting begun _ _ c.settle_delivered.result s told ev c.settle_delivered.ensures.count
-    (subst (λ (x : Wire). OnOk c.settle_delivered.result (Mirrors all k (onto c0.past c.behind-events.result.now) c.settle_delivered.new.self.waiting × Wrote (g.O.Sink.tape c.args.output.now) (g.O.Sink.tape c.settle_delivered.new.output) (sent (traffic x all) c.behind-events.result.now)))
+    sound_after k (planned c.args.plan) c.args.self.now.intake.head.link all c0 c.deliver.new.self a.moved c.as_slice-events.result.now c.args.self.now.relay.waiting c.settle_delivered.new.self.waiting begun _ _ c.settle_delivered.result s told ev c.settle_delivered.ensures.count
+    (subst (λ (x : Wire). OnOk c.settle_delivered.result (Mirrors all k (onto c0.past c.as_slice-events.result.now) c.settle_delivered.new.self.waiting × Wrote (g.O.Sink.tape c.args.output.now) (g.O.Sink.tape c.settle_delivered.new.output) (sent (traffic x all) c.as_slice-events.result.now)))
     c.wire-wire.ensures (c.settle_delivered.ensures.settled all k c0.past can first))
 
 pub returns-clause-cut : goal.returns-clause-cut
@@ -52,12 +52,12 @@ returns-clause-cut g c = λ w all begun i j s here.
     let e = c.in-Ok.ensures.after w i j in
     let a : Arriving all r c0 c.deliver.new.self = delivered w c.args.place c.packet-packet.result all r c0 c.deliver.new.self e here in
     let told = delivered_told w k c.args.place c.packet-packet.result c0 c.deliver.new.self i e s.judged in
-    let ev = c.behind-events.ensures ∙ events_of c0 c.deliver.new.self a.moved c.history-before.result.now c.history.result.now (length c.history-before.result.now) c.history-before.ensures c.history.ensures refl in
-    let can = can_settle k (planned c.args.plan) link all c0 c.deliver.new.self a.moved c.behind-events.result.now c.args.self.now.relay.waiting begun _ s told ev in
+    let ev = c.as_slice-events.ensures.value ∙ events_of c0 c.deliver.new.self a.moved c.deliver.new.events.items (c.in-Ok.ensures.told (reverse c0.past) (none_behind c0 c.clear.new.self.items c.clear.ensures.items)) in
+    let can = can_settle k (planned c.args.plan) link all c0 c.deliver.new.self a.moved c.as_slice-events.result.now c.args.self.now.relay.waiting begun _ s told ev in
     let first = subst (λ (l : List Said). ArrivesFirst all r l) (sym ev) a.first in
     let pk = c.packet-packet.ensures ∙ ap (λ (x : Wire). packet_in x.link x.check (packet c.frame.result.now)) c.wire-wire.ensures ∙ ap (λ (x : Record). packet_in link c.args.plan.check x) c.frame.ensures in
     let is = e ∙ ap (λ (p : Packet). deliver w c.args.place p c0) pk in
     subst (λ (d : Course). IfErr c.settle_delivered.result (λ fault. WroteUntil fault begun (g.O.Sink.tape c.settle_delivered.new.output) (sent (traffic_of (planned c.args.plan) link all) (reverse d.past)))) is
-    (cut_after k (planned c.args.plan) link all c0 c.deliver.new.self a.moved c.behind-events.result.now c.args.self.now.relay.waiting begun _ _ c.settle_delivered.result s ev
-    (subst (λ (x : Wire). IfErr c.settle_delivered.result (λ fault. WroteUntil fault (g.O.Sink.tape c.args.output.now) (g.O.Sink.tape c.settle_delivered.new.output) (sent (traffic x all) c.behind-events.result.now)))
+    (cut_after k (planned c.args.plan) link all c0 c.deliver.new.self a.moved c.as_slice-events.result.now c.args.self.now.relay.waiting begun _ _ c.settle_delivered.result s ev
+    (subst (λ (x : Wire). IfErr c.settle_delivered.result (λ fault. WroteUntil fault (g.O.Sink.tape c.args.output.now) (g.O.Sink.tape c.settle_delivered.new.output) (sent (traffic x all) c.as_slice-events.result.now)))
     c.wire-wire.ensures (c.settle_delivered.ensures.cut all k c0.past can first)))

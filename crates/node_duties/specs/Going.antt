@@ -1,0 +1,70 @@
+-- A journal that has obeyed some commands, and how far a life got in them.
+use Rattle.std.specs.Prelude.{◌≡◌, ◌≤◌, ◌<◌, ◌+◌, ℕ, Bool, List, length, take, slice_index_or}
+use Rattle.selection.specs.Readied.{Readied}
+use Rattle.forwarder.specs.Serving.{Pick}
+use Rattle.stats_book.specs.Counts.{Counted}
+use Rattle.cluster_node.specs.Rules.{Rules}
+use Rattle.cluster_core.specs.Runs.{AreGood}
+use Rattle.cluster_core.specs.Setups.{Fixed}
+use Rattle.pool_versions.specs.Pool.{Pools}
+use Rattle.node_duties.specs.Counts.{AreRead, Counts}
+use Rattle.cluster_node.specs.declared.packets.Packet.{Packet}
+use Rattle.node_records.specs.declared.command.Command.{Command}
+use Rattle.node_records.specs.declared.command.Command.TheVariants.{Restart}
+use Rattle.node_records.specs.Histories.{commands_of, past_of, NoneWaits}
+use Rattle.node_records.specs.Journals.{JournalView, Tells, Drives}
+
+pub record Going (rules : Rules) (packets : List Packet) (commands : List Command) (n places : ℕ) (j : JournalView) : Type 0 where
+  pub drives : Drives rules packets j
+  pub obeyed : commands_of j.events ≡ commands
+  pub own : j.node ≡ n
+  pub ring : j.ring ≡ places
+
+-- the commands from one place up to another were obeyed, and there a life ends: with a restart or with the list
+pub record IsDriven (rules : Rules) (packets : List Packet) (commands : List Command) (n places start stop : ℕ) (j : JournalView) : Type 0 where
+  pub going : Going rules packets (take stop commands) n places j
+  pub onward : start ≤ stop
+  pub within : stop ≤ length commands
+  pub restarts : stop < length commands → (d : Command) × (slice_index_or commands stop d ≡ Restart)
+
+-- all was obeyed, and what was placed in the last life was served
+pub record IsLast (rules : Rules) (packets : List Packet) (commands : List Command) (n places : ℕ) (j : JournalView) : Type 0 where
+  pub tells : Tells rules packets j
+  pub drained : NoneWaits (past_of rules packets j.node j.events)
+  pub obeyed : commands_of j.events ≡ commands
+  pub own : j.node ≡ n
+  pub ring : j.ring ≡ places
+
+-- a life ended at a place of the commands: with the restart there, or with their end
+pub record IsEnded (rules : Rules) (packets : List Packet) (commands : List Command) (n places start stop : ℕ) (j : JournalView) : Type 0 where
+  pub onward : start ≤ stop
+  pub within : stop ≤ length commands
+  pub next : stop < length commands → Going rules packets (take (stop + 1) commands) n places j
+  pub last : length commands ≤ stop → IsLast rules packets commands n places j
+
+-- a life may begin at a place of the commands: its versions are prepared, those before it were obeyed, and unless a count
+-- was lost the shares have what the journal's outcomes come to
+pub record Begins {S : Type 0} (pick_of : S → ℕ → Pick) (rules : Rules) (versions : List (Readied S)) (packets : List Packet) (commands : List Command) (n places start : ℕ) (j : JournalView) (lost : Bool) (shares : Counted) : Type 0 where
+  pub good : AreGood pick_of rules versions
+  pub within : start ≤ length commands
+  pub going : Going rules packets (take start commands) n places j
+  pub some : 0 < shares.parts
+  pub counts : AreRead packets → Counts lost shares j.outcomes
+
+-- one life of a node as contracts see it: what its threads share, the place of its first command, and the parts of the
+-- counts that are left to its driver
+pub record LifeView (S H : Type 0) : Type 0 where
+  pub setup : Fixed S H
+  pub catalogue : Pools
+  pub packets : List Packet
+  pub commands : List Command
+  pub node : ℕ
+  pub ring : ℕ
+  pub start : ℕ
+  pub parts : ℕ
+
+-- a life ended, with shares of so many parts that have what the journal's outcomes come to then
+pub record IsLived (rules : Rules) (packets : List Packet) (commands : List Command) (n places start parts stop : ℕ) (j : JournalView) (lost : Bool) (shares : Counted) : Type 0 where
+  pub ended : IsEnded rules packets commands n places start stop j
+  pub parts_are : shares.parts ≡ parts
+  pub counts : AreRead packets → Counts lost shares j.outcomes

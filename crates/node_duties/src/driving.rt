@@ -1,0 +1,182 @@
+//! What the driver does in one life.
+ghost use Rattle.std.specs.Prelude.{◌≡◌, ◌≤◌, ◌<◌, ◌++◌, ◌∷◌, [], ℕ, Bool, false, List, take, length, IfOk, OnOk, is_some, slice_get, slice_index_or};
+ghost use Rattle.pool_versions.specs.Pool.{version_at};
+ghost use Rattle.cluster_core.specs.Setups.{Fixed, rules_for};
+ghost use Rattle.cluster_node.specs.declared.packets.Packet.{Packet};
+ghost use Rattle.node_records.specs.declared.command.Command.{Command};
+ghost use Rattle.node_records.specs.declared.command.Command.TheVariants.{Publish, Offer};
+ghost use Rattle.node_records.specs.Journals.{JournalView};
+ghost use Rattle.stats_book.specs.Counts.{Counted};
+ghost use Rattle.node_duties.specs.Counts.{AreRead, Counts, with_came, with_drop};
+ghost use Rattle.node_duties.specs.Going.{Going, IsDriven};
+
+use crate::fault::RunFault;
+use crate::plan::{Plan, Progress};
+use crate::post::Desk;
+use crate::ring::Inputs;
+use crate::tally::Tally;
+use cluster_core::Setup;
+use cluster_node::{Outcome, Packet};
+use hash_laws::FlowHash;
+use node_records::{Command, Journal};
+use pool_versions::Catalogue;
+use selection::Scheme;
+use stats_book::{Names, StatsBook};
+use std::sync::{Mutex, Wait};
+
+// Whether the catalogue has a version of this number.
+fn knows(catalogue: &Catalogue, number: u32) -> bool
+    ensures { result ≡ is_some (version_at number catalogue.now.versions) }
+{
+    catalogue.get(number).is_some()
+}
+
+// A version is installed, and then shown to the workers. The answer is the newest one then.
+fn publish<S: Scheme, H: FlowHash>(
+    journal: &mut Journal,
+    setup: &Setup<S, H>,
+    catalogue: &Catalogue,
+    desk: &mut Desk<'_>,
+    newest: u32,
+    number: u32,
+) -> Result<u32, RunFault>
+    ensures going { let rules = rules_for (λ s z. S.pick s z) (λ h. H.plain h) setup.now catalogue.now in
+        (packets : List Packet) (cs : List Command) (n : ℕ) (places : ℕ) → Going rules packets cs n places journal.old → OnOk result (Going rules packets (cs ++ Publish number ∷ []) n places journal.new) }
+    ensures counts { (lost : Bool) (shares : Counted) → Counts lost shares journal.old.outcomes → OnOk result (Counts lost shares journal.new.outcomes) }
+{
+    let _ = setup.workers();
+    match journal.install(knows(catalogue, number), number) {
+        Ok(Outcome::Installed) => match desk.publish(number) {
+            Ok(()) => Ok(number),
+            Err(_) => Err(RunFault::Foreign),
+        },
+        Ok(_) => Ok(newest),
+        Err(_) => Err(RunFault::Memory),
+    }
+}
+
+// Counts that a packet came, if it is there.
+fn count_arrival<B: Names, R: Wait>(
+    rt: &R,
+    book: &Mutex<StatsBook<B>>,
+    tally: &mut Tally<B>,
+    packets: &[Packet],
+    packet: u32,
+)
+    requires { 0 < tally.old.shares.parts }
+    ensures parts { tally.new.shares.parts ≡ tally.old.shares.parts }
+    ensures lost { tally.new.lost ≡ false → (tally.old.lost ≡ false) × (tally.new.shares ≡ with_came (slice_get packets.now packet) tally.old.shares) }
+{
+    match packets.get(packet as usize) {
+        None => (),
+        Some(_) => tally.receive(rt, book),
+    }
+}
+
+// Counts what an arrival comes to, if it comes to a drop.
+fn count_drop<B: Names, R: Wait>(
+    rt: &R,
+    book: &Mutex<StatsBook<B>>,
+    tally: &mut Tally<B>,
+    outcome: &Outcome,
+)
+    requires { 0 < tally.old.shares.parts }
+    ensures parts { tally.new.shares.parts ≡ tally.old.shares.parts }
+    ensures lost { tally.new.lost ≡ false → (tally.old.lost ≡ false) × (tally.new.shares ≡ with_drop outcome.now tally.old.shares) }
+{
+    if let Outcome::Dropped { cause, .. } = *outcome {
+        tally.drop_one(rt, book, cause);
+    }
+}
+
+// A packet arrives. Where it is there it is counted first, and as dropped once it is.
+fn offer<S: Scheme, H: FlowHash, G, B: Names, R: Wait>(
+    rt: &R,
+    plan: Plan<'_, S, H, G, B>,
+    journal: &mut Journal,
+    tally: &mut Tally<B>,
+    inputs: &mut Inputs,
+    packet: u32,
+) -> Result<(), RunFault>
+    requires { 0 < tally.old.shares.parts }
+    ensures going { let rules = rules_for (λ s z. S.pick s z) (λ h. H.plain h) plan.entry.setup.now plan.entry.catalogue.now in
+        (cs : List Command) (n : ℕ) (places : ℕ) → Going rules plan.entry.packets.now cs n places journal.old → OnOk result (Going rules plan.entry.packets.now (cs ++ Offer packet ∷ []) n places journal.new) }
+    ensures parts { tally.new.shares.parts ≡ tally.old.shares.parts }
+    ensures counts { AreRead plan.entry.packets.now → Counts tally.old.lost tally.old.shares journal.old.outcomes → OnOk result (Counts tally.new.lost tally.new.shares journal.new.outcomes) }
+{
+    let _ = plan.catalogue.size();
+    count_arrival(rt, plan.book, tally, plan.packets, packet);
+    match journal.arrive(&plan.setup.hash(), plan.packets, packet, inputs) {
+        Ok(outcome) => {
+            count_drop(rt, plan.book, tally, &outcome);
+            Ok(())
+        }
+        Err(_) => Err(RunFault::Memory),
+    }
+}
+
+// The command at a place.
+fn command_at(commands: &[Command], at: usize) -> Command
+    requires { at < length commands.now }
+    ensures { (d : Command) → slice_index_or commands.now at d ≡ result }
+{
+    commands[at]
+}
+
+/// Obeys the commands from one place on, up to a restart or the end of the list.
+pub fn drive<S: Scheme, H: FlowHash, G, B: Names, R: Wait>(
+    rt: &R,
+    plan: Plan<'_, S, H, G, B>,
+    progress: Progress<B>,
+    desk: &mut Desk<'_>,
+    inputs: &mut Inputs,
+) -> Result<Progress<B>, RunFault>
+    requires within { progress.at ≤ length plan.commands.now }
+    requires going { let rules = rules_for (λ s z. S.pick s z) (λ h. H.plain h) plan.setup.now plan.catalogue.now in Going rules plan.packets.now (take progress.at plan.commands.now) plan.node plan.ring progress.journal }
+    requires some { 0 < progress.tally.shares.parts }
+    requires counts { AreRead plan.packets.now → Counts progress.tally.lost progress.tally.shares progress.journal.outcomes }
+    ensures driven { let rules = rules_for (λ s z. S.pick s z) (λ h. H.plain h) plan.entry.setup.now plan.entry.catalogue.now in IfOk result (λ d. IsDriven rules plan.entry.packets.now plan.entry.commands.now plan.entry.node plan.entry.ring progress.at d.at d.journal) }
+    ensures parts { IfOk result (λ d. d.tally.shares.parts ≡ progress.tally.shares.parts) }
+    ensures counts { AreRead plan.entry.packets.now → IfOk result (λ d. Counts d.tally.lost d.tally.shares d.journal.outcomes) }
+{
+    let Progress {
+        journal,
+        newest,
+        at: from,
+        tally,
+    } = progress;
+    let mut journal = journal;
+    let mut newest = newest;
+    let mut tally = tally;
+    for at in from..plan.commands.len() {
+        match command_at(plan.commands, at) {
+            Command::Publish(number) => {
+                newest = publish(
+                    &mut journal,
+                    plan.setup,
+                    plan.catalogue,
+                    desk,
+                    newest,
+                    number,
+                )?;
+            }
+            Command::Offer(packet) => {
+                offer(rt, plan, &mut journal, &mut tally, inputs, packet)?;
+            }
+            Command::Restart => {
+                return Ok(Progress {
+                    journal,
+                    newest,
+                    at,
+                    tally,
+                });
+            }
+        }
+    }
+    Ok(Progress {
+        journal,
+        newest,
+        at: plan.commands.len(),
+        tally,
+    })
+}

@@ -1,0 +1,31 @@
+//! What is called round each serving.
+use stats_book::Stats;
+
+/// Is called by a worker round each serving, in the worker's own thread: a place for tests and for watchers.
+/// `nth` counts that worker's servings in its life, from 0.
+///
+/// Nothing is held over a call, so a gate may take its time; the worker waits for it.
+pub trait Gate {
+    /// The worker has taken a packet out of its ring and has not looked at the board for it yet.
+    fn before(&self, node: u16, worker: u16, nth: u64);
+
+    /// The packet was served and counted. `stats` are the counts of the whole run, taken in one step with that count. Where
+    /// memory was refused in the serving, this call doesn't come.
+    fn counted(&self, node: u16, worker: u16, stats: Stats);
+
+    /// The packet was served, and what it came to was sent on. Where memory was refused in the serving, this call comes
+    /// all the same, and is the worker's last.
+    fn after(&self, node: u16, worker: u16, nth: u64);
+}
+
+/// Does nothing.
+#[derive(Clone, Copy, Drop)]
+pub struct OpenGate;
+
+impl Gate for OpenGate {
+    fn before(&self, _node: u16, _worker: u16, _nth: u64) {}
+
+    fn counted(&self, _node: u16, _worker: u16, _stats: Stats) {}
+
+    fn after(&self, _node: u16, _worker: u16, _nth: u64) {}
+}

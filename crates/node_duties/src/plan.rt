@@ -1,0 +1,86 @@
+//! What all threads of a node's run share.
+ghost use Rattle.std.specs.Prelude.{◌≡◌, ◌<◌, ◌≤◌, ◌+◌, [], length};
+ghost use Rattle.node_duties.specs.Counts.{counted};
+
+use crate::tally::Tally;
+use cluster_core::Setup;
+use cluster_node::Packet;
+use hash_laws::FlowHash;
+use node_records::{Command, Journal};
+use pool_versions::Catalogue;
+use selection::{PreparedVersions, Scheme};
+use stats_book::{Names, Shares, StatsBook};
+use std::alloc::AllocError;
+use std::sync::Mutex;
+
+/// What a node is to do, beside which others may run, and its shares of the counts. By its type the node is there, a ring
+/// has places, nothing is counted on the shares yet, and they have a part for its driver and one for each worker.
+#[derive(Drop)]
+pub struct Task<'e, S: Scheme, H: FlowHash, G, B: Names> {
+    /// The cluster.
+    pub setup: &'e Setup<S, H>,
+    /// Its versions.
+    pub catalogue: &'e Catalogue,
+    /// The packets that the commands offer, by number.
+    pub packets: &'e [Packet],
+    /// What the node's driver is told to do.
+    pub commands: &'e [Command],
+    /// What is called round each serving.
+    pub gate: &'e G,
+    /// Where all threads count.
+    pub book: &'e Mutex<StatsBook<B>>,
+    /// The node's place among the cluster's nodes.
+    pub node: u16,
+    /// The places of a ring.
+    pub ring: u32,
+    /// What the node's threads count on.
+    pub shares: Shares<B>,
+    pub ghost there: { node < length setup.now.nodes },
+    pub ghost some: { 0 < ring },
+    pub ghost limit: { ring ≤ 65536 },
+    pub ghost parts: { shares.parts ≡ setup.now.workers + 1 },
+    pub ghost fresh: { shares ≡ counted shares.parts [] },
+}
+
+/// What all threads of a node's run share. None of them changes anything but the book.
+pub struct Plan<'e, S: Scheme, H: FlowHash, G, B: Names> {
+    /// The cluster.
+    pub setup: &'e Setup<S, H>,
+    /// Its versions.
+    pub catalogue: &'e Catalogue,
+    /// Those that the commands publish, prepared.
+    pub versions: &'e PreparedVersions<S>,
+    /// The packets that the commands offer, by number.
+    pub packets: &'e [Packet],
+    /// What the node's driver is told to do.
+    pub commands: &'e [Command],
+    /// What is called round each serving.
+    pub gate: &'e G,
+    /// Where all threads count.
+    pub book: &'e Mutex<StatsBook<B>>,
+    /// The node's place among the cluster's nodes.
+    pub node: u16,
+    /// The places of a ring.
+    pub ring: u32,
+}
+
+impl<'e, S: Scheme, H: FlowHash, G, B: Names> Clone for Plan<'e, S, H, G, B> {
+    fn clone(&self) -> Result<Self, AllocError> {
+        Ok(*self)
+    }
+}
+
+impl<'e, S: Scheme, H: FlowHash, G, B: Names> Copy for Plan<'e, S, H, G, B> {}
+
+/// How far a node got in its commands.
+#[derive(Drop)]
+pub struct Progress<B: Names> {
+    /// What its driver has written.
+    pub journal: Journal,
+    /// The newest version installed, 0 where there is none.
+    pub newest: u32,
+    /// The place of the next command, or that of the restart at which a life ends.
+    pub at: usize,
+    /// What was counted for what the driver has written.
+    pub tally: Tally<B>,
+}

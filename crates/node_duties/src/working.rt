@@ -1,0 +1,205 @@
+//! What a worker's thread does.
+ghost use Rattle.std.specs.Prelude.{◌≡◌, ◌<◌, ◌++◌, ◌∷◌, [], ℕ, IfOk, OnOk};
+ghost use Rattle.cluster_node.specs.Rules.{Rules};
+ghost use Rattle.cluster_core.specs.Setups.{Fixed, rules_for};
+ghost use Rattle.cluster_core.specs.Runs.{AreGood};
+ghost use Rattle.node_records.specs.Works.{WorkView, IsOf};
+ghost use Rattle.node_duties.specs.Counts.{IsWork};
+
+use crate::gate::Gate;
+use crate::plan::Plan;
+use crate::post::Post;
+use crate::promise::WorkerRun;
+use crate::ring::{Idle, Message, Output, pop_waiting, push_waiting};
+use crate::tally::{Part, Tally};
+use cluster_node::{Item, Outcome};
+use connection_table::ConnTable;
+use forwarder::{Choice, Served};
+use hash_laws::FlowHash;
+use node_records::{Step, WorkerRecord};
+use rtrb::{Consumer, Producer};
+use selection::Scheme;
+use stats_book::Names;
+use std::alloc::{AllocError, Global};
+use std::sync::Wait;
+
+/// What a worker's thread owns.
+#[derive(Drop)]
+pub struct Outfit<'a, B: Names> {
+    /// Its seat at the board.
+    pub post: Post<'a>,
+    /// Its end of the driver's ring.
+    pub ring: Consumer<Message>,
+    /// Its end of the mux's ring.
+    pub out: Producer<Output>,
+    /// Its part of the counts.
+    pub part: Part<B>,
+    /// Its number among the node's workers.
+    pub number: u16,
+}
+
+// A worker's ends of what it shares with other threads.
+#[derive(Drop)]
+struct Ends<'a> {
+    post: Post<'a>,
+    ring: Consumer<Message>,
+    out: Producer<Output>,
+    number: u16,
+}
+
+// Looks and steps until the packet was served.
+fn serve_one<S: Scheme, T: ConnTable, R: Wait>(
+    rt: &R,
+    post: &mut Post<'_>,
+    worker: &mut WorkerRecord<'_, S, T>,
+    item: &Item,
+) -> Result<Served, AllocError>
+    ensures of { (rules : Rules) → IsOf (λ s z. S.pick s z) rules worker.old → IsOf (λ s z. S.pick s z) rules worker.new }
+    ensures handled { IfOk result (λ s. (version : ℕ) × (worker.new.handled ≡ worker.old.handled ++ record { item = item.now; version = version; choice = s.choice; unstored = s.unstored } ∷ [])) }
+{
+    let mut idle = Idle::new();
+    for _ in rt.forever() {
+        let number = post.look();
+        match worker.handle(number, item)? {
+            Step::Done(served) => return Ok(served),
+            Step::Behind => idle.wait(),
+        }
+    }
+    unreachable!()
+}
+
+// Sends the packet on, if it goes anywhere.
+fn send_on<R: Wait>(
+    rt: &R,
+    out: &mut Producer<Output>,
+    node: u16,
+    worker: u16,
+    item: &Item,
+    served: &Served,
+) {
+    if let Choice::Forward { backend, origin } = served.choice {
+        let sent = Outcome::Forward {
+            node,
+            worker,
+            packet: item.packet,
+            flow: item.flow,
+            backend,
+            origin,
+        };
+        push_waiting(rt, out, Output::Send(sent));
+    }
+}
+
+// Serves one packet between the calls of the gate, sends it on, and counts it. Nothing is counted where memory was refused.
+fn serve_gated<S: Scheme, H: FlowHash, T: ConnTable, G: Gate, B: Names, R: Wait>(
+    rt: &R,
+    plan: Plan<'_, S, H, G, B>,
+    ends: &mut Ends<'_>,
+    run: &mut WorkerRun<'_, S, T, B>,
+    item: &Item,
+    nth: u64,
+) -> Result<(), AllocError>
+    requires { 0 < run.old.tally.shares.parts }
+    ensures { (rules : Rules) → IsWork (λ s z. S.pick s z) rules run.old.record run.old.tally.lost run.old.tally.shares →
+        OnOk result (IsWork (λ s z. S.pick s z) rules run.new.record run.new.tally.lost run.new.tally.shares) }
+{
+    plan.gate.before(plan.node, ends.number, nth);
+    let WorkerRun { record, tally } = run;
+    match serve_one(rt, &mut ends.post, record, item) {
+        Ok(served) => {
+            send_on(rt, &mut ends.out, plan.node, ends.number, item, &served);
+            let stats = tally.serve_one(rt, plan.book, served.choice);
+            plan.gate.counted(plan.node, ends.number, stats);
+            plan.gate.after(plan.node, ends.number, nth);
+            Ok(())
+        }
+        Err(refusal) => {
+            plan.gate.after(plan.node, ends.number, nth);
+            Err(refusal)
+        }
+    }
+}
+
+// A worker that has handled and counted nothing.
+fn begin<'e, S: Scheme, H: FlowHash, T: ConnTable, G, B: Names>(
+    alloc: Global,
+    plan: Plan<'e, S, H, G, B>,
+    part: Part<B>,
+) -> Result<WorkerRun<'e, S, T, B>, AllocError>
+    requires { AreGood (λ s z. S.pick s z) (rules_for (λ s z. S.pick s z) (λ h. H.plain h) plan.setup.now plan.catalogue.now) plan.versions.now }
+    ensures { IfOk result (λ w. IsWork (λ s z. S.pick s z) (rules_for (λ s z. S.pick s z) (λ h. H.plain h) plan.entry.setup.now plan.entry.catalogue.now) w.record w.tally.lost w.tally.shares) }
+{
+    let record = WorkerRecord::make(alloc, plan.setup, plan.catalogue, plan.versions)?;
+    Ok(WorkerRun {
+        record,
+        tally: Tally::of_part(part),
+    })
+}
+
+// Serves what comes, up to the closing mark or until memory is refused.
+fn serve_all<'e, S: Scheme, H: FlowHash, T: ConnTable, G: Gate, B: Names, R: Wait>(
+    rt: &R,
+    alloc: Global,
+    plan: Plan<'e, S, H, G, B>,
+    ends: &mut Ends<'_>,
+    part: Part<B>,
+) -> Result<WorkerRun<'e, S, T, B>, AllocError>
+    requires { AreGood (λ s z. S.pick s z) (rules_for (λ s z. S.pick s z) (λ h. H.plain h) plan.setup.now plan.catalogue.now) plan.versions.now }
+    ensures { IfOk result (λ w. IsWork (λ s z. S.pick s z) (rules_for (λ s z. S.pick s z) (λ h. H.plain h) plan.entry.setup.now plan.entry.catalogue.now) w.record w.tally.lost w.tally.shares) }
+{
+    let mut run: WorkerRun<'e, S, T, B> = begin(alloc, plan, part)?;
+    let mut nth = 0u64;
+    for _ in rt.forever() {
+        match pop_waiting(rt, &mut ends.ring) {
+            Message::Close => return Ok(run),
+            Message::Serve(item) => {
+                serve_gated(rt, plan, ends, &mut run, &item, nth)?;
+                nth = nth.wrapping_add(1);
+            }
+        }
+    }
+    unreachable!()
+}
+
+// Takes what comes, up to the closing mark.
+fn drain<R: Wait>(rt: &R, ring: &mut Consumer<Message>) {
+    for _ in rt.forever() {
+        match pop_waiting(rt, ring) {
+            Message::Serve(_) => (),
+            Message::Close => return,
+        }
+    }
+    unreachable!()
+}
+
+/// Serves what comes through the ring, up to its closing mark, and sends one. A worker that was refused memory takes the
+/// rest without serving it.
+pub fn work<'e, S: Scheme, H: FlowHash, T: ConnTable, G: Gate, B: Names, R: Wait>(
+    rt: &R,
+    alloc: Global,
+    plan: Plan<'e, S, H, G, B>,
+    outfit: Outfit<'_, B>,
+) -> Result<WorkerRun<'e, S, T, B>, AllocError>
+    requires { AreGood (λ s z. S.pick s z) (rules_for (λ s z. S.pick s z) (λ h. H.plain h) plan.setup.now plan.catalogue.now) plan.versions.now }
+    ensures { IfOk result (λ w. IsWork (λ s z. S.pick s z) (rules_for (λ s z. S.pick s z) (λ h. H.plain h) plan.entry.setup.now plan.entry.catalogue.now) w.record w.tally.lost w.tally.shares) }
+{
+    let Outfit {
+        post,
+        ring,
+        out,
+        part,
+        number,
+    } = outfit;
+    let mut ends = Ends {
+        post,
+        ring,
+        out,
+        number,
+    };
+    let run = serve_all(rt, alloc, plan, &mut ends, part);
+    if run.is_err() {
+        drain(rt, &mut ends.ring);
+    }
+    push_waiting(rt, &mut ends.out, Output::Close);
+    run
+}

@@ -1,0 +1,79 @@
+-- What is kept of a record that has one event more.
+use Rattle.std.proofs.Common.{◌≡◌, ℕ, zero, suc, ◌+◌, Bool, true, false, List, [], ◌∷◌, ◌++◌, length, reverse, string_bytes, Option, Some, None, refl, sym, ap, ◌∙◌, subst, arith}
+use Rattle.std.specs.Prelude.{◌==◌, if◌then◌else◌, slice_get}
+use Rattle.std.proofs.lemmas.List.{reverse-append, length-reverse}
+use Rattle.std.proofs.lemmas.Bool.{eqb-true, eq-eqb, true≢false}
+use Rattle.cluster_node.specs.declared.events.Said.{Said}
+use Rattle.cluster_node.specs.declared.outcomes.Outcome.{Outcome}
+use Rattle.cluster_core.specs.Histories.{outcomes_of}
+use Rattle.cluster_run.specs.declared.counts.Counts.{Counts}
+use Rattle.cluster_run.specs.Noting.{CountsAre, totals_by}
+use Rattle.cluster_run.proofs.Counted.{counted_turned, outcomes_turned}
+use Rattle.listing.specs.Lines.{line_text, listing}
+use Rattle.listing.proofs.Walks.{lines_push}
+use Rattle.scenario_play.specs.declared.notes.Notebook.{Notebook}
+use Rattle.scenario_play.specs.declared.asking.Asked.{Asked}
+use Rattle.scenario_play.specs.declared.asking.Asked.TheVariants.{Report, Events}
+use Rattle.scenario_play.specs.Notebooks.{Lists, KeepsTwo, AreOf}
+use Rattle.scenario_play.specs.Answers.{totals_in}
+
+pub none_noted : (n : Notebook) → CountsAre [] n.counts → n.number ≡ 0 → string_bytes n.lines ≡ [] → n.one ≡ None → n.other ≡ None → (asked : Asked) → AreOf asked [] n
+none_noted n c k l o p (Report true) = (c, record { number = k; lines = l })
+none_noted n c k l o p (Report false) = (c, tt)
+none_noted n c k l o p (Events i j) = record { number = k; one_is = o; other_is = p }
+
+pub lists_more : (past : List Said) (s : Said) (n m : Notebook) → Lists past n → m.number ≡ n.number + 1 → string_bytes m.lines ≡ string_bytes n.lines ++ line_text n.number s → Lists (s ∷ past) m
+lists_more past s n m l e f = record {
+  number = omega (arith, e, l.number);
+  lines = f
+      ∙ ap (λ (text : List ℕ). text ++ line_text n.number s) l.lines
+      ∙ ap (λ (k : ℕ). listing (reverse past) ++ line_text k s) (l.number ∙ sym (length-reverse past) ∙ (let e : length (reverse past) ≡ 0 + length (reverse past) = omega arith in e))
+      ∙ sym (lines_push 0 (reverse past) s)
+      ∙ ap listing (sym (reverse-append (s ∷ []) past));
+}
+
+-- an outcome behind others
+at_end : (os : List Outcome) (o : Outcome) → slice_get (os ++ o ∷ []) (length os) ≡ Some o
+at_end [] o = refl
+at_end (x ∷ os) o = at_end os o
+
+not_at_end : (os : List Outcome) (o : Outcome) (k : ℕ) → (k ≡ length os → ⊥) → slice_get (os ++ o ∷ []) k ≡ slice_get os k
+not_at_end [] o zero h = absurd (h refl)
+not_at_end [] o (suc k) h = refl
+not_at_end (x ∷ os) o zero h = refl
+not_at_end (x ∷ os) o (suc k) h = not_at_end os o k (λ e. h (ap suc e))
+
+outcomes_more : (past : List Said) (s : Said) → outcomes_of (reverse (s ∷ past)) ≡ outcomes_of (reverse past) ++ s.outcome ∷ []
+outcomes_more past s = outcomes_turned (s ∷ past) ∙ reverse-append (s.outcome ∷ []) (outcomes_of past) ∙ ap (λ (l : List Outcome). l ++ s.outcome ∷ []) (sym (outcomes_turned past))
+
+outcomes_length : (past : List Said) → length (outcomes_of (reverse past)) ≡ length past
+outcomes_length past = ap length (outcomes_turned past) ∙ length-reverse (outcomes_of past) ∙ same past
+  where
+    same : (l : List Said) → length (outcomes_of l) ≡ length l
+    same [] = refl
+    same (s ∷ l) = ap suc (same l)
+
+kept_more : (past : List Said) (s : Said) (number asked : ℕ) (was : Option Outcome) → number ≡ length past → was ≡ slice_get (outcomes_of (reverse past)) asked
+    → (if number == asked then Some s.outcome else was) ≡ slice_get (outcomes_of (reverse (s ∷ past))) asked
+kept_more past s number asked was e f = go (number == asked) refl
+  where
+    go : (b : Bool) → (number == asked) ≡ b → (if b then Some s.outcome else was) ≡ slice_get (outcomes_of (reverse (s ∷ past))) asked
+    go true h =
+        let at : length (outcomes_of (reverse past)) ≡ asked = outcomes_length past ∙ sym e ∙ eqb-true number asked h in
+        sym (ap (λ (k : ℕ). slice_get (outcomes_of (reverse past) ++ s.outcome ∷ []) k) (sym at) ∙ at_end (outcomes_of (reverse past)) s.outcome) ∙ ap (λ (l : List Outcome). slice_get l asked) (sym (outcomes_more past s))
+    go false h =
+        f ∙ sym (not_at_end (outcomes_of (reverse past)) s.outcome asked (λ k. true≢false (sym (eq-eqb number asked (e ∙ sym (outcomes_length past) ∙ sym k)) ∙ h))) ∙ ap (λ (l : List Outcome). slice_get l asked) (sym (outcomes_more past s))
+
+pub keeps_more : (one other : ℕ) (past : List Said) (s : Said) (n m : Notebook) → KeepsTwo one other past n → m.number ≡ n.number + 1 → m.one ≡ (if n.number == one then Some s.outcome else n.one) → m.other ≡ (if n.number == other then Some s.outcome else n.other) → KeepsTwo one other (s ∷ past) m
+keeps_more one other past s n m k e f g = record {
+  number = omega (arith, e, k.number);
+  one_is = f ∙ kept_more past s n.number one n.one k.number k.one_is;
+  other_is = g ∙ kept_more past s n.number other n.other k.number k.other_is;
+}
+
+-- the totals of a history, by the counts of its record
+pub totals_told : (past : List Said) (c : Counts) → CountsAre (outcomes_of past) c → totals_by c ≡ totals_in (outcomes_of (reverse past))
+totals_told past c h = of_fields (outcomes_of (reverse past)) (subst (λ (l : List Outcome). CountsAre l c) (sym (outcomes_turned past)) (counted_turned (outcomes_of past) c h))
+  where
+    of_fields : (os : List Outcome) → CountsAre os c → totals_by c ≡ totals_in os
+    of_fields os h = rw (sym h.received, sym h.forwarded, sym h.dropped, sym h.placed, sym h.taken, sym h.refused) refl

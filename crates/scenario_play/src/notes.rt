@@ -1,0 +1,100 @@
+//! What is kept of a run's events for what is asked of it.
+ghost use Rattle.std.specs.Prelude.{◌≡◌, ◌==◌, ◌+◌, ◌∷◌, [], List, Option, Some, IfOk, OnOk, if◌then◌else◌};
+ghost use Rattle.cluster_node.specs.declared.events.Event.{Event};
+ghost use Rattle.scenario_play.specs.declared.asking.Asked.{Asked};
+ghost use Rattle.cluster_node.specs.declared.events.Said.{Said};
+ghost use Rattle.cluster_node.specs.declared.packets.Packet.{Packet};
+ghost use Rattle.cluster_run.specs.Noting.{said_by};
+
+use crate::asking::Asked;
+use cluster_node::{Event, Outcome};
+use cluster_run::{Counts, Notes};
+use listing::push_line;
+use std::alloc::{AllocError, Global};
+
+/// For a report the counts, and the lines where it has them; else the outcomes of two events. How many events there were
+/// is kept where it is needed.
+#[derive(Drop)]
+pub(crate) struct Notebook {
+    pub(crate) counts: Counts,
+    pub(crate) lines: String,
+    pub(crate) number: u64,
+    pub(crate) one: Option<Outcome>,
+    pub(crate) other: Option<Outcome>,
+}
+
+// The number of the next event. Where it has no room it is refused, as memory is.
+fn next(number: u64) -> Result<u64, AllocError>
+    ensures { IfOk result (λ n. n ≡ number + 1) }
+{
+    match number.checked_add(1) {
+        Some(next) => Ok(next),
+        None => Err(AllocError),
+    }
+}
+
+// What is kept of an event, of which there was nothing before: its outcome, where it has the number that is asked for.
+fn kept(was: Option<Outcome>, number: u64, asked: u64, outcome: &Outcome) -> Option<Outcome>
+    ensures { result ≡ (if number == asked then Some outcome.now else was) }
+{
+    if number == asked { Some(*outcome) } else { was }
+}
+
+impl Notebook {
+    ghost use Rattle.scenario_play.specs.Notebooks.{Lists, KeepsTwo, AreOf};
+
+    /// Nothing was noted.
+    pub(crate) fn new(alloc: Global) -> Notebook
+        ensures { (asked : Asked) → AreOf asked [] result }
+    {
+        Notebook {
+            counts: Counts::new(),
+            lines: String::new(alloc),
+            number: 0,
+            one: None,
+            other: None,
+        }
+    }
+
+    // The line of an event.
+    fn list(&mut self, event: &Event, outcome: &Outcome) -> Result<(), AllocError>
+        ensures lists { (past : List Said) (packet : Option Packet) → Lists past self.old → OnOk result (Lists (said_by event.now packet outcome.now ∷ past) self.new) }
+        ensures counts { self.new.counts ≡ self.old.counts }
+    {
+        push_line(&mut self.lines, self.number, event, outcome)?;
+        self.number = next(self.number)?;
+        Ok(())
+    }
+
+    // The outcome of an event, where it is one of the two that are asked for.
+    fn keep(&mut self, one: u64, other: u64, outcome: &Outcome) -> Result<(), AllocError>
+        ensures { (past : List Said) (event : Event) (packet : Option Packet) → KeepsTwo one other past self.old → OnOk result (KeepsTwo one other (said_by event packet outcome.now ∷ past) self.new) }
+    {
+        self.one = kept(self.one, self.number, one, outcome);
+        self.other = kept(self.other, self.number, other, outcome);
+        self.number = next(self.number)?;
+        Ok(())
+    }
+}
+
+impl Notes for Notebook {
+    type Asked = Asked;
+
+    ghost use Rattle.scenario_play.specs.Notebooks.{AreOf};
+
+    ghost are_of = { λ asked past notes. AreOf asked past notes };
+
+    fn note(&mut self, asked: &Asked, event: &Event, outcome: &Outcome) -> Result<(), AllocError> {
+        match *asked {
+            Asked::Report { list } => {
+                self.counts.count(outcome)?;
+                if list {
+                    self.list(event, outcome)
+                } else {
+                    Ok(())
+                }
+            }
+            Asked::Events { one, other } => self.keep(one, other, outcome),
+        }
+    }
+}

@@ -1,0 +1,122 @@
+//! What a scheme prepared of some backends, for every version in which they are the up ones.
+ghost use Rattle.std.specs.Prelude.{◌≡◌, ℕ, ◌↔◌, true, IsTrue, IfOk, IfErr, IfSome, List};
+ghost use Rattle.std.specs.Arc.{arc_value};
+ghost use Rattle.pool_versions.specs.Pool.{AscendsByName};
+ghost use Rattle.pool_versions.specs.declared.backend.Backend.{Backend};
+ghost use Rattle.selection.specs.Shared.{Chosen, StandsFor};
+ghost use Rattle.selection.specs.Faults.{IsPrepareFault};
+
+use crate::scheme::{PrepareFault, Scheme};
+use maglev_table::TableSize;
+use pool_versions::Backend;
+use std::alloc::Global;
+use std::marker::Model;
+use std::sync::Arc;
+
+/// Backends that are up, and what a scheme prepared of them.
+#[derive(Drop)]
+pub(crate) struct Choices<S: Scheme> {
+    scheme: S,
+    size: TableSize,
+    ups: Vec<Backend>,
+    prepared: S::Prepared,
+}
+
+impl<S: Scheme> Model for Choices<S> {
+    ghost use Rattle.pool_versions.specs.Pool.{AscendsByName};
+    ghost use Rattle.selection.specs.Shared.{Chosen};
+
+    ghost Value = { Chosen S };
+
+    ghost view = { λ a. record { scheme = a.scheme; size = a.size; ups = a.ups.items } };
+
+    ghost invariant = { λ a. S.is_prepared a.scheme a.size a.ups.items a.prepared × AscendsByName a.ups.items };
+}
+
+// Whether two backends are the same.
+#[tactic(auto, using(crate::proofs::Among::same_iff))]
+fn is_same(backend: &Backend, other: &Backend) -> bool
+    ensures { (result ≡ true) ↔ (backend.now ≡ other.now) }
+{
+    backend == other
+}
+
+// Whether two lists of backends are the same.
+fn are_same(ups: &[Backend], others: &[Backend]) -> bool
+    ensures { (result ≡ true) ↔ (ups.now ≡ others.now) }
+{
+    if ups.len() != others.len() {
+        return false;
+    }
+    for at in 0..ups.len() {
+        if !is_same(&ups[at], &others[at]) {
+            return false;
+        }
+    }
+    true
+}
+
+impl<S: Scheme> Choices<S> {
+    /// Prepares backends that ascend by name.
+    pub(crate) fn make(
+        alloc: Global,
+        scheme: &S,
+        size: TableSize,
+        ups: Vec<Backend>,
+    ) -> Result<Arc<Choices<S>>, PrepareFault>
+        requires { AscendsByName ups.items }
+        ensures ok { IfOk result (λ a. arc_value a ≡ record { scheme = scheme.now; size = size; ups = ups.items }) }
+        ensures err { IfErr result (IsPrepareFault size ups.items) }
+    {
+        let prepared = scheme.prepare(alloc, size, ups.as_slice())?;
+        let choices = Choices {
+            scheme: *scheme,
+            size,
+            ups,
+            prepared,
+        };
+        match Arc::new(alloc, choices) {
+            Ok(shared) => Ok(shared),
+            Err(_) => Err(PrepareFault::Memory),
+        }
+    }
+
+    // Whether this is what an equal scheme prepared of these backends for this size.
+    fn is_of(&self, scheme: &S, size: TableSize, ups: &[Backend]) -> bool
+        ensures { IsTrue result → StandsFor (λ s z b p. S.is_prepared s z b p) scheme.now size ups.now self.now }
+    {
+        self.size.slots() == size.slots()
+            && self.scheme == *scheme
+            && are_same(self.ups.as_slice(), ups)
+    }
+
+    /// What an equal scheme prepared of these backends for this size, if this is it.
+    pub(crate) fn shared(
+        this: &Arc<Choices<S>>,
+        scheme: &S,
+        size: TableSize,
+        ups: &[Backend],
+    ) -> Option<Arc<Choices<S>>>
+        ensures { IfSome result (λ a. StandsFor (λ s z b p. S.is_prepared s z b p) scheme.now size ups.now (arc_value a)) }
+    {
+        if !this.is_of(scheme, size, ups) {
+            return None;
+        }
+        Arc::try_clone(this).ok()
+    }
+
+    /// The backends, in ascending byte order of name.
+    pub(crate) fn ups(&self) -> &[Backend]
+        ensures ups { result.now ≡ self.now.ups }
+        ensures ascending { AscendsByName self.now.ups }
+    {
+        self.ups.as_slice()
+    }
+
+    /// What the scheme prepared.
+    pub(crate) fn prepared(&self) -> &S::Prepared
+        ensures { S.is_prepared self.now.scheme self.now.size self.now.ups result.now }
+    {
+        &self.prepared
+    }
+}
