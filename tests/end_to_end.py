@@ -8,6 +8,7 @@ import errno
 import os
 import pathlib
 import random
+import shlex
 import shutil
 import struct
 import subprocess
@@ -42,9 +43,11 @@ def misused(name, arguments):
     check(name, status == 2 and out == b"" and err != b"", f"{status} {out!r} {err!r}")
 
 
-def table_text(size, names, plain):
+def table_text(size, words, plain):
     """The table of the definition, worked out in the plainest way."""
-    names = sorted(names)
+    weights = {word.split("*")[0]: int(word.split("*")[1]) if "*" in word else 1 for word in words}
+    names = sorted(weights)
+    turns = [who for number in range(1, 17) for who, name in enumerate(names) if weights[name] >= number]
     lists = []
     for name in names:
         offset = plain(b"o" + name.encode()) % size
@@ -54,7 +57,7 @@ def table_text(size, names, plain):
     nexts = [0] * len(names)
     turn = 0
     while len(owner) < size:
-        who = turn % len(names)
+        who = turns[turn % len(turns)]
         while lists[who][nexts[who]] in owner:
             nexts[who] += 1
         owner[lists[who][nexts[who]]] = who
@@ -74,6 +77,17 @@ def test_table():
     alone = "size 7 backends 1\n" + "".join(f"{slot} A\n" for slot in range(7)) + "count A 7\n"
     prints("table of one name", [*seven, "A"], alone)
     faults("eight names of seven slots", [*seven, *"ABCDEFGH"], "TooMany")
+    prints("table of equal weights", [*seven, "A*4", "B*4", "C*4"], rows)
+    twice = "size 7 backends 3\n0 B\n1 A\n2 B\n3 C\n4 A\n5 C\n6 A\ncount A 3\ncount B 2\ncount C 2\n"
+    prints("table of a name that counts twice", [*seven, "A*2", "B", "C"], twice)
+    prints("the same in another order", [*seven, "C*1", "B", "A*2"], twice)
+    thrice = "size 7 backends 3\n0 A\n1 A\n2 B\n3 C\n4 A\n5 B\n6 A\ncount A 4\ncount B 2\ncount C 1\n"
+    prints("table of a name that counts three times", [*seven, "A*3", "B", "C"], thrice)
+    heavy = "size 7 backends 2\n0 A\n1 A\n2 B\n3 A\n4 A\n5 A\n6 A\ncount A 6\ncount B 1\n"
+    prints("table of a name that counts 16 times", [*seven, "A*16", "B"], heavy)
+    for word in ["A*17", "A*0", "A*", "A*02", "A*1*1", "*2", "A*-1", "A* 1", "A*16 ", "A*4294967297"]:
+        faults(f"the weight of {word}", [*seven, word, "B"], "BadName")
+    faults("a double name of two weights", [*seven, "A*2", "A*3"], "DoubleName")
     faults("a size that isn't listed", ["table", "--size", "8", "--hash", "sum", "A"], "BadSize")
     faults("a hash that isn't listed", ["table", "--size", "7", "--hash", "md5", "A"], "BadHash")
     faults("a double name", [*seven, "A", "A"], "DoubleName")
@@ -93,6 +107,13 @@ def test_table():
     ]:
         words = ["table", "--size", str(slots), "--hash", "fnv", *names]
         prints(f"table of {slots} slots", words, table_text(slots, names, model.fnv))
+    for seed in range(40):
+        source = random.Random(seed)
+        slots = source.choice([7, 13, 251, 251, 1021])
+        names = source.sample([f"web-{number}" for number in range(99)], source.randrange(1, min(slots, 60) + 1))
+        names = [name + source.choice(["", f"*{source.randrange(1, 17)}"]) for name in names]
+        words = ["table", "--size", str(slots), "--hash", "fnv", *names]
+        prints(f"table {seed} of random weights", words, table_text(slots, names, model.fnv))
     status, out, _ = run(["table", "--size", "65537", "--hash", "fnv", "A", "B", "C"])
     check("counts of 65537 slots", status == 0 and out.endswith(b"count A 21846\ncount B 21846\ncount C 21845\n"))
     with tempfile.TemporaryDirectory() as folder:
@@ -123,6 +144,11 @@ def test_pick():
     faults("an input that is too long", words, "TooLong", stdin=b"0" * 524290)
     faults("a double name before the input", [*words, "A"], "DoubleName", stdin=b"4")
     misused("pick with no name", words[:5])
+    weighed = [*words[:5], "A*3", "B", "C"]
+    prints("pick of weighed names", weighed, "tcp 10.0.0.1:1000>192.0.2.1:80 slot 6 backend A\n", stdin=TCP.encode())
+    other = TCP.replace("aecd", "aecd").replace("03e8", "03ee", 1).encode()
+    prints("pick of weighed names at another slot", weighed, "tcp 10.0.0.1:1006>192.0.2.1:80 slot 5 backend B\n", stdin=other)
+    faults("a weight of 17", [*words[:5], "A*17", "B"], "BadName", stdin=TCP.encode())
     done = subprocess.run([PROGRAM, *words], stdin=os.open(str(TOP), os.O_RDONLY), capture_output=True, timeout=600)
     check("an input that can't be read", (done.returncode, done.stdout, done.stderr) == (1, b"", b"fault: Read\n"), repr(done))
 
@@ -135,6 +161,12 @@ def test_compare():
     lines = "".join(f"{slot} A@10.8.0.1 A@10.8.0.9\n" for slot in range(7))
     prints("an address changes", [*words, "--old", "A@10.8.0.1", "--new", "A@10.8.0.9"], "size 7 old 1 new 1 differ 7\n" + lines)
     prints("nobody is up", [*words, "--old", "A@10.8.0.1/down", "--new", "B@10.8.0.1/down"], "size 7 old 0 new 0 differ 0\n")
+    heavier = "size 7 old 3 new 3 differ 3\n0 B@10.8.0.2 A@10.8.0.1\n4 C@10.8.0.3 A@10.8.0.1\n5 A@10.8.0.1 B@10.8.0.2\n"
+    prints("a weight changes", [*words, "--old", old, "--new", "A@10.8.0.1*3 B@10.8.0.2 C@10.8.0.3"], heavier)
+    equal = "A@10.8.0.1*5 B@10.8.0.2*5 C@10.8.0.3*5 D@10.8.0.4*16/down"
+    prints("equal weights, and a down member's", [*words, "--old", old, "--new", equal], "size 7 old 3 new 3 differ 0\n")
+    for word in ["A@10.8.0.1*17", "A@10.8.0.1*0", "A@10.8.0.1*", "A@10.8.0.1*01", "A@10.8.0.1/down*2", "A*2@10.8.0.1", "A@10.8.0.1*2*2"]:
+        faults(f"the member {word}", [*words, "--old", word, "--new", old], "BadMember")
     faults("an empty list", [*words, "--old", "", "--new", old], "BadMember")
     faults("a leading zero", [*words, "--old", "A@10.8.0.01", "--new", old], "BadMember")
     faults("a double member", [*words, "--old", old, "--new", "A@10.8.0.1 A@10.8.0.2"], "DoubleName")
@@ -146,6 +178,7 @@ def test_compare():
 ALL = ["A@10.8.0.1", "B@10.8.0.2", "C@10.8.0.3"]
 B_DOWN = ["A@10.8.0.1", "B@10.8.0.2/down", "C@10.8.0.3"]
 A_DOWN = ["A@10.8.0.1/down", "B@10.8.0.2", "C@10.8.0.3"]
+A_HEAVY = ["A@10.8.0.1*3", "B@10.8.0.2", "C@10.8.0.3"]
 A_MOVED = ["A@10.8.0.9", "B@10.8.0.2", "C@10.8.0.3"]
 HEAD = bytes.fromhex("a1b23c4d0002000400000000000000000000ffff00000065")
 WRITTEN_HEAD = bytes.fromhex("d4c3b2a1020004000000000000000000ffff000065000000")
@@ -244,6 +277,9 @@ def test_simulate_rows():
     simulates("two nodes, two versions", apart, capture("xx"), report(2, 2))
     lists("two nodes, two versions, listed", apart, "xx", {3: "forward A@10.8.0.1 from 1", 5: "forward C@10.8.0.3 from 2"})
     explains("a split", apart, "xx", 3, 5, "split slot 5 version 1 A@10.8.0.1 version 2 C@10.8.0.3")
+    weighed = scenario(["install 0 1", "install 1 2", "take 2"], versions=(ALL, A_HEAVY)).replace("format = 1", "format = 2")
+    lists("a weight changes", weighed, "xx", {3: "forward A@10.8.0.1 from 1", 5: "forward B@10.8.0.2 from 2"})
+    explains("a split by weights", weighed, "xx", 3, 5, "split slot 5 version 1 A@10.8.0.1 version 2 B@10.8.0.2")
     explains("one backend", apart, "yy", 3, 5, "same")
     explains("an event that sends nothing", apart, "xx", 2, 5, "not sent")
     explains("an event that isn't there", apart, "xx", 3, 2**64 - 1, "not sent")
@@ -278,6 +314,45 @@ def test_simulate_rows():
     text = scenario(["install 0 1", "install 1 1", "take 3"], scheme="round")
     lists("round robin", text, "yxx", {3: a1, 5: a1, 7: "forward B@10.8.0.2 from 1"})
     explains("round robin splits", text, "yxx", 7, 5, "split slot 5 version 1 B@10.8.0.2 version 1 A@10.8.0.1")
+
+def test_splits():
+    """`--splits`: which flows are sent to two backends in turn, and why; worked out by hand."""
+
+    def told(port, events, slot, one, other, cause):
+        return f"split tcp 10.0.0.1:{port}>192.0.2.1:80 events {events} slot {slot} version {one} version {other} {cause}\n"
+
+    def counts(flows, down, moved):
+        return f"flows {flows}\nsplit {down + moved}\ndown {down}\nmoved {moved}\n"
+
+    a1, a3, c2 = "1 A@10.8.0.1", "3 A@10.8.0.9", "2 C@10.8.0.3"
+    apart = scenario(["install 0 1", "install 1 2", "take 2"])
+    one = told(1006, "3 5", 5, a1, c2, "moved") + counts(1, 0, 1)
+    simulates("one split", apart, capture("xx"), one + report(2, 2), words=["--splits"])
+    simulates("no split", apart, capture("yy"), counts(1, 0, 0) + report(2, 2), words=["--splits"])
+    _, listing, _, _ = simulated(apart, capture("xx"), ["--list"])
+    whole = listing.decode().replace(report(2, 2), "") + one + report(2, 2)
+    simulates("a listing and a split", apart, capture("xx"), whole, words=["--splits", "--list"])
+    text = scenario(["live 0", "install 0 1", "take 1", "install 0 2", "take 6"])
+    lines = told(1006, "9 15", 5, a1, c2, "moved") + counts(3, 0, 1)
+    simulates("an entry is pushed out", text, capture("xyyxyzx"), lines + report(7, 7), words=["--splits"])
+    text = scenario(["live 0", "install 0 1", "take 1", "install 0 3", "take 1"], [ALL, B_DOWN, A_MOVED])
+    lines = told(1000, "2 5", 6, a1, a3, "down") + counts(1, 1, 0)
+    simulates("one name at two addresses", text, capture("yy"), lines + report(2, 2), words=["--splits"])
+    steps = ["live 0", "install 0 1", "take 1", "install 0 2", "take 1", "install 0 3", "take 1"]
+    lines = told(1000, "2 5", 6, a1, "2 B@10.8.0.2", "down") + counts(1, 1, 0)
+    simulates("down, then back", scenario(steps, [ALL, A_DOWN, ALL]), capture("yyy"), lines + report(3, 3), words=["--splits"])
+    # Last the flow is served under version 3, where A is down, by an entry of version 2, where it was up.
+    text = scenario(["install 0 1", "install 1 2", "take 2", "install 1 3", "take 2"], [ALL, B_DOWN, A_DOWN])
+    lines = told(1006, "3 5", 5, a1, c2, "moved") + told(1006, "5 8", 5, c2, a1, "moved") + told(1006, "8 10", 5, a1, c2, "down")
+    simulates("one flow, three times", text, capture("xxxx"), lines + counts(1, 1, 2) + report(4, 4), words=["--splits"])
+    nobody = [member + "/down" for member in ALL]
+    lines = told(1006, "2 8", 5, a1, "3 C@10.8.0.3", "down") + counts(1, 1, 0)
+    dropped = report(3, 2, drops="drop NoBackend 1\n")
+    simulates("a drop between two", scenario(steps, [ALL, nobody, A_DOWN]), capture("xxx"), lines + dropped, words=["--splits"])
+    text = scenario(["install 0 1", "install 1 1", "take 3"], scheme="round")
+    lines = told(1006, "5 7", 5, a1, "1 B@10.8.0.2", "moved") + counts(2, 0, 1)
+    simulates("a split by turns", text, capture("yxx"), lines + report(3, 3), words=["--splits"])
+
 
 def test_spreading_and_waiting():
     # Under the sum hash y goes to the first of two live nodes, and z to the second.
@@ -394,7 +469,9 @@ def test_simulate_faults():
     good = scenario(["install 0 1", "take 1"])
     stops("no TOML", "format = ", HEAD, "BadToml", None)
     stops("no UTF-8", b"format = 1 # \xff\n", HEAD, "BadToml", None)
-    stops("another format", good.replace("format = 1", "format = 2"), HEAD, "BadFormat", None)
+    stops("another format", good.replace("format = 1", "format = 3"), HEAD, "BadFormat", None)
+    stops("a weight in format 1", good.replace("10.8.0.1", "10.8.0.1*2"), HEAD, "BadMember", None)
+    stops("a weight of 17", good.replace("format = 1", "format = 2").replace("10.8.0.1", "10.8.0.1*17"), HEAD, "BadMember", None)
     stops("an unknown key", "color = 1\n" + good, HEAD, "BadKey", None)
     stops("a member that isn't one", good.replace("10.8.0.1", "10.8.0.01"), HEAD, "BadMember", None)
     stops("a double name", good.replace("B@", "A@"), HEAD, "DoubleName", None)
@@ -554,7 +631,8 @@ def test_verbose_of_a_scenario():
     for name, changed, fault, line in [
         ("no TOML", "format = 1\nsize = \n", "BadToml", "line 2, column 8: "),
         ("no UTF-8", b"format = 1 # \xff\n", "BadToml", "line 1, column 14: "),
-        ("another format", good.replace("format = 1", "format = 2"), "BadFormat", "format, line 1: found 2, expected the number 1\n"),
+        ("another format", good.replace("format = 1", "format = 3"), "BadFormat", "format, line 1: found 3, expected the number 1 or 2\n"),
+        ("a weight in format 1", good.replace("10.8.0.1", "10.8.0.1*2", 1), "BadMember", f'{service}.members[0], line 16: found "A@10.8.0.1*2", expected NAME@ADDRESS or'),
         ("an unknown key", "color = 1\n" + good, "BadKey", f"color, line 1: found 1, expected no key but {root}\n"),
         ("a missing key", good.replace("capacity = 2\n", ""), "BadKey", "capacity is missing, expected a number from 1 to 1000000\n"),
         ("a size", good.replace("size = 7", "size = 8"), "BadKey", "size, line 2: found 8, expected 7, 13, 251, 1021, 8191 or 65537\n"),
@@ -640,10 +718,10 @@ def random_steps(source, nodes, workers):
     return steps
 
 
-def random_scenario(source):
-    """A scenario with all that a scenario may have."""
+def random_scenario(source, weights=("",)):
+    """A scenario with all that a scenario may have; of format 2 where weights are given."""
     nodes, workers = source.randrange(1, 4), source.randrange(1, 5)
-    text = f'format = 1\nsize = {source.choice([7, 13, 251])}\nhash = "{source.choice(["fnv", "sha256", "sum"])}"\n'
+    text = f'format = {1 if weights == ("",) else 2}\nsize = {source.choice([7, 13, 251])}\nhash = "{source.choice(["fnv", "sha256", "sum"])}"\n'
     text += f'scheme = "{source.choice(["maglev", "maglev", "plain", "round"])}"\nspread = "{source.choice(["hash", "turn"])}"\n'
     text += f"workers = {workers}\ncapacity = {source.randrange(1, 5)}\ncheck = {source.choice(['true', 'false'])}\n"
     text += f"nodes = {listed([f'10.9.0.{node}' for node in range(nodes)])}\nsteps = {listed(random_steps(source, nodes, workers))}\n"
@@ -652,7 +730,7 @@ def random_scenario(source):
         for proto, port in [("tcp", 80), ("udp", 53)]:
             if source.random() < 0.9:
                 names = source.sample("ABCDEFG", source.randrange(8))
-                members = [f"{name}@10.8.{source.randrange(2)}.{ord(name)}{source.choice(['', '', '/down'])}" for name in names]
+                members = [f"{name}@10.8.{source.randrange(2)}.{ord(name)}{source.choice(weights)}{source.choice(['', '', '/down'])}" for name in names]
                 text += f'{{ vip = "192.0.2.1", proto = "{proto}", port = {port}, members = {listed(members)} }}, '
         text += "]\n"
     return text
@@ -666,6 +744,8 @@ def test_against_the_model():
         expected = model.Run(text, data)
         whole = expected.listing() + expected.report()
         simulates(f"scenario {seed} of the model", text, data, whole, expected.output(), ["--list"])
+        split = expected.splits() + expected.report()
+        simulates(f"the splits of scenario {seed} of the model", text, data, split, words=["--splits"])
         sends = {place: event[2][2:4] for place, event in enumerate(expected.events) if event[1].startswith("forward")}
         places = list(sends) or [0]
         split = [(a, b) for a in sends for b in sends if sends[a][0] == sends[b][0] and sends[a][1] != sends[b][1]]
@@ -674,6 +754,22 @@ def test_against_the_model():
             answer = with_files(text, data, lambda folder: run(words, cwd=folder))
             line = expected.explained(one, other).encode()
             check(f"explain {one} {other} of scenario {seed}", answer == (0, line, b""), f"{answer} {line!r}")
+
+
+def test_weights_against_the_model():
+    """The same of scenarios of format 2, and the scenarios of format 1 print and write the same where their format is 2."""
+    weights = ("", "", *(f"*{weight}" for weight in range(1, 17)))
+    for seed in range(40):
+        source = random.Random(1000 + seed)
+        text, data = random_scenario(source, weights), random_capture(source)
+        expected = model.Run(text, data)
+        whole = expected.listing() + expected.report()
+        simulates(f"weighed scenario {seed} of the model", text, data, whole, expected.output(), ["--list"])
+        source = random.Random(seed)
+        text, data = random_scenario(source), random_capture(source)
+        expected = model.Run(text, data)
+        whole = expected.listing() + expected.report()
+        simulates(f"scenario {seed} in format 2", text.replace("format = 1", "format = 2"), data, whole, expected.output(), ["--list"])
 
 
 def commands_of(page):
@@ -691,13 +787,15 @@ def commands_of(page):
 def test_examples():
     """Each command of the examples' page prints what stands there, which is what the model says."""
     folder = TOP / "examples"
-    text, data = (folder / "failover.toml").read_text(), (folder / "failover.pcap").read_bytes()
-    expected = model.Run(text, data)
+    data = (folder / "failover.pcap").read_bytes()
+    runs = {f"{name}.toml": model.Run((folder / f"{name}.toml").read_text(), data) for name in ["failover", "larger"]}
     commands = commands_of((folder / "README.md").read_text())
-    check("the examples' commands", [words[1] for words, _ in commands] == ["simulate"] + ["explain"] * 4 + ["run"], repr(commands))
+    kinds = ["simulate"] + ["explain"] * 4 + ["run", "simulate", "explain", "explain"]
+    check("the examples' commands", [words[1] for words, _ in commands] == kinds, repr(commands))
     with tempfile.TemporaryDirectory() as made:
         for (_, command, *words), printed in commands:
             out = pathlib.Path(made) / "sent.pcap"
+            expected = next(run for name, run in runs.items() if f"examples/{name}" in words)
             prints(f"{command} of the examples", [command, *(str(out) if word == out.name else word for word in words)], printed)
             if command == "simulate":
                 check("the examples' listing and report", printed == expected.listing() + expected.report(), printed)
@@ -709,6 +807,34 @@ def test_examples():
         other = pathlib.Path(made) / "in.pcap"
         subprocess.run([sys.executable, str(folder / "make_capture.py"), str(other)], check=True)
         check("the example's capture", other.read_bytes() == data)
+
+
+def test_rolling():
+    """What the page of the rolling change shows is printed, which is what the model says; the picture is drawn of it."""
+    folder = TOP / "examples"
+    text, data = (folder / "rolling.toml").read_text(), (folder / "rolling.pcap").read_bytes()
+    expected = model.Run(text, data)
+    simulates("the rolling change", text, data, expected.splits() + expected.report(), expected.output(), ["--splits"])
+    commands = commands_of((folder / "rolling.md").read_text())
+    names = [words[1] for words, _ in commands]
+    check("the commands of the rolling change", names == ["simulate", "explain", "simulate", "compare", "simulate", "examples/moves.py"], repr(names))
+    check("its last lines", "".join((expected.splits() + expected.report()).splitlines(True)[-15:]) == commands[0][1], commands[0][1])
+    one, other = (int(word) for word in commands[1][0][-2:])
+    check("its line explained", expected.explained(one, other) == commands[1][1], commands[1][1])
+    prints("explain of the rolling change", [str(TOP / word) if "/" in word else word for word in commands[1][0][1:]], commands[1][1])
+    lines = expected.listing().splitlines(True)
+    check("its two events", lines[one] + lines[other] == commands[2][1], commands[2][1])
+    with tempfile.TemporaryDirectory() as made:
+        compared, split, picture, other = (pathlib.Path(made) / name for name in ("compared", "split", "moves.svg", "in.pcap"))
+        words = shlex.split(" ".join(commands[3][0][2:-2]))
+        status, out, _ = run(["compare", *words])
+        check("compare of the rolling change", status == 0 and out.startswith(b"size 1021 old 4 new 6 "), repr(out[:60]))
+        compared.write_bytes(out)
+        split.write_text(expected.splits() + expected.report())
+        subprocess.run([sys.executable, str(folder / "moves.py"), compared, split, "3", "4", picture], check=True)
+        check("the picture", picture.read_bytes() == (folder / "moves.svg").read_bytes())
+        subprocess.run([sys.executable, str(folder / "make_rolling.py"), str(other)], check=True)
+        check("the capture of the rolling change", other.read_bytes() == data)
 
 
 def test_by_tshark():

@@ -32,17 +32,26 @@ def preferences(name, size, plain):
     return [(offset + place * skip) % size for place in range(size)]
 
 
-def filled(names, size, plain):
-    """Which of the names each slot names, the names taking turns in ascending order."""
-    names = sorted(names)
+def filled(weights, size, plain):
+    """Which of the names each slot names, by the names' weights: the turns of a round are written out, pass by pass."""
+    names = sorted(weights)
+    turns = [name for number in range(1, 17) for name in names if weights[name] >= number]
     lists = {name: iter(preferences(name, size, plain)) for name in names}
     owner = {}
     while len(owner) < size:
-        name = names[0]
+        name = turns[0]
         slot = next(slot for slot in lists[name] if slot not in owner)
         owner[slot] = name
-        names = names[1:] + [name]
+        turns = turns[1:] + [name]
     return owner
+
+
+def member_of(word):
+    """The name, the address and the weight of a member word, and whether it is up."""
+    word, down, _ = word.partition("/")
+    word, _, weight = word.partition("*")
+    name, at = word.split("@")
+    return name, at, int(weight or 1), not down
 
 
 def address(text):
@@ -240,11 +249,11 @@ class Run:
             self.serve(node, worker)
 
     def service(self, number, flow):
-        """The up members of a flow's service, as (name, address), in ascending order."""
+        """The up members of a flow's service, as (name, address, weight), in ascending order."""
         for service in self.versions[number]["services"]:
             key = address(service["vip"]), {"tcp": 6, "udp": 17}[service["proto"]], service["port"]
             if key == (flow[4:8], flow[12], int.from_bytes(flow[10:12], "big")):
-                return sorted(tuple(word.split("@")) for word in service["members"] if not word.endswith("/down"))
+                return sorted(member[:3] for member in map(member_of, service["members"]) if member[3])
         return None
 
     def slot(self, flow):
@@ -253,13 +262,13 @@ class Run:
     def chosen(self, ups, flow, turn):
         scheme = self.scenario["scheme"]
         if scheme == "round":
-            return ups[turn % len(ups)]
+            return ups[turn % len(ups)][:2]
         if scheme == "plain":
-            return ups[self.plain(b"f" + flow) % len(ups)]
+            return ups[self.plain(b"f" + flow) % len(ups)][:2]
         key = tuple(ups)
         if key not in self.tables:
-            self.tables[key] = filled([name for name, _ in ups], self.scenario["size"], self.plain)
-        return next(up for up in ups if up[0] == self.tables[key][self.slot(flow)])
+            self.tables[key] = filled({name: weight for name, _, weight in ups}, self.scenario["size"], self.plain)
+        return next(up[:2] for up in ups if up[0] == self.tables[key][self.slot(flow)])
 
     def serve(self, node, worker):
         forwarder = self.forwarders[node][worker]
@@ -273,7 +282,7 @@ class Run:
         if entry is not None:
             forwarder.entries.remove(entry)
             forwarder.entries.insert(0, entry)
-        if entry is None or entry[1] not in ups:
+        if entry is None or entry[1] not in [up[:2] for up in ups]:
             turn, forwarder.turns = forwarder.turns, forwarder.turns + 1
             if not ups:
                 return self.say(event, "drop NoBackend")
@@ -312,6 +321,26 @@ class Run:
         lines += [f"drop {cause} {count}" for cause, count in zip(CAUSES, drops) if count]
         lines += [f"waiting {received - forwarded - sum(drops)}"]
         lines += [f"refused {sum(outcome.startswith('refused') for outcome in outcomes)}"]
+        return "".join(line + "\n" for line in lines)
+
+    def splits(self):
+        """A line for each two sends of one flow, with none of that flow between them, to different backends, and their counts."""
+        sends = [(place, event, sent) for place, (event, outcome, sent) in enumerate(self.events) if outcome.startswith("forward")]
+        lines, causes = [], []
+        for later, (place2, event, (_, _, flow, backend2, origin2)) in enumerate(sends):
+            before = [one for one in sends[:later] if one[2][2] == flow]
+            if not before or before[-1][2][3] == backend2:
+                continue
+            place1, _, (_, _, _, backend1, origin1) = before[-1]
+            ups = self.service(int(event.split(" ")[3]), flow)
+            causes.append("moved" if backend1 in [up[:2] for up in ups] else "down")
+            name = {6: "tcp", 17: "udp"}[flow[12]]
+            ports = int.from_bytes(flow[8:10], "big"), int.from_bytes(flow[10:12], "big")
+            who = f"{name} {dotted(flow[:4])}:{ports[0]}>{dotted(flow[4:8])}:{ports[1]}"
+            halves = f"version {origin1} {'@'.join(backend1)} version {origin2} {'@'.join(backend2)}"
+            lines.append(f"split {who} events {place1} {place2} slot {self.slot(flow)} {halves} {causes[-1]}")
+        flows = len({sent[2] for _, _, sent in sends})
+        lines += [f"flows {flows}", f"split {len(causes)}", f"down {causes.count('down')}", f"moved {causes.count('moved')}"]
         return "".join(line + "\n" for line in lines)
 
     def explained(self, one, other):

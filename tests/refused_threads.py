@@ -3,7 +3,8 @@
 
 The program `first_node` runs a node of two workers through two lives, on threads; `maglev run` runs two such nodes, of which
 one has two lives. They print their whole answer, or why there is none, alone: `fault: ThreadLost` where a thread couldn't be
-started, and `fault: Memory` where memory was refused. `refuse_thread.c` refuses threads, and `refused_growths.py` has how
+started, and `fault: Memory` where memory was refused. A thread of the audit may be refused: its node is then audited by the
+caller's thread, and the run says what it always says. `refuse_thread.c` refuses threads, and `refused_growths.py` has how
 growths are refused. A growth that the system refuses while it starts a thread loses the thread.
 
 The last line is 'N passed, N failed', which counts runs.
@@ -23,17 +24,19 @@ NODE_THREADS = 6
 CLUSTER = growths.Case(["run", "s.toml", "in.pcap", "out.pcap"], growths.RESTARTED, files=growths.CLUSTER)
 # Those of three lives, and the nodes' drivers.
 CLUSTER_THREADS = 11
+# Those of its audit, at most: one for each node.
+AUDIT_THREADS = 2
 LOST = growths.LOST
 
 
-def refuse_threads(library, words, case, threads):
-    """Refuses one thread after the other, and one that is never started. Gives how many runs were as they must be, and were
-    not."""
+def refuse_threads(library, words, case, threads, spared=0):
+    """Refuses one thread after the other, those that the run can spare, and one that is never started. Gives how many runs
+    were as they must be, and were not."""
     passed = failed = 0
     with tempfile.TemporaryDirectory() as folder:
         for name, content in case.files.items():
             (pathlib.Path(folder) / name).write_bytes(content)
-        for number in range(1, threads + 2):
+        for number in range(1, threads + spared + 2):
             env = {"LD_PRELOAD": library, "REFUSED_THREAD": str(number)}
             done = subprocess.run(words, capture_output=True, cwd=folder, env=env, timeout=60)
             wanted = LOST if number <= threads else (0, case.text.encode(), b"")
@@ -53,7 +56,7 @@ def main():
     with tempfile.TemporaryDirectory() as folder:
         library = growths.compiled(folder, "refuse_thread.c")
         counts = [refuse_threads(library, [growths.PROGRAM], NODE, NODE_THREADS)]
-        counts.append(refuse_threads(library, [program, *CLUSTER.arguments], CLUSTER, CLUSTER_THREADS))
+        counts.append(refuse_threads(library, [program, *CLUSTER.arguments], CLUSTER, CLUSTER_THREADS, AUDIT_THREADS))
         counts.append(growths.refuse_all(folder, [NODE]))
     return told(sum(passed for passed, _ in counts), sum(failed for _, failed in counts))
 

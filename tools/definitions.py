@@ -20,7 +20,7 @@ PROMISES = [
         "`replay_maglev` and `replay` of `cluster_core`: each outcome is the verdict of its event after all before it; two sends "
         "of one flow to different backends chose under versions whose tables name them at the flow's slot; a forwarder keeps "
         "a flow's backend while its entry stands and the backend is up; every slot names an up backend, and backends' slot "
-        "counts differ by at most one.",
+        "counts stand as their weights, of equal weights differ by at most one.",
         [
             ("cluster_core", "Runs", "verdicts"),
             ("cluster_core", "Tables", "TablesDiffer"),

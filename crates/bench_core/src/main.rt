@@ -15,7 +15,7 @@ use cluster_core::{Event, Outcome, Packet, Run, Setup};
 use connection_table::LruTable;
 use five_tuple::Flow;
 use hash_laws::Fnv;
-use maglev_table::{Name, TableSize};
+use maglev_table::{Name, TableSize, Weight};
 use pool_versions::{Backend, Catalogue, Member, Service, Version};
 use selection::Maglev;
 use std::alloc::{AllocError, Global};
@@ -42,7 +42,11 @@ fn members(alloc: Global, count: u32, addr: u32) -> Result<Vec<Member>, AllocErr
         if let Some(name) = Name::new(text.as_bytes()) {
             let addr = addr.wrapping_add(number);
             let backend = Backend { name, addr };
-            members.push(Member { backend, up: true })?;
+            members.push(Member {
+                backend,
+                up: true,
+                weight: Weight::one(),
+            })?;
         }
     }
     Ok(members)

@@ -13,7 +13,7 @@ use cluster_node::{Event, Outcome, Packet};
 use connection_table::LruTable;
 use five_tuple::Flow;
 use hash_laws::Fnv;
-use maglev_table::{Name, TableSize};
+use maglev_table::{Name, TableSize, Weight};
 use node_records::Command;
 use node_threads::{NodeRun, OpenGate, run_node};
 use pool_versions::{Backend, Catalogue, Member, Service, Version};
@@ -38,7 +38,11 @@ fn services(alloc: Global) -> Result<Vec<Service>, AllocError> {
         let text = format!(in alloc; "b{number}")?;
         if let Some(name) = Name::new(text.as_bytes()) {
             let backend = Backend { name, addr: number };
-            members.push(Member { backend, up: true })?;
+            members.push(Member {
+                backend,
+                up: true,
+                weight: Weight::one(),
+            })?;
         }
     }
     let mut services = Vec::new(alloc);

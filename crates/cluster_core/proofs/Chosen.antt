@@ -9,7 +9,8 @@ use Rattle.connection_table.proofs.Standing.{same_flow-true}
 use Rattle.connection_table.specs.Touches.{Touch, last_touch, since, distinct_flows, standing}
 use Rattle.forwarder.specs.declared.Choice.{Choice}
 use Rattle.forwarder.specs.declared.Choice.TheVariants.{Forward, NoService, NoBackend}
-use Rattle.forwarder.specs.Serving.{Candidates, Pick, Serving, Told, is_up, kept, told_asked, told_by, told_under, serve_as, with_touch, touches, asked_count, told_after, told}
+use Rattle.selection.specs.Candidates.{Candidates}
+use Rattle.forwarder.specs.Serving.{Pick, Serving, Told, is_up, kept, told_asked, told_by, told_under, serve_as, with_touch, touches, asked_count, told_after, told}
 
 abbrev pub Up : Type 0
 Up = ℕ → Flow → Option (Candidates)

@@ -6,7 +6,8 @@ use Rattle.std.proofs.lemmas.Bool.{false≢true}
 use Rattle.connection_table.specs.declared.table.Entry.{Entry}
 use Rattle.connection_table.specs.Touches.{standing}
 use Rattle.forwarder.specs.declared.Choice.TheVariants as choices
-use Rattle.forwarder.specs.Serving.{Candidates, Pick, Serving, is_up, serve_as, told_by, told_under, touches, asked_count, told}
+use Rattle.selection.specs.Candidates.{Candidates}
+use Rattle.forwarder.specs.Serving.{Pick, Serving, is_up, serve_as, told_by, told_under, touches, asked_count, told}
 use Rattle.cluster_node.specs.declared.serving.Item.{Item}
 use Rattle.cluster_node.specs.declared.serving.Taken.TheVariants as takings
 use Rattle.cluster_node.specs.Book.{Line, next_item, servings, serving_under, greatest_used, taken, taken_of, told_next}

@@ -6,7 +6,8 @@ use Rattle.std.specs.Option.{option_and_then}
 use Rattle.std.proofs.lemmas.Bool.{false≢true, true≢false, eqb-true, eq-eqb, ne_eqb}
 use Rattle.five_tuple.specs.declared.Flow.{Flow}
 use Rattle.pool_versions.specs.declared.service.Version.{Version}
-use Rattle.pool_versions.specs.Pool.{Pools, version_at, ups_under}
+use Rattle.pool_versions.specs.Pool.{Pools, version_at}
+use Rattle.selection.specs.Candidates.{candidates_under}
 use Rattle.selection.specs.Readied.{Readied, readied_version}
 use Rattle.selection.proofs.Versions.{ups_for_readied}
 use Rattle.forwarder.specs.Serving.{Pick}
@@ -106,7 +107,7 @@ module _ {S : Type 0} (pick_of : S → ℕ → Pick) (rules : Rules) (scheme : S
   New = readied_version scheme size w
 
   abbrev pub Fits : Type 0
-  Fits = (pick_of scheme size ≡ rules.pick) × ((x : Flow) → ups_under w x ≡ rules.ups w.number x)
+  Fits = (pick_of scheme size ≡ rules.pick) × ((x : Flow) → candidates_under w x ≡ rules.ups w.number x)
 
   first_is : Fits → IsPrepared pick_of rules (New ∷ had) w.number
   first_is fits = record {
@@ -166,7 +167,7 @@ event_prepares pick_of plain_of setup pools scheme size newest (Install n v) had
         let e : w.number ≡ v = found_number v pools.versions w h in
         subst (λ (u : ℕ). MorePrepared pick_of (rules_for pick_of plain_of setup pools) newest had (prepared_above scheme size newest w had) (Install n u)) e
         (prepared_more pick_of (rules_for pick_of plain_of setup pools) scheme size w had
-        (same, λ x. sym (ap (λ (q : Option Version). option_and_then (λ u. ups_under u x) q) (ap (λ (u : ℕ). version_at u pools.versions) e ∙ h))) good n newest)
+        (same, λ x. sym (ap (λ (q : Option Version). option_and_then (λ u. candidates_under u x) q) (ap (λ (u : ℕ). version_at u pools.versions) e ∙ h))) good n newest)
 event_prepares pick_of plain_of setup pools scheme size newest (Arrive n k marks) had same good = none_more pick_of (rules_for pick_of plain_of setup pools) newest had (Arrive n k marks) good tt
 event_prepares pick_of plain_of setup pools scheme size newest (Serve n w v r) had same good = none_more pick_of (rules_for pick_of plain_of setup pools) newest had (Serve n w v r) good tt
 event_prepares pick_of plain_of setup pools scheme size newest (Restart n) had same good = none_more pick_of (rules_for pick_of plain_of setup pools) newest had (Restart n) good tt

@@ -1,7 +1,7 @@
 -- Every judged record keeps the promises.
 use Rattle.std.proofs.Common.{◌≡◌, ℕ, List, [], ◌∷◌, reverse, sym, ◌∙◌, subst}
 use Rattle.five_tuple.specs.declared.Flow.{Flow}
-use Rattle.forwarder.specs.Serving.{Candidates}
+use Rattle.selection.specs.Candidates.{Candidates}
 use Rattle.pool_versions.specs.Pool.{Pools}
 use Rattle.cluster_node.specs.declared.events.Said.{Said}
 use Rattle.cluster_node.specs.declared.outcomes.Outcome.{Outcome}
@@ -37,7 +37,7 @@ maglev_keeps plain size pools rules history m j =
     record {
       agreement = tables_differ rules plain size pools (outcomes_of history) (λ candidates x. m.pick candidates x 0) m.ups (p.agreement (maglev_steady plain size pools rules m));
       keeping = p.keeping;
-      slots = tables_are_even plain size pools m.listed;
+      slots = tables_are_even plain size pools m.listed m.sound;
     }
 
 pub lists_keep : ListsKeepPromises

@@ -6,7 +6,8 @@ use Rattle.five_tuple.specs.declared.Flow.{Flow}
 use Rattle.pool_versions.specs.declared.backend.Backend.{Backend}
 use Rattle.forwarder.specs.declared.Choice.{Choice}
 use Rattle.forwarder.specs.declared.Choice.TheVariants as choices
-use Rattle.forwarder.specs.Serving.{Candidates, Serving}
+use Rattle.selection.specs.Candidates.{Candidates}
+use Rattle.forwarder.specs.Serving.{Serving}
 use Rattle.cluster_node.specs.declared.serving.Item.{Item}
 use Rattle.cluster_node.specs.declared.serving.Taken.TheVariants as takings
 use Rattle.cluster_node.specs.Book.{Line, put, took, next_item, serving_at, servings, serving_under, greatest_used, taken, taken_of, told_next}

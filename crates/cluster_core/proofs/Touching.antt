@@ -1,10 +1,11 @@
 -- What stands for a flow is what its last packet was told.
-use Rattle.std.proofs.Common.{◌≡◌, ℕ, Bool, false, List, Option, Some, None, ap, ◌∙◌}
+use Rattle.std.proofs.Common.{◌≡◌, ℕ, Bool, false, Option, Some, None, ap, ◌∙◌}
 use Rattle.std.specs.Prelude.{if◌then◌else◌}
 use Rattle.five_tuple.specs.declared.Flow.{Flow}
 use Rattle.pool_versions.specs.declared.backend.Backend.{Backend}
 use Rattle.connection_table.specs.declared.table.Entry.{Entry}
 use Rattle.connection_table.specs.Touches.{Touch}
+use Rattle.selection.specs.Candidates.{Candidates}
 use Rattle.forwarder.specs.declared.Choice.{Choice}
 use Rattle.forwarder.specs.declared.Choice.TheVariants.{Forward}
 use Rattle.forwarder.specs.Serving.{Pick, Serving, Told, kept, told_asked, told_by, told_under, serve_as}
@@ -26,11 +27,11 @@ asked_tells s (Some d) (Some a) = λ b v e f. entry_touch s.flow a b s.version v
 asked_tells s None (Some a) = λ b v e f.
     ap (λ (q : Bool). let t : Option Touch = (if q then None else Some (s.flow, record { backend = a; version = s.version })) in t) f ∙ entry_touch s.flow a b s.version v e
 
-by_tells : (pick : Pick) (s : Serving) (ups : List Backend) (stood k : Option Entry) (turn : ℕ) → Tells s (told_by pick s ups stood k turn)
+by_tells : (pick : Pick) (s : Serving) (ups : Candidates) (stood k : Option Entry) (turn : ℕ) → Tells s (told_by pick s ups stood k turn)
 by_tells pick s ups stood (Some e) turn = λ b v h f. entry_touch s.flow e.backend b e.version v h
 by_tells pick s ups stood None turn = asked_tells s stood (pick ups s.flow turn)
 
-under_tells : (pick : Pick) (s : Serving) (o : Option (List Backend)) (stood : Option Entry) (turn : ℕ) → Tells s (told_under pick s o stood turn)
+under_tells : (pick : Pick) (s : Serving) (o : Option Candidates) (stood : Option Entry) (turn : ℕ) → Tells s (told_under pick s o stood turn)
 under_tells pick s None stood turn = λ b v e f. absurd (cc)
 under_tells pick s (Some ups) stood turn = by_tells pick s ups stood (kept stood ups) turn
 

@@ -4,7 +4,8 @@ use Rattle.five_tuple.specs.declared.Flow.{Flow}
 use Rattle.pool_versions.specs.declared.backend.Backend.{Backend}
 use Rattle.connection_table.specs.declared.table.Entry.{Entry}
 use Rattle.connection_table.specs.Touches.{standing}
-use Rattle.forwarder.specs.Serving.{Candidates, Pick, is_up, touches, told}
+use Rattle.selection.specs.Candidates.{Candidates}
+use Rattle.forwarder.specs.Serving.{Pick, is_up, touches, told}
 use Rattle.cluster_node.specs.declared.serving.Item.{Item}
 use Rattle.cluster_node.specs.Book.{next_item, servings}
 use Rattle.cluster_node.specs.declared.packets.Packet.{Packet}

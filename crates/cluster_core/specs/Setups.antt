@@ -1,6 +1,7 @@
 -- What is fixed for a cluster, and the rules that it and a catalogue give.
 use Rattle.std.specs.Prelude.{ℕ, ◌||◌, ◌==◌, nat_lt, List, length, Option, Some, None, is_some, if◌then◌else◌}
-use Rattle.pool_versions.specs.Pool.{Pools, version_at, up_of}
+use Rattle.pool_versions.specs.Pool.{Pools, version_at}
+use Rattle.selection.specs.Candidates.{candidates_of}
 use Rattle.forwarder.specs.Serving.{Pick}
 use Rattle.cluster_node.specs.Rules.{Rules}
 use Rattle.cluster_core.specs.declared.fixed.SetupFault.{SetupFault}
@@ -31,7 +32,7 @@ rules_for pick_of plain_of setup pools = record {
   pick = pick_of setup.scheme setup.size;
   plain = plain_of setup.hash;
   known = λ v. is_some (version_at v pools.versions);
-  ups = λ v x. up_of pools v x;
+  ups = λ v x. candidates_of pools v x;
   nodes = length setup.nodes;
   workers = setup.workers;
   capacity = setup.capacity;

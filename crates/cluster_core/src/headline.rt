@@ -25,7 +25,8 @@ use std::alloc::{AllocError, Global};
 /// Over every list of deliveries, losses, repeats, installed versions, evictions and restarts: two packets of one flow
 /// that were sent to different backends were chosen under versions whose tables differ at that flow's slot
 /// (`agreement`); a worker keeps a flow's backend while its entry stands and the backend is up (`keeping`); every slot
-/// names an up backend, and backends' slot counts differ by at most one (`slots`). See `replay`.
+/// names an up backend, and backends' slot counts stand as their weights, of equal weights differ by at most one
+/// (`slots`). See `replay`.
 pub fn replay_maglev<H: FlowHash, T: ConnTable>(
     alloc: Global,
     setup: &Setup<Maglev<H>, H>,

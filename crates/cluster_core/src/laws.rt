@@ -40,7 +40,7 @@ pub fn histories_are_told()
 /// the turn doesn't matter, two packets of one flow that were sent to different backends were chosen under versions that
 /// pick these backends, and so under versions that differ for the flow; for Maglev, versions whose tables name them at the
 /// flow's slot. A forwarder keeps a flow's backend while its entry stands and the backend is up. Every slot of Maglev's
-/// tables names an up backend, and backends' slot counts differ by at most one.
+/// tables names an up backend, and backends' slot counts stand as their weights, of equal weights differ by at most one.
 pub fn promises_are_kept()
     ensures histories { HistoriesKeepPromises }
     ensures maglev { MaglevKeepsPromises }

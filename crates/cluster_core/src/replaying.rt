@@ -41,7 +41,7 @@ fn count_of(events: &[Event]) -> usize
 /// that pick these backends, and so under versions that differ for the flow (`agreement`). A worker keeps a flow's backend
 /// while the flow's entry stands and the backend is up (`keeping`). What left the queues is no more than what was placed
 /// (`balance`). Whatever the scheme is, every slot of the table that Maglev makes of a service of the catalogue names an up
-/// backend, and backends' slot counts differ by at most one (`slots`).
+/// backend, and backends' slot counts stand as their weights, of equal weights differ by at most one (`slots`).
 pub fn replay<S: Scheme, H: FlowHash, T: ConnTable>(
     alloc: Global,
     setup: &Setup<S, H>,
@@ -64,6 +64,7 @@ pub fn replay<S: Scheme, H: FlowHash, T: ConnTable>(
     ensures slots { TablesAreEven (H.plain setup.now.hash) setup.now.size catalogue.now }
 {
     let _slots = setup.size().slots();
+    catalogue.keeps_doubles_out();
     replay_all::<S, H, T>(alloc, setup, catalogue, packets, events)
 }
 

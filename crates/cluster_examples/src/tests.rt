@@ -9,7 +9,7 @@ use cluster_core::{
 use connection_table::{ConnTable, LruTable, PlainTable};
 use five_tuple::Flow;
 use hash_laws::SumHash;
-use maglev_table::{Name, TableSize};
+use maglev_table::{Name, TableSize, Weight};
 use pool_versions::{Backend, Catalogue, Member, Service, Version};
 use selection::{Maglev, PlainHash, RoundRobin, Scheme};
 use std::alloc::Global;
@@ -30,6 +30,7 @@ fn member(rt: &impl Abort, name: &[u8], addr: u32, up: bool) -> Member {
     Member {
         backend: Backend { name, addr },
         up,
+        weight: Weight::one(),
     }
 }
 

@@ -5,7 +5,8 @@ use Rattle.std.proofs.lemmas.Bool.{ltb-false, or_parts}
 use Rattle.five_tuple.specs.declared.Flow.{Flow}
 use Rattle.connection_table.specs.Touches.{last_touch}
 use Rattle.forwarder.specs.Forwarding.{Forwarding}
-use Rattle.forwarder.specs.Serving.{Candidates, Pick, Serving, Told, serve_as, forwarding_of}
+use Rattle.selection.specs.Candidates.{Candidates}
+use Rattle.forwarder.specs.Serving.{Pick, Serving, Told, serve_as, forwarding_of}
 use Rattle.forwarder.proofs.History.{told-table, history-step, history-none}
 use Rattle.cluster_node.specs.declared.serving.Item.{Item}
 use Rattle.cluster_node.specs.declared.serving.Taken.{Taken}

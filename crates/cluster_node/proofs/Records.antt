@@ -8,7 +8,8 @@ use Rattle.std.proofs.lemmas.Bool.{eqb-true, lt-ltb, le-ltb, true≢false, eq-eq
 use Rattle.five_tuple.specs.declared.Flow.{Flow}
 use Rattle.forwarder.specs.declared.Choice.{Choice}
 use Rattle.forwarder.specs.declared.Choice.TheVariants as choices
-use Rattle.forwarder.specs.Serving.{Candidates, Pick, Told, serve_as, ups_in}
+use Rattle.selection.specs.Candidates.{Candidates}
+use Rattle.forwarder.specs.Serving.{Pick, Told, serve_as, ups_in}
 use Rattle.selection.specs.Readied.{Readied}
 use Rattle.cluster_node.specs.declared.serving.Item.{Item}
 use Rattle.cluster_node.specs.declared.serving.Taken.{Taken}

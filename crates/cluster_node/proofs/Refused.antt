@@ -6,7 +6,8 @@ use Rattle.five_tuple.specs.declared.Flow.{Flow}
 use Rattle.pool_versions.specs.declared.backend.Backend.{Backend}
 use Rattle.connection_table.specs.declared.table.Entry.{Entry}
 use Rattle.cluster_node.specs.Book.{serving_under}
-use Rattle.forwarder.specs.Serving.{Candidates, Pick, kept, serve_as, told_by, told_under, told_asked, IsForward}
+use Rattle.selection.specs.Candidates.{Candidates}
+use Rattle.forwarder.specs.Serving.{Pick, kept, serve_as, told_by, told_under, told_asked, IsForward}
 
 asked_cases : (here : Flow → Option Candidates) (v : ℕ) (x : Flow) (stood : Option Entry) (answer : Option Backend) → (IsNone stood → IsForward (told_asked (serving_under here v x true) stood answer).choice → ⊥) → told_asked (serving_under here v x false) stood answer ≡ told_asked (serving_under here v x true) stood answer
 asked_cases here v x stood None h = refl

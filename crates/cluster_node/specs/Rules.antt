@@ -1,7 +1,8 @@
 -- What is fixed for a run of a cluster.
 use Rattle.std.specs.Prelude.{ℕ, Bool, List, Option}
 use Rattle.five_tuple.specs.declared.Flow.{Flow}
-use Rattle.forwarder.specs.Serving.{Candidates, Pick}
+use Rattle.selection.specs.Candidates.{Candidates}
+use Rattle.forwarder.specs.Serving.{Pick}
 
 pub record Rules : Type 0 where
   -- the scheme's answer

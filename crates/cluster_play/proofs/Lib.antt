@@ -2,3 +2,4 @@ pub mod Walks
 pub mod Ruled
 pub mod Told
 pub mod Halts
+pub mod Audited

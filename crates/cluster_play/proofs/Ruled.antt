@@ -7,7 +7,8 @@ use Rattle.maglev_table.specs.Sizes.{is_table_size}
 use Rattle.forwarder.specs.Serving.{Pick}
 use Rattle.ip_headers.specs.declared.Link.{Link}
 use Rattle.pcap_file.specs.Format.{Packet as Record}
-use Rattle.pool_versions.specs.Pool.{version_at, up_of}
+use Rattle.pool_versions.specs.Pool.{version_at, AreSound}
+use Rattle.selection.specs.Candidates.{candidates_of}
 use Rattle.cluster_node.specs.declared.outcomes.Outcome.{Outcome}
 use Rattle.cluster_core.specs.Setups.{Fixed, rules_for}
 use Rattle.cluster_core.specs.Headline.{Agreement, Keeping}
@@ -36,7 +37,7 @@ same_rules {S} pick_of scheme s setup e f =
       pick = p;
       plain = plain_of s.hash;
       known = λ v. is_some (version_at v s.catalogue.versions);
-      ups = λ v x. up_of s.catalogue v x;
+      ups = λ v x. candidates_of s.catalogue v x;
       nodes = length s.nodes.items;
       workers = s.workers;
       capacity = s.capacity;
@@ -50,8 +51,8 @@ maglev_steady : (s : Scenario) → s.scheme ≡ Maglev → IsSteady (rules_in s)
 maglev_steady s is candidates x t u =
     ap (λ (kind : SchemeKind). pick_by kind (plain_of s.hash) s.size candidates x t) is ∙ sym (ap (λ (kind : SchemeKind). pick_by kind (plain_of s.hash) s.size candidates x u) is)
 
-pub keeps : (s : Scenario) (link : Link) (records : List Record) (nodes : List NodeRecord) (history : History) → is_table_size s.size ≡ true → JoinsRuns (rules_in s) (packets_in s link records) nodes history → KeepsPromises s link records history
-keeps s link records nodes history listed joined =
+pub keeps : (s : Scenario) (link : Link) (records : List Record) (nodes : List NodeRecord) (history : History) → is_table_size s.size ≡ true → AreSound s.catalogue → JoinsRuns (rules_in s) (packets_in s link records) nodes history → KeepsPromises s link records history
+keeps s link records nodes history listed sound joined =
     let rules = rules_in s in
     let packets = packets_in s link records in
     let agree : IsSteady rules → Agreement rules history.outcomes.items = λ steady. subst (λ (os : List Outcome). Agreement rules os) (sym joined.told) (agreement rules steady packets history.events.items) in
@@ -59,5 +60,5 @@ keeps s link records nodes history listed joined =
       agreement = agree;
       keeping = subst (λ (os : List Outcome). Keeping rules [] packets history.events.items os) (sym joined.told) (keeping rules [] packets history.events.items);
       tables = λ is. tables_differ rules (plain_of s.hash) s.size s.catalogue history.outcomes.items (λ candidates x. ap (λ (kind : SchemeKind). pick_by kind (plain_of s.hash) s.size candidates x 0) is) (λ v x. refl) (agree (maglev_steady s is));
-      slots = λ is. tables_are_even (plain_of s.hash) s.size s.catalogue listed;
+      slots = λ is. tables_are_even (plain_of s.hash) s.size s.catalogue listed sound;
     }

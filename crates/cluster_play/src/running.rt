@@ -115,6 +115,7 @@ pub fn run_scenario<R: Threads + Wait + Sync, I: Source, O: Sink>(
     ensures stopped { IfErr result (Halted scenario.now (I.tape input.old) (I.tape input.new) (O.tape output.old) (O.tape output.new)) }
 {
     let _slots = scenario.size.slots();
+    scenario.catalogue.keeps_doubles_out();
     match first_unknown(scenario.steps.as_slice()) {
         Some(step) => return Err(RunStop::UnknownStep(step)),
         None => {}

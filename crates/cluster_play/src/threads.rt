@@ -71,7 +71,13 @@ where
         scenario.ring,
         &OpenGate,
     )?;
-    let agrees = run.audit::<S, AnyHash, LruTable>(alloc, &setup, &scenario.catalogue, packets)?;
+    let agrees = run.audit_nodes::<S, AnyHash, LruTable, R>(
+        rt,
+        alloc,
+        &setup,
+        &scenario.catalogue,
+        packets,
+    )?;
     Ok(Audited { run, agrees })
 }
 

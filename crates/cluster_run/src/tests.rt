@@ -8,7 +8,7 @@ use connection_table::{ConnTable, LruTable, PlainTable};
 use course::{Core, Play, Step, all_live};
 use five_tuple::Flow;
 use hash_laws::SumHash;
-use maglev_table::{Name, TableSize};
+use maglev_table::{Name, TableSize, Weight};
 use pool_versions::{Backend, Catalogue, Member, Service, Version};
 use selection::Maglev;
 use spreader::TurnSpread;
@@ -22,6 +22,7 @@ fn member(rt: &impl Abort, name: &[u8], addr: u32, up: bool) -> Member {
     Member {
         backend: Backend { name, addr },
         up,
+        weight: Weight::one(),
     }
 }
 

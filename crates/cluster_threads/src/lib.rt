@@ -4,6 +4,7 @@
 //! behind one another into one history of the cluster.
 #![tactic(auto)]
 
+mod auditing;
 mod cluster;
 
 pub use cluster::{ClusterRun, run_cluster};

@@ -7,7 +7,7 @@ use cluster_node::{Outcome, Packet};
 use connection_table::PlainTable;
 use five_tuple::Flow;
 use hash_laws::SumHash;
-use maglev_table::{Name, TableSize};
+use maglev_table::{Name, TableSize, Weight};
 use node_records::Command;
 use node_threads::Gate;
 use pool_versions::{Backend, Catalogue, Member, Service, Version};
@@ -40,11 +40,14 @@ fn backend(rt: &impl Abort) -> Backend {
 }
 
 // Version 1 has one service of one backend.
-fn catalogue(rt: &impl Abort, alloc: Global) -> Catalogue {
+fn catalogue(rt: &impl Abort, alloc: Global) -> Catalogue
+    ensures { result.size ≡ 7 }
+{
     let size = TableSize::new(7).expect(rt, "a size");
     let member = Member {
         backend: backend(rt),
         up: true,
+        weight: Weight::one(),
     };
     let mut services = Vec::new(alloc);
     services
@@ -71,7 +74,8 @@ fn cluster(
     nodes: &[u32],
     workers: u16,
 ) -> Setup<Maglev<SumHash>, SumHash>
-    ensures { length result.nodes ≡ length nodes.now }
+    ensures nodes { length result.nodes ≡ length nodes.now }
+    ensures size { result.size ≡ 7 }
 {
     let nodes = Vec::from_slice(alloc, nodes).expect(rt, "memory");
     let size = TableSize::new(7).expect(rt, "a size");
@@ -187,6 +191,15 @@ fn two_nodes_serve_at_once(rt: HostRuntime) -> Result<(), Fail> {
     for life in run.sent(1) {
         assert!(rt; life.as_slice() == [sent_by(&rt, 1, 0, 0, flow(1000))].as_slice());
     }
+    let agrees = run
+        .audit_nodes::<_, _, PlainTable, _>(&rt, alloc, &setup, &catalogue, &packets)
+        .expect(&rt, "memory");
+    assert!(rt; agrees);
+    // where the packet isn't there nothing is placed
+    let agrees = run
+        .audit_nodes::<_, _, PlainTable, _>(&rt, alloc, &setup, &catalogue, &[])
+        .expect(&rt, "memory");
+    assert!(rt; !agrees);
     Ok(())
 }
 

@@ -69,6 +69,12 @@ fn tables(rt: HostRuntime) {
     printed(&rt, rt.alloc(), 7, "sum", &["C", "A", "B"], text);
     let alone = "size 7 backends 1\n0 A\n1 A\n2 A\n3 A\n4 A\n5 A\n6 A\ncount A 7\n";
     printed(&rt, rt.alloc(), 7, "sum", &["A"], alone);
+    printed(&rt, rt.alloc(), 7, "sum", &["C*4", "A*4", "B*4"], text);
+    let twice =
+        "size 7 backends 3\n0 B\n1 A\n2 B\n3 C\n4 A\n5 C\n6 A\ncount A 3\ncount B 2\ncount C 2\n";
+    printed(&rt, rt.alloc(), 7, "sum", &["C", "A*2", "B*1"], twice);
+    let heavy = "size 7 backends 2\n0 A\n1 A\n2 B\n3 A\n4 A\n5 A\n6 A\ncount A 6\ncount B 1\n";
+    printed(&rt, rt.alloc(), 7, "sum", &["A*16", "B"], heavy);
 }
 
 #[test]
@@ -93,6 +99,10 @@ fn faults_of_table(rt: HostRuntime) {
         CliFault::DoubleName,
     );
     refused(&rt, rt.alloc(), 7, "sum", &eight, CliFault::TooMany);
+    let heavy = ["A*17", "B"];
+    refused(&rt, rt.alloc(), 7, "sum", &heavy, CliFault::BadName);
+    let twice = ["A*2", "A*3"];
+    refused(&rt, rt.alloc(), 7, "sum", &twice, CliFault::DoubleName);
     let done = table(rt.alloc(), 7, "sum", &["A"], &mut failing());
     assert_eq!(rt; done, Err(CliFault::Write));
 }
@@ -154,6 +164,10 @@ fn comparisons(rt: HostRuntime) {
         nobody,
         "size 7 old 0 new 0 differ 0\n",
     );
+    let heavy = "A@10.8.0.1*3 B@10.8.0.2 C@10.8.0.3";
+    let moved =
+        "size 7 old 3 new 3 differ 3\n0 B@10.8.0.2 A@10.8.0.1\n4 C@10.8.0.3 A@10.8.0.1\n5 A@10.8.0.1 B@10.8.0.2\n";
+    compared(&rt, rt.alloc(), three, heavy, moved);
     let gone =
         "size 7 old 1 new 0 differ 7\n0 B@1.2.3.4 -\n1 B@1.2.3.4 -\n2 B@1.2.3.4 -\n3 B@1.2.3.4 -\n4 B@1.2.3.4 -\n5 B@1.2.3.4 -\n6 B@1.2.3.4 -\n";
     compared(&rt, rt.alloc(), "B@1.2.3.4", nobody, gone);

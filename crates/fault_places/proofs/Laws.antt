@@ -5,12 +5,13 @@ use Rattle.toml.specs.Data.{Data, Items, no_items, item, Members, as_str, as_tab
 use Rattle.toml.specs.View.{items_view}
 use Rattle.toml.specs.declared.value.Value.{Value}
 use Rattle.pool_versions.specs.declared.backend.Member.{Member}
-use Rattle.maglev_texts.specs.Parsing.{address_of, member_of}
+use Rattle.maglev_texts.specs.Parsing.{address_of}
 use Rattle.hash_laws.specs.Any.{hash_of_word}
 use Rattle.scenario.specs.Lookups.{number_at, number_or, flag_or, text_at, items_at, all_items, given_or, has_only}
 use Rattle.scenario.specs.Words.{size_of, scheme_of_word, spread_of_word, protocol_of_word, choices_of, limits_of}
 use Rattle.scenario.specs.Plain.{PlainService, PlainVersion}
-use Rattle.scenario.specs.Drafts.{service_keys, version_keys, word_of, service_draft, service_in, version_draft, version_in}
+use Rattle.scenario.specs.Drafts.{service_keys, version_keys, member_in, word_of, service_draft, service_in, version_draft, version_in}
+use Rattle.scenario.specs.declared.formats.Format.{Format}
 use Rattle.scenario.specs.Meaning.{root_keys, address_in, few_nodes, few_steps, nodes_of, versions_in, steps_in, draft_of}
 use Rattle.fault_places.specs.Places.{holds, first_bad, setup, item_from, is_text, is_address, count, members_flaw, service_table_flaw, service_flaw, services_from, services_flaw, version_table_flaw, version_flaw, versions_from, versions_flaw, sized, nodes_in, nodes_flaw, steps_of, steps_flaw, arrays_flaw, OnePlaceOrADraft}
 use Rattle.fault_places.specs.declared.key.Key.{Key}
@@ -97,12 +98,12 @@ bad_law [] ms = refl
 bad_law (k ∷ ks) ms = none_if (holds k ms) (first_bad ks ms) k ∙ ap (λ b. holds k ms && b) (bad_law ks ms)
 
 -- a service
-text_is_word : (d : Data) → is_text d ≡ is_some (word_of d)
-text_is_word d = sym (some_map member_of (as_str d))
+text_is_word : (format : Format) (d : Data) → is_text d ≡ is_some (word_of format d)
+text_is_word format d = sym (some_map (member_in format) (as_str d))
 
-members_law : (ms : Members) → is_none (members_flaw ms) ≡ is_some (option_and_then (all_items word_of) (items_at (codes "members") ms))
-members_law ms = given_law (flaw.Value key.Members) (λ ds. option_map (λ n. flaw.Item key.Members n) (item_from is_text 0 ds)) (all_items word_of)
-    (λ ds. none_map (λ n. flaw.Item key.Members n) (item_from is_text 0 ds) ∙ items_law is_text word_of text_is_word 0 ds) (items_at (codes "members") ms)
+members_law : (format : Format) (ms : Members) → is_none (members_flaw ms) ≡ is_some (option_and_then (all_items (word_of format)) (items_at (codes "members") ms))
+members_law format ms = given_law (flaw.Value key.Members) (λ ds. option_map (λ n. flaw.Item key.Members n) (item_from is_text 0 ds)) (all_items (word_of format))
+    (λ ds. none_map (λ n. flaw.Item key.Members n) (item_from is_text 0 ds) ∙ items_law is_text (word_of format) (text_is_word format) 0 ds) (items_at (codes "members") ms)
 
 abbrev pub made_service : ℕ → ℕ → ℕ → List (Option Member) → PlainService (Option Member)
 made_service vip proto port members = record { vip = vip; proto = proto; port = port; members = members }
@@ -114,28 +115,28 @@ service_cases (Some x) (Some y) None d = refl
 service_cases (Some x) (Some y) (Some z) None = refl
 service_cases (Some x) (Some y) (Some z) (Some m) = refl
 
-service_draft_law : (ms : Members) → is_none (option_or (option_map (λ k. flaw.Value k) (first_bad (key.Vip ∷ key.Proto ∷ key.Port ∷ []) ms)) (members_flaw ms)) ≡ is_some (service_draft ms)
+service_draft_law : (format : Format) (ms : Members) → is_none (option_or (option_map (λ k. flaw.Value k) (first_bad (key.Vip ∷ key.Proto ∷ key.Port ∷ []) ms)) (members_flaw ms)) ≡ is_some (service_draft format ms)
 unfolding service_draft
-service_draft_law ms =
+service_draft_law format ms =
     let keys : List Key = key.Vip ∷ key.Proto ∷ key.Port ∷ [] in
     none_or (option_map (λ k. flaw.Value k) (first_bad keys ms)) (members_flaw ms)
-    ∙ and_both _ _ _ _ (none_map (λ k. flaw.Value k) (first_bad keys ms) ∙ bad_law keys ms) (members_law ms)
-    ∙ service_cases (option_and_then address_of (text_at (codes "vip") ms)) (option_and_then protocol_of_word (text_at (codes "proto") ms)) (number_at 0 65535 (codes "port") ms) (option_and_then (all_items word_of) (items_at (codes "members") ms))
+    ∙ and_both _ _ _ _ (none_map (λ k. flaw.Value k) (first_bad keys ms) ∙ bad_law keys ms) (members_law format ms)
+    ∙ service_cases (option_and_then address_of (text_at (codes "vip") ms)) (option_and_then protocol_of_word (text_at (codes "proto") ms)) (number_at 0 65535 (codes "port") ms) (option_and_then (all_items (word_of format)) (items_at (codes "members") ms))
 
-service_law : (d : Data) → is_none (service_flaw d) ≡ is_some (service_in d)
-service_law d = given_law flaw.NoTable service_table_flaw (λ ms. cond (has_only service_keys ms) (service_draft ms) None)
-    (λ ms. if_law (has_only service_keys ms) _ flaw.Unknown (service_draft ms) (service_draft_law ms)) (as_table d)
+service_law : (format : Format) (d : Data) → is_none (service_flaw d) ≡ is_some (service_in format d)
+service_law format d = given_law flaw.NoTable service_table_flaw (λ ms. cond (has_only service_keys ms) (service_draft format ms) None)
+    (λ ms. if_law (has_only service_keys ms) _ flaw.Unknown (service_draft format ms) (service_draft_law format ms)) (as_table d)
 
-services_law : (v m : ℕ) (ds : Items) → is_none (services_from v m ds) ≡ is_some (all_items service_in ds)
-services_law v m no_items = refl
-services_law v m (item d ds) =
+services_law : (format : Format) (v m : ℕ) (ds : Items) → is_none (services_from v m ds) ≡ is_some (all_items (service_in format) ds)
+services_law format v m no_items = refl
+services_law format v m (item d ds) =
     none_or (option_map (λ f. place.Service v m f) (service_flaw d)) (services_from v (m + 1) ds)
-    ∙ and_both _ _ _ _ (none_map (λ f. place.Service v m f) (service_flaw d) ∙ service_law d) (services_law v (m + 1) ds)
-    ∙ sym (some_both (service_in d) (all_items service_in ds))
+    ∙ and_both _ _ _ _ (none_map (λ f. place.Service v m f) (service_flaw d) ∙ service_law format d) (services_law format v (m + 1) ds)
+    ∙ sym (some_both (service_in format d) (all_items (service_in format) ds))
 
 -- a version
-services_flaw_law : (v : ℕ) (ms : Members) → is_none (services_flaw v ms) ≡ is_some (option_and_then (all_items service_in) (items_at (codes "services") ms))
-services_flaw_law v ms = given_law (place.Version v (flaw.Value key.Services)) (services_from v 0) (all_items service_in) (services_law v 0) (items_at (codes "services") ms)
+services_flaw_law : (format : Format) (v : ℕ) (ms : Members) → is_none (services_flaw v ms) ≡ is_some (option_and_then (all_items (service_in format)) (items_at (codes "services") ms))
+services_flaw_law format v ms = given_law (place.Version v (flaw.Value key.Services)) (services_from v 0) (all_items (service_in format)) (services_law format v 0) (items_at (codes "services") ms)
 
 abbrev pub made_version : ℕ → List (PlainService (Option Member)) → PlainVersion (Option Member)
 made_version number services = record { number = number; services = services }
@@ -145,27 +146,27 @@ version_cases None d = refl
 version_cases (Some x) None = refl
 version_cases (Some x) (Some s) = refl
 
-version_draft_law : (v : ℕ) (ms : Members) → is_none (option_or (option_map (λ k. place.Version v (flaw.Value k)) (first_bad (key.Number ∷ []) ms)) (services_flaw v ms)) ≡ is_some (version_draft ms)
+version_draft_law : (format : Format) (v : ℕ) (ms : Members) → is_none (option_or (option_map (λ k. place.Version v (flaw.Value k)) (first_bad (key.Number ∷ []) ms)) (services_flaw v ms)) ≡ is_some (version_draft format ms)
 unfolding version_draft
-version_draft_law v ms =
+version_draft_law format v ms =
     let keys : List Key = key.Number ∷ [] in
     none_or (option_map (λ k. place.Version v (flaw.Value k)) (first_bad keys ms)) (services_flaw v ms)
-    ∙ and_both _ _ _ _ (none_map (λ k. place.Version v (flaw.Value k)) (first_bad keys ms) ∙ bad_law keys ms) (services_flaw_law v ms)
-    ∙ version_cases (number_at 0 4294967295 (codes "number") ms) (option_and_then (all_items service_in) (items_at (codes "services") ms))
+    ∙ and_both _ _ _ _ (none_map (λ k. place.Version v (flaw.Value k)) (first_bad keys ms) ∙ bad_law keys ms) (services_flaw_law format v ms)
+    ∙ version_cases (number_at 0 4294967295 (codes "number") ms) (option_and_then (all_items (service_in format)) (items_at (codes "services") ms))
 
-version_law : (v : ℕ) (d : Data) → is_none (version_flaw v d) ≡ is_some (version_in d)
-version_law v d = given_law (place.Version v flaw.NoTable) (version_table_flaw v) (λ ms. cond (has_only version_keys ms) (version_draft ms) None)
-    (λ ms. if_law (has_only version_keys ms) _ (place.Version v flaw.Unknown) (version_draft ms) (version_draft_law v ms)) (as_table d)
+version_law : (format : Format) (v : ℕ) (d : Data) → is_none (version_flaw v d) ≡ is_some (version_in format d)
+version_law format v d = given_law (place.Version v flaw.NoTable) (version_table_flaw v) (λ ms. cond (has_only version_keys ms) (version_draft format ms) None)
+    (λ ms. if_law (has_only version_keys ms) _ (place.Version v flaw.Unknown) (version_draft format ms) (version_draft_law format v ms)) (as_table d)
 
-versions_law : (v : ℕ) (ds : Items) → is_none (versions_from v ds) ≡ is_some (all_items version_in ds)
-versions_law v no_items = refl
-versions_law v (item d ds) =
+versions_law : (format : Format) (v : ℕ) (ds : Items) → is_none (versions_from v ds) ≡ is_some (all_items (version_in format) ds)
+versions_law format v no_items = refl
+versions_law format v (item d ds) =
     none_or (version_flaw v d) (versions_from (v + 1) ds)
-    ∙ and_both _ _ _ _ (version_law v d) (versions_law (v + 1) ds)
-    ∙ sym (some_both (version_in d) (all_items version_in ds))
+    ∙ and_both _ _ _ _ (version_law format v d) (versions_law format (v + 1) ds)
+    ∙ sym (some_both (version_in format d) (all_items (version_in format) ds))
 
-versions_flaw_law : (ms : Members) → is_none (versions_flaw ms) ≡ is_some (versions_in ms)
-versions_flaw_law ms = given_law (place.Root (flaw.Value key.Versions)) (versions_from 0) (all_items version_in) (versions_law 0) (items_at (codes "versions") ms)
+versions_flaw_law : (format : Format) (ms : Members) → is_none (versions_flaw ms) ≡ is_some (versions_in format ms)
+versions_flaw_law format ms = given_law (place.Root (flaw.Value key.Versions)) (versions_from 0) (all_items (version_in format)) (versions_law format 0) (items_at (codes "versions") ms)
 
 -- nodes and steps
 few_nodes_law : (o : Option (List ℕ)) (n : ℕ) → IfSome o (λ xs. length xs ≡ n) → (is_some o && is_none (sized key.Nodes (nat_le 1 n && nat_le n 64))) ≡ is_some (option_and_then few_nodes o)
@@ -198,12 +199,12 @@ steps_of_law ds =
 steps_law : (ms : Members) → is_none (steps_flaw ms) ≡ is_some (steps_in ms)
 steps_law ms = given_twice (flaw.Value key.Steps) steps_of (all_items as_str) few_steps steps_of_law (items_at (codes "steps") ms)
 
-arrays_law : (ms : Members) → is_none (arrays_flaw ms) ≡ (is_some (nodes_of ms) && (is_some (versions_in ms) && is_some (steps_in ms)))
-arrays_law ms =
+arrays_law : (format : Format) (ms : Members) → is_none (arrays_flaw ms) ≡ (is_some (nodes_of ms) && (is_some (versions_in format ms) && is_some (steps_in ms)))
+arrays_law format ms =
     none_or (option_map (λ f. place.Root f) (nodes_flaw ms)) (option_or (versions_flaw ms) (option_map (λ f. place.Root f) (steps_flaw ms)))
     ∙ and_both _ _ _ _ (none_map (λ f. place.Root f) (nodes_flaw ms) ∙ nodes_law ms)
     (none_or (versions_flaw ms) (option_map (λ f. place.Root f) (steps_flaw ms))
-    ∙ and_both _ _ _ _ (versions_flaw_law ms) (none_map (λ f. place.Root f) (steps_flaw ms) ∙ steps_law ms))
+    ∙ and_both _ _ _ _ (versions_flaw_law format ms) (none_map (λ f. place.Root f) (steps_flaw ms) ∙ steps_law ms))
 
 -- the setup
 some_four : {A B C D E : Type 0} (f : A → B → C → D → E) (a : Option A) (b : Option B) (c : Option C) (d : Option D) → is_some (option_and_then (λ x. option_and_then (λ y. option_and_then (λ z. option_map (f x y z) d) c) b) a) ≡ (is_some a && (is_some b && (is_some c && is_some d)))
@@ -238,16 +239,16 @@ some_five : {A B C D E F : Type 0} (f : A → B → C → D → E → F) (a : Op
 some_five f None b c d e = refl
 some_five f (Some x) b c d e = some_four (f x) b c d e
 
-draft_of_law : (ms : Members) → is_some (draft_of ms) ≡ (is_some (choices_of ms) && (is_some (limits_of ms) && (is_some (nodes_of ms) && (is_some (versions_in ms) && is_some (steps_in ms)))))
+draft_of_law : (format : Format) (ms : Members) → is_some (draft_of format ms) ≡ (is_some (choices_of ms) && (is_some (limits_of ms) && (is_some (nodes_of ms) && (is_some (versions_in format ms) && is_some (steps_in ms)))))
 unfolding draft_of
-draft_of_law ms = some_five _ (choices_of ms) (limits_of ms) (nodes_of ms) (versions_in ms) (steps_in ms)
+draft_of_law format ms = some_five _ (choices_of ms) (limits_of ms) (nodes_of ms) (versions_in format ms) (steps_in ms)
 
-root_law : (ms : Members) → is_none (option_or (option_map (λ k. place.Root (flaw.Value k)) (first_bad setup ms)) (arrays_flaw ms)) ≡ is_some (draft_of ms)
-root_law ms =
+root_law : (format : Format) (ms : Members) → is_none (option_or (option_map (λ k. place.Root (flaw.Value k)) (first_bad setup ms)) (arrays_flaw ms)) ≡ is_some (draft_of format ms)
+root_law format ms =
     none_or (option_map (λ k. place.Root (flaw.Value k)) (first_bad setup ms)) (arrays_flaw ms)
-    ∙ and_both _ _ _ _ (none_map (λ k. place.Root (flaw.Value k)) (first_bad setup ms) ∙ setup_law ms) (arrays_law ms)
+    ∙ and_both _ _ _ _ (none_map (λ k. place.Root (flaw.Value k)) (first_bad setup ms) ∙ setup_law ms) (arrays_law format ms)
     ∙ and_assoc (is_some (choices_of ms)) (is_some (limits_of ms)) _
-    ∙ sym (draft_of_law ms)
+    ∙ sym (draft_of_law format ms)
 
 pub one_place_or_a_draft : OnePlaceOrADraft
-one_place_or_a_draft ms = if_law (has_only root_keys ms) _ (place.Root flaw.Unknown) (draft_of ms) (root_law ms)
+one_place_or_a_draft format ms = if_law (has_only root_keys ms) _ (place.Root flaw.Unknown) (draft_of format ms) (root_law format ms)

@@ -7,6 +7,7 @@ use Rattle.toml.specs.Data.{Data, Items, no_items, item, Members, as_str, as_tab
 use Rattle.scenario.specs.Lookups.{number_at, number_or, flag_or, text_at, items_at, given_or, has_only}
 use Rattle.scenario.specs.Words.{size_of, scheme_of_word, spread_of_word, protocol_of_word}
 use Rattle.scenario.specs.Drafts.{service_keys, version_keys}
+use Rattle.scenario.specs.declared.formats.Format.{Format}
 use Rattle.scenario.specs.Meaning.{root_keys, address_in, draft_in}
 use Rattle.fault_places.specs.declared.key.Key.{Key}
 use Rattle.fault_places.specs.declared.key.Key.TheVariants as key
@@ -134,13 +135,13 @@ steps_flaw ms = given_or (flaw.Value key.Steps) steps_of (items_at (codes "steps
 abbrev pub arrays_flaw : Members → Option Place
 arrays_flaw ms = option_or (option_map (λ f. place.Root f) (nodes_flaw ms)) (option_or (versions_flaw ms) (option_map (λ f. place.Root f) (steps_flaw ms)))
 
--- the first place in a document of format 1
+-- the first place in a document
 abbrev pub place_of : Members → Option Place
 place_of ms =
     if has_only root_keys ms then
     option_or (option_map (λ k. place.Root (flaw.Value k)) (first_bad setup ms)) (arrays_flaw ms)
     else Some (place.Root flaw.Unknown)
 
--- a document of format 1 has a place, or is a scenario's but for words that may be none
+-- a document, of whatever format, has a place, or is a scenario's but for words that may be none
 abbrev pub OnePlaceOrADraft : Type 0
-OnePlaceOrADraft = (ms : Members) → is_none (place_of ms) ≡ is_some (draft_in ms)
+OnePlaceOrADraft = (format : Format) (ms : Members) → is_none (place_of ms) ≡ is_some (draft_in format ms)

@@ -277,7 +277,7 @@ fn bad_setup(alloc: Global, table: &Table) -> Result<Option<Key>, AllocError>
     first_bad(alloc, table, &keys)
 }
 
-/// The first place at which a document of format 1 isn't a scenario's, None where all its keys are as they should be.
+/// The first place at which a document isn't a scenario's, None where all its keys are as they should be.
 pub fn key_place(alloc: Global, table: &Table) -> Result<Option<Place>, AllocError>
     ensures { IfOk result (λ o. o ≡ place_of (table_view table.now)) }
 {
@@ -290,7 +290,7 @@ pub fn key_place(alloc: Global, table: &Table) -> Result<Option<Place>, AllocErr
     }
 }
 
-/// A law: a document of format 1 either has a place, and is refused as BadKey, or is a scenario's, whose members and steps may
+/// A law: a document, of whatever format, either has a place, and is refused as BadKey, or is a scenario's, whose members and steps may
 /// be none.
 pub fn one_place_or_a_draft()
     ensures { OnePlaceOrADraft }

@@ -1,5 +1,5 @@
 use crate::{Flaw, Key, Place, key_place, member_place, pool_place};
-use scenario::{ScenarioFault, pools_in};
+use scenario::{ScenarioFault, format_of, pools_in};
 use std::alloc::Global;
 use std::process::Abort;
 
@@ -100,7 +100,8 @@ fn places_of_the_versions(rt: HostRuntime) {
 fn word_with(rt: &impl Abort, alloc: Global, old: &str, new: &str) -> Option<Place> {
     let text = GOOD.replacen(alloc, old, new, 1).expect(rt, "memory");
     let table = toml::table_from_str(alloc, text.as_str()).expect(rt, "a document");
-    let place = member_place(alloc, &table).expect(rt, "memory");
+    let format = format_of(&table).expect(rt, "a format");
+    let place = member_place(alloc, format, &table).expect(rt, "memory");
     let fault = scenario::read(alloc, text.as_bytes()).err();
     assert_eq!(rt; fault == Some(ScenarioFault::BadMember), place.is_some());
     place
@@ -113,6 +114,7 @@ fn places_of_members(rt: HostRuntime) {
     let word = |n| Some(Place::Service(1, 0, Flaw::Item(Key::Members, n)));
     assert_eq!(rt; word_with(&rt, alloc, "A@10", "A@010"), word(0));
     assert_eq!(rt; word_with(&rt, alloc, "/down", "/up"), word(1));
+    assert_eq!(rt; word_with(&rt, alloc, "/down", "*2"), word(1));
 }
 
 #[test]

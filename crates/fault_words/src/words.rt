@@ -2,7 +2,7 @@
 use crate::spots::{below, line_of, spot_of};
 use fault_places::{Flaw, Key, Place, key_place, member_place, pool_place};
 use pool_versions::PoolFault;
-use scenario::{ScenarioFault, pools_in};
+use scenario::{Format, ScenarioFault, format_of, pools_in};
 use std::alloc::Global;
 use toml::{Table, Value};
 
@@ -15,7 +15,7 @@ pub fn words_of(alloc: Global, text: &[u8], fault: ScenarioFault) -> Option<Stri
     };
     let text = std::str::from_utf8(text).ok()?;
     match fault {
-        ScenarioFault::BadFormat => at(alloc, text, "format", "the number 1"),
+        ScenarioFault::BadFormat => at(alloc, text, "format", "the number 1 or 2"),
         ScenarioFault::BadKey => bad_key(alloc, text, &table),
         ScenarioFault::BadMember => bad_member(alloc, text, &table),
         ScenarioFault::Pool(fault) => bad_pool(alloc, text, &table, fault),
@@ -172,15 +172,15 @@ fn expected_item(key: Key) -> &'static str {
 }
 
 fn bad_member(alloc: Global, text: &str, table: &Table) -> Option<String> {
-    let place = member_place(alloc, table).ok()??;
+    let format = format_of(table)?;
+    let place = member_place(alloc, format, table).ok()??;
     let (table, flaw) = table_of(alloc, place)?;
     let path = path_of(alloc, table, flaw)?;
-    at(
-        alloc,
-        text,
-        path.as_str(),
-        "NAME@ADDRESS or NAME@ADDRESS/down",
-    )
+    let expected = match format {
+        Format::One => "NAME@ADDRESS or NAME@ADDRESS/down",
+        Format::Two => "NAME@ADDRESS, then *W from *1 to *16 or nothing, then /down or nothing",
+    };
+    at(alloc, text, path.as_str(), expected)
 }
 
 fn bad_pool(alloc: Global, text: &str, table: &Table, fault: PoolFault) -> Option<String> {

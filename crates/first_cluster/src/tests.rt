@@ -5,7 +5,7 @@ use super::*;
 use connection_table::{LruTable, PlainTable};
 use five_tuple::Flow;
 use hash_laws::SumHash;
-use maglev_table::{Name, TableSize};
+use maglev_table::{Name, TableSize, Weight};
 use pool_versions::{Backend, Member, Service, Version};
 use std::process::Abort;
 
@@ -14,6 +14,7 @@ fn member(rt: &impl Abort, name: &[u8], addr: u32, up: bool) -> Member {
     Member {
         backend: Backend { name, addr },
         up,
+        weight: Weight::one(),
     }
 }
 

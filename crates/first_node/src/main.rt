@@ -10,7 +10,7 @@ use cluster_node::{Outcome, Packet};
 use connection_table::LruTable;
 use five_tuple::Flow;
 use hash_laws::SumHash;
-use maglev_table::{Name, TableSize};
+use maglev_table::{Name, TableSize, Weight};
 use node_records::Command;
 use node_threads::{NodeRun, OpenGate, RunFault, run_node};
 use pool_versions::{Backend, Catalogue, Member, Service, Version};
@@ -31,7 +31,11 @@ fn services(alloc: Global, up: bool) -> Result<Vec<Service>, AllocError> {
     for (name, addr, up) in [(b"A", 1u32, true), (b"B", 2, up), (b"C", 3, true)] {
         if let Some(name) = Name::new(name) {
             let backend = Backend { name, addr };
-            members.push(Member { backend, up })?;
+            members.push(Member {
+                backend,
+                up,
+                weight: Weight::one(),
+            })?;
         }
     }
     let mut services = Vec::new(alloc);

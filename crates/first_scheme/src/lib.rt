@@ -5,7 +5,7 @@ ghost use Rattle.std.specs.Prelude.{◌≡◌, true, slice_get, refl};
 ghost use Rattle.first_scheme.specs.FirstLaws.{first_is_up, first_is_none};
 
 use five_tuple::Flow;
-use maglev_table::TableSize;
+use maglev_table::{TableSize, Weight};
 use pool_versions::Backend;
 use selection::{PrepareFault, Scheme};
 use std::alloc::Global;
@@ -21,18 +21,20 @@ impl Scheme for First {
 
     type Prepared = Option<Backend>;
 
-    ghost pick = { λ s size ups x turn. slice_get ups 0 };
+    ghost pick = { λ s size ups x turn. slice_get ups.backends 0 };
 
-    ghost is_prepared = { λ s size ups p. p ≡ slice_get ups 0 };
+    ghost is_prepared = { λ s size ups p. p ≡ slice_get ups.backends 0 };
 
     fn prepare(
         &self,
         alloc: Global,
         size: TableSize,
         ups: &[Backend],
+        weights: &[Weight],
     ) -> Result<Option<Backend>, PrepareFault> {
         let _ = alloc;
         let _ = size;
+        let _ = weights;
         Ok(ups.first().copied())
     }
 
@@ -42,9 +44,9 @@ impl Scheme for First {
         *prepared
     }
 
-    ghost pick_is_up = { λ s size ups x turn b h. first_is_up ups b h };
+    ghost pick_is_up = { λ s size ups x turn b h. first_is_up ups.backends b h };
 
-    ghost pick_is_none = { λ s size ups x turn. first_is_none ups };
+    ghost pick_is_none = { λ s size ups x turn. first_is_none ups.backends };
 
     ghost pick_is_steady = { λ h s size ups x t u. refl };
 

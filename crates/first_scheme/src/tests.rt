@@ -1,6 +1,6 @@
 use super::First;
 use five_tuple::Flow;
-use maglev_table::{Name, TableSize};
+use maglev_table::{Name, TableSize, Weight};
 use pool_versions::{Backend, Member, Service, Version};
 use selection::{PreparedVersion, Scheme};
 use std::alloc::Global;
@@ -11,6 +11,7 @@ fn member(rt: &impl Abort, name: &[u8], addr: u32, up: bool) -> Member {
     Member {
         backend: Backend { name, addr },
         up,
+        weight: Weight::one(),
     }
 }
 

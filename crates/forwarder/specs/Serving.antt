@@ -4,16 +4,13 @@ use Rattle.std.specs.List.{list_any}
 use Rattle.five_tuple.specs.declared.Flow.{Flow}
 use Rattle.pool_versions.specs.declared.backend.Backend.{Backend}
 use Rattle.connection_table.specs.declared.table.Entry.{Entry}
+use Rattle.selection.specs.Candidates.{Candidates}
 use Rattle.selection.specs.Readied.{Readied, ReadiedService, ready_for, same_backend}
 use Rattle.connection_table.specs.Touches.{Touch, last_touch, newest_each, standing}
 use Rattle.connection_table.specs.Recency.{stored}
 use Rattle.forwarder.specs.Forwarding.{Forwarding}
 use Rattle.forwarder.specs.declared.Choice.{Choice}
 use Rattle.forwarder.specs.declared.Choice.TheVariants.{Forward, NoService, NoBackend}
-
--- the backends among which a scheme picks: those of a flow's service that are up, in ascending order of name
-abbrev pub Candidates : Type 0
-Candidates = List Backend
 
 -- a scheme's answer: of the candidates, for a flow, at a turn
 abbrev pub Pick : Type 0
@@ -39,7 +36,7 @@ ups_in {S} v x = option_map (λ (r : ReadiedService S). r.ups) (ready_for x v.se
 
 -- whether a backend is one of the candidates, by name and address
 abbrev pub is_up : Backend → Candidates → Bool
-is_up b ups = list_any (same_backend b) ups
+is_up b ups = list_any (same_backend b) ups.backends
 
 -- the entry where its backend is up
 abbrev pub kept : Option Entry → Candidates → Option Entry

@@ -4,7 +4,7 @@ ghost use Rattle.std.specs.Prelude.{◌<◌, ◌≤◌};
 use super::*;
 use connection_table::{LruTable, PlainTable};
 use hash_laws::SumHash;
-use maglev_table::{Name, TableSize};
+use maglev_table::{Name, TableSize, Weight};
 use pool_versions::{Member, Service, Version};
 use selection::Maglev;
 use std::process::Abort;
@@ -28,6 +28,7 @@ fn member(rt: &impl Abort, name: &[u8], addr: u32, up: bool) -> Member {
     Member {
         backend: Backend { name, addr },
         up,
+        weight: Weight::one(),
     }
 }
 

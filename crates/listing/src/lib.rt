@@ -9,7 +9,7 @@ mod verdicts;
 pub use lines::push_line;
 pub use names::{CauseText, ReasonText};
 pub use reports::report_text;
-pub use verdicts::verdict_text;
+pub use verdicts::{ChoiceText, verdict_text};
 
 #[cfg(test)]
 mod tests;

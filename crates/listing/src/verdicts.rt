@@ -8,9 +8,9 @@ use pool_versions::Backend;
 use std::alloc::{AllocError, Global};
 use std::fmt;
 
-/// A backend and the version under which it was chosen.
+/// A version and the backend that was chosen under it, printed as `version V BACKEND`.
 #[derive(Clone, Copy)]
-struct ChoiceText(u32, Backend);
+pub struct ChoiceText(pub u32, pub Backend);
 
 #[derive(Clone, Copy)]
 struct VerdictText(Verdict);

@@ -1,7 +1,7 @@
 //! What `--verbose` says behind a fault: where it is, what was found there and what was expected.
-use crate::files::{Head, Refusal};
 use crate::scenario_runs::Paths;
 use fault_words::words_of;
+use late_files::{Head, Refusal};
 use maglev_cli::CliFault;
 use pcap_file::PcapFault;
 use scenario::ScenarioFault;

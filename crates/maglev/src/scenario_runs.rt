@@ -1,7 +1,9 @@
 //! The commands that play a scenario, over files.
-use crate::files::{InputFile, Kept, OutputFile, Refusal, is_standard, is_standard_output};
 use crate::reasons::Trouble;
-use maglev_cli::{CliFault, TableKey, explain_keyed, run_keyed, simulate_keyed};
+use late_files::{
+    FileFault, InputFile, Kept, OutputFile, Refusal, is_standard, is_standard_output,
+};
+use maglev_cli::{CliFault, TableKey, Wanted, explain_keyed, run_keyed, simulate_keyed};
 use pcap_file::{Frame, FromRead, PcapFault, ToWrite, read_record_into, read_start};
 use std::fs::File;
 use std::io;
@@ -61,19 +63,30 @@ fn table_key(rt: &HostRuntime) -> TableKey {
     }
 }
 
+// The fault of a file that isn't open: this one, where no memory was refused.
+fn of_file(refused: FileFault, fault: CliFault) -> CliFault {
+    match refused {
+        FileFault::Memory => CliFault::Memory,
+        FileFault::Refused => fault,
+    }
+}
+
 // A fault of reading, where opening the input may have been refused.
 fn of_input(fault: CliFault, input: &InputFile<'_>) -> CliFault {
-    match fault {
-        CliFault::Capture(PcapFault::Read) => input.fault().unwrap_or(fault),
-        fault => fault,
+    match (fault, input.fault()) {
+        (CliFault::Capture(PcapFault::Read), Some(refused)) => {
+            of_file(refused, CliFault::OpenInput)
+        }
+        _ => fault,
     }
 }
 
 // A fault of writing, where opening the output or keeping the report may have been refused.
 fn of_output(fault: CliFault, output: &OutputFile<'_>, report: &Kept) -> CliFault {
-    match fault {
-        CliFault::Write => output.fault().or(report.fault()).unwrap_or(fault),
-        fault => fault,
+    match (fault, output.fault()) {
+        (CliFault::Write, Some(refused)) => of_file(refused, CliFault::OpenOutput),
+        (CliFault::Write, None) if report.is_short() => CliFault::Memory,
+        _ => fault,
     }
 }
 
@@ -136,7 +149,7 @@ pub fn simulate_files<'x>(
     rt: &'x HostRuntime,
     files: &Paths<'x>,
     text: &[u8],
-    list: bool,
+    wanted: Wanted,
 ) -> Result<(), Trouble> {
     let to_error = is_standard_output(rt, files.output);
     let mut output = ToWrite::new(OutputFile::new(rt, files.output, files.read()));
@@ -149,7 +162,7 @@ pub fn simulate_files<'x>(
         &mut input,
         &mut output,
         &mut report,
-        list,
+        wanted,
     );
     ended(rt, outcome, input, output, report, to_error)
 }

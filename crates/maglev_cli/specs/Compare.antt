@@ -7,10 +7,11 @@ use Rattle.hash_laws.specs.Any.{hash_of_word, plain_of}
 use Rattle.maglev_table.specs.Sizes.{is_table_size}
 use Rattle.pool_versions.specs.declared.backend.Backend.{Backend}
 use Rattle.pool_versions.specs.declared.backend.Member.{Member}
-use Rattle.pool_versions.specs.Pool.{has_double, same_name, ups}
+use Rattle.pool_versions.specs.Pool.{has_double, same_name}
+use Rattle.selection.specs.Candidates.{candidates_in}
 use Rattle.selection.specs.Picks.{NamedTable, slot_names, table_of_ups}
 use Rattle.selection.specs.Readied.{same_backend}
-use Rattle.maglev_texts.specs.Parsing.{pieces, member_of}
+use Rattle.maglev_texts.specs.Parsing.{pieces, weighed_member_of}
 use Rattle.maglev_texts.specs.Printing.{backend_text}
 use Rattle.maglev_cli.specs.Refusals.{AreListed}
 use Rattle.maglev_cli.specs.declared.fault.CliFault.{CliFault}
@@ -55,11 +56,11 @@ compare_text old new =
 
 -- the text's words, split at single spaces, are these members
 abbrev pub AreMembers : List ℕ → List Member → Type 0
-AreMembers text ms = map member_of (pieces 32 text) ≡ map Some ms
+AreMembers text ms = map weighed_member_of (pieces 32 text) ≡ map Some ms
 
 -- one of the words is no member
 abbrev pub HasOtherWord : List (List ℕ) → Type 0
-HasOtherWord words = Contains (map member_of words) None
+HasOtherWord words = Contains (map weighed_member_of words) None
 
 -- one of the text's words is no member
 abbrev pub HasOther : List ℕ → Type 0
@@ -120,7 +121,7 @@ pub record IsCompareText (plain : List ℕ → ℕ) (size : ℕ) (old new : List
   pub ns : List Member
   pub lists : AreLists old new ms ns
   pub good : AreGood size ms ns
-  pub is : text ≡ compare_text (table_of_ups plain size (ups ms)) (table_of_ups plain size (ups ns))
+  pub is : text ≡ compare_text (table_of_ups plain size (candidates_in ms)) (table_of_ups plain size (candidates_in ns))
 
 -- the same, for the hash that a word names
 abbrev pub IsCompareTextOf : List ℕ → ℕ → List ℕ → List ℕ → List ℕ → Type 0

@@ -6,7 +6,6 @@ use Rattle.hash_laws.specs.Any.{hash_of_word, plain_of}
 use Rattle.hex.specs.Hex.{decode_of}
 use Rattle.hex.specs.declared.FromHexError.{FromHexError}
 use Rattle.maglev_table.specs.Sizes.{is_table_size}
-use Rattle.maglev_table.specs.Turns.{maglev, preference_of}
 use Rattle.ip_headers.specs.declared.IpFault.{IpFault}
 use Rattle.ip_headers.specs.declared.IpFault.TheVariants as fault
 use Rattle.ip_headers.specs.Ipv4.{Datagram, ipv4_answer}
@@ -14,7 +13,7 @@ use Rattle.five_tuple.specs.declared.Flow.{Flow}
 use Rattle.five_tuple.specs.Flow.{flow_answer}
 use Rattle.selection.specs.Picks.{slot_of_flow}
 use Rattle.maglev_texts.specs.Printing.{flow_text}
-use Rattle.maglev_cli.specs.Text.{IsAscending}
+use Rattle.maglev_cli.specs.Text.{owners_of_names, AreInOrder}
 use Rattle.maglev_cli.specs.Refusals.{AreListed, AreFew, WordsFail}
 use Rattle.maglev_cli.specs.declared.fault.CliFault.{CliFault}
 use Rattle.maglev_cli.specs.declared.fault.CliFault.TheVariants.{BadSize, BadHash, BadName, DoubleName, TooMany, Write, BadHex, TooLong, Read, Memory}
@@ -51,10 +50,6 @@ cause_text fault.BadTransport = codes "BadTransport"
 abbrev pub name_at : List (List ℕ) → List ℕ → ℕ → List ℕ
 name_at names owners slot = slice_index_or names (slice_index owners slot) []
 
--- the table of some names in their order
-abbrev pub owners_of_names : (List ℕ → ℕ) → ℕ → List (List ℕ) → List ℕ
-owners_of_names plain size names = maglev (map (λ name. preference_of plain name size) names) size
-
 -- `FLOW slot I backend NAME`
 abbrev pub flow_line : Flow → ℕ → List ℕ → List ℕ
 flow_line x slot name = flow_text x ++ (codes " slot " ++ (decimal slot ++ (codes " backend " ++ (name ++ codes "\n"))))
@@ -63,12 +58,12 @@ flow_line x slot name = flow_text x ++ (codes " slot " ++ (decimal slot ++ (code
 abbrev pub drop_line : List ℕ → List ℕ
 drop_line cause = codes "drop " ++ (cause ++ codes "\n")
 
--- the line of the command `pick` over some names in ascending order
-abbrev pub pick_line : (List ℕ → ℕ) → ℕ → List (List ℕ) → Judged → List ℕ
-pick_line plain size names (Found x) =
-    flow_line x (slot_of_flow plain size x) (name_at names (owners_of_names plain size names) (slot_of_flow plain size x))
-pick_line plain size names (Dropped f) = drop_line (cause_text f)
-pick_line plain size names TooLarge = drop_line (codes "TooLarge")
+-- the line of the command `pick` over some names in ascending order, of these weights
+abbrev pub pick_line : (List ℕ → ℕ) → ℕ → List (List ℕ) → List ℕ → Judged → List ℕ
+pick_line plain size names weights (Found x) =
+    flow_line x (slot_of_flow plain size x) (name_at names (owners_of_names plain size names weights) (slot_of_flow plain size x))
+pick_line plain size names weights (Dropped f) = drop_line (cause_text f)
+pick_line plain size names weights TooLarge = drop_line (codes "TooLarge")
 
 -- the text is hexadecimal digits and at most one newline, and they are these bytes
 abbrev pub IsHexOf : List ℕ → List ℕ → Type 0
@@ -85,7 +80,7 @@ longest = 524289
 -- the line of a datagram, where the input tells it
 abbrev pub IsPickLine : (List ℕ → ℕ) → ℕ → List (List ℕ) → Bool → Option (List ℕ) → List ℕ → Type 0
 IsPickLine plain size words check input line =
-    (sorted : List (List ℕ)) × IsAscending words sorted × (bytes : List ℕ) × IfSome input (IsHexOf bytes) × (line ≡ pick_line plain size sorted (judge_of check bytes))
+    (names : List (List ℕ)) × (weights : List ℕ) × AreInOrder words names weights × (bytes : List ℕ) × IfSome input (IsHexOf bytes) × (line ≡ pick_line plain size names weights (judge_of check bytes))
 
 -- the same, for the hash that a word names
 abbrev pub IsPickLineOf : List ℕ → ℕ → List (List ℕ) → Bool → Option (List ℕ) → List ℕ → Type 0

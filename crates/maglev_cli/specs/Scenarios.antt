@@ -6,8 +6,6 @@ use Rattle.pool_versions.specs.declared.catalogue.PoolFault.TheVariants as pool
 use Rattle.pcap_file.specs.Device.{Tape, Unfailed, PutRefused}
 use Rattle.pcap_file.specs.declared.format.PcapFault.{PcapFault}
 use Rattle.pcap_file.specs.declared.format.PcapFault.TheVariants as capture
-use Rattle.hash_laws.specs.Any.{plain_of}
-use Rattle.selection.specs.Picks.{slot_of_flow}
 use Rattle.scenario.specs.declared.fault.ScenarioFault.{ScenarioFault}
 use Rattle.scenario.specs.declared.fault.ScenarioFault.TheVariants as read
 use Rattle.scenario.specs.declared.reading.Scenario.{Scenario}
@@ -16,7 +14,7 @@ use Rattle.simulation.specs.declared.fault.SimulationFault.{SimulationFault}
 use Rattle.simulation.specs.declared.fault.SimulationFault.TheVariants as run
 use Rattle.simulation.specs.Simulated.{Stopped}
 use Rattle.scenario_play.specs.declared.asking.Asked.{Asked}
-use Rattle.scenario_play.specs.Described.{cluster_in, choice_in, plan_in}
+use Rattle.scenario_play.specs.Described.{cluster_in, choice_in, plan_in, lookups_in}
 use Rattle.scenario_play.specs.Answers.{Answers}
 use Rattle.scenario_play.specs.Kept.{KeepsPromises}
 use Rattle.maglev_cli.specs.declared.fault.CliFault.{CliFault}
@@ -54,7 +52,7 @@ pub record Plays (asked : Asked) (text : List ℕ) (input input' output output' 
   pub scenario : Scenario
   pub means : Means text scenario
   pub answer : List ℕ
-  pub answers : Answers (cluster_in scenario) (choice_in scenario) (plan_in scenario) (λ x. slot_of_flow (plain_of scenario.hash) scenario.size x) asked input input' output output' answer
+  pub answers : Answers (cluster_in scenario) (choice_in scenario) (plan_in scenario) (lookups_in scenario) asked input input' output output' answer
   pub kept : KeepsPromises scenario answers.course
   pub written : Appends report.bytes report'.bytes answer
   pub unfailed : Unfailed report report'
@@ -78,7 +76,7 @@ pub record ReportFails (fault : CliFault) (asked : Asked) (text : List ℕ) (inp
   pub scenario : Scenario
   pub means : Means text scenario
   pub answer : List ℕ
-  pub answers : Answers (cluster_in scenario) (choice_in scenario) (plan_in scenario) (λ x. slot_of_flow (plain_of scenario.hash) scenario.size x) asked input input' output output' answer
+  pub answers : Answers (cluster_in scenario) (choice_in scenario) (plan_in scenario) (lookups_in scenario) asked input input' output output' answer
   pub named : fault ≡ Write
   pub refused : PutRefused answer report report'
 

@@ -1,5 +1,6 @@
-ghost use Rattle.std.specs.Prelude.{◌≡◌, ◌≢◌, IfOk, OnOk, IfErr};
-ghost use Rattle.pool_versions.specs.Pool.{ups};
+ghost use Rattle.std.specs.Prelude.{◌≡◌, ◌≢◌, map, IfOk, OnOk, IfErr};
+ghost use Rattle.pool_versions.specs.Pool.{ranked};
+ghost use Rattle.selection.specs.Candidates.{among};
 ghost use Rattle.selection.specs.Picks.{table_of_ups};
 ghost use Rattle.maglev_cli.specs.Printing.{Prints, BreaksOff};
 ghost use Rattle.maglev_cli.specs.Compare.{IsCompareText, IsCompareTextOf, ListsFail, CompareFails, AreGood};
@@ -11,13 +12,13 @@ use super::writing::put_text;
 use hash_laws::{AnyHash, FlowHash};
 use maglev_table::TableSize;
 use pcap_file::Sink;
-use pool_versions::{Backend, Member, Service};
+use pool_versions::{Member, Service, backends_of, weights_of};
 use selection::{Maglev, MaglevTable};
 use std::alloc::{AllocError, Global};
 
-// The up backends of some members, in ascending order of name.
-fn ups_of(alloc: Global, members: Vec<Member>) -> Result<Vec<Backend>, AllocError>
-    ensures { IfOk result (λ v. v.items ≡ ups members.items) }
+// The up ones of some members, in ascending order of name.
+fn ranked(alloc: Global, members: Vec<Member>) -> Result<Vec<Member>, AllocError>
+    ensures { IfOk result (λ v. v.items ≡ ranked members.items) }
 {
     let service = Service {
         vip: 0,
@@ -25,19 +26,22 @@ fn ups_of(alloc: Global, members: Vec<Member>) -> Result<Vec<Backend>, AllocErro
         port: 0,
         members,
     };
-    service.ups(alloc)
+    service.ranked(alloc)
 }
 
+// The table of members that are up.
 fn table_of<H: FlowHash>(
     alloc: Global,
     size: TableSize,
     hash: &H,
-    ups: &[Backend],
+    members: &[Member],
 ) -> Result<MaglevTable, AllocError>
-    ensures { IfOk result (λ t. t ≡ table_of_ups (H.plain hash.now) size ups.now) }
+    ensures { IfOk result (λ t. t ≡ table_of_ups (H.plain hash.now) size (among (map (λ m. m.backend) members.now) (map (λ m. m.weight) members.now))) }
 {
     let scheme = Maglev { hash: *hash };
-    match scheme.table(alloc, size, ups) {
+    let ups = backends_of(alloc, members)?;
+    let weights = weights_of(alloc, members)?;
+    match scheme.table(alloc, size, ups.as_slice(), weights.as_slice()) {
         Ok(table) => Ok(table),
         Err(_) => Err(AllocError),
     }
@@ -57,8 +61,8 @@ fn compare_with<H: FlowHash, S: Sink>(
     ensures fault { IfErr result (λ fault. ListsFail fault size old.now new.now) }
 {
     let lists = lists_in(alloc, size, old, new)?;
-    let old = ups_of(alloc, lists.old)?;
-    let new = ups_of(alloc, lists.new)?;
+    let old = ranked(alloc, lists.old)?;
+    let new = ranked(alloc, lists.new)?;
     let before = table_of(alloc, size, hash, old.as_slice())?;
     let after = table_of(alloc, size, hash, new.as_slice())?;
     let text = compare_text_of(alloc, &before, &after)?;
@@ -70,8 +74,8 @@ fn compare_with<H: FlowHash, S: Sink>(
 
 /// The command `compare`: writes the slots whose backend changes where the members `old` are replaced by `new`.
 ///
-/// Each list is one or more member words, `NAME@ADDRESS` or `NAME@ADDRESS/down`, joined by single spaces. Backends are
-/// told apart by name and address. The text is written in one piece once it is whole, so after any fault but `Write`
+/// Each list is one or more member words, `NAME@ADDRESS`, then `*W` where the weight isn't left out, then `/down` where the
+/// member is down, joined by single spaces. Backends are told apart by name and address. The text is written in one piece once it is whole, so after any fault but `Write`
 /// nothing was written.
 pub fn compare<S: Sink>(
     alloc: Global,

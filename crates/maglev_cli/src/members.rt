@@ -1,10 +1,10 @@
 ghost use Rattle.std.specs.Prelude.{◌≢◌, ◌≡◌, map, Some, IfOk, IfErr};
-ghost use Rattle.maglev_texts.specs.Parsing.{member_of};
+ghost use Rattle.maglev_texts.specs.Parsing.{weighed_member_of};
 ghost use Rattle.maglev_cli.specs.Compare.{AreMembers, AreLists, AreGood, WordsAreOther, MembersFail, ListsFail, is_long};
 
 use super::fault::CliFault;
 use maglev_table::TableSize;
-use maglev_texts::{member, pieces};
+use maglev_texts::{pieces, weighed_member};
 use pool_versions::{Member, has_double_name};
 use std::alloc::Global;
 
@@ -20,12 +20,12 @@ pub(crate) struct Lists {
 
 // The members that words are.
 fn members_of(alloc: Global, words: &[&[u8]]) -> Result<Vec<Member>, CliFault>
-    ensures members { IfOk result (λ v. map member_of (map (λ w. w.now) words.now) ≡ map Some v.items) }
+    ensures members { IfOk result (λ v. map weighed_member_of (map (λ w. w.now) words.now) ≡ map Some v.items) }
     ensures fault { IfErr result (λ fault. WordsAreOther fault (map (λ w. w.now) words.now)) }
 {
     let mut members = Vec::new(alloc);
     for word in words {
-        let member = match member(alloc, word)? {
+        let member = match weighed_member(alloc, word)? {
             Some(member) => member,
             None => return Err(CliFault::BadMember),
         };

@@ -7,12 +7,12 @@ ghost use Rattle.maglev_cli.specs.Pick.{longest, without_newline, IsHexOf, judge
 
 use super::fault::CliFault;
 use super::judging::{CauseText, Judged, judge};
-use super::names::{lists_of, names_for};
+use super::names::{Entrants, lists_of, names_for};
 use super::writing::put_text;
 use five_tuple::Flow;
 use hash_laws::{AnyHash, FlowHash};
 use hex::FromHexError;
-use maglev_table::{Name, TableSize, populate};
+use maglev_table::{Name, TableSize, Weight, populate};
 use maglev_texts::FlowText;
 use pcap_file::{Sink, Source, fill};
 use std::alloc::{AllocError, Global};
@@ -76,15 +76,17 @@ fn found_line<H: FlowHash>(
     size: TableSize,
     hash: &H,
     names: &[Name],
+    weights: &[Weight],
     flow: Flow,
 ) -> Result<String, CliFault>
     requires some { 0 < length names.now }
     requires few { length names.now ≤ size }
-    ensures line { IfOk result (λ s. string_bytes s ≡ pick_line (H.plain hash.now) size names.now (Found flow)) }
+    requires weighed { length weights.now ≡ length names.now }
+    ensures line { IfOk result (λ s. string_bytes s ≡ pick_line (H.plain hash.now) size names.now weights.now (Found flow)) }
     ensures fault { IfErr result (λ fault. fault ≡ CliFault.Memory) }
 {
     let lists = lists_of(alloc, size, hash, names)?;
-    let table = match populate(alloc, size, lists.as_slice()) {
+    let table = match populate(alloc, size, lists.as_slice(), weights) {
         Ok(table) => table,
         Err(_) => return Err(CliFault::Memory),
     };
@@ -103,15 +105,17 @@ fn line_of<H: FlowHash>(
     size: TableSize,
     hash: &H,
     names: &[Name],
+    weights: &[Weight],
     judged: Judged,
 ) -> Result<String, CliFault>
     requires some { 0 < length names.now }
     requires few { length names.now ≤ size }
-    ensures line { IfOk result (λ s. string_bytes s ≡ pick_line (H.plain hash.now) size names.now judged) }
+    requires weighed { length weights.now ≡ length names.now }
+    ensures line { IfOk result (λ s. string_bytes s ≡ pick_line (H.plain hash.now) size names.now weights.now judged) }
     ensures fault { IfErr result (λ fault. fault ≡ CliFault.Memory) }
 {
     let line = match judged {
-        Judged::Found(flow) => return found_line(alloc, size, hash, names, flow),
+        Judged::Found(flow) => return found_line(alloc, size, hash, names, weights, flow),
         Judged::Dropped(fault) => {
             let cause = CauseText(fault);
             format!(in alloc; "drop {cause}\n")
@@ -158,13 +162,20 @@ fn pick_with<H: FlowHash, R: Source, S: Sink>(
     ensures silent { IfErr result (λ fault. fault ≢ CliFault.Write → out.new ≡ out.old) }
     ensures fault { IfErr result (λ fault. PickFailsWith fault size (map (λ w. w.now) words.now) (R.tape input.old).bytes) }
 {
-    let names = names_for(alloc, size, words)?;
+    let Entrants { names, weights } = names_for(alloc, size, words)?;
     let bytes = match datagram_of(alloc, input) {
         Ok(bytes) => bytes,
         Err(fault) => return Err(fault),
     };
     let judged = judge(bytes.as_slice(), check);
-    let line = line_of(alloc, size, hash, names.as_slice(), judged)?;
+    let line = line_of(
+        alloc,
+        size,
+        hash,
+        names.as_slice(),
+        weights.as_slice(),
+        judged,
+    )?;
     match put_text(out, line.as_str()) {
         Ok(()) => Ok(()),
         Err(fault) => Err(fault),

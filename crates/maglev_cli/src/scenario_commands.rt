@@ -9,7 +9,7 @@ use connection_table::TableKey;
 use pcap_file::{PcapFault, Sink, Source};
 use pool_versions::PoolFault;
 use scenario::{ScenarioFault, read};
-use scenario_play::{Asked, play_scenario};
+use scenario_play::{Asked, Wanted, play_scenario};
 use simulation::SimulationFault;
 use std::alloc::Global;
 
@@ -81,7 +81,8 @@ fn play<I: Source, O: Sink, R: Sink>(
 }
 
 /// The command `simulate`: plays a scenario over a capture, writes what the cluster sends as another capture, and then the
-/// report, with a line for each event before it where `list` holds.
+/// report, with what is wanted before it: a line for each event, and then a line for each flow that was split, and how many
+/// there were.
 ///
 /// The devices aren't called before the scenario was accepted, and the output isn't before the input's header was. After a
 /// fault that isn't `Write` nothing stands in the report, and the output is cut between records.
@@ -91,14 +92,14 @@ pub fn simulate<I: Source, O: Sink, R: Sink>(
     input: &mut I,
     output: &mut O,
     report: &mut R,
-    list: bool,
+    wanted: Wanted,
 ) -> Result<(), CliFault>
-    ensures played { OnOk result (Plays (Asked.Report list) scenario.now (I.tape input.old) (I.tape input.new) (O.tape output.old) (O.tape output.new) (R.tape report.old) (R.tape report.new)) }
-    ensures stopped { IfErr result (λ fault. PlayFails fault (Asked.Report list) scenario.now (I.tape input.old) (I.tape input.new) (O.tape output.old) (O.tape output.new) (R.tape report.old) (R.tape report.new)
+    ensures played { OnOk result (Plays (Asked.Report wanted) scenario.now (I.tape input.old) (I.tape input.new) (O.tape output.old) (O.tape output.new) (R.tape report.old) (R.tape report.new)) }
+    ensures stopped { IfErr result (λ fault. PlayFails fault (Asked.Report wanted) scenario.now (I.tape input.old) (I.tape input.new) (O.tape output.old) (O.tape output.new) (R.tape report.old) (R.tape report.new)
         ((input.new ≡ input.old) × (output.new ≡ output.old) × (report.new ≡ report.old)) (report.new ≡ report.old)) }
 {
     let key = TableKey::fixed();
-    match simulate_keyed(alloc, key, scenario, input, output, report, list) {
+    match simulate_keyed(alloc, key, scenario, input, output, report, wanted) {
         Ok(()) => Ok(()),
         Err(fault) => Err(fault),
     }
@@ -112,13 +113,13 @@ pub fn simulate_keyed<I: Source, O: Sink, R: Sink>(
     input: &mut I,
     output: &mut O,
     report: &mut R,
-    list: bool,
+    wanted: Wanted,
 ) -> Result<(), CliFault>
-    ensures played { OnOk result (Plays (Asked.Report list) scenario.now (I.tape input.old) (I.tape input.new) (O.tape output.old) (O.tape output.new) (R.tape report.old) (R.tape report.new)) }
-    ensures stopped { IfErr result (λ fault. PlayFails fault (Asked.Report list) scenario.now (I.tape input.old) (I.tape input.new) (O.tape output.old) (O.tape output.new) (R.tape report.old) (R.tape report.new)
+    ensures played { OnOk result (Plays (Asked.Report wanted) scenario.now (I.tape input.old) (I.tape input.new) (O.tape output.old) (O.tape output.new) (R.tape report.old) (R.tape report.new)) }
+    ensures stopped { IfErr result (λ fault. PlayFails fault (Asked.Report wanted) scenario.now (I.tape input.old) (I.tape input.new) (O.tape output.old) (O.tape output.new) (R.tape report.old) (R.tape report.new)
         ((input.new ≡ input.old) × (output.new ≡ output.old) × (report.new ≡ report.old)) (report.new ≡ report.old)) }
 {
-    let asked = Asked::Report { list };
+    let asked = Asked::Report(wanted);
     match play(alloc, key, scenario, asked, input, output, report) {
         Ok(()) => Ok(()),
         Err(fault) => Err(fault),

@@ -3,6 +3,7 @@ use Rattle.std.specs.Prelude.{ℕ, ◌+◌, ◌-◌, ◌*◌, ◌&&◌, ◌==◌
 use Rattle.std.specs.Str.{bytes_eq}
 use Rattle.maglev_table.specs.NameText.{is_name}
 use Rattle.pool_versions.specs.declared.backend.Member.{Member}
+use Rattle.maglev_texts.specs.declared.weights.WeighedName.{WeighedName}
 
 -- the digits of a number, of at most a limit, after those with a value
 abbrev pub digits_after : ℕ → ℕ → List ℕ → Option ℕ
@@ -34,9 +35,9 @@ address_of_pieces _ = None
 abbrev pub address_of : List ℕ → Option ℕ
 address_of text = address_of_pieces (pieces 46 text)
 
--- a member of a name, an address and whether it is up
+-- a member of a name, an address and whether it is up, of the weight of one that counts once
 abbrev pub member_with : List ℕ → Bool → ℕ → Member
-member_with name up addr = record { backend = record { name = name; addr = addr }; up = up }
+member_with name up addr = record { backend = record { name = name; addr = addr }; up = up; weight = 1 }
 
 -- the member of a name at the address that a text is
 abbrev pub member_at_address : List ℕ → Bool → List ℕ → Option Member
@@ -59,3 +60,51 @@ member_of_pieces _ = None
 -- a member word: `NAME@ADDRESS`, or `NAME@ADDRESS/down`
 abbrev pub member_of : List ℕ → Option Member
 member_of text = member_of_pieces (pieces 64 text)
+
+-- what stands before a word's star, the whole word where there is none
+abbrev pub before_star : List ℕ → List ℕ
+before_star [] = []
+before_star (b ∷ bs) = if b == 42 then [] else b ∷ before_star bs
+
+-- what stands behind it, if there is one
+abbrev pub behind_star : List ℕ → Option (List ℕ)
+behind_star [] = None
+behind_star (b ∷ bs) = if b == 42 then Some bs else behind_star bs
+
+-- a weight: a number from 1 to 16
+abbrev pub weight_of : List ℕ → Option ℕ
+weight_of text = option_and_then (λ n. if nat_lt 0 n then Some n else None) (decimal_of 16 text)
+
+-- the weight that a word bears behind its star, 1 where there is none
+abbrev pub weight_behind : Option (List ℕ) → Option ℕ
+weight_behind None = Some 1
+weight_behind (Some text) = weight_of text
+
+abbrev pub weighed_as : List ℕ → ℕ → WeighedName
+weighed_as name weight = record { name = name; weight = weight }
+
+-- a name that may bear a weight: `NAME`, or `NAME*W`
+abbrev pub weighed_name_of : List ℕ → Option WeighedName
+weighed_name_of word = if is_name (before_star word) then option_map (weighed_as (before_star word)) (weight_behind (behind_star word)) else None
+
+-- a member with a weight, up or down
+abbrev pub weighing : Member → Bool → ℕ → Member
+weighing m up weight = record { backend = m.backend; up = up; weight = weight }
+
+-- behind a member's star: `W`, or `W/down`
+abbrev pub weighed_at : Member → List (List ℕ) → Option Member
+weighed_at m (weight ∷ []) = option_map (weighing m true) (weight_of weight)
+weighed_at m (weight ∷ word ∷ []) = if bytes_eq word (codes "down") then option_map (weighing m false) (weight_of weight) else None
+weighed_at m _ = None
+
+abbrev pub weighed_behind : List ℕ → Member → Option Member
+weighed_behind tail m = if m.up then weighed_at m (pieces 47 tail) else None
+
+-- a member word, or one with something behind its star
+abbrev pub weighed_member : List ℕ → Option (List ℕ) → Option Member
+weighed_member word None = member_of word
+weighed_member word (Some tail) = option_and_then (weighed_behind tail) (member_of word)
+
+-- a member word that may bear a weight: `NAME@ADDRESS`, then `*W` where the weight isn't left out, then `/down` where it is down
+abbrev pub weighed_member_of : List ℕ → Option Member
+weighed_member_of text = weighed_member (before_star text) (behind_star text)

@@ -3,7 +3,7 @@ use Rattle.std.specs.Prelude.{◌≡◌, ◌<◌, ◌≤◌, ◌^◌, ℕ, Bool,
 use Rattle.std.specs.Fmt.{decimal}
 use Rattle.pool_versions.specs.declared.backend.Member.{Member}
 use Rattle.maglev_table.specs.NameText.{is_name}
-use Rattle.maglev_texts.specs.Parsing.{decimal_of, address_of, member_of}
+use Rattle.maglev_texts.specs.Parsing.{decimal_of, address_of, member_of, weighed_member_of}
 use Rattle.maglev_texts.specs.Printing.{address_text, backend_text}
 
 abbrev pub DecimalsAreReadBack : Type 0
@@ -23,7 +23,18 @@ abbrev pub member_text : Member → List ℕ
 member_text m = backend_text m.backend ++ (if m.up then [] else codes "/down")
 
 abbrev pub MembersAreReadBack : Type 0
-MembersAreReadBack = (m : Member) → is_name m.backend.name ≡ true → m.backend.addr < 2 ^ 32 → member_of (member_text m) ≡ Some m
+MembersAreReadBack = (m : Member) → m.weight ≡ 1 → is_name m.backend.name ≡ true → m.backend.addr < 2 ^ 32 → member_of (member_text m) ≡ Some m
 
 abbrev pub OnlyMembersAreRead : Type 0
-OnlyMembersAreRead = (m : Member) (text : List ℕ) → member_of text ≡ Some m → (text ≡ member_text m) × (is_name m.backend.name ≡ true) × (m.backend.addr < 2 ^ 32)
+OnlyMembersAreRead = (m : Member) (text : List ℕ) → member_of text ≡ Some m → (text ≡ member_text m) × (m.weight ≡ 1) × (is_name m.backend.name ≡ true) × (m.backend.addr < 2 ^ 32)
+
+-- `NAME@ADDRESS*W`, with `/down` behind it where it is down
+abbrev pub weighed_text : Member → List ℕ
+weighed_text m = backend_text m.backend ++ (codes "*" ++ (decimal m.weight ++ (if m.up then [] else codes "/down")))
+
+abbrev pub WeighedMembersAreReadBack : Type 0
+WeighedMembersAreReadBack = (m : Member) → 1 ≤ m.weight → m.weight ≤ 16 → is_name m.backend.name ≡ true → m.backend.addr < 2 ^ 32 → weighed_member_of (weighed_text m) ≡ Some m
+
+-- a member word means the same where weights may stand
+abbrev pub MemberWordsMeanTheSame : Type 0
+MemberWordsMeanTheSame = (m : Member) (text : List ℕ) → member_of text ≡ Some m → weighed_member_of text ≡ Some m

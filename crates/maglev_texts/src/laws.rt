@@ -1,8 +1,9 @@
 //! What is printed is read, and nothing else.
-ghost use Rattle.maglev_texts.specs.RoundTrips.{DecimalsAreReadBack, OnlyDecimalsAreRead, AddressesAreReadBack, OnlyAddressesAreRead, MembersAreReadBack, OnlyMembersAreRead};
+ghost use Rattle.maglev_texts.specs.RoundTrips.{DecimalsAreReadBack, OnlyDecimalsAreRead, AddressesAreReadBack, OnlyAddressesAreRead, MembersAreReadBack, OnlyMembersAreRead, WeighedMembersAreReadBack, MemberWordsMeanTheSame};
 
 /// Decimal numbers, addresses and member words are read from what is printed of them, and from no other text: two texts of
-/// one number, address or member are the same. The clauses are the laws; the body does nothing.
+/// one number, address or member are the same. A member word means the same where weights may stand. The clauses are the
+/// laws; the body does nothing.
 pub fn texts_are_read_back()
     ensures decimals { DecimalsAreReadBack }
     ensures only_decimals { OnlyDecimalsAreRead }
@@ -10,4 +11,6 @@ pub fn texts_are_read_back()
     ensures only_addresses { OnlyAddressesAreRead }
     ensures members { MembersAreReadBack }
     ensures only_members { OnlyMembersAreRead }
+    ensures weighed_members { WeighedMembersAreReadBack }
+    ensures unweighed { MemberWordsMeanTheSame }
 {}

@@ -5,11 +5,13 @@ mod laws;
 mod members;
 mod parsing;
 mod printing;
+mod weights;
 
 pub use laws::texts_are_read_back;
-pub use members::member;
+pub use members::{member, weighed_member};
 pub use parsing::{address, decimal, pieces};
 pub use printing::{AddressText, BackendText, FlowText};
+pub use weights::{WeighedName, weighed_name, weight};
 
 #[cfg(test)]
 mod tests;

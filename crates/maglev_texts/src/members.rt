@@ -1,8 +1,9 @@
-ghost use Rattle.std.specs.Prelude.{◌≡◌, map, IfOk};
-ghost use Rattle.maglev_texts.specs.Parsing.{member_at_address, member_at, member_named, member_of_pieces, member_of};
+ghost use Rattle.std.specs.Prelude.{◌≡◌, map, option_map, IfOk};
+ghost use Rattle.maglev_texts.specs.Parsing.{member_at_address, member_at, member_named, member_of_pieces, member_of, weight_of, weighing, weighed_at, weighed_behind, weighed_member_of};
 
 use crate::parsing::{address, pieces};
-use maglev_table::Name;
+use crate::weights::{at_star, weight};
+use maglev_table::{Name, Weight};
 use pool_versions::{Backend, Member};
 use std::alloc::{AllocError, Global};
 
@@ -18,6 +19,7 @@ fn member_with(
     Ok(found.map(|addr| Member {
         backend: Backend { name, addr },
         up,
+        weight: Weight::one(),
     }))
 }
 
@@ -59,10 +61,63 @@ fn member_of_pieces(alloc: Global, parts: &[&[u8]]) -> Result<Option<Member>, Al
     }
 }
 
-/// The member that a word is: `NAME@ADDRESS`, followed by `/down` where the member is down.
+/// The member that a word is: `NAME@ADDRESS`, followed by `/down` where the member is down. It counts once.
 pub fn member(alloc: Global, word: &[u8]) -> Result<Option<Member>, AllocError>
     ensures { IfOk result (λ o. o ≡ member_of word.now) }
 {
     let parts = pieces(alloc, word, b'@')?;
     member_of_pieces(alloc, parts.as_slice())
+}
+
+// The member with the weight that a text is, if it is one.
+fn with_weight(member: Member, up: bool, text: &[u8]) -> Option<Member>
+    ensures { result ≡ option_map (weighing member up) (weight_of text.now) }
+{
+    let weight = weight(text)?;
+    Some(Member {
+        backend: member.backend,
+        up,
+        weight,
+    })
+}
+
+fn weighed_at(member: Member, parts: &[&[u8]]) -> Option<Member>
+    ensures { result ≡ weighed_at member (map (λ w. w.now) parts.now) }
+{
+    match parts {
+        [weight] => with_weight(member, true, weight),
+        [weight, state] => {
+            if *state == b"down".as_slice() {
+                with_weight(member, false, weight)
+            } else {
+                None
+            }
+        }
+        [] => None,
+        [_, _, _, ..] => None,
+    }
+}
+
+fn weighed_behind(alloc: Global, tail: &[u8], member: Member) -> Result<Option<Member>, AllocError>
+    ensures { IfOk result (λ o. o ≡ weighed_behind tail.now member) }
+{
+    if !member.up {
+        return Ok(None);
+    }
+    let parts = pieces(alloc, tail, b'/')?;
+    Ok(weighed_at(member, parts.as_slice()))
+}
+
+/// The member that a word is where weights may stand: `NAME@ADDRESS`, then `*W` where the weight isn't left out, then `/down`
+/// where the member is down. W is from 1 to 16, without leading zeros.
+pub fn weighed_member(alloc: Global, word: &[u8]) -> Result<Option<Member>, AllocError>
+    ensures { IfOk result (λ o. o ≡ weighed_member_of word.now) }
+{
+    let (head, tail) = at_star(word);
+    let found = member(alloc, head)?;
+    match (found, tail) {
+        (Some(member), Some(tail)) => weighed_behind(alloc, tail, member),
+        (found, None) => Ok(found),
+        (None, Some(_)) => Ok(None),
+    }
 }

@@ -1,4 +1,7 @@
-use super::{AddressText, BackendText, FlowText, address, decimal, member, pieces};
+use super::{
+    AddressText, BackendText, FlowText, address, decimal, member, pieces, weighed_member,
+    weighed_name, weight,
+};
 use five_tuple::Flow;
 use maglev_table::Name;
 use pool_versions::Backend;
@@ -120,6 +123,54 @@ fn members(rt: HostRuntime) {
         let found = member(rt.alloc(), word.as_bytes()).expect(&rt, "memory");
         assert!(rt; found.is_none(), "{word}");
     }
+}
+
+fn is_weighed(rt: &impl Abort, alloc: Global, word: &str, addr: u32, up: bool, turns: u8) {
+    let found = weighed_member(alloc, word.as_bytes()).expect(rt, "memory");
+    let member = found.expect(rt, "a member");
+    assert_eq!(rt; member.backend.name.as_str(), "A");
+    assert_eq!(rt;
+        (member.backend.addr, member.up, member.weight.turns()),
+        (addr, up, turns)
+    );
+}
+
+#[test]
+fn weighed_members(rt: HostRuntime) {
+    let alloc = rt.alloc();
+    is_weighed(&rt, alloc, "A@10.8.0.1", 0x0a08_0001, true, 1);
+    is_weighed(&rt, alloc, "A@10.8.0.2/down", 0x0a08_0002, false, 1);
+    is_weighed(&rt, alloc, "A@10.8.0.1*1", 0x0a08_0001, true, 1);
+    is_weighed(&rt, alloc, "A@10.8.0.1*16", 0x0a08_0001, true, 16);
+    is_weighed(&rt, alloc, "A@10.8.0.2*7/down", 0x0a08_0002, false, 7);
+    for word in [
+        "A@10.8.0.1*",
+        "A@10.8.0.1*0",
+        "A@10.8.0.1*17",
+        "A@10.8.0.1*02",
+        "A@10.8.0.1*2*2",
+        "A@10.8.0.1/down*2",
+        "A@10.8.0.1*2/up",
+        "A@10.8.0.1*2/down/down",
+        "A*2@10.8.0.1",
+        "*2",
+        "",
+    ] {
+        let found = weighed_member(alloc, word.as_bytes()).expect(&rt, "memory");
+        assert!(rt; found.is_none(), "{word}");
+    }
+}
+
+#[test]
+fn weighed_names(rt: HostRuntime) {
+    for (word, name, turns) in [("A", "A", 1u8), ("A*16", "A", 16), ("b.c-1*2", "b.c-1", 2)] {
+        let found = weighed_name(word.as_bytes()).expect(&rt, "a name");
+        assert_eq!(rt; (found.name.as_str(), found.weight.turns()), (name, turns));
+    }
+    for word in ["", "*", "A*", "A*0", "A*17", "A*01", "A*2*2", "*2", "A *2"] {
+        assert!(rt; weighed_name(word.as_bytes()).is_none(), "{word}");
+    }
+    assert!(rt; weight(b"10").is_some_and(|weight| weight.turns() == 10));
 }
 
 #[test]

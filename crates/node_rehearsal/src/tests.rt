@@ -10,7 +10,7 @@ use cluster_node::{Cause, Event, Reason};
 use connection_table::{LruTable, PlainTable};
 use five_tuple::Flow;
 use hash_laws::SumHash;
-use maglev_table::{Name, TableSize};
+use maglev_table::{Name, TableSize, Weight};
 use node_records::{Step, join_runs, none_lost};
 use pool_versions::{Backend, Member, Service, Version};
 use selection::{Maglev, PlainHash, RoundRobin};
@@ -43,6 +43,7 @@ fn member(rt: &impl Abort, name: &[u8], addr: u32, up: bool) -> Member {
     Member {
         backend: Backend { name, addr },
         up,
+        weight: Weight::one(),
     }
 }
 

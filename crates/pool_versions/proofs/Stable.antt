@@ -14,10 +14,9 @@ use Rattle.std.proofs.lemmas.Fn.{always_returns_same}
 use Rattle.std.proofs.lemmas.List.{append-nil}
 use Rattle.std.proofs.lemmas.List.Elements.{filter-append}
 use Rattle.std.proofs.lemmas.List.Sorted.{sorted_far, ranks_by}
-use Rattle.pool_versions.specs.Pool.{is_below, AscendsByName, insert_by_name, ascending_with, up_backends, ups}
-use Rattle.pool_versions.specs.declared.backend.Backend.{Backend}
+use Rattle.pool_versions.specs.Pool.{is_below, MembersAscend, insert_by_name, ascending_with, up_members, ranked}
 use Rattle.pool_versions.specs.declared.backend.Member.{Member}
-use Rattle.pool_versions.proofs.Ascending.{sorted_rest, inserted_ascends, ups_ascend}
+use Rattle.pool_versions.proofs.Ascending.{sorted_rest, inserted_ascends, ranked_ascend}
 
 filter_none : {X : Type 0} (p : X → Bool) (xs : List X) → ((k : ℕ) (d : X) → k < length xs → p (get_or xs k d) ≡ false) → filter p xs ≡ []
 filter_none p [] h = refl
@@ -80,44 +79,44 @@ module _ {X : Type 0} (lt : X → X → Bool) (o : IsStrictWeakOrder lt) where
   ]
 
 -- whether the first one's name is below
-abbrev pub by_name : Backend → Backend → Bool
-by_name b c = is_below b.name c.name
+abbrev pub by_name : Member → Member → Bool
+by_name b c = is_below b.backend.name c.backend.name
 
 pub by_name_is_order : IsStrictWeakOrder by_name
-by_name_is_order = ranks_by nat_list_cmp_total (λ (b : Backend). b.name)
+by_name_is_order = ranks_by nat_list_cmp_total (λ (b : Member). b.backend.name)
 
-ties_not_above : (z b : Backend) → ties by_name z b ≡ true → is_below b.name z.name ≡ false
+ties_not_above : (z b : Member) → ties by_name z b ≡ true → is_below b.backend.name z.backend.name ≡ false
 ties_not_above z b h = not-true _ (and_parts (not (by_name z b)) (not (by_name b z)) h).1
 
-inserted_keeps : (z b : Backend) (cs : List Backend) → AscendsByName cs → filter (ties by_name z) (insert_by_name b cs) ≡ filter (ties by_name z) (cs ++ b ∷ [])
+inserted_keeps : (z b : Member) (cs : List Member) → MembersAscend cs → filter (ties by_name z) (insert_by_name b cs) ≡ filter (ties by_name z) (cs ++ b ∷ [])
 inserted_keeps z b [] s = refl
-inserted_keeps z b (c ∷ cs) s = elim (cases_Bool (is_below b.name c.name)) [
+inserted_keeps z b (c ∷ cs) s = elim (cases_Bool (is_below b.backend.name c.backend.name)) [
   | inl lower ↦ rw lower (elim (cases_Bool (ties by_name z b)) [
     | inl tied ↦
-        let low : is_below b.name z.name ≡ false = ties_not_above z b tied in
+        let low : is_below b.backend.name z.backend.name ≡ false = ties_not_above z b tied in
         let none : filter (ties by_name z) (c ∷ cs) ≡ [] = none_ties by_name by_name_is_order z b c cs low lower s in
-        filter_kept (ties by_name z) b (c ∷ cs) tied ∙ ap (λ (v : List Backend). b ∷ v) none ∙ sym (filter-append (ties by_name z) (c ∷ cs) (b ∷ []) ∙ ap (λ (v : List Backend). v ++ filter (ties by_name z) (b ∷ [])) none ∙ filter_kept (ties by_name z) b [] tied)
-    | inr apart ↦ filter_left_out (ties by_name z) b (c ∷ cs) apart ∙ sym (append-nil (filter (ties by_name z) (c ∷ cs))) ∙ ap (λ (v : List Backend). filter (ties by_name z) (c ∷ cs) ++ v) (sym (filter_left_out (ties by_name z) b [] apart)) ∙ sym (filter-append (ties by_name z) (c ∷ cs) (b ∷ []))
+        filter_kept (ties by_name z) b (c ∷ cs) tied ∙ ap (λ (v : List Member). b ∷ v) none ∙ sym (filter-append (ties by_name z) (c ∷ cs) (b ∷ []) ∙ ap (λ (v : List Member). v ++ filter (ties by_name z) (b ∷ [])) none ∙ filter_kept (ties by_name z) b [] tied)
+    | inr apart ↦ filter_left_out (ties by_name z) b (c ∷ cs) apart ∙ sym (append-nil (filter (ties by_name z) (c ∷ cs))) ∙ ap (λ (v : List Member). filter (ties by_name z) (c ∷ cs) ++ v) (sym (filter_left_out (ties by_name z) b [] apart)) ∙ sym (filter-append (ties by_name z) (c ∷ cs) (b ∷ []))
   ])
-  | inr higher ↦ rw higher (ap (λ (v : List Backend). cond (ties by_name z c) (c ∷ v) v) (inserted_keeps z b cs (sorted_rest by_name c cs s)))
+  | inr higher ↦ rw higher (ap (λ (v : List Member). cond (ties by_name z c) (c ∷ v) v) (inserted_keeps z b cs (sorted_rest by_name c cs s)))
 ]
 
-ascending_with_keeps : (z : Backend) (sorted bs : List Backend) → AscendsByName sorted → filter (ties by_name z) (ascending_with sorted bs) ≡ filter (ties by_name z) (sorted ++ bs)
+ascending_with_keeps : (z : Member) (sorted bs : List Member) → MembersAscend sorted → filter (ties by_name z) (ascending_with sorted bs) ≡ filter (ties by_name z) (sorted ++ bs)
 ascending_with_keeps z sorted [] s = ap (filter (ties by_name z)) (sym (append-nil sorted))
 ascending_with_keeps z sorted (b ∷ bs) s =
     ascending_with_keeps z (insert_by_name b sorted) bs (inserted_ascends b sorted s)
     ∙ filter-append (ties by_name z) (insert_by_name b sorted) bs
-    ∙ ap (λ (v : List Backend). v ++ filter (ties by_name z) bs) (inserted_keeps z b sorted s)
+    ∙ ap (λ (v : List Member). v ++ filter (ties by_name z) bs) (inserted_keeps z b sorted s)
     ∙ sym (filter-append (ties by_name z) (sorted ++ b ∷ []) bs)
     ∙ ap (filter (ties by_name z)) (append_assoc sorted (b ∷ []) bs)
 
--- a list that ascends and keeps the order of ties of the up backends is the up backends in order
-pub ups_are : (ms : List Member) (bs : List Backend) → AscendsByName bs → ((z : Backend) → filter (ties by_name z) bs ≡ filter (ties by_name z) (up_backends ms)) → bs ≡ ups ms
-ups_are ms bs s h =
-    only_one by_name by_name_is_order bs (ups ms) s (ups_ascend ms)
-    (λ z. h z ∙ sym (ascending_with_keeps z [] (up_backends ms) (λ k d low within. absurd (omega arith))))
+-- a list that ascends and keeps the order of ties of the up members is the up members in order
+pub ranked_are : (ms : List Member) (bs : List Member) → MembersAscend bs → ((z : Member) → filter (ties by_name z) bs ≡ filter (ties by_name z) (up_members ms)) → bs ≡ ranked ms
+ranked_are ms bs s h =
+    only_one by_name by_name_is_order bs (ranked ms) s (ranked_ascend ms)
+    (λ z. h z ∙ sym (ascending_with_keeps z [] (up_members ms) (λ k d low within. absurd (omega arith))))
 
 -- a closure that compares by name answers by that order
-pub compares_by_name : {F : Type 0} {g : Mut F (Bor Backend × (Bor Backend × Unit {0})) Ordering} {f : F} → ((a : Bor Backend × (Bor Backend × Unit {0})) (r : Ordering) (f' : F) → Called g f a r f' → (r ≡ slice_cmp nat_cmp a.0.now.name a.1.0.now.name) × (f' ≡ f)) →
+pub compares_by_name : {F : Type 0} {g : Mut F (Bor Member × (Bor Member × Unit {0})) Ordering} {f : F} → ((a : Bor Member × (Bor Member × Unit {0})) (r : Ordering) (f' : F) → Called g f a r f' → (r ≡ slice_cmp nat_cmp a.0.now.backend.name a.1.0.now.backend.name) × (f' ≡ f)) →
     ComparesAs g by_name f
 compares_by_name {g = g} {f = f} h = always_returns_same g (λ a r. is_lt r ≡ by_name a.0.now a.1.0.now) f (λ a r f' k. (ap is_lt (h a r f' k).0, (h a r f' k).1))

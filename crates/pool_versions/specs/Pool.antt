@@ -1,6 +1,6 @@
 -- What a catalogue stands for.
 use Rattle.std.specs.Prelude.{◌≡◌, ℕ, ◌≤◌, Bool, false, ◌&&◌, ◌||◌, ◌==◌, nat_lt, nat_eq, if◌then◌else◌, List, [], ◌∷◌, length, map, filter, find, Option, Some, None, option_map, option_and_then, is_some, Result, Ok, Err, ◌⊎◌}
-use Rattle.std.specs.List.{list_any, All, Contains}
+use Rattle.std.specs.List.{list_any, All}
 use Rattle.std.specs.List.Sorted.{IsSortedByKey, IsPermutation}
 use Rattle.std.specs.Ordering.{nat_cmp, is_lt}
 use Rattle.std.specs.Cmp.Lexicographic.{slice_cmp, pointwise}
@@ -80,6 +80,10 @@ pub record HasFewMembers (size : ℕ) (s : Service) : Type 0 where
   pub few : length s.members.items ≤ 4096
   pub fit : length s.members.items ≤ size
 
+-- each member's weight is one
+abbrev pub AreWeighed : List Member → Type 0
+AreWeighed ms = All (λ m. (1 ≤ m.weight) × (m.weight ≤ 16)) ms
+
 -- a version keeps the limits that do not depend on the other versions: it has few services, no two of which are for the same
 -- flows, each with few members, no two of which have one name
 pub record IsWithinLimits (size : ℕ) (v : Version) : Type 0 where
@@ -87,6 +91,7 @@ pub record IsWithinLimits (size : ℕ) (v : Version) : Type 0 where
   pub members : All (HasFewMembers size) v.services.items
   pub apart : has_double same_service v.services.items ≡ false
   pub named : list_any has_double_name v.services.items ≡ false
+  pub weighed : All (λ s. AreWeighed s.members.items) v.services.items
 
 -- two versions have one number
 abbrev pub same_number : Version → Version → Bool
@@ -113,23 +118,39 @@ is_below a b = is_lt (slice_cmp nat_cmp a b)
 abbrev pub AscendsByName : List Backend → Type 0
 AscendsByName = IsSortedByKey (λ b. b.name) (slice_cmp nat_cmp)
 
--- a backend goes into its place by name
-abbrev pub insert_by_name : Backend → List Backend → List Backend
-insert_by_name b [] = b ∷ []
-insert_by_name b (c ∷ cs) = if is_below b.name c.name then b ∷ c ∷ cs else c ∷ insert_by_name b cs
+-- no member's name is below that of the one before it
+abbrev pub MembersAscend : List Member → Type 0
+MembersAscend = IsSortedByKey (λ m. m.backend.name) (slice_cmp nat_cmp)
 
--- the backends in ascending byte order of name, with those of a sorted list
-abbrev pub ascending_with : List Backend → List Backend → List Backend
+-- a member goes into its place by name
+abbrev pub insert_by_name : Member → List Member → List Member
+insert_by_name m [] = m ∷ []
+insert_by_name m (n ∷ ns) = if is_below m.backend.name n.backend.name then m ∷ n ∷ ns else n ∷ insert_by_name m ns
+
+-- the members in ascending byte order of name, with those of a sorted list
+abbrev pub ascending_with : List Member → List Member → List Member
 ascending_with sorted [] = sorted
-ascending_with sorted (b ∷ bs) = ascending_with (insert_by_name b sorted) bs
+ascending_with sorted (m ∷ ms) = ascending_with (insert_by_name m sorted) ms
 
--- the backends of the up members, in the members' order
+-- the up members, in their order
+abbrev pub up_members : List Member → List Member
+up_members ms = filter (λ m. m.up) ms
+
+-- their backends, in the members' order
 abbrev pub up_backends : List Member → List Backend
-up_backends ms = map (λ m. m.backend) (filter (λ m. m.up) ms)
+up_backends ms = map (λ m. m.backend) (up_members ms)
+
+-- the up members, in ascending byte order of name
+abbrev pub ranked : List Member → List Member
+ranked ms = ascending_with [] (up_members ms)
 
 -- the backends of the up members, in ascending byte order of name
 abbrev pub ups : List Member → List Backend
-ups ms = ascending_with [] (up_backends ms)
+ups ms = map (λ m. m.backend) (ranked ms)
+
+-- the weights of these backends, in their order
+abbrev pub weights : List Member → List ℕ
+weights ms = map (λ m. m.weight) (ranked ms)
 
 -- the up backends of a flow's service under a version
 abbrev pub ups_under : Version → Flow → Option (List Backend)
@@ -138,6 +159,13 @@ ups_under v x = option_map (λ s. ups s.members.items) (find_service x v.service
 -- the up backends of a flow's service under the version of a number
 abbrev pub up_of : Pools → ℕ → Flow → Option (List Backend)
 up_of c n x = option_and_then (λ v. ups_under v x) (version_at n c.versions)
+
+-- the weights of these, in their order
+abbrev pub weights_under : Version → Flow → Option (List ℕ)
+weights_under v x = option_map (λ s. weights s.members.items) (find_service x v.services.items)
+
+abbrev pub weights_of : Pools → ℕ → Flow → Option (List ℕ)
+weights_of c n x = option_and_then (λ v. weights_under v x) (version_at n c.versions)
 
 -- some backends are the up members of a flow's service in ascending order, and no more than there are slots
 pub record HasUps (c : Pools) (n : ℕ) (x : Flow) (bs : List Backend) : Type 0 where
@@ -148,3 +176,15 @@ pub record HasUps (c : Pools) (n : ℕ) (x : Flow) (bs : List Backend) : Type 0 
   pub ascending : AscendsByName bs
   pub permutation : IsPermutation (up_backends service.members.items) bs
   pub fit : length bs ≤ c.size
+
+-- some weights are those of the up backends of a flow's service, in their order: of the up members in some order these are
+-- the backends, and those are the weights
+pub record HasWeights (c : Pools) (n : ℕ) (x : Flow) (ws : List ℕ) : Type 0 where
+  pub version : Version
+  pub service : Service
+  pub members : List Member
+  pub of_number : version_at n c.versions ≡ Some version
+  pub of_flow : find_service x version.services.items ≡ Some service
+  pub permutation : IsPermutation (up_members service.members.items) members
+  pub backends : up_of c n x ≡ Some (map (λ m. m.backend) members)
+  pub weights : ws ≡ map (λ m. m.weight) members

@@ -1,5 +1,5 @@
 //! Backends and members.
-use maglev_table::Name;
+use maglev_table::{Name, Weight};
 
 /// A backend: its name and its IPv4 address, most significant byte first. Two backends are equal where both parts are.
 #[derive(Clone, Copy, PartialEq, Eq)]
@@ -8,9 +8,11 @@ pub struct Backend {
     pub addr: u32,
 }
 
-/// A backend as a member of a service, up or down.
+/// A backend as a member of a service: up or down, and of which weight among the service's up members. The weight is no
+/// part of the backend.
 #[derive(Clone, Copy, PartialEq, Eq)]
 pub struct Member {
     pub backend: Backend,
     pub up: bool,
+    pub weight: Weight,
 }

@@ -1,13 +1,13 @@
 //! The catalogue of versions.
 ghost use Rattle.std.specs.Prelude.{◌≡◌, ◌++◌, ◌∷◌, [], OnOk, OnErr, IfOk, IfSome, option_map, option_copied};
 ghost use Rattle.std.specs.List.{list_any};
-ghost use Rattle.pool_versions.specs.Pool.{Pools, services_fault, fault_of, Judged, version_at, up_of, is_over, has_too_many, has_double_name, HasUps, IsWithinLimits, AreSound};
+ghost use Rattle.pool_versions.specs.Pool.{Pools, services_fault, fault_of, Judged, version_at, up_of, weights_of, is_over, has_too_many, has_double_name, HasUps, HasWeights, IsWithinLimits, AreSound};
 
 use crate::backend::Backend;
 use crate::doubles::{has_double_name, has_double_service};
-use crate::service::{Service, Version};
+use crate::service::{Service, Version, weigh_all};
 use five_tuple::Flow;
-use maglev_table::TableSize;
+use maglev_table::{TableSize, Weight};
 use std::alloc::{AllocError, Global};
 use std::marker::Model;
 
@@ -86,7 +86,7 @@ impl Catalogue {
     }
 
     /// No two versions have one number; within a version no two services are for the same flows, and within a service no
-    /// two members have one name. The clause is the invariant.
+    /// two members have one name. Each member's weight is from 1 to 16. The clause is the invariant.
     pub fn keeps_doubles_out(&self)
         ensures { AreSound self.now }
     {
@@ -154,6 +154,7 @@ impl Catalogue {
         if let Some(fault) = self.fault_of(&version) {
             return Err(fault);
         }
+        weigh_all(version.services.as_slice());
         match self.versions.push(version) {
             Ok(()) => Ok(()),
             Err(_) => Err(PoolFault::Memory),
@@ -178,5 +179,24 @@ impl Catalogue {
             return Ok(None);
         };
         Ok(Some(service.ups(alloc)?))
+    }
+    /// The weights of the backends that [`Catalogue::up_of`] answers, in their order. None where the version or the service
+    /// is missing.
+    pub fn weights_of(
+        &self,
+        alloc: Global,
+        number: u32,
+        flow: &Flow,
+    ) -> Result<Option<Vec<Weight>>, AllocError>
+        ensures value { IfOk result (λ o. option_map (λ v. v.items) o ≡ weights_of self.now number flow.now) }
+        ensures listed { IfOk result (λ o. IfSome o (λ v. HasWeights self.now number flow.now v.items)) }
+    {
+        let Some(found) = self.get(number) else {
+            return Ok(None);
+        };
+        let Some(service) = found.service_of(flow) else {
+            return Ok(None);
+        };
+        Ok(Some(service.weights(alloc)?))
     }
 }

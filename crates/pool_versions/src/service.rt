@@ -1,11 +1,11 @@
 //! Services and versions.
-ghost use Rattle.std.specs.Prelude.{◌≡◌, ◌≤◌, length, IfOk, option_copied};
+ghost use Rattle.std.specs.Prelude.{◌≡◌, ◌≤◌, map, length, All, IfOk, option_copied};
 ghost use Rattle.std.specs.List.Sorted.{IsPermutation};
-ghost use Rattle.pool_versions.specs.Pool.{same_service, has_too_many, up_backends, ups, AscendsByName, serves, find_service};
+ghost use Rattle.pool_versions.specs.Pool.{same_service, has_too_many, up_members, up_backends, ranked, ups, weights, AscendsByName, AreWeighed, serves, find_service};
 
 use crate::backend::{Backend, Member};
 use five_tuple::Flow;
-use maglev_table::TableSize;
+use maglev_table::{TableSize, Weight};
 use std::alloc::{AllocError, Global};
 
 // The most members of a service.
@@ -27,17 +27,57 @@ pub struct Version {
     pub services: Vec<Service>,
 }
 
-// The backends of the up members, in the members' order.
-fn up_backends(alloc: Global, members: &[Member]) -> Result<Vec<Backend>, AllocError>
-    ensures { IfOk result (λ v. v.items ≡ up_backends members.now) }
+// The up members, in their order.
+fn up_members(alloc: Global, members: &[Member]) -> Result<Vec<Member>, AllocError>
+    ensures { IfOk result (λ v. v.items ≡ up_members members.now) }
+{
+    let mut found = Vec::with_capacity(alloc, members.len())?;
+    for member in members {
+        if member.up {
+            found.push(*member)?;
+        }
+    }
+    Ok(found)
+}
+
+/// The backends of some members, in the members' order.
+pub fn backends_of(alloc: Global, members: &[Member]) -> Result<Vec<Backend>, AllocError>
+    ensures { IfOk result (λ v. v.items ≡ map (λ m. m.backend) members.now) }
 {
     let mut backends = Vec::with_capacity(alloc, members.len())?;
     for member in members {
-        if member.up {
-            backends.push(member.backend)?;
-        }
+        backends.push(member.backend)?;
     }
     Ok(backends)
+}
+
+/// The weights of some members, in the members' order.
+pub fn weights_of(alloc: Global, members: &[Member]) -> Result<Vec<Weight>, AllocError>
+    ensures { IfOk result (λ v. v.items ≡ map (λ m. m.weight) members.now) }
+{
+    let mut weights = Vec::with_capacity(alloc, members.len())?;
+    for member in members {
+        weights.push(member.weight)?;
+    }
+    Ok(weights)
+}
+
+// That each member's weight is one, as its type keeps it.
+fn weigh(members: &[Member])
+    ensures { AreWeighed members.now }
+{
+    for member in members {
+        let _turns = member.weight.turns();
+    }
+}
+
+// The same of all services.
+pub(crate) fn weigh_all(services: &[Service])
+    ensures { All (λ s. AreWeighed s.members.items) services.now }
+{
+    for service in services {
+        weigh(service.members.as_slice());
+    }
 }
 
 impl Service {
@@ -48,6 +88,18 @@ impl Service {
         self.vip == flow.dst && self.proto == flow.proto && self.port == flow.dport
     }
 
+    /// The up members, in ascending byte order of name.
+    pub fn ranked(&self, alloc: Global) -> Result<Vec<Member>, AllocError>
+        ensures value { IfOk result (λ v. v.items ≡ ranked self.now.members.items) }
+        ensures ascending { IfOk result (λ v. AscendsByName (map (λ m. m.backend) v.items)) }
+        ensures permutation { IfOk result (λ v. IsPermutation (up_members self.now.members.items) v.items) }
+        ensures short { IfOk result (λ v. length v.items ≤ length self.now.members.items) }
+    {
+        let mut members = up_members(alloc, self.members.as_slice())?;
+        members.sort_by(|one, other| one.backend.name.cmp(&other.backend.name))?;
+        Ok(members)
+    }
+
     /// The backends of the up members, in ascending byte order of name.
     pub fn ups(&self, alloc: Global) -> Result<Vec<Backend>, AllocError>
         ensures value { IfOk result (λ v. v.items ≡ ups self.now.members.items) }
@@ -55,9 +107,17 @@ impl Service {
         ensures permutation { IfOk result (λ v. IsPermutation (up_backends self.now.members.items) v.items) }
         ensures short { IfOk result (λ v. length v.items ≤ length self.now.members.items) }
     {
-        let mut backends = up_backends(alloc, self.members.as_slice())?;
-        backends.sort_by(|one, other| one.name.cmp(&other.name))?;
+        let members = self.ranked(alloc)?;
+        let backends = backends_of(alloc, members.as_slice())?;
         Ok(backends)
+    }
+
+    /// The weights of the backends that [`Service::ups`] answers, in their order.
+    pub fn weights(&self, alloc: Global) -> Result<Vec<Weight>, AllocError>
+        ensures { IfOk result (λ v. v.items ≡ weights self.now.members.items) }
+    {
+        let members = self.ranked(alloc)?;
+        weights_of(alloc, members.as_slice())
     }
 
     // Whether it serves the flows of another.

@@ -1,6 +1,6 @@
 use super::{Backend, Catalogue, Member, PoolFault, Service, Version};
 use five_tuple::Flow;
-use maglev_table::{Name, TableSize};
+use maglev_table::{Name, TableSize, Weight};
 use std::alloc::Global;
 use std::process::Abort;
 
@@ -11,10 +11,15 @@ fn size(rt: &impl Abort, slots: u32) -> TableSize {
 }
 
 fn member(rt: &impl Abort, name: &[u8], addr: u32, up: bool) -> Member {
+    weighed(rt, name, addr, up, 1)
+}
+
+fn weighed(rt: &impl Abort, name: &[u8], addr: u32, up: bool, turns: u8) -> Member {
     let name = Name::new(name).expect(rt, "a name");
     Member {
         backend: Backend { name, addr },
         up,
+        weight: Weight::new(turns).expect(rt, "a weight"),
     }
 }
 
@@ -96,6 +101,43 @@ fn versions_are_found_by_number(rt: HostRuntime) {
     assert!(rt; catalogue.get(1).is_none());
     assert!(rt; catalogue.get(0).is_none());
     catalogue.keeps_doubles_out();
+}
+
+#[test]
+fn weights_stand_as_the_backends_do(rt: HostRuntime) {
+    let alloc = rt.alloc();
+    let mut catalogue = Catalogue::new(alloc, size(&rt, 7));
+    let members = [
+        weighed(&rt, b"b", 1, true, 16),
+        weighed(&rt, b"C", 3, false, 9),
+        weighed(&rt, b"B", 4, true, 2),
+        weighed(&rt, b"10", 5, true, 1),
+    ];
+    assert_eq!(rt;
+        catalogue.add(version(&rt, alloc, 1, &[80], &members)),
+        Ok(())
+    );
+    let weights = catalogue
+        .weights_of(alloc, 1, &flow(80))
+        .expect(&rt, "memory")
+        .expect(&rt, "a service");
+    assert_eq!(rt; weights.len(), 3);
+    for (at, turns) in [1u8, 2, 16].iter().enumerate() {
+        let weight = weights.get(at).expect(&rt, "a weight");
+        assert_eq!(rt; weight.turns(), *turns);
+    }
+    assert!(rt;
+        catalogue
+            .weights_of(alloc, 1, &flow(81))
+            .expect(&rt, "memory")
+            .is_none()
+    );
+    assert!(rt;
+        catalogue
+            .weights_of(alloc, 2, &flow(80))
+            .expect(&rt, "memory")
+            .is_none()
+    );
 }
 
 #[test]

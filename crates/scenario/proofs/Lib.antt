@@ -1,3 +1,4 @@
 pub mod Views
 pub mod Adding
 pub mod Refusals
+pub mod Alike

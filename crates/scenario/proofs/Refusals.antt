@@ -1,9 +1,9 @@
 -- A draft's fault is its document's.
 use Rattle.std.proofs.Common.{◌≡◌, ℕ, false, List, Option, Some, None, Result, Ok, Err, IfErr, codes, is_none, sym, ◌∙◌, ap, subst}
-use Rattle.scenario.specs.Lookups.{number_at}
 use Rattle.scenario.specs.Plain.{PlainVersion}
 use Rattle.scenario.specs.Steps.{PlainStep}
-use Rattle.scenario.specs.Meaning.{PlainDraft, Plan, with_steps, with_pools, with_versions, with_draft, with_format, plan_of_draft, plan_of, draft_in, IsDocument, IsRefused, IsDraftRefused}
+use Rattle.scenario.specs.Meaning.{PlainDraft, Plan, with_steps, with_pools, with_versions, with_draft, with_format, plan_of_draft, plan_of, format_of, draft_in, IsDocument, IsRefused, IsDraftRefused}
+use Rattle.scenario.specs.declared.formats.Format.{Format}
 use Rattle.scenario.specs.declared.fault.ScenarioFault.{ScenarioFault}
 use Rattle.scenario.specs.declared.fault.ScenarioFault.TheVariants as fault
 use Rattle.scenario.specs.declared.reading.Scenario.{Scenario}
@@ -48,14 +48,10 @@ late_refused text ms (fault.Pool f) document late is = (ms, document, is)
 late_refused text ms (fault.BadStep n) document late is = (ms, document, is)
 late_refused text ms fault.Memory document late is = absurd late
 
-with_some : (o : Option ℕ) (ms : Members) (d : PlainDraft) → is_none o ≡ false → draft_in ms ≡ Some d → with_format o ms ≡ plan_of_draft d
-with_some None ms d some is = absurd cc
-with_some (Some n) ms d some is = ap with_draft is
-
--- what a document of the format says is what its draft says
-pub document_says : (ms : Members) (o : Option ℕ) (d : PlainDraft) → o ≡ number_at 1 1 (codes "format") ms → is_none o ≡ false → draft_in ms ≡ Some d → plan_of ms ≡ plan_of_draft d
+-- what a document of a format says is what its draft says
+pub document_says : (ms : Members) (f : Format) (d : PlainDraft) → format_of ms ≡ Some f → draft_in f ms ≡ Some d → plan_of ms ≡ plan_of_draft d
 unfolding plan_of
-document_says ms o d same some is = ap (λ p. with_format p ms) (sym same) ∙ with_some o ms d some is
+document_says ms f d same is = ap (λ p. with_format p ms) same ∙ ap with_draft is
 
 one_refused : (text : List ℕ) (ms : Members) (d : PlainDraft) (e : ScenarioFault) → IsDocument text ms → plan_of ms ≡ plan_of_draft d → IsDraftRefused d e → IsRefused text e
 one_refused text ms d fault.Memory document same refused = tt
@@ -67,7 +63,7 @@ one_refused text ms d fault.BadMember document same refused = late_refused text 
 one_refused text ms d (fault.Pool f) document same refused = late_refused text ms (fault.Pool f) document (late_draft d (fault.Pool f) refused) (same ∙ refused)
 one_refused text ms d (fault.BadStep n) document same refused = late_refused text ms (fault.BadStep n) document (late_draft d (fault.BadStep n) refused) (same ∙ refused)
 
-pub refused_above : (text : List ℕ) (ms : Members) (o : Option ℕ) (d : PlainDraft) (r : Result Scenario ScenarioFault) → IsDocument text ms → o ≡ number_at 1 1 (codes "format") ms → is_none o ≡ false → draft_in ms ≡ Some d →
+pub refused_above : (text : List ℕ) (ms : Members) (f : Format) (d : PlainDraft) (r : Result Scenario ScenarioFault) → IsDocument text ms → format_of ms ≡ Some f → draft_in f ms ≡ Some d →
     IfErr r (IsDraftRefused d) → IfErr r (IsRefused text)
-refused_above text ms o d (Ok s) document same some is refused = tt
-refused_above text ms o d (Err e) document same some is refused = one_refused text ms d e document (document_says ms o d same some is) refused
+refused_above text ms f d (Ok s) document same is refused = tt
+refused_above text ms f d (Err e) document same is refused = one_refused text ms d e document (document_says ms f d same is) refused

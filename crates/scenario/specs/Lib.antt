@@ -4,3 +4,4 @@ pub mod Steps
 pub mod Plain
 pub mod Drafts
 pub mod Meaning
+pub mod Alike

@@ -1,5 +1,5 @@
 -- Which scenario a text means, and which fault it has.
-use Rattle.std.specs.Prelude.{◌≡◌, ℕ, ◌≤◌, ◌<◌, ◌^◌, ◌&&◌, nat_le, if◌then◌else◌, List, [], ◌∷◌, map, length, codes, Option, Some, None, option_and_then, option_map, Result, Ok, Err, IsUtf8, string_bytes, is_none, ⊤}
+use Rattle.std.specs.Prelude.{◌≡◌, ℕ, ◌≤◌, ◌<◌, ◌^◌, ◌&&◌, ◌==◌, nat_le, if◌then◌else◌, List, [], ◌∷◌, map, length, codes, Option, Some, None, option_and_then, option_map, Result, Ok, Err, IsUtf8, string_bytes, is_none, ⊤}
 use Rattle.std.specs.List.{position_or_len}
 use Rattle.toml.specs.Data.{Data, Members, as_str}
 use Rattle.toml.specs.Parse.{parse_document}
@@ -13,6 +13,8 @@ use Rattle.scenario.specs.Words.{choices_of, limits_of}
 use Rattle.scenario.specs.Plain.{PlainService, PlainVersion, plain_version, first_refused}
 use Rattle.scenario.specs.Drafts.{version_in, plain_version_draft}
 use Rattle.scenario.specs.Steps.{PlainStep, plain_step, step_of_text}
+use Rattle.scenario.specs.declared.formats.Format.{Format}
+use Rattle.scenario.specs.declared.formats.Format.TheVariants.{One, Two}
 use Rattle.scenario.specs.declared.setup.Choices.{Choices}
 use Rattle.scenario.specs.declared.setup.Limits.{Limits}
 use Rattle.scenario.specs.declared.draft.Draft.{Draft}
@@ -65,21 +67,21 @@ few_steps ts = if nat_le (length ts) 100000 then Some ts else None
 abbrev pub nodes_of : Members → Option (List ℕ)
 nodes_of ms = option_and_then few_nodes (option_and_then (all_items address_in) (items_at (codes "nodes") ms))
 
-abbrev pub versions_in : Members → Option (List (PlainVersion (Option Member)))
-versions_in ms = option_and_then (all_items version_in) (items_at (codes "versions") ms)
+abbrev pub versions_in : Format → Members → Option (List (PlainVersion (Option Member)))
+versions_in f ms = option_and_then (all_items (version_in f)) (items_at (codes "versions") ms)
 
 abbrev pub steps_in : Members → Option (List (List ℕ))
 steps_in ms = option_and_then few_steps (option_and_then (all_items as_str) (items_at (codes "steps") ms))
 
 -- what a document holds, where all its keys are as they should be
-unfoldable pub draft_of : Members → Option PlainDraft
-draft_of ms =
+unfoldable pub draft_of : Format → Members → Option PlainDraft
+draft_of f ms =
     option_and_then (λ choices. option_and_then (λ limits. option_and_then (λ nodes. option_and_then (λ versions. option_map (λ steps.
     record { choices = choices; limits = limits; nodes = nodes; versions = versions; steps = steps })
-    (steps_in ms)) (versions_in ms)) (nodes_of ms)) (limits_of ms)) (choices_of ms)
+    (steps_in ms)) (versions_in f ms)) (nodes_of ms)) (limits_of ms)) (choices_of ms)
 
-abbrev pub draft_in : Members → Option PlainDraft
-draft_in ms = if has_only root_keys ms then draft_of ms else None
+abbrev pub draft_in : Format → Members → Option PlainDraft
+draft_in f ms = if has_only root_keys ms then draft_of f ms else None
 
 -- a service and a version, where each of their words is a member
 abbrev pub service_of : PlainService (Option Member) → Option (PlainService Member)
@@ -108,22 +110,26 @@ with_versions d (Some versions) = with_pools d versions (first_refused d.choices
 unfoldable pub plan_of_draft : PlainDraft → Result Plan ScenarioFault
 plan_of_draft d = with_versions d (all_of version_of d.versions)
 
+-- the format of a document
+abbrev pub format_of : Members → Option Format
+format_of ms = option_map (λ n. if n == 1 then One else Two) (number_at 1 2 (codes "format") ms)
+
 -- what a document says of the pools, where its keys are as they should be and its words are members: the size of the tables,
 -- and the versions
 abbrev pub pools_of : Members → Option (ℕ × List (PlainVersion Member))
-pools_of ms = option_and_then (λ d. option_map (λ versions. (d.choices.size, versions)) (all_of version_of d.versions)) (draft_in ms)
+pools_of ms = option_and_then (λ f. option_and_then (λ d. option_map (λ versions. (d.choices.size, versions)) (all_of version_of d.versions)) (draft_in f ms)) (format_of ms)
 
 abbrev pub with_draft : Option PlainDraft → Result Plan ScenarioFault
 with_draft None = Err fault.BadKey
 with_draft (Some d) = plan_of_draft d
 
-abbrev pub with_format : Option ℕ → Members → Result Plan ScenarioFault
+abbrev pub with_format : Option Format → Members → Result Plan ScenarioFault
 with_format None ms = Err fault.BadFormat
-with_format (Some n) ms = with_draft (draft_in ms)
+with_format (Some f) ms = with_draft (draft_in f ms)
 
 -- what a document says: a scenario, or its first fault
 unfoldable pub plan_of : Members → Result Plan ScenarioFault
-plan_of ms = with_format (number_at 1 1 (codes "format") ms) ms
+plan_of ms = with_format (format_of ms) ms
 
 -- the text is a document whose members are these
 pub record IsDocument (text : List ℕ) (ms : Members) : Type 0 where

@@ -6,6 +6,7 @@ ghost use Rattle.scenario.specs.Lookups.{items_at, all_items, has_only};
 ghost use Rattle.scenario.specs.Drafts.{version_in, plain_version_draft};
 ghost use Rattle.scenario.specs.Meaning.{address_in, few_nodes, few_steps, nodes_of, versions_in, steps_in, draft_of, draft_in, root_keys, plain_draft, IsLimited};
 
+use crate::formats::Format;
 use crate::keys::has_only;
 use crate::lookup::items_at;
 use crate::setup::{Choices, Limits, choices_at, limits_at};
@@ -74,11 +75,15 @@ fn nodes_at(alloc: Global, table: &Table) -> Result<Option<Vec<u32>>, AllocError
     Ok(Some(nodes))
 }
 
-fn versions_at(alloc: Global, table: &Table) -> Result<Option<Vec<VersionDraft>>, AllocError>
-    ensures { IfOk result (λ o. option_map (λ v. map plain_version_draft v.items) o ≡ versions_in (table_view table.now)) }
+fn versions_at(
+    alloc: Global,
+    format: Format,
+    table: &Table,
+) -> Result<Option<Vec<VersionDraft>>, AllocError>
+    ensures { IfOk result (λ o. option_map (λ v. map plain_version_draft v.items) o ≡ versions_in format (table_view table.now)) }
 {
     match items_at(table, "versions") {
-        Some(values) => read_versions(alloc, values),
+        Some(values) => read_versions(alloc, format, values),
         None => Ok(None),
     }
 }
@@ -112,8 +117,8 @@ fn has_root_keys(table: &Table) -> bool
 }
 
 #[tactic(auto, unfolding(crate::specs::Meaning::draft_of))]
-fn read_draft(alloc: Global, table: &Table) -> Result<Option<Draft>, AllocError>
-    ensures value { IfOk result (λ o. option_map plain_draft o ≡ draft_of (table_view table.now)) }
+fn read_draft(alloc: Global, format: Format, table: &Table) -> Result<Option<Draft>, AllocError>
+    ensures value { IfOk result (λ o. option_map plain_draft o ≡ draft_of format (table_view table.now)) }
     ensures limits { IfOk result (λ o. IfSome o IsLimited) }
 {
     let Some(choices) = choices_at(table) else {
@@ -125,7 +130,7 @@ fn read_draft(alloc: Global, table: &Table) -> Result<Option<Draft>, AllocError>
     let Some(nodes) = nodes_at(alloc, table)? else {
         return Ok(None);
     };
-    let Some(versions) = versions_at(alloc, table)? else {
+    let Some(versions) = versions_at(alloc, format, table)? else {
         return Ok(None);
     };
     let Some(steps) = steps_at(alloc, table)? else {
@@ -140,13 +145,17 @@ fn read_draft(alloc: Global, table: &Table) -> Result<Option<Draft>, AllocError>
     }))
 }
 
-/// The draft that a document is, None where a key isn't as it should be.
-pub(crate) fn draft_in(alloc: Global, table: &Table) -> Result<Option<Draft>, AllocError>
-    ensures value { IfOk result (λ o. option_map plain_draft o ≡ draft_in (table_view table.now)) }
+/// The draft that a document of a format is, None where a key isn't as it should be.
+pub(crate) fn draft_in(
+    alloc: Global,
+    format: Format,
+    table: &Table,
+) -> Result<Option<Draft>, AllocError>
+    ensures value { IfOk result (λ o. option_map plain_draft o ≡ draft_in format (table_view table.now)) }
     ensures limits { IfOk result (λ o. IfSome o IsLimited) }
 {
     if has_root_keys(table) {
-        read_draft(alloc, table)
+        read_draft(alloc, format, table)
     } else {
         Ok(None)
     }

@@ -12,7 +12,7 @@ pub enum ScenarioFault {
     TooLong,
     /// The text is no TOML 1.1 document in UTF-8, nests deeper than 80 levels, or holds an integer outside of 64 bits.
     BadToml,
-    /// The format is missing or not 1.
+    /// The format is missing or neither 1 nor 2.
     BadFormat,
     /// A key is missing or unknown, or its value is of a wrong type, out of range or not a listed word.
     BadKey,

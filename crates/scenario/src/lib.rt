@@ -7,7 +7,9 @@
 mod building;
 mod draft;
 mod fault;
+mod formats;
 mod keys;
+mod laws;
 mod lookup;
 mod reading;
 mod setup;
@@ -16,6 +18,8 @@ mod versions;
 mod words;
 
 pub use fault::ScenarioFault;
+pub use formats::{Format, format_of, member_in};
+pub use laws::formats_mean_the_same;
 pub use reading::{Scenario, pools_in, read};
 pub use scenario_steps::Step;
 pub use words::{SchemeKind, SpreadKind};

@@ -9,7 +9,7 @@ ghost use Rattle.scenario.specs.Meaning.{pools_of, IsDocument, IsRefused, IsDraf
 use crate::building::{catalogue_of, versions_of};
 use crate::draft::{Draft, draft_in};
 use crate::fault::ScenarioFault;
-use crate::lookup::number_at;
+use crate::formats::format_of;
 use crate::step::read_step;
 use crate::words::{SchemeKind, SpreadKind};
 use hash_laws::AnyHash;
@@ -135,15 +135,18 @@ fn scenario_of(alloc: Global, draft: Draft) -> Result<Scenario, ScenarioFault>
     })
 }
 
-/// What a document of format 1 says of the pools: the size of the tables, and the versions in order. None where a key isn't as
-/// it should be, or a word is no member.
+/// What a document says of the pools: the size of the tables, and the versions in order. None where its format isn't one, a
+/// key isn't as it should be, or a word is no member.
 pub fn pools_in(
     alloc: Global,
     table: &Table,
 ) -> Result<Option<(TableSize, Vec<Version>)>, AllocError>
     ensures { IfOk result (λ o. option_map (λ p. (p.0, map plain_version p.1.items)) o ≡ pools_of (table_view table.now)) }
 {
-    let Some(draft) = draft_in(alloc, table)? else {
+    let Some(format) = format_of(table) else {
+        return Ok(None);
+    };
+    let Some(draft) = draft_in(alloc, format, table)? else {
         return Ok(None);
     };
     let Some(versions) = versions_of(alloc, draft.versions.as_slice())? else {
@@ -152,7 +155,7 @@ pub fn pools_in(
     Ok(Some((draft.choices.size, versions)))
 }
 
-/// Reads a scenario: a TOML 1.1 document in UTF-8 of format 1.
+/// Reads a scenario: a TOML 1.1 document in UTF-8 of format 1 or 2.
 #[tactic(auto, unfolding(crate::specs::Meaning::plan_of))]
 pub fn read(alloc: Global, text: &[u8]) -> Result<Scenario, ScenarioFault>
     ensures means { IfOk result (Means text.now) }
@@ -160,10 +163,10 @@ pub fn read(alloc: Global, text: &[u8]) -> Result<Scenario, ScenarioFault>
     ensures refused { IfErr result (IsRefused text.now) }
 {
     let table = document(alloc, text)?;
-    if number_at(&table, "format", 1, 1).is_none() {
+    let Some(format) = format_of(&table) else {
         return Err(ScenarioFault::BadFormat);
-    }
-    let Some(draft) = draft_in(alloc, &table)? else {
+    };
+    let Some(draft) = draft_in(alloc, format, &table)? else {
         return Err(ScenarioFault::BadKey);
     };
     scenario_of(alloc, draft)

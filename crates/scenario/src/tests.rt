@@ -73,6 +73,55 @@ fn fault(
 
 const NOTHING: (&str, &str) = ("", "");
 
+// The weights of the first version's members, where the scenario is accepted, with its first format and its first member
+// replaced.
+fn weights_with(
+    rt: &impl Abort,
+    alloc: Global,
+    format: &str,
+    member: &str,
+) -> Result<[u8; 3], ScenarioFault> {
+    let first = ("format = 1", format);
+    let scenario = read_changed(rt, alloc, "steps = []\n", first, ("A@10.8.0.1", member))?;
+    let version = scenario.catalogue.get(1).expect(rt, "a version");
+    let service = version.services.get(0).expect(rt, "a service");
+    let mut weights = [0u8; 3];
+    for (at, member) in service.members.iter().enumerate() {
+        if at < 3 {
+            weights[at] = member.weight.turns();
+        }
+    }
+    Ok(weights)
+}
+
+#[test]
+fn weights_of_members(rt: HostRuntime) {
+    let alloc = rt.alloc();
+    let (one, two) = ("format = 1", "format = 2");
+    assert_eq!(rt; weights_with(&rt, alloc, one, "A@10.8.0.1"), Ok([1, 1, 1]));
+    assert_eq!(rt; weights_with(&rt, alloc, two, "A@10.8.0.1"), Ok([1, 1, 1]));
+    assert_eq!(rt;
+        weights_with(&rt, alloc, two, "A@10.8.0.1*16"),
+        Ok([16, 1, 1])
+    );
+    assert_eq!(rt;
+        weights_with(&rt, alloc, two, "A@10.8.0.1*2/down"),
+        Ok([2, 1, 1])
+    );
+    assert_eq!(rt;
+        weights_with(&rt, alloc, one, "A@10.8.0.1*2"),
+        Err(BadMember)
+    );
+    assert_eq!(rt;
+        weights_with(&rt, alloc, two, "A@10.8.0.1*17"),
+        Err(BadMember)
+    );
+    assert_eq!(rt;
+        weights_with(&rt, alloc, two, "A@10.8.0.1/down*2"),
+        Err(BadMember)
+    );
+}
+
 #[test]
 fn a_whole_scenario(rt: HostRuntime) {
     let alloc = rt.alloc();
@@ -171,7 +220,7 @@ fn each_fault_alone(rt: HostRuntime) {
         ("size = 7", "size = 7\nsize = 7", BadToml),
         ("size = 7", "size = 9223372036854775808", BadToml),
         ("format = 1", "", BadFormat),
-        ("format = 1", "format = 2", BadFormat),
+        ("format = 1", "format = 3", BadFormat),
         ("format = 1", "format = \"1\"", BadFormat),
         ("size = 7", "size = 8", BadKey),
         ("size = 7", "", BadKey),
@@ -250,10 +299,10 @@ fn the_first_of_two_faults(rt: HostRuntime) {
     let rows = [
         (
             ("size = 7", "size = "),
-            ("format = 1", "format = 2"),
+            ("format = 1", "format = 3"),
             BadToml,
         ),
-        (("\"hold 1\"", "7"), ("format = 1", "format = 2"), BadFormat),
+        (("\"hold 1\"", "7"), ("format = 1", "format = 3"), BadFormat),
         (("\"C@10.8.0.3\"", "\"C\""), ("\"hold 1\"", "7"), BadKey),
         (
             ("number = 1", "number = 0"),

@@ -6,10 +6,11 @@ ghost use Rattle.scenario.specs.Lookups.{text_at, items_at, all_items, has_only}
 ghost use Rattle.scenario.specs.Words.{protocol_of_word};
 ghost use Rattle.scenario.specs.Drafts.{service_keys, version_keys, word_of, service_draft, service_in, version_draft, version_in, plain_service_draft, plain_version_draft};
 
+use crate::formats::{Format, member_in};
 use crate::keys::has_only;
 use crate::lookup::{items_at, number_at, text_at};
 use crate::words::protocol_of_word;
-use maglev_texts::{address, member};
+use maglev_texts::address;
 use pool_versions::Member;
 use std::alloc::{AllocError, Global};
 use toml::{Table, Value};
@@ -32,24 +33,32 @@ pub(crate) struct VersionDraft {
 
 // The members that some texts are, None where something is no text.
 #[tactic(auto, using(crate::proofs::Views::items_from))]
-fn read_words(alloc: Global, values: &[Value]) -> Result<Option<Vec<Option<Member>>>, AllocError>
-    ensures { IfOk result (λ o. option_map (λ v. v.items) o ≡ all_items word_of (items_view values.now)) }
+fn read_words(
+    alloc: Global,
+    format: Format,
+    values: &[Value],
+) -> Result<Option<Vec<Option<Member>>>, AllocError>
+    ensures { IfOk result (λ o. option_map (λ v. v.items) o ≡ all_items (word_of format) (items_view values.now)) }
 {
     let mut found: Vec<Option<Member>> = Vec::new(alloc);
     for value in values {
         let Some(text) = value.as_str() else {
             return Ok(None);
         };
-        found.push(member(alloc, text.as_bytes())?)?;
+        found.push(member_in(alloc, format, text.as_bytes())?)?;
     }
     Ok(Some(found))
 }
 
-fn words_at(alloc: Global, table: &Table) -> Result<Option<Vec<Option<Member>>>, AllocError>
-    ensures { IfOk result (λ o. option_map (λ v. v.items) o ≡ option_and_then (all_items word_of) (items_at (codes "members") (table_view table.now))) }
+fn words_at(
+    alloc: Global,
+    format: Format,
+    table: &Table,
+) -> Result<Option<Vec<Option<Member>>>, AllocError>
+    ensures { IfOk result (λ o. option_map (λ v. v.items) o ≡ option_and_then (all_items (word_of format)) (items_at (codes "members") (table_view table.now))) }
 {
     match items_at(table, "members") {
-        Some(values) => read_words(alloc, values),
+        Some(values) => read_words(alloc, format, values),
         None => Ok(None),
     }
 }
@@ -70,8 +79,12 @@ fn protocol_at(table: &Table) -> Option<u8>
 }
 
 #[tactic(auto, unfolding(crate::specs::Drafts::service_draft))]
-fn service_draft_of(alloc: Global, table: &Table) -> Result<Option<ServiceDraft>, AllocError>
-    ensures { IfOk result (λ o. option_map plain_service_draft o ≡ service_draft (table_view table.now)) }
+fn service_draft_of(
+    alloc: Global,
+    format: Format,
+    table: &Table,
+) -> Result<Option<ServiceDraft>, AllocError>
+    ensures { IfOk result (λ o. option_map plain_service_draft o ≡ service_draft format (table_view table.now)) }
 {
     let Some(vip) = vip_at(alloc, table)? else {
         return Ok(None);
@@ -82,7 +95,7 @@ fn service_draft_of(alloc: Global, table: &Table) -> Result<Option<ServiceDraft>
     let Some(port) = number_at(table, "port", 0, 65535) else {
         return Ok(None);
     };
-    let Some(members) = words_at(alloc, table)? else {
+    let Some(members) = words_at(alloc, format, table)? else {
         return Ok(None);
     };
     Ok(Some(ServiceDraft {
@@ -99,26 +112,34 @@ fn has_service_keys(table: &Table) -> bool
     has_only(table, &["vip", "proto", "port", "members"])
 }
 
-fn service_in(alloc: Global, value: &Value) -> Result<Option<ServiceDraft>, AllocError>
-    ensures { IfOk result (λ o. option_map plain_service_draft o ≡ service_in (view value.now)) }
+fn service_in(
+    alloc: Global,
+    format: Format,
+    value: &Value,
+) -> Result<Option<ServiceDraft>, AllocError>
+    ensures { IfOk result (λ o. option_map plain_service_draft o ≡ service_in format (view value.now)) }
 {
     let Some(table) = value.as_table() else {
         return Ok(None);
     };
     if has_service_keys(table) {
-        service_draft_of(alloc, table)
+        service_draft_of(alloc, format, table)
     } else {
         Ok(None)
     }
 }
 
 #[tactic(auto, using(crate::proofs::Views::items_from))]
-fn read_services(alloc: Global, values: &[Value]) -> Result<Option<Vec<ServiceDraft>>, AllocError>
-    ensures { IfOk result (λ o. option_map (λ v. map plain_service_draft v.items) o ≡ all_items service_in (items_view values.now)) }
+fn read_services(
+    alloc: Global,
+    format: Format,
+    values: &[Value],
+) -> Result<Option<Vec<ServiceDraft>>, AllocError>
+    ensures { IfOk result (λ o. option_map (λ v. map plain_service_draft v.items) o ≡ all_items (service_in format) (items_view values.now)) }
 {
     let mut found: Vec<ServiceDraft> = Vec::new(alloc);
     for value in values {
-        let Some(service) = service_in(alloc, value)? else {
+        let Some(service) = service_in(alloc, format, value)? else {
             return Ok(None);
         };
         let Ok(()) = found.push(service) else {
@@ -128,23 +149,31 @@ fn read_services(alloc: Global, values: &[Value]) -> Result<Option<Vec<ServiceDr
     Ok(Some(found))
 }
 
-fn services_at(alloc: Global, table: &Table) -> Result<Option<Vec<ServiceDraft>>, AllocError>
-    ensures { IfOk result (λ o. option_map (λ v. map plain_service_draft v.items) o ≡ option_and_then (all_items service_in) (items_at (codes "services") (table_view table.now))) }
+fn services_at(
+    alloc: Global,
+    format: Format,
+    table: &Table,
+) -> Result<Option<Vec<ServiceDraft>>, AllocError>
+    ensures { IfOk result (λ o. option_map (λ v. map plain_service_draft v.items) o ≡ option_and_then (all_items (service_in format)) (items_at (codes "services") (table_view table.now))) }
 {
     match items_at(table, "services") {
-        Some(values) => read_services(alloc, values),
+        Some(values) => read_services(alloc, format, values),
         None => Ok(None),
     }
 }
 
 #[tactic(auto, unfolding(crate::specs::Drafts::version_draft))]
-fn version_draft_of(alloc: Global, table: &Table) -> Result<Option<VersionDraft>, AllocError>
-    ensures { IfOk result (λ o. option_map plain_version_draft o ≡ version_draft (table_view table.now)) }
+fn version_draft_of(
+    alloc: Global,
+    format: Format,
+    table: &Table,
+) -> Result<Option<VersionDraft>, AllocError>
+    ensures { IfOk result (λ o. option_map plain_version_draft o ≡ version_draft format (table_view table.now)) }
 {
     let Some(number) = number_at(table, "number", 0, 4_294_967_295) else {
         return Ok(None);
     };
-    let Some(services) = services_at(alloc, table)? else {
+    let Some(services) = services_at(alloc, format, table)? else {
         return Ok(None);
     };
     Ok(Some(VersionDraft {
@@ -159,14 +188,18 @@ fn has_version_keys(table: &Table) -> bool
     has_only(table, &["number", "services"])
 }
 
-fn version_in(alloc: Global, value: &Value) -> Result<Option<VersionDraft>, AllocError>
-    ensures { IfOk result (λ o. option_map plain_version_draft o ≡ version_in (view value.now)) }
+fn version_in(
+    alloc: Global,
+    format: Format,
+    value: &Value,
+) -> Result<Option<VersionDraft>, AllocError>
+    ensures { IfOk result (λ o. option_map plain_version_draft o ≡ version_in format (view value.now)) }
 {
     let Some(table) = value.as_table() else {
         return Ok(None);
     };
     if has_version_keys(table) {
-        version_draft_of(alloc, table)
+        version_draft_of(alloc, format, table)
     } else {
         Ok(None)
     }
@@ -176,13 +209,14 @@ fn version_in(alloc: Global, value: &Value) -> Result<Option<VersionDraft>, Allo
 #[tactic(auto, using(crate::proofs::Views::items_from))]
 pub(crate) fn read_versions(
     alloc: Global,
+    format: Format,
     values: &[Value],
 ) -> Result<Option<Vec<VersionDraft>>, AllocError>
-    ensures { IfOk result (λ o. option_map (λ v. map plain_version_draft v.items) o ≡ all_items version_in (items_view values.now)) }
+    ensures { IfOk result (λ o. option_map (λ v. map plain_version_draft v.items) o ≡ all_items (version_in format) (items_view values.now)) }
 {
     let mut found: Vec<VersionDraft> = Vec::new(alloc);
     for value in values {
-        let Some(version) = version_in(alloc, value)? else {
+        let Some(version) = version_in(alloc, format, value)? else {
             return Ok(None);
         };
         let Ok(()) = found.push(version) else {

@@ -2,7 +2,7 @@
 use Rattle.std.proofs.Common.{◌≡◌, ℕ, List, reverse, Option, Some, None, Result, refl, sym, ap, ◌∙◌, subst, option_map}
 use Rattle.std.proofs.lemmas.Option.{slice_get-map}
 use Rattle.std.specs.Prelude.{slice_get, option_and_then, IfSome, IfOk}
-use Rattle.five_tuple.specs.declared.Flow.{Flow}
+use Rattle.flow_splits.specs.Causes.{Lookups}
 use Rattle.cluster_node.specs.declared.events.Said.{Said}
 use Rattle.cluster_node.specs.declared.outcomes.Outcome.{Outcome}
 use Rattle.cluster_node.specs.Rules.{Rules}
@@ -28,10 +28,10 @@ picked_if rules outs k None p e = tt
 picked_if rules outs k (Some o) p e = p k o (sym e)
 
 -- the line that says why two packets went where they went, by the outcomes of their events
-pub line_told : {X E : Type 0} (bytes : X → List ℕ) (r : Result X E) (slot : Flow → ℕ) (asked : Asked) (course : Course) (packets : ℕ) (ending : InputEnd) (i j : ℕ) (a b : Option Outcome)
+pub line_told : {X E : Type 0} (bytes : X → List ℕ) (r : Result X E) (lookups : Lookups) (asked : Asked) (course : Course) (packets : ℕ) (ending : InputEnd) (i j : ℕ) (a b : Option Outcome)
     → asked ≡ Events i j → a ≡ slice_get (outcomes_of (reverse course.past)) i → b ≡ slice_get (outcomes_of (reverse course.past)) j
-    → IfOk r (λ s. bytes s ≡ verdict_text (explained slot (option_and_then (λ o. send_of o) a) (option_and_then (λ o. send_of o) b))) → IfOk r (λ s. bytes s ≡ answer_of slot asked course packets ending)
-line_told bytes r slot asked course packets ending i j a b e f g h =
-    subst (λ (q : Asked). IfOk r (λ s. bytes s ≡ answer_of slot q course packets ending)) (sym e)
-    (subst (λ (x : Option Send). IfOk r (λ s. bytes s ≡ verdict_text (explained slot x (send_at (reverse course.past) j)))) (send_told (reverse course.past) i a f)
-    (subst (λ (y : Option Send). IfOk r (λ s. bytes s ≡ verdict_text (explained slot (option_and_then (λ o. send_of o) a) y))) (send_told (reverse course.past) j b g) h))
+    → IfOk r (λ s. bytes s ≡ verdict_text (explained lookups.slot (option_and_then (λ o. send_of o) a) (option_and_then (λ o. send_of o) b))) → IfOk r (λ s. bytes s ≡ answer_of lookups asked course packets ending)
+line_told bytes r lookups asked course packets ending i j a b e f g h =
+    subst (λ (q : Asked). IfOk r (λ s. bytes s ≡ answer_of lookups q course packets ending)) (sym e)
+    (subst (λ (x : Option Send). IfOk r (λ s. bytes s ≡ verdict_text (explained lookups.slot x (send_at (reverse course.past) j)))) (send_told (reverse course.past) i a f)
+    (subst (λ (y : Option Send). IfOk r (λ s. bytes s ≡ verdict_text (explained lookups.slot (option_and_then (λ o. send_of o) a) y))) (send_told (reverse course.past) j b g) h))

@@ -4,8 +4,9 @@ use Rattle.std.specs.Prelude.{is_some}
 use Rattle.hash_laws.specs.declared.any.AnyHash.{AnyHash}
 use Rattle.hash_laws.specs.Any.{plain_of}
 use Rattle.forwarder.specs.Serving.{Pick}
-use Rattle.selection.specs.Picks.{slot_of_flow}
-use Rattle.pool_versions.specs.Pool.{version_at, up_of}
+use Rattle.flow_splits.specs.Causes.{lookups_of}
+use Rattle.pool_versions.specs.Pool.{version_at}
+use Rattle.selection.specs.Candidates.{candidates_of}
 use Rattle.cluster_node.specs.Rules.{Rules}
 use Rattle.cluster_core.specs.Setups.{Fixed}
 use Rattle.cluster_run.specs.Ruling.{Ruling, rules_of, cluster_by}
@@ -16,7 +17,7 @@ use Rattle.simulation.specs.declared.fault.SimulationFault.{SimulationFault}
 use Rattle.simulation.specs.Plans.{Planned}
 use Rattle.simulation.specs.Simulated.{Stopped}
 use Rattle.scenario_play.specs.declared.asking.Asked.{Asked}
-use Rattle.scenario_play.specs.Described.{pick_by, rules_in, cluster_in, choice_by, choice_in, plan_in}
+use Rattle.scenario_play.specs.Described.{pick_by, rules_in, cluster_in, choice_by, choice_in, plan_in, lookups_in}
 use Rattle.scenario_play.specs.Answers.{Answers}
 
 abbrev pub fixed_of : {S : Type 0} → S → Scenario → Fixed S AnyHash
@@ -33,7 +34,7 @@ described pick_of scheme s e = ap (λ (p : Pick). record {
   pick = p;
   plain = plain_of s.hash;
   known = λ v. is_some (version_at v s.catalogue.versions);
-  ups = λ v x. up_of s.catalogue v x;
+  ups = λ v x. candidates_of s.catalogue v x;
   nodes = length s.nodes.items;
   workers = s.workers;
   capacity = s.capacity;
@@ -41,12 +42,12 @@ described pick_of scheme s e = ap (λ (p : Pick). record {
 
 pub answers : {S : Type 0} (pick_of : S → ℕ → Pick) (scheme : S) (s : Scenario) (r : Ruling S AnyHash) (plan : Planned) (asked : Asked) (i i' o o' : Tape) (text : List ℕ)
     → pick_of scheme s.size ≡ pick_by s.scheme (plain_of s.hash) s.size → r ≡ ruling_of scheme s → plan ≡ plan_in s
-    → Answers (cluster_by (rules_of pick_of plain_of r)) (choice_by s.spread (plain_of r.setup.hash)) plan (λ x. slot_of_flow (plain_of r.setup.hash) r.setup.size x) asked i i' o o' text
-    → Answers (cluster_in s) (choice_in s) (plan_in s) (λ x. slot_of_flow (plain_of s.hash) s.size x) asked i i' o o' text
+    → Answers (cluster_by (rules_of pick_of plain_of r)) (choice_by s.spread (plain_of r.setup.hash)) plan (lookups_of (plain_of r.setup.hash) r.setup.size r.catalogue) asked i i' o o' text
+    → Answers (cluster_in s) (choice_in s) (plan_in s) (lookups_in s) asked i i' o o' text
 answers {S} pick_of scheme s r plan asked i i' o o' text e f g h =
-    subst (λ (rules : Rules). Answers (cluster_by rules) (choice_in s) (plan_in s) (λ x. slot_of_flow (plain_of s.hash) s.size x) asked i i' o o' text) (described pick_of scheme s e)
-    (subst (λ (q : Ruling S AnyHash). Answers (cluster_by (rules_of pick_of plain_of q)) (choice_by s.spread (plain_of q.setup.hash)) (plan_in s) (λ x. slot_of_flow (plain_of q.setup.hash) q.setup.size x) asked i i' o o' text) f
-    (subst (λ (p : Planned). Answers (cluster_by (rules_of pick_of plain_of r)) (choice_by s.spread (plain_of r.setup.hash)) p (λ x. slot_of_flow (plain_of r.setup.hash) r.setup.size x) asked i i' o o' text) g h))
+    subst (λ (rules : Rules). Answers (cluster_by rules) (choice_in s) (plan_in s) (lookups_in s) asked i i' o o' text) (described pick_of scheme s e)
+    (subst (λ (q : Ruling S AnyHash). Answers (cluster_by (rules_of pick_of plain_of q)) (choice_by s.spread (plain_of q.setup.hash)) (plan_in s) (lookups_of (plain_of q.setup.hash) q.setup.size q.catalogue) asked i i' o o' text) f
+    (subst (λ (p : Planned). Answers (cluster_by (rules_of pick_of plain_of r)) (choice_by s.spread (plain_of r.setup.hash)) p (lookups_of (plain_of r.setup.hash) r.setup.size r.catalogue) asked i i' o o' text) g h))
 
 pub stops : {S : Type 0} (pick_of : S → ℕ → Pick) (scheme : S) (s : Scenario) (r : Ruling S AnyHash) (plan : Planned) (i i' o o' : Tape) (fault : SimulationFault)
     → pick_of scheme s.size ≡ pick_by s.scheme (plain_of s.hash) s.size → r ≡ ruling_of scheme s → plan ≡ plan_in s

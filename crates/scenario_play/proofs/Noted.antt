@@ -11,16 +11,30 @@ use Rattle.cluster_run.specs.Noting.{CountsAre, totals_by}
 use Rattle.cluster_run.proofs.Counted.{counted_turned, outcomes_turned}
 use Rattle.listing.specs.Lines.{line_text, listing}
 use Rattle.listing.proofs.Walks.{lines_push}
+use Rattle.flow_splits.specs.declared.book.SplitBook.{SplitBook}
+use Rattle.flow_splits.specs.Books.{IsBookOf}
 use Rattle.scenario_play.specs.declared.notes.Notebook.{Notebook}
 use Rattle.scenario_play.specs.declared.asking.Asked.{Asked}
 use Rattle.scenario_play.specs.declared.asking.Asked.TheVariants.{Report, Events}
-use Rattle.scenario_play.specs.Notebooks.{Lists, KeepsTwo, AreOf}
+use Rattle.scenario_play.specs.Notebooks.{Lists, ListsIf, BookIf, KeepsTwo, AreOf}
 use Rattle.scenario_play.specs.Answers.{totals_in}
 
-pub none_noted : (n : Notebook) → CountsAre [] n.counts → n.number ≡ 0 → string_bytes n.lines ≡ [] → n.one ≡ None → n.other ≡ None → (asked : Asked) → AreOf asked [] n
-none_noted n c k l o p (Report true) = (c, record { number = k; lines = l })
-none_noted n c k l o p (Report false) = (c, tt)
-none_noted n c k l o p (Events i j) = record { number = k; one_is = o; other_is = p }
+none_listed : (n : Notebook) → n.number ≡ 0 → string_bytes n.lines ≡ [] → (list : Bool) → ListsIf list [] n
+none_listed n k l true = record { number = k; lines = l }
+none_listed n k l false = l
+
+none_booked : (b : SplitBook) → IsBookOf [] b → (splits : Bool) → BookIf splits [] b
+none_booked b h true = h
+none_booked b h false = tt
+
+pub none_noted : (n : Notebook) → CountsAre [] n.counts → n.number ≡ 0 → string_bytes n.lines ≡ [] → IsBookOf [] n.book → n.one ≡ None → n.other ≡ None → (asked : Asked) → AreOf asked [] n
+none_noted n c k l b o p (Report wanted) = (c, none_listed n k l wanted.list, none_booked n.book b wanted.splits)
+none_noted n c k l b o p (Events i j) = record { number = k; one_is = o; other_is = p }
+
+-- the lines are the same
+pub lists_same : (list : Bool) (past : List Said) (n m : Notebook) → m.number ≡ n.number → m.lines ≡ n.lines → ListsIf list past n → ListsIf list past m
+lists_same true past n m e f l = record { number = e ∙ l.number; lines = ap string_bytes f ∙ l.lines }
+lists_same false past n m e f l = ap string_bytes f ∙ l
 
 pub lists_more : (past : List Said) (s : Said) (n m : Notebook) → Lists past n → m.number ≡ n.number + 1 → string_bytes m.lines ≡ string_bytes n.lines ++ line_text n.number s → Lists (s ∷ past) m
 lists_more past s n m l e f = record {

@@ -1,5 +1,5 @@
 -- What is asked of a scenario's run, and the text that answers it.
-use Rattle.std.specs.Prelude.{◌≡◌, ℕ, ◌-◌, Bool, true, false, List, ◌++◌, reverse, Option, option_and_then, slice_get}
+use Rattle.std.specs.Prelude.{◌≡◌, ℕ, ◌-◌, Bool, true, false, List, [], ◌++◌, reverse, Option, option_and_then, slice_get}
 use Rattle.five_tuple.specs.declared.Flow.{Flow}
 use Rattle.pcap_file.specs.declared.format.InputEnd.{InputEnd}
 use Rattle.pcap_file.specs.declared.format.InputEnd.TheVariants.{End, Cut}
@@ -20,7 +20,10 @@ use Rattle.listing.specs.Report.{report_text}
 use Rattle.listing.specs.Verdicts.{verdict_text}
 use Rattle.simulation.specs.Plans.{Planned}
 use Rattle.simulation.specs.Simulated.{Simulated}
+use Rattle.flow_splits.specs.Causes.{Lookups}
+use Rattle.flow_splits.specs.Texts.{splits_text}
 use Rattle.scenario_play.specs.declared.asking.Asked.{Asked}
+use Rattle.scenario_play.specs.declared.asking.Wanted.{Wanted}
 use Rattle.scenario_play.specs.declared.asking.Asked.TheVariants.{Report, Events}
 
 -- the totals of some outcomes
@@ -42,10 +45,19 @@ is_cut Cut = true
 abbrev pub plain_report : Course → ℕ → InputEnd → List ℕ
 plain_report course packets ending = report_text (tally_of packets course) (totals_in (outcomes_of (reverse course.past))) (is_cut ending)
 
--- the same, with a line for each event before it where they are asked for
-abbrev pub report_of : Bool → Course → ℕ → InputEnd → List ℕ
-report_of true course packets ending = listing (reverse course.past) ++ plain_report course packets ending
-report_of false course packets ending = plain_report course packets ending
+-- the line of each event, where they are asked for
+abbrev pub listing_if : Bool → Course → List ℕ
+listing_if true course = listing (reverse course.past)
+listing_if false course = []
+
+-- the line of each split, and how many there are, where they are asked for
+abbrev pub splits_if : Bool → Lookups → Course → List ℕ
+splits_if true lookups course = splits_text lookups course.past
+splits_if false lookups course = []
+
+-- the report with what is wanted before it
+abbrev pub report_of : Lookups → Wanted → Course → ℕ → InputEnd → List ℕ
+report_of lookups wanted course packets ending = (listing_if wanted.list course ++ splits_if wanted.splits lookups course) ++ plain_report course packets ending
 
 -- what was sent at an event, counted from 0
 abbrev pub send_at : List Said → ℕ → Option Send
@@ -55,14 +67,14 @@ send_at history k = option_and_then (λ s. send_of s.outcome) (slice_get history
 abbrev pub line_of : (Flow → ℕ) → Course → ℕ → ℕ → List ℕ
 line_of slot course one other = verdict_text (explained slot (send_at (reverse course.past) one) (send_at (reverse course.past) other))
 
-abbrev pub answer_of : (Flow → ℕ) → Asked → Course → ℕ → InputEnd → List ℕ
-answer_of slot (Report list) course packets ending = report_of list course packets ending
-answer_of slot (Events one other) course packets ending = line_of slot course one other
+abbrev pub answer_of : Lookups → Asked → Course → ℕ → InputEnd → List ℕ
+answer_of lookups (Report wanted) course packets ending = report_of lookups wanted course packets ending
+answer_of lookups (Events one other) course packets ending = line_of lookups.slot course one other
 
 -- the scenario ran over the whole input, the output got what was sent, and the text answers what was asked
-pub record Answers (cluster : Cluster) (choice : Choice) (plan : Planned) (slot : Flow → ℕ) (asked : Asked) (input input' output output' : Tape) (text : List ℕ) : Type 0 where
+pub record Answers (cluster : Cluster) (choice : Choice) (plan : Planned) (lookups : Lookups) (asked : Asked) (input input' output output' : Tape) (text : List ℕ) : Type 0 where
   pub course : Course
   pub packets : ℕ
   pub ending : InputEnd
   pub simulated : Simulated cluster choice plan input input' output output' course packets ending
-  pub answer : text ≡ answer_of slot asked course packets ending
+  pub answer : text ≡ answer_of lookups asked course packets ending

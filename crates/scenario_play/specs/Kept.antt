@@ -1,13 +1,20 @@
 -- What the run of a scenario keeps.
 use Rattle.std.specs.Prelude.{◌≡◌, reverse}
+use Rattle.std.specs.List.{All}
 use Rattle.hash_laws.specs.Any.{plain_of}
+use Rattle.cluster_core.specs.Histories.{IsSteady}
 use Rattle.cluster_core.specs.Promises.{Promises, MaglevPromises}
 use Rattle.course.specs.Course.{Course}
+use Rattle.flow_splits.specs.Splits.{splits_of}
+use Rattle.flow_splits.specs.Agreeing.{FollowsPicks, FollowsTables}
 use Rattle.scenario.specs.declared.reading.Scenario.{Scenario}
 use Rattle.scenario.specs.declared.words.SchemeKind.TheVariants.{Maglev}
 use Rattle.scenario_play.specs.Described.{rules_in}
 
--- its history keeps the promises, and for Maglev in terms of the tables' slots
+-- its history keeps the promises, and for Maglev in terms of the tables' slots; and so do its splits: where the turn doesn't
+-- matter to the scheme the two versions of each pick its two backends, for Maglev at the flow's slot
 pub record KeepsPromises (s : Scenario) (course : Course) : Type 0 where
   pub promises : Promises (rules_in s) (reverse course.past)
   pub tables : s.scheme ≡ Maglev → MaglevPromises (plain_of s.hash) s.size s.catalogue (rules_in s) (reverse course.past)
+  pub splits : IsSteady (rules_in s) → All (FollowsPicks (rules_in s)) (splits_of course.past)
+  pub slots : s.scheme ≡ Maglev → All (FollowsTables (plain_of s.hash) s.size s.catalogue) (splits_of course.past)

@@ -1,9 +1,11 @@
 -- What is kept of a run's events for what is asked of it.
-use Rattle.std.specs.Prelude.{◌≡◌, ℕ, Bool, true, false, List, length, reverse, string_bytes, slice_get}
+use Rattle.std.specs.Prelude.{◌≡◌, ℕ, Bool, true, false, List, [], length, reverse, string_bytes, slice_get}
 use Rattle.cluster_node.specs.declared.events.Said.{Said}
 use Rattle.cluster_core.specs.Histories.{outcomes_of}
 use Rattle.cluster_run.specs.Noting.{CountsAre}
 use Rattle.listing.specs.Lines.{listing}
+use Rattle.flow_splits.specs.declared.book.SplitBook.{SplitBook}
+use Rattle.flow_splits.specs.Books.{IsBookOf}
 use Rattle.scenario_play.specs.declared.asking.Asked.{Asked}
 use Rattle.scenario_play.specs.declared.asking.Asked.TheVariants.{Report, Events}
 use Rattle.scenario_play.specs.declared.notes.Notebook.{Notebook}
@@ -13,9 +15,15 @@ pub record Lists (past : List Said) (n : Notebook) : Type 0 where
   pub number : n.number ≡ length past
   pub lines : string_bytes n.lines ≡ listing (reverse past)
 
+-- where they are asked for, and else there are none
 abbrev pub ListsIf : Bool → List Said → Notebook → Type 0
 ListsIf true past n = Lists past n
-ListsIf false past n = Unit {0}
+ListsIf false past n = string_bytes n.lines ≡ []
+
+-- a book of splits is the record's, where they are asked for
+abbrev pub BookIf : Bool → List Said → SplitBook → Type 0
+BookIf true past b = IsBookOf past b
+BookIf false past b = Unit {0}
 
 -- of a record, which has so many events, the outcomes of two are kept: those of these numbers, the oldest of number 0
 pub record KeepsTwo (one other : ℕ) (past : List Said) (n : Notebook) : Type 0 where
@@ -25,5 +33,5 @@ pub record KeepsTwo (one other : ℕ) (past : List Said) (n : Notebook) : Type 0
 
 -- the notes are those of a record, for what is asked
 abbrev pub AreOf : Asked → List Said → Notebook → Type 0
-AreOf (Report list) past n = CountsAre (outcomes_of past) n.counts × ListsIf list past n
+AreOf (Report wanted) past n = CountsAre (outcomes_of past) n.counts × ListsIf wanted.list past n × BookIf wanted.splits past n.book
 AreOf (Events one other) past n = KeepsTwo one other past n

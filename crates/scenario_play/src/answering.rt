@@ -1,5 +1,5 @@
 //! The text that answers what is asked of a run.
-ghost use Rattle.std.specs.Prelude.{◌≡◌, ◌≤◌, IfOk, IfSome, string_bytes, reverse, true, option_and_then};
+ghost use Rattle.std.specs.Prelude.{◌≡◌, ◌≤◌, ◌++◌, IfOk, OnOk, IfSome, string_bytes, reverse, true, option_and_then};
 ghost use Rattle.hash_laws.specs.Any.{plain_of};
 ghost use Rattle.selection.specs.Picks.{slot_of_flow};
 ghost use Rattle.cluster_node.specs.Records.{Judged};
@@ -9,14 +9,17 @@ ghost use Rattle.cluster_run.specs.Ruling.{rules_of, cluster_of, IsBalanced};
 ghost use Rattle.cluster_run.specs.Noting.{CountsAre};
 ghost use Rattle.scenario_play.specs.declared.asking.Asked.TheVariants.{Report};
 ghost use Rattle.listing.specs.Verdicts.{verdict_text};
-ghost use Rattle.scenario_play.specs.Answers.{is_cut, plain_report, report_of, answer_of};
-ghost use Rattle.scenario_play.specs.Notebooks.{AreOf};
+ghost use Rattle.flow_splits.specs.Causes.{lookups_of};
+ghost use Rattle.course.specs.Course.{Course};
+ghost use Rattle.scenario_play.specs.Answers.{is_cut, plain_report, splits_if, report_of, answer_of};
+ghost use Rattle.scenario_play.specs.Notebooks.{BookIf, AreOf};
 
-use crate::asking::Asked;
+use crate::asking::{Asked, Wanted};
 use crate::notes::Notebook;
 use cluster_core::{Verdict, explain};
 use cluster_node::Outcome;
 use cluster_run::{Counts, Rules, Task};
+use flow_splits::{SplitBook, push_splits};
 use hash_laws::FlowHash;
 use listing::{report_text, verdict_text};
 use pcap_file::InputEnd;
@@ -45,20 +48,39 @@ fn plain_report(alloc: Global, played: &Played, counts: &Counts) -> Result<Strin
     report_text(alloc, tally, &totals, is_cut(played.ending))
 }
 
-fn report(alloc: Global, played: &Played, notes: Notebook, list: bool) -> Result<String, AllocError>
+// What is told of the splits, where it is asked for.
+fn push_splits_if<S: Scheme, H: FlowHash>(
+    text: &mut String,
+    rules: &Rules<S, H>,
+    splits: bool,
+    book: &SplitBook,
+) -> Result<(), AllocError>
+    ensures { (course : Course) → BookIf splits course.past book.now → OnOk result (string_bytes text.new ≡ string_bytes text.old ++ splits_if splits (lookups_of (H.plain rules.now.setup.hash) rules.now.setup.size rules.now.catalogue) course) }
+{
+    if splits {
+        push_splits(text, &rules.setup().hash(), rules.catalogue(), book)
+    } else {
+        Ok(())
+    }
+}
+
+fn report<S: Scheme, H: FlowHash>(
+    alloc: Global,
+    rules: &Rules<S, H>,
+    played: &Played,
+    notes: Notebook,
+    wanted: Wanted,
+) -> Result<String, AllocError>
     requires read { played.now.play.read ≤ played.now.packets }
     requires balance { IsBalanced (reverse played.now.play.past) }
-    requires notes { AreOf (Report list) played.now.play.past notes }
-    ensures { IfOk result (λ s. string_bytes s ≡ report_of list played.now.play played.now.packets played.now.ending) }
+    requires notes { AreOf (Report wanted) played.now.play.past notes }
+    ensures { IfOk result (λ s. string_bytes s ≡ report_of (lookups_of (H.plain rules.now.setup.hash) rules.now.setup.size rules.now.catalogue) wanted played.now.play played.now.packets played.now.ending) }
 {
     let report = plain_report(alloc, played, &notes.counts)?;
-    if list {
-        let mut text = notes.lines;
-        text.push_str(report.as_str())?;
-        Ok(text)
-    } else {
-        Ok(report)
-    }
+    let mut text = notes.lines;
+    push_splits_if(&mut text, rules, wanted.splits, &notes.book)?;
+    text.push_str(report.as_str())?;
+    Ok(text)
 }
 
 // Why the packets of two events went where they went.
@@ -104,10 +126,10 @@ pub(crate) fn answer<S: Scheme, H: FlowHash>(
     requires balance { IsBalanced (reverse played.now.play.past) }
     requires judged { Judged (cluster_of (λ s z. S.pick s z) (λ h. H.plain h) task.now.rules).judge played.now.play.past }
     requires notes { AreOf task.now.asked played.now.play.past notes }
-    ensures { IfOk result (λ s. string_bytes s ≡ answer_of (λ x. slot_of_flow (H.plain task.now.rules.setup.hash) task.now.rules.setup.size x) task.now.asked played.now.play played.now.packets played.now.ending) }
+    ensures { IfOk result (λ s. string_bytes s ≡ answer_of (lookups_of (H.plain task.now.rules.setup.hash) task.now.rules.setup.size task.now.rules.catalogue) task.now.asked played.now.play played.now.packets played.now.ending) }
 {
     match task.asked {
-        Asked::Report { list } => report(alloc, played, notes, list),
+        Asked::Report(wanted) => report(alloc, &task.rules, played, notes, wanted),
         Asked::Events { one: _, other: _ } => {
             task.rules.send_by_picks();
             line(alloc, &task.rules, &notes)

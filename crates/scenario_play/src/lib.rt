@@ -8,5 +8,5 @@ mod notes;
 mod playing;
 
 pub use answering::is_cut;
-pub use asking::Asked;
+pub use asking::{Asked, Wanted};
 pub use playing::play_scenario;

@@ -9,15 +9,17 @@ ghost use Rattle.cluster_run.specs.Noting.{said_by};
 use crate::asking::Asked;
 use cluster_node::{Event, Outcome};
 use cluster_run::{Counts, Notes};
+use flow_splits::SplitBook;
 use listing::push_line;
 use std::alloc::{AllocError, Global};
 
-/// For a report the counts, and the lines where it has them; else the outcomes of two events. How many events there were
-/// is kept where it is needed.
+/// For a report the counts, and the lines and the splits where it has them; else the outcomes of two events. How many events
+/// there were is kept where it is needed.
 #[derive(Drop)]
 pub(crate) struct Notebook {
     pub(crate) counts: Counts,
     pub(crate) lines: String,
+    pub(crate) book: SplitBook,
     pub(crate) number: u64,
     pub(crate) one: Option<Outcome>,
     pub(crate) other: Option<Outcome>,
@@ -41,7 +43,7 @@ fn kept(was: Option<Outcome>, number: u64, asked: u64, outcome: &Outcome) -> Opt
 }
 
 impl Notebook {
-    ghost use Rattle.scenario_play.specs.Notebooks.{Lists, KeepsTwo, AreOf};
+    ghost use Rattle.scenario_play.specs.Notebooks.{Lists, ListsIf, BookIf, KeepsTwo, AreOf};
 
     /// Nothing was noted.
     pub(crate) fn new(alloc: Global) -> Notebook
@@ -50,6 +52,7 @@ impl Notebook {
         Notebook {
             counts: Counts::new(),
             lines: String::new(alloc),
+            book: SplitBook::new(alloc),
             number: 0,
             one: None,
             other: None,
@@ -60,10 +63,38 @@ impl Notebook {
     fn list(&mut self, event: &Event, outcome: &Outcome) -> Result<(), AllocError>
         ensures lists { (past : List Said) (packet : Option Packet) → Lists past self.old → OnOk result (Lists (said_by event.now packet outcome.now ∷ past) self.new) }
         ensures counts { self.new.counts ≡ self.old.counts }
+        ensures book { self.new.book ≡ self.old.book }
     {
         push_line(&mut self.lines, self.number, event, outcome)?;
         self.number = next(self.number)?;
         Ok(())
+    }
+
+    // The same, where lines are asked for.
+    fn list_if(&mut self, list: bool, event: &Event, outcome: &Outcome) -> Result<(), AllocError>
+        ensures lists { (past : List Said) (packet : Option Packet) → ListsIf list past self.old → OnOk result (ListsIf list (said_by event.now packet outcome.now ∷ past) self.new) }
+        ensures counts { self.new.counts ≡ self.old.counts }
+        ensures book { self.new.book ≡ self.old.book }
+    {
+        if list {
+            self.list(event, outcome)
+        } else {
+            Ok(())
+        }
+    }
+
+    // An event goes into the book, where splits are asked for.
+    fn book_if(&mut self, splits: bool, event: &Event, outcome: &Outcome) -> Result<(), AllocError>
+        ensures books { (past : List Said) (packet : Option Packet) → BookIf splits past self.old.book → OnOk result (BookIf splits (said_by event.now packet outcome.now ∷ past) self.new.book) }
+        ensures lines { self.new.lines ≡ self.old.lines }
+        ensures number { self.new.number ≡ self.old.number }
+        ensures counts { self.new.counts ≡ self.old.counts }
+    {
+        if splits {
+            self.book.note(event, outcome)
+        } else {
+            Ok(())
+        }
     }
 
     // The outcome of an event, where it is one of the two that are asked for.
@@ -86,13 +117,10 @@ impl Notes for Notebook {
 
     fn note(&mut self, asked: &Asked, event: &Event, outcome: &Outcome) -> Result<(), AllocError> {
         match *asked {
-            Asked::Report { list } => {
+            Asked::Report(wanted) => {
                 self.counts.count(outcome)?;
-                if list {
-                    self.list(event, outcome)
-                } else {
-                    Ok(())
-                }
+                self.list_if(wanted.list, event, outcome)?;
+                self.book_if(wanted.splits, event, outcome)
             }
             Asked::Events { one, other } => self.keep(one, other, outcome),
         }

@@ -1,13 +1,13 @@
 //! A scenario is played.
 ghost use Rattle.std.specs.Prelude.{◌≡◌, ◌≤◌, [], IfOk, IfErr, string_bytes, length, reverse};
 ghost use Rattle.hash_laws.specs.Any.{plain_of};
-ghost use Rattle.selection.specs.Picks.{slot_of_flow};
 ghost use Rattle.course.specs.Steps.{below};
 ghost use Rattle.cluster_run.specs.Ruling.{cluster_of};
 ghost use Rattle.scenario.specs.Meaning.{HasLimits};
 ghost use Rattle.simulation.specs.Plans.{planned};
 ghost use Rattle.simulation.specs.Simulated.{Stopped};
-ghost use Rattle.scenario_play.specs.Described.{pick_by, cluster_in, choice_in, choice_by, plan_in};
+ghost use Rattle.flow_splits.specs.Causes.{lookups_of};
+ghost use Rattle.scenario_play.specs.Described.{pick_by, cluster_in, choice_in, choice_by, plan_in, lookups_in};
 ghost use Rattle.scenario_play.specs.Answers.{Answers};
 ghost use Rattle.scenario_play.specs.Kept.{KeepsPromises};
 
@@ -40,7 +40,7 @@ fn play_with<S: Scheme, P: Spread, I: Source, O: Sink>(
     requires steps { length plan.steps.now ≤ 100000 }
     requires cluster { length task.now.rules.setup.nodes ≡ length plan.nodes.now }
     requires workers { task.now.rules.setup.workers ≤ 16 }
-    ensures ok { IfOk result (λ s. Answers (cluster_of (λ s z. S.pick s z) (λ h. plain_of h) task.now.rules) (P.choice spread.old) (planned plan.entry) (λ x. slot_of_flow (plain_of task.now.rules.setup.hash) task.now.rules.setup.size x) task.now.asked (I.tape input.old) (I.tape input.new) (O.tape output.old) (O.tape output.new) (string_bytes s)) }
+    ensures ok { IfOk result (λ s. Answers (cluster_of (λ s z. S.pick s z) (λ h. plain_of h) task.now.rules) (P.choice spread.old) (planned plan.entry) (lookups_of (plain_of task.now.rules.setup.hash) task.now.rules.setup.size task.now.rules.catalogue) task.now.asked (I.tape input.old) (I.tape input.new) (O.tape output.old) (O.tape output.new) (string_bytes s)) }
     ensures stopped { IfErr result (Stopped (cluster_of (λ s z. S.pick s z) (λ h. plain_of h) task.now.rules) (P.choice spread.old) (planned plan.entry) (I.tape input.old) (I.tape input.new) (O.tape output.old) (O.tape output.new)) }
 {
     let rules = &task.rules;
@@ -72,7 +72,7 @@ fn play_over<S: Scheme, I: Source, O: Sink>(
     requires steps { length plan.steps.now ≤ 100000 }
     requires cluster { length task.now.rules.setup.nodes ≡ length plan.nodes.now }
     requires workers { task.now.rules.setup.workers ≤ 16 }
-    ensures ok { IfOk result (λ s. Answers (cluster_of (λ s z. S.pick s z) (λ h. plain_of h) task.now.rules) (choice_by spread (plain_of task.now.rules.setup.hash)) (planned plan.entry) (λ x. slot_of_flow (plain_of task.now.rules.setup.hash) task.now.rules.setup.size x) task.now.asked (I.tape input.old) (I.tape input.new) (O.tape output.old) (O.tape output.new) (string_bytes s)) }
+    ensures ok { IfOk result (λ s. Answers (cluster_of (λ s z. S.pick s z) (λ h. plain_of h) task.now.rules) (choice_by spread (plain_of task.now.rules.setup.hash)) (planned plan.entry) (lookups_of (plain_of task.now.rules.setup.hash) task.now.rules.setup.size task.now.rules.catalogue) task.now.asked (I.tape input.old) (I.tape input.new) (O.tape output.old) (O.tape output.new) (string_bytes s)) }
     ensures stopped { IfErr result (Stopped (cluster_of (λ s z. S.pick s z) (λ h. plain_of h) task.now.rules) (choice_by spread (plain_of task.now.rules.setup.hash)) (planned plan.entry) (I.tape input.old) (I.tape input.new) (O.tape output.old) (O.tape output.new)) }
 {
     let live = all_live(alloc, plan.nodes.len() as u16)?;
@@ -101,7 +101,7 @@ fn play_by<S: Scheme, I: Source, O: Sink>(
     requires limits { HasLimits scenario }
     requires size { scenario.catalogue.size ≡ scenario.size }
     requires picks { S.pick scheme scenario.size ≡ pick_by scenario.scheme (plain_of scenario.hash) scenario.size }
-    ensures ok { IfOk result (λ s. Answers (cluster_in scenario) (choice_in scenario) (plan_in scenario) (λ x. slot_of_flow (plain_of scenario.hash) scenario.size x) asked (I.tape input.old) (I.tape input.new) (O.tape output.old) (O.tape output.new) (string_bytes s)) }
+    ensures ok { IfOk result (λ s. Answers (cluster_in scenario) (choice_in scenario) (plan_in scenario) (lookups_in scenario) asked (I.tape input.old) (I.tape input.new) (O.tape output.old) (O.tape output.new) (string_bytes s)) }
     ensures stopped { IfErr result (Stopped (cluster_in scenario) (choice_in scenario) (plan_in scenario) (I.tape input.old) (I.tape input.new) (O.tape output.old) (O.tape output.new)) }
 {
     let Scenario {
@@ -146,7 +146,7 @@ fn play_named<I: Source, O: Sink>(
 ) -> Result<String, SimulationFault>
     requires limits { HasLimits scenario }
     requires size { scenario.catalogue.size ≡ scenario.size }
-    ensures ok { IfOk result (λ s. Answers (cluster_in scenario) (choice_in scenario) (plan_in scenario) (λ x. slot_of_flow (plain_of scenario.hash) scenario.size x) asked (I.tape input.old) (I.tape input.new) (O.tape output.old) (O.tape output.new) (string_bytes s)) }
+    ensures ok { IfOk result (λ s. Answers (cluster_in scenario) (choice_in scenario) (plan_in scenario) (lookups_in scenario) asked (I.tape input.old) (I.tape input.new) (O.tape output.old) (O.tape output.new) (string_bytes s)) }
     ensures stopped { IfErr result (Stopped (cluster_in scenario) (choice_in scenario) (plan_in scenario) (I.tape input.old) (I.tape input.new) (O.tape output.old) (O.tape output.new)) }
 {
     let hash = scenario.hash;
@@ -172,7 +172,8 @@ fn play_named<I: Source, O: Sink>(
 /// By the clause `kept` the run keeps the promises: for a scheme to which the turn doesn't matter two packets of one flow
 /// that were sent to different backends were chosen under versions that pick these backends, for Maglev under versions whose
 /// tables name them at the flow's slot; a forwarder keeps a flow's backend while its entry stands and the backend is up; and
-/// every slot of Maglev's tables names an up backend, and backends' slot counts differ by at most one.
+/// every slot of Maglev's tables names an up backend, and backends' slot counts stand as their weights. The two versions of each
+/// split pick its two backends, for such a scheme, and for Maglev name them at the flow's slot.
 pub fn play_scenario<I: Source, O: Sink>(
     alloc: Global,
     key: TableKey,
@@ -183,11 +184,12 @@ pub fn play_scenario<I: Source, O: Sink>(
 ) -> Result<String, SimulationFault>
     requires limits { HasLimits scenario }
     requires size { scenario.catalogue.size ≡ scenario.size }
-    ensures ok { IfOk result (λ s. Answers (cluster_in scenario) (choice_in scenario) (plan_in scenario) (λ x. slot_of_flow (plain_of scenario.hash) scenario.size x) asked (I.tape input.old) (I.tape input.new) (O.tape output.old) (O.tape output.new) (string_bytes s)) }
-    ensures kept { IfOk result (λ s. (a : Answers (cluster_in scenario) (choice_in scenario) (plan_in scenario) (λ x. slot_of_flow (plain_of scenario.hash) scenario.size x) asked (I.tape input.old) (I.tape input.new) (O.tape output.old) (O.tape output.new) (string_bytes s)) → KeepsPromises scenario a.course) }
+    ensures ok { IfOk result (λ s. Answers (cluster_in scenario) (choice_in scenario) (plan_in scenario) (lookups_in scenario) asked (I.tape input.old) (I.tape input.new) (O.tape output.old) (O.tape output.new) (string_bytes s)) }
+    ensures kept { IfOk result (λ s. (a : Answers (cluster_in scenario) (choice_in scenario) (plan_in scenario) (lookups_in scenario) asked (I.tape input.old) (I.tape input.new) (O.tape output.old) (O.tape output.new) (string_bytes s)) → KeepsPromises scenario a.course) }
     ensures stopped { IfErr result (Stopped (cluster_in scenario) (choice_in scenario) (plan_in scenario) (I.tape input.old) (I.tape input.new) (O.tape output.old) (O.tape output.new)) }
 {
     let _slots = scenario.size.slots();
+    scenario.catalogue.keeps_doubles_out();
     match play_named(alloc, key, scenario, asked, input, output) {
         Ok(text) => Ok(text),
         Err(fault) => Err(fault),

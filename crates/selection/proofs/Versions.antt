@@ -4,7 +4,8 @@ use Rattle.std.proofs.lemmas.Bool.{cases_Bool}
 use Rattle.five_tuple.specs.declared.Flow.{Flow}
 use Rattle.pool_versions.specs.declared.service.Service.{Service}
 use Rattle.pool_versions.specs.declared.service.Version.{Version}
-use Rattle.pool_versions.specs.Pool.{serves, find_service, ups, ups_under}
+use Rattle.pool_versions.specs.Pool.{serves, find_service}
+use Rattle.selection.specs.Candidates.{candidates_in, candidates_under}
 use Rattle.selection.specs.Readied.{ReadiedService, readied_of, serves_readied, AreFor, ready_for, ups_for}
 
 -- the services of a version are for the scheme and the size
@@ -33,10 +34,10 @@ ready_for_readied scheme size x (s ∷ ss) = elim (cases_Bool (serves x s)) [
   | inr other ↦ rw other (ready_for_readied scheme size x ss)
 ]
 
-mapped_ups : {S : Type 0} (scheme : S) (size : ℕ) (o : Option Service) → option_map (λ (r : ReadiedService S). r.ups) (option_map (readied_of scheme size) o) ≡ option_map (λ s. ups s.members.items) o
+mapped_ups : {S : Type 0} (scheme : S) (size : ℕ) (o : Option Service) → option_map (λ (r : ReadiedService S). r.ups) (option_map (readied_of scheme size) o) ≡ option_map (λ s. candidates_in s.members.items) o
 mapped_ups scheme size None = refl
 mapped_ups scheme size (Some s) = refl
 
--- the up backends of a flow are those of the version
-pub ups_for_readied : {S : Type 0} (scheme : S) (size : ℕ) (x : Flow) (v : Version) → ups_for x (map (readied_of scheme size) v.services.items) ≡ ups_under v x
+-- the candidates of a flow are those of the version
+pub ups_for_readied : {S : Type 0} (scheme : S) (size : ℕ) (x : Flow) (v : Version) → ups_for x (map (readied_of scheme size) v.services.items) ≡ candidates_under v x
 ups_for_readied {S} scheme size x v = ap (option_map (λ (r : ReadiedService S). r.ups)) (ready_for_readied scheme size x v.services.items) ∙ mapped_ups scheme size (find_service x v.services.items)

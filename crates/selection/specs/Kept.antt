@@ -1,7 +1,7 @@
 -- How a table keeps its slots.
 use Rattle.std.specs.Prelude.{◌≡◌, ℕ, List, []}
 use Rattle.pool_versions.specs.declared.backend.Backend.{Backend}
-use Rattle.selection.specs.Picks.{IsEvenTable}
+use Rattle.selection.specs.Picks.{IsFullTable}
 use Rattle.selection.specs.declared.maglev.Slots.{Slots}
 use Rattle.selection.specs.declared.maglev.Slots.TheVariants.{Narrow, Wide}
 
@@ -10,6 +10,6 @@ abbrev pub owners_of : Slots → List ℕ
 owners_of (Narrow v) = v.items
 owners_of (Wide t) = t.owners
 
--- where somebody is up the table is an even one
+-- where somebody is up every slot names somebody
 abbrev pub FitsSlots : ℕ → List Backend → List ℕ → Type 0
-FitsSlots size ups owners = (ups ≡ [] → ⊥) → IsEvenTable (record { size = size; ups = ups; owners = owners })
+FitsSlots size ups owners = (ups ≡ [] → ⊥) → IsFullTable (record { size = size; ups = ups; owners = owners })

@@ -1,3 +1,4 @@
+pub mod Candidates
 pub mod Faults
 pub mod Picks
 pub mod PickLaws

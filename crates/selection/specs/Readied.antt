@@ -6,22 +6,23 @@ use Rattle.pool_versions.specs.declared.backend.Backend.{Backend}
 use Rattle.pool_versions.specs.declared.service.Service.{Service}
 use Rattle.pool_versions.specs.declared.service.Version.{Version}
 use Rattle.pool_versions.specs.Pool.{ups}
+use Rattle.selection.specs.Candidates.{Candidates, candidates_in}
 
--- a service with its up backends, for a scheme and a size
+-- a service with its up backends and their weights, for a scheme and a size
 pub record ReadiedService (S : Type 0) : Type 0 where
   pub scheme : S
   pub size : ℕ
   pub vip : ℕ
   pub proto : ℕ
   pub port : ℕ
-  pub ups : List Backend
+  pub ups : Candidates
 
 -- the flow is the service's
 abbrev pub serves_readied : {S : Type 0} → Flow → ReadiedService S → Bool
 serves_readied x s = (s.vip == x.dst) && ((s.proto == x.proto) && (s.port == x.dport))
 
 abbrev pub readied_of : {S : Type 0} → S → ℕ → Service → ReadiedService S
-readied_of scheme size s = record { scheme = scheme; size = size; vip = s.vip; proto = s.proto; port = s.port; ups = ups s.members.items }
+readied_of scheme size s = record { scheme = scheme; size = size; vip = s.vip; proto = s.proto; port = s.port; ups = candidates_in s.members.items }
 
 -- a version with its services, for a scheme and a size
 pub record Readied (S : Type 0) : Type 0 where
@@ -42,8 +43,8 @@ AreFor scheme size (s ∷ ss) = (s.scheme ≡ scheme) × (s.size ≡ size) × Ar
 abbrev pub ready_for : {S : Type 0} → Flow → List (ReadiedService S) → Option (ReadiedService S)
 ready_for x = find (serves_readied x)
 
--- the up backends of the first service of a flow
-abbrev pub ups_for : {S : Type 0} → Flow → List (ReadiedService S) → Option (List Backend)
+-- the candidates of the first service of a flow
+abbrev pub ups_for : {S : Type 0} → Flow → List (ReadiedService S) → Option Candidates
 ups_for x ss = option_map (λ s. s.ups) (ready_for x ss)
 
 -- the two have one name and one address
@@ -52,7 +53,7 @@ same_backend a b = pointwise nat_eq a.name b.name && (a.addr == b.addr)
 
 -- a backend is among the up members of the flow's service
 abbrev pub IsUpFor : {S : Type 0} → Flow → Backend → List (ReadiedService S) → Type 0
-IsUpFor x b ss = IsSomeAnd (ups_for x ss) (λ bs. Contains bs b)
+IsUpFor x b ss = IsSomeAnd (ups_for x ss) (λ c. Contains c.backends b)
 
 -- a service has more up backends than there are slots
 abbrev pub has_more_ups : ℕ → Service → Bool

@@ -1,36 +1,38 @@
-//! What a scheme prepared of some backends, for every version in which they are the up ones.
-ghost use Rattle.std.specs.Prelude.{◌≡◌, ℕ, ◌↔◌, true, IsTrue, IfOk, IfErr, IfSome, List};
+//! What a scheme prepared of some backends, for every version in which they are the up ones, with the same weights.
+ghost use Rattle.std.specs.Prelude.{◌≡◌, ℕ, ◌↔◌, true, length, IsTrue, IfOk, IfErr, IfSome};
 ghost use Rattle.std.specs.Arc.{arc_value};
 ghost use Rattle.pool_versions.specs.Pool.{AscendsByName};
-ghost use Rattle.pool_versions.specs.declared.backend.Backend.{Backend};
+ghost use Rattle.selection.specs.Candidates.{among};
 ghost use Rattle.selection.specs.Shared.{Chosen, StandsFor};
 ghost use Rattle.selection.specs.Faults.{IsPrepareFault};
 
 use crate::scheme::{PrepareFault, Scheme};
-use maglev_table::TableSize;
+use maglev_table::{TableSize, Weight};
 use pool_versions::Backend;
 use std::alloc::Global;
 use std::marker::Model;
 use std::sync::Arc;
 
-/// Backends that are up, and what a scheme prepared of them.
+/// Backends that are up, with their weights, and what a scheme prepared of them.
 #[derive(Drop)]
 pub(crate) struct Choices<S: Scheme> {
     scheme: S,
     size: TableSize,
     ups: Vec<Backend>,
+    weights: Vec<Weight>,
     prepared: S::Prepared,
 }
 
 impl<S: Scheme> Model for Choices<S> {
     ghost use Rattle.pool_versions.specs.Pool.{AscendsByName};
+    ghost use Rattle.selection.specs.Candidates.{among};
     ghost use Rattle.selection.specs.Shared.{Chosen};
 
     ghost Value = { Chosen S };
 
-    ghost view = { λ a. record { scheme = a.scheme; size = a.size; ups = a.ups.items } };
+    ghost view = { λ a. record { scheme = a.scheme; size = a.size; ups = among a.ups.items a.weights.items } };
 
-    ghost invariant = { λ a. S.is_prepared a.scheme a.size a.ups.items a.prepared × AscendsByName a.ups.items };
+    ghost invariant = { λ a. S.is_prepared a.scheme a.size (among a.ups.items a.weights.items) a.prepared × AscendsByName a.ups.items };
 }
 
 // Whether two backends are the same.
@@ -56,6 +58,21 @@ fn are_same(ups: &[Backend], others: &[Backend]) -> bool
     true
 }
 
+// Whether two lists of weights are the same.
+fn weigh_the_same(weights: &[Weight], others: &[Weight]) -> bool
+    ensures { (result ≡ true) ↔ (weights.now ≡ others.now) }
+{
+    if weights.len() != others.len() {
+        return false;
+    }
+    for at in 0..weights.len() {
+        if weights[at].turns() != others[at].turns() {
+            return false;
+        }
+    }
+    true
+}
+
 impl<S: Scheme> Choices<S> {
     /// Prepares backends that ascend by name.
     pub(crate) fn make(
@@ -63,16 +80,19 @@ impl<S: Scheme> Choices<S> {
         scheme: &S,
         size: TableSize,
         ups: Vec<Backend>,
+        weights: Vec<Weight>,
     ) -> Result<Arc<Choices<S>>, PrepareFault>
-        requires { AscendsByName ups.items }
-        ensures ok { IfOk result (λ a. arc_value a ≡ record { scheme = scheme.now; size = size; ups = ups.items }) }
+        requires ascending { AscendsByName ups.items }
+        requires weighed { length weights.items ≡ length ups.items }
+        ensures ok { IfOk result (λ a. arc_value a ≡ record { scheme = scheme.now; size = size; ups = among ups.items weights.items }) }
         ensures err { IfErr result (IsPrepareFault size ups.items) }
     {
-        let prepared = scheme.prepare(alloc, size, ups.as_slice())?;
+        let prepared = scheme.prepare(alloc, size, ups.as_slice(), weights.as_slice())?;
         let choices = Choices {
             scheme: *scheme,
             size,
             ups,
+            weights,
             prepared,
         };
         match Arc::new(alloc, choices) {
@@ -81,25 +101,27 @@ impl<S: Scheme> Choices<S> {
         }
     }
 
-    // Whether this is what an equal scheme prepared of these backends for this size.
-    fn is_of(&self, scheme: &S, size: TableSize, ups: &[Backend]) -> bool
-        ensures { IsTrue result → StandsFor (λ s z b p. S.is_prepared s z b p) scheme.now size ups.now self.now }
+    // Whether this is what an equal scheme prepared of these backends, of these weights, for this size.
+    fn is_of(&self, scheme: &S, size: TableSize, ups: &[Backend], weights: &[Weight]) -> bool
+        ensures { IsTrue result → StandsFor (λ s z b p. S.is_prepared s z b p) scheme.now size (among ups.now weights.now) self.now }
     {
         self.size.slots() == size.slots()
             && self.scheme == *scheme
             && are_same(self.ups.as_slice(), ups)
+            && weigh_the_same(self.weights.as_slice(), weights)
     }
 
-    /// What an equal scheme prepared of these backends for this size, if this is it.
+    /// What an equal scheme prepared of these backends, of these weights, for this size, if this is it.
     pub(crate) fn shared(
         this: &Arc<Choices<S>>,
         scheme: &S,
         size: TableSize,
         ups: &[Backend],
+        weights: &[Weight],
     ) -> Option<Arc<Choices<S>>>
-        ensures { IfSome result (λ a. StandsFor (λ s z b p. S.is_prepared s z b p) scheme.now size ups.now (arc_value a)) }
+        ensures { IfSome result (λ a. StandsFor (λ s z b p. S.is_prepared s z b p) scheme.now size (among ups.now weights.now) (arc_value a)) }
     {
-        if !this.is_of(scheme, size, ups) {
+        if !this.is_of(scheme, size, ups, weights) {
             return None;
         }
         Arc::try_clone(this).ok()
@@ -107,8 +129,8 @@ impl<S: Scheme> Choices<S> {
 
     /// The backends, in ascending byte order of name.
     pub(crate) fn ups(&self) -> &[Backend]
-        ensures ups { result.now ≡ self.now.ups }
-        ensures ascending { AscendsByName self.now.ups }
+        ensures ups { result.now ≡ self.now.ups.backends }
+        ensures ascending { AscendsByName self.now.ups.backends }
     {
         self.ups.as_slice()
     }

@@ -1,13 +1,14 @@
 //! Maglev's tables.
 ghost use Rattle.std.specs.Prelude.{◌≡◌, ◌<◌, ◌≤◌, ◌↔◌, true, [], length, slice_index, None, IfOk, IfSome, IsErrOf, All, refl};
 ghost use Rattle.selection.specs.Picks.{table_pick, preferences, slot_names, owners_in, IsTable, IsTableOf};
+ghost use Rattle.selection.specs.Candidates.{among};
 ghost use Rattle.selection.specs.Kept.{owners_of};
 ghost use Rattle.selection.specs.PickLaws.{table_pick_is_up, table_pick_is_none, table_pick_respects, table_respects};
 
 use crate::scheme::{PrepareFault, Scheme};
 use five_tuple::Flow;
 use hash_laws::FlowHash;
-use maglev_table::{Permutation, Table, TableFault, TableSize, populate};
+use maglev_table::{Permutation, Table, TableFault, TableSize, Weight, populate};
 use pool_versions::Backend;
 use std::alloc::{AllocError, Global};
 use std::marker::Model;
@@ -68,14 +69,16 @@ fn lists_of<H: FlowHash>(
 fn filled(
     alloc: Global,
     lists: &[Permutation],
+    weights: &[Weight],
     size: TableSize,
 ) -> Result<Option<Table>, AllocError>
     requires sized { All (λ p. p.size ≡ size) lists.now }
+    requires weighed { length weights.now ≡ length lists.now }
     requires fit { length lists.now ≤ size }
     ensures none { IfOk result (λ o. o ≡ None → lists.now ≡ []) }
-    ensures some { IfOk result (λ o. IfSome o (λ t. IsTable lists.now size t)) }
+    ensures some { IfOk result (λ o. IfSome o (λ t. IsTable lists.now weights.now size t)) }
 {
-    match populate(alloc, size, lists) {
+    match populate(alloc, size, lists, weights) {
         Ok(table) => Ok(Some(table)),
         Err(TableFault::NoBackends) => Ok(None),
         Err(_) => Err(AllocError),
@@ -157,21 +160,24 @@ impl MaglevTable {
 }
 
 impl<H: FlowHash> Maglev<H> {
-    /// The table of some backends that are up. Every slot names one of them, and their slot counts differ by at most one.
+    /// The table of some backends that are up, each with its weight. Every slot names one of them, and their slot counts
+    /// stand as their weights.
     pub fn table(
         &self,
         alloc: Global,
         size: TableSize,
         ups: &[Backend],
+        weights: &[Weight],
     ) -> Result<MaglevTable, PrepareFault>
-        ensures table { IfOk result (IsTableOf (H.plain self.now.hash) size ups.now) }
+        requires { length weights.now ≡ length ups.now }
+        ensures table { IfOk result (IsTableOf (H.plain self.now.hash) size (among ups.now weights.now)) }
         ensures too_many { IsErrOf result PrepareFault.TooMany ↔ (size < length ups.now) }
     {
         if ups.len() > size.slots() as usize {
             return Err(PrepareFault::TooMany);
         }
         let lists = lists_of(alloc, &self.hash, size, ups)?;
-        let table = filled(alloc, lists.as_slice(), size)?;
+        let table = filled(alloc, lists.as_slice(), weights, size)?;
         let slots = slots_of(alloc, size, ups.len(), table)?;
         let ups = Vec::from_slice(alloc, ups)?;
         Ok(MaglevTable { size, ups, slots })
@@ -194,8 +200,9 @@ impl<H: FlowHash> Scheme for Maglev<H> {
         alloc: Global,
         size: TableSize,
         ups: &[Backend],
+        weights: &[Weight],
     ) -> Result<MaglevTable, PrepareFault> {
-        self.table(alloc, size, ups)
+        self.table(alloc, size, ups, weights)
     }
 
     fn choose(&self, prepared: &MaglevTable, flow: &Flow, turn: u64) -> Option<Backend> {

@@ -6,7 +6,7 @@ ghost use Rattle.selection.specs.PickLaws.{pick_at_is_up, pick_at_is_none, plain
 use crate::scheme::{PrepareFault, Scheme};
 use five_tuple::Flow;
 use hash_laws::FlowHash;
-use maglev_table::TableSize;
+use maglev_table::{TableSize, Weight};
 use pool_versions::Backend;
 use std::alloc::Global;
 
@@ -33,17 +33,19 @@ impl<H: FlowHash> Scheme for PlainHash<H> {
 
     type Prepared = Vec<Backend>;
 
-    ghost pick = { λ s size ups x turn. pick_at ups (flow_hash (H.plain s.hash) x) };
+    ghost pick = { λ s size ups x turn. pick_at ups.backends (flow_hash (H.plain s.hash) x) };
 
-    ghost is_prepared = { λ s size ups p. p.items ≡ ups };
+    ghost is_prepared = { λ s size ups p. p.items ≡ ups.backends };
 
     fn prepare(
         &self,
         alloc: Global,
         size: TableSize,
         ups: &[Backend],
+        weights: &[Weight],
     ) -> Result<Vec<Backend>, PrepareFault> {
         let _ = size;
+        let _ = weights;
         Ok(Vec::from_slice(alloc, ups)?)
     }
 
@@ -52,13 +54,13 @@ impl<H: FlowHash> Scheme for PlainHash<H> {
         backend_at(prepared.as_slice(), self.hash.hash(b'f', &flow.bytes()))
     }
 
-    ghost pick_is_up = { λ s size ups x turn. pick_at_is_up ups (flow_hash (H.plain s.hash) x) };
+    ghost pick_is_up = { λ s size ups x turn. pick_at_is_up ups.backends (flow_hash (H.plain s.hash) x) };
 
-    ghost pick_is_none = { λ s size ups x turn. pick_at_is_none ups (flow_hash (H.plain s.hash) x) };
+    ghost pick_is_none = { λ s size ups x turn. pick_at_is_none ups.backends (flow_hash (H.plain s.hash) x) };
 
     ghost pick_is_steady = { λ _ s size ups x t u. refl };
 
     ghost prepared_respects_eq = { λ a b e size ups p h. h };
 
-    ghost pick_respects_eq = { λ a b e size ups x turn. plain_pick_respects (H.plain a.hash) (H.plain b.hash) (H.equal_values_hash_alike a.hash b.hash e) ups x };
+    ghost pick_respects_eq = { λ a b e size ups x turn. plain_pick_respects (H.plain a.hash) (H.plain b.hash) (H.equal_values_hash_alike a.hash b.hash e) ups.backends x };
 }

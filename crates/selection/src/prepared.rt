@@ -3,7 +3,7 @@ ghost use Rattle.std.specs.Prelude.{◌≡◌, ◌<◌, ◌↔◌, true, option_
 ghost use Rattle.std.specs.HashMap.{get};
 ghost use Rattle.std.specs.List.{list_any};
 ghost use Rattle.five_tuple.specs.declared.Flow.{Flow};
-ghost use Rattle.pool_versions.specs.Pool.{ups, ups_under};
+ghost use Rattle.selection.specs.Candidates.{candidates_under};
 ghost use Rattle.selection.specs.Places.{key_of_flow, same_key, ArePlaced};
 ghost use Rattle.selection.specs.Readied.{Readied, readied_version, ready_for, ups_for, has_more_ups, IsUpFor};
 
@@ -98,7 +98,7 @@ impl<S: Scheme> PreparedVersion<S> {
         version: &Version,
     ) -> Result<PreparedVersion<S>, PrepareFault>
         ensures made { IfOk result (λ p. p ≡ readied_version scheme.now size version.now) }
-        ensures ups { IfOk result (λ p. (x : Flow) → ups_for x p.services ≡ ups_under version.now x) }
+        ensures ups { IfOk result (λ p. (x : Flow) → ups_for x p.services ≡ candidates_under version.now x) }
         ensures too_many { IsErrOf result PrepareFault.TooMany ↔ (list_any (has_more_ups size) version.now.services.items ≡ true) }
     {
         let nothing = Self::of_no_services(alloc, scheme, size);
@@ -106,7 +106,7 @@ impl<S: Scheme> PreparedVersion<S> {
     }
 
     /// The same. A service whose up backends are those that a service of its address, protocol and port had in the version
-    /// before, prepared for an equal scheme and the same size, shares what was prepared there: it costs no memory of its
+    /// before, of the same weights, prepared for an equal scheme and the same size, shares what was prepared there: it costs no memory of its
     /// own and no table is made.
     pub fn make_after(
         alloc: Global,
@@ -116,7 +116,7 @@ impl<S: Scheme> PreparedVersion<S> {
         before: &PreparedVersion<S>,
     ) -> Result<PreparedVersion<S>, PrepareFault>
         ensures made { IfOk result (λ p. p ≡ readied_version scheme.now size version.now) }
-        ensures ups { IfOk result (λ p. (x : Flow) → ups_for x p.services ≡ ups_under version.now x) }
+        ensures ups { IfOk result (λ p. (x : Flow) → ups_for x p.services ≡ candidates_under version.now x) }
         ensures too_many { IsErrOf result PrepareFault.TooMany ↔ (list_any (has_more_ups size) version.now.services.items ≡ true) }
     {
         if any_has_more_ups(version.services.as_slice(), size) {
@@ -189,7 +189,7 @@ impl<S: Scheme> PreparedVersion<S> {
     /// What the scheme prepared for the first service that a flow is of.
     pub fn find(&self, flow: &Flow) -> Option<&S::Prepared>
         ensures { MatchOption result (ups_for flow.now self.now.services ≡ None)
-            (λ p. IsSomeAnd (ups_for flow.now self.now.services) (λ bs. S.is_prepared self.now.scheme self.now.size bs p.now)) }
+            (λ p. IsSomeAnd (ups_for flow.now self.now.services) (λ ups. S.is_prepared self.now.scheme self.now.size ups p.now)) }
     {
         match self.ready(flow) {
             Some(ready) => Some(ready.prepared()),

@@ -1,10 +1,11 @@
 //! One service of a version, prepared for a scheme.
-ghost use Rattle.std.specs.Prelude.{◌≡◌, ◌↔◌, true, IfOk, IfErr, Contains};
+ghost use Rattle.std.specs.Prelude.{◌≡◌, ◌↔◌, true, length, IfOk, IfErr, Contains};
 ghost use Rattle.std.specs.List.{list_any};
 ghost use Rattle.pool_versions.specs.Pool.{ups, AscendsByName};
 ghost use Rattle.std.specs.Arc.{arc_value};
 ghost use Rattle.selection.specs.PrivateHalves.{is_at_head};
 ghost use Rattle.selection.specs.Places.{key_of_readied, key_of_service, key_of_flow};
+ghost use Rattle.selection.specs.Candidates.{among};
 ghost use Rattle.selection.specs.Shared.{StandsFor};
 ghost use Rattle.selection.specs.Readied.{ReadiedService, readied_of, same_backend};
 ghost use Rattle.selection.specs.Faults.{IsPrepareFault};
@@ -12,8 +13,8 @@ ghost use Rattle.selection.specs.Faults.{IsPrepareFault};
 use crate::choices::Choices;
 use crate::scheme::{PrepareFault, Scheme};
 use five_tuple::Flow;
-use maglev_table::TableSize;
-use pool_versions::{Backend, Service};
+use maglev_table::{TableSize, Weight};
+use pool_versions::{Backend, Service, backends_of, weights_of};
 use std::alloc::Global;
 use std::marker::Model;
 use std::sync::Arc;
@@ -96,24 +97,32 @@ fn is_among(ups: &[Backend], backend: &Backend) -> bool
     is_at_head(&ups[first..], backend)
 }
 
-// What a scheme prepares of some backends: that of the version before, where it is of the same ones.
+// What a scheme prepares of some backends: that of the version before, where it is of the same ones of the same weights.
 fn choices_of<S: Scheme>(
     alloc: Global,
     scheme: &S,
     size: TableSize,
     ups: Vec<Backend>,
+    weights: Vec<Weight>,
     before: Option<&Ready<S>>,
 ) -> Result<Arc<Choices<S>>, PrepareFault>
-    requires { AscendsByName ups.items }
-    ensures ok { IfOk result (λ a. StandsFor (λ s z b p. S.is_prepared s z b p) scheme.now size ups.items (arc_value a)) }
+    requires ascending { AscendsByName ups.items }
+    requires weighed { length weights.items ≡ length ups.items }
+    ensures ok { IfOk result (λ a. StandsFor (λ s z b p. S.is_prepared s z b p) scheme.now size (among ups.items weights.items) (arc_value a)) }
     ensures err { IfErr result (IsPrepareFault size ups.items) }
 {
     if let Some(ready) = before {
-        if let Some(shared) = Choices::shared(&ready.choices, scheme, size, ups.as_slice()) {
+        if let Some(shared) = Choices::shared(
+            &ready.choices,
+            scheme,
+            size,
+            ups.as_slice(),
+            weights.as_slice(),
+        ) {
             return Ok(shared);
         }
     }
-    Choices::make(alloc, scheme, size, ups)
+    Choices::make(alloc, scheme, size, ups, weights)
 }
 
 impl<S: Scheme> Ready<S> {
@@ -128,8 +137,10 @@ impl<S: Scheme> Ready<S> {
         ensures ok { IfOk result (λ r. r ≡ readied_of scheme.now size service.now) }
         ensures err { IfErr result (IsPrepareFault size (ups service.now.members.items)) }
     {
-        let ups = service.ups(alloc)?;
-        let choices = choices_of(alloc, scheme, size, ups, before)?;
+        let members = service.ranked(alloc)?;
+        let ups = backends_of(alloc, members.as_slice())?;
+        let weights = weights_of(alloc, members.as_slice())?;
+        let choices = choices_of(alloc, scheme, size, ups, weights, before)?;
         Ok(Ready {
             scheme: *scheme,
             size,
@@ -162,8 +173,8 @@ impl<S: Scheme> Ready<S> {
     /// Whether a backend, as the pair of a name and an address, is one of the service's up backends.
     #[tactic(auto, using(crate::proofs::Among::any_is_contained))]
     pub fn is_up(&self, backend: &Backend) -> bool
-        ensures among { (result ≡ true) ↔ Contains self.now.ups backend.now }
-        ensures value { result ≡ list_any (same_backend backend.now) self.now.ups }
+        ensures among { (result ≡ true) ↔ Contains self.now.ups.backends backend.now }
+        ensures value { result ≡ list_any (same_backend backend.now) self.now.ups.backends }
     {
         is_among(self.choices.ups(), backend)
     }

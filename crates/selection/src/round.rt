@@ -7,7 +7,7 @@ ghost use Rattle.std.proofs.Common.{rules};
 use crate::plain::backend_at;
 use crate::scheme::{PrepareFault, Scheme};
 use five_tuple::Flow;
-use maglev_table::TableSize;
+use maglev_table::{TableSize, Weight};
 use pool_versions::Backend;
 use std::alloc::Global;
 
@@ -22,17 +22,19 @@ impl Scheme for RoundRobin {
 
     type Prepared = Vec<Backend>;
 
-    ghost pick = { λ s size ups x turn. pick_at ups turn };
+    ghost pick = { λ s size ups x turn. pick_at ups.backends turn };
 
-    ghost is_prepared = { λ s size ups p. p.items ≡ ups };
+    ghost is_prepared = { λ s size ups p. p.items ≡ ups.backends };
 
     fn prepare(
         &self,
         alloc: Global,
         size: TableSize,
         ups: &[Backend],
+        weights: &[Weight],
     ) -> Result<Vec<Backend>, PrepareFault> {
         let _ = size;
+        let _ = weights;
         Ok(Vec::from_slice(alloc, ups)?)
     }
 
@@ -41,9 +43,9 @@ impl Scheme for RoundRobin {
         backend_at(prepared.as_slice(), turn)
     }
 
-    ghost pick_is_up = { λ s size ups x turn. pick_at_is_up ups turn };
+    ghost pick_is_up = { λ s size ups x turn. pick_at_is_up ups.backends turn };
 
-    ghost pick_is_none = { λ s size ups x turn. pick_at_is_none ups turn };
+    ghost pick_is_none = { λ s size ups x turn. pick_at_is_none ups.backends turn };
 
     ghost pick_is_steady = { λ h. Prim.search rules };
 

@@ -1,11 +1,12 @@
 //! What a scheme is.
-ghost use Rattle.std.specs.Prelude.{◌≡◌, ◌↔◌, Bool, true, ℕ, List, [], Option, Some, None, IfOk, IfErr, Contains};
+ghost use Rattle.std.specs.Prelude.{◌≡◌, ◌↔◌, Bool, true, ℕ, [], length, Option, Some, None, IfOk, IfErr, Contains};
 ghost use Rattle.five_tuple.specs.declared.Flow.{Flow};
 ghost use Rattle.pool_versions.specs.declared.backend.Backend.{Backend};
+ghost use Rattle.selection.specs.Candidates.{Candidates, among};
 ghost use Rattle.selection.specs.Faults.{IsPrepareFault};
 
 use five_tuple::Flow;
-use maglev_table::TableSize;
+use maglev_table::{TableSize, Weight};
 use pool_versions::Backend;
 use std::alloc::{AllocError, Global};
 
@@ -30,7 +31,7 @@ impl From<AllocError> for PrepareFault {
 
 /// A way to choose a backend for a flow.
 ///
-/// A choice is a function, `pick`, of the up backends, the table's size, the flow and the turn. It is one of those
+/// A choice is a function, `pick`, of the up backends with their weights, the table's size, the flow and the turn. It is one of those
 /// backends, and None exactly where there is none. Schemes that are equal by `==` have one pick. So two balancers with
 /// equal schemes choose alike under one version, whatever they served before; and what one of them prepared serves the other.
 pub trait Scheme: Copy + Eq {
@@ -42,32 +43,35 @@ pub trait Scheme: Copy + Eq {
     /// What is made of a list of backends before flows come.
     type Prepared: Drop;
 
-    ghost pick: { Self → ℕ → List Backend → Flow → ℕ → Option Backend };
+    ghost pick: { Self → ℕ → Candidates → Flow → ℕ → Option Backend };
 
-    ghost is_prepared: { Self → ℕ → List Backend → Self.Prepared → Type 0 };
+    ghost is_prepared: { Self → ℕ → Candidates → Self.Prepared → Type 0 };
 
-    /// Prepares a list of backends that are up. TooMany is answered only where there are more backends than slots.
+    /// Prepares a list of backends that are up, each with its weight. TooMany is answered only where there are more backends
+    /// than slots.
     fn prepare(
         &self,
         alloc: Global,
         size: TableSize,
         ups: &[Backend],
+        weights: &[Weight],
     ) -> Result<Self::Prepared, PrepareFault>
-        ensures ok { IfOk result (is_prepared self.now size ups.now) }
+        requires { length weights.now ≡ length ups.now }
+        ensures ok { IfOk result (is_prepared self.now size (among ups.now weights.now)) }
         ensures err { IfErr result (IsPrepareFault size ups.now) };
 
     /// The backend of a flow at a turn, of what this scheme prepared.
     fn choose(&self, prepared: &Self::Prepared, flow: &Flow, turn: u64) -> Option<Backend>
-        requires { (size : ℕ) × (ups : List Backend) × is_prepared self.now size ups prepared.now }
-        ensures { (size : ℕ) (ups : List Backend) → is_prepared self.now size ups prepared.now → result ≡ pick self.now size ups flow.now turn };
+        requires { (size : ℕ) × (ups : Candidates) × is_prepared self.now size ups prepared.now }
+        ensures { (size : ℕ) (ups : Candidates) → is_prepared self.now size ups prepared.now → result ≡ pick self.now size ups flow.now turn };
 
-    ghost pick_is_up: { (s : Self) (size : ℕ) (ups : List Backend) (x : Flow) (turn : ℕ) (b : Backend) → pick s size ups x turn ≡ Some b → Contains ups b };
+    ghost pick_is_up: { (s : Self) (size : ℕ) (ups : Candidates) (x : Flow) (turn : ℕ) (b : Backend) → pick s size ups x turn ≡ Some b → Contains ups.backends b };
 
-    ghost pick_is_none: { (s : Self) (size : ℕ) (ups : List Backend) (x : Flow) (turn : ℕ) → pick s size ups x turn ≡ None ↔ ups ≡ [] };
+    ghost pick_is_none: { (s : Self) (size : ℕ) (ups : Candidates) (x : Flow) (turn : ℕ) → pick s size ups x turn ≡ None ↔ ups.backends ≡ [] };
 
-    ghost pick_is_steady: { STEADY ≡ true → (s : Self) (size : ℕ) (ups : List Backend) (x : Flow) (t u : ℕ) → pick s size ups x t ≡ pick s size ups x u };
+    ghost pick_is_steady: { STEADY ≡ true → (s : Self) (size : ℕ) (ups : Candidates) (x : Flow) (t u : ℕ) → pick s size ups x t ≡ pick s size ups x u };
 
-    ghost prepared_respects_eq: { (a b : Self) → Self.eq a b ≡ true → (size : ℕ) (ups : List Backend) (p : Self.Prepared) → is_prepared a size ups p → is_prepared b size ups p };
+    ghost prepared_respects_eq: { (a b : Self) → Self.eq a b ≡ true → (size : ℕ) (ups : Candidates) (p : Self.Prepared) → is_prepared a size ups p → is_prepared b size ups p };
 
-    ghost pick_respects_eq: { (a b : Self) → Self.eq a b ≡ true → (size : ℕ) (ups : List Backend) (x : Flow) (turn : ℕ) → pick a size ups x turn ≡ pick b size ups x turn };
+    ghost pick_respects_eq: { (a b : Self) → Self.eq a b ≡ true → (size : ℕ) (ups : Candidates) (x : Flow) (turn : ℕ) → pick a size ups x turn ≡ pick b size ups x turn };
 }

@@ -1,10 +1,12 @@
+ghost use Rattle.std.specs.Prelude.{◌≡◌, IfOk};
+
 use super::{
-    Maglev, PlainHash, PrepareFault, PreparedVersion, PreparedVersions, RoundRobin, Scheme,
-    maglev_and_plain_hash_are_steady,
+    Maglev, MaglevTable, PlainHash, PrepareFault, PreparedVersion, PreparedVersions, RoundRobin,
+    Scheme, maglev_and_plain_hash_are_steady,
 };
 use five_tuple::Flow;
 use hash_laws::{AnyHash, Fnv, SumHash};
-use maglev_table::{Name, TableSize};
+use maglev_table::{Name, TableSize, Weight};
 use pool_versions::{Backend, Member, Service, Version};
 use std::alloc::Global;
 use std::process::Abort;
@@ -37,18 +39,26 @@ fn flow(sport: u16) -> Flow {
 }
 
 fn version(rt: &impl Abort, alloc: Global, ups: [bool; 3]) -> Version {
+    weighed_version(rt, alloc, ups, 1)
+}
+
+// The same with a weight of A.
+fn weighed_version(rt: &impl Abort, alloc: Global, ups: [bool; 3], turns: u8) -> Version {
     let members = [
         Member {
             backend: backend(rt, b"C", C),
             up: ups[2],
+            weight: Weight::one(),
         },
         Member {
             backend: backend(rt, b"A", A),
             up: ups[0],
+            weight: Weight::new(turns).expect(rt, "a weight"),
         },
         Member {
             backend: backend(rt, b"B", B),
             up: ups[1],
+            weight: Weight::one(),
         },
     ];
     let members = Vec::from_slice(alloc, &members).expect(rt, "memory");
@@ -67,6 +77,20 @@ fn version(rt: &impl Abort, alloc: Global, ups: [bool; 3]) -> Version {
     }
 }
 
+// The table of backends that weigh alike.
+fn unweighed<H: hash_laws::FlowHash>(
+    rt: &impl Abort,
+    alloc: Global,
+    hash: H,
+    size: TableSize,
+    ups: &[Backend],
+) -> Result<MaglevTable, PrepareFault>
+    ensures { IfOk result (λ t. t.size ≡ size) }
+{
+    let weights = vec![in alloc; Weight::one(); ups.len()].expect(rt, "memory");
+    Maglev { hash }.table(alloc, size, ups, weights.as_slice())
+}
+
 fn shows_table<H: hash_laws::FlowHash>(
     rt: &impl Abort,
     alloc: Global,
@@ -74,9 +98,7 @@ fn shows_table<H: hash_laws::FlowHash>(
     ups: &[Backend],
     addrs: [u32; 7],
 ) {
-    let table = Maglev { hash }
-        .table(alloc, seven(rt), ups)
-        .expect(rt, "a table");
+    let table = unweighed(rt, alloc, hash, seven(rt), ups).expect(rt, "a table");
     assert_eq!(rt; table.size().slots(), 7);
     assert!(rt; table.ups() == ups);
     for slot in 0..table.size().slots() {
@@ -96,19 +118,13 @@ fn tables_by_the_sum_hash(rt: HostRuntime) {
     let two = [backend(&rt, b"A", A), backend(&rt, b"C", C)];
     shows_table(&rt, alloc, SumHash, &all, [B, A, B, C, C, A, A]);
     shows_table(&rt, alloc, SumHash, &two, [A, A, A, C, C, C, A]);
-    let nobody = Maglev { hash: SumHash }
-        .table(alloc, seven(&rt), &[])
-        .expect(&rt, "a table");
+    let nobody = unweighed(&rt, alloc, SumHash, seven(&rt), &[]).expect(&rt, "a table");
     for slot in 0..nobody.size().slots() {
         assert!(rt; nobody.backend_at(slot).is_none());
     }
     let eight = [all[0]; 8];
-    assert!(rt;
-        Maglev { hash: SumHash }
-            .table(alloc, seven(&rt), &eight[..7])
-            .is_ok()
-    );
-    let refused = Maglev { hash: SumHash }.table(alloc, seven(&rt), &eight);
+    assert!(rt; unweighed(&rt, alloc, SumHash, seven(&rt), &eight[..7]).is_ok());
+    let refused = unweighed(&rt, alloc, SumHash, seven(&rt), &eight);
     assert_eq!(rt; refused.err(), Some(PrepareFault::TooMany));
 }
 
@@ -196,6 +212,7 @@ fn version_of_eight(rt: &impl Abort, alloc: Global, names: &[u8; 8], ups: usize)
             .push(Member {
                 backend: backend(rt, &[*name], number as u32),
                 up: number < ups,
+                weight: Weight::one(),
             })
             .expect(rt, "memory");
     }
@@ -306,6 +323,29 @@ fn a_version_after_another(rt: HostRuntime) {
     assert_eq!(rt; table.size().slots(), 13);
 }
 
+// By the table of the sum hash for 7 slots where A counts three times: A A B C A B A.
+#[test]
+fn a_version_of_other_weights(rt: HostRuntime) {
+    let alloc = rt.alloc();
+    let maglev = Maglev { hash: SumHash };
+    let all = version(&rt, alloc, [true, true, true]);
+    let heavy = weighed_version(&rt, alloc, [true, true, true], 3);
+    let first = PreparedVersion::make(alloc, &maglev, seven(&rt), &all).expect(&rt, "memory");
+    let second = PreparedVersion::make_after(alloc, &maglev, seven(&rt), &heavy, &first).expect(
+        &rt, "memory",
+    );
+    assert_eq!(rt; addresses(&first), [Some(A), Some(B), Some(A)]);
+    assert_eq!(rt; addresses(&second), [Some(A), Some(A), Some(B)]);
+    let third = PreparedVersion::make_after(alloc, &maglev, seven(&rt), &heavy, &second).expect(
+        &rt, "memory",
+    );
+    assert_eq!(rt; addresses(&third), [Some(A), Some(A), Some(B)]);
+    let plain = PlainHash { hash: SumHash };
+    let light = PreparedVersion::make(alloc, &plain, seven(&rt), &all).expect(&rt, "memory");
+    let weighty = PreparedVersion::make(alloc, &plain, seven(&rt), &heavy).expect(&rt, "memory");
+    assert_eq!(rt; addresses(&light), addresses(&weighty));
+}
+
 // Hashes of two kinds: what one prepared doesn't serve the other.
 #[test]
 fn a_version_after_one_of_another_hash(rt: HostRuntime) {
@@ -330,6 +370,7 @@ fn many_services(rt: &impl Abort, alloc: Global) -> Version {
             .push(Member {
                 backend: backend(rt, b"A", number),
                 up: true,
+                weight: Weight::one(),
             })
             .expect(rt, "memory");
         services
@@ -421,9 +462,7 @@ fn more_backends_than_two_bytes_tell_apart(rt: HostRuntime) {
         ups.push(backend(&rt, &letters, number))
             .expect(&rt, "memory");
     }
-    let table = Maglev { hash: Fnv }
-        .table(alloc, size, ups.as_slice())
-        .expect(&rt, "a table");
+    let table = unweighed(&rt, alloc, Fnv, size, ups.as_slice()).expect(&rt, "a table");
     let mut named = vec![in alloc; false; 65537].expect(&rt, "memory");
     for slot in 0..65537u32 {
         let place = table.backend_at(slot).expect(&rt, "a backend").addr as usize;

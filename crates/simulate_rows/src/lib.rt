@@ -12,4 +12,6 @@ mod runs;
 #[cfg(test)]
 mod scenarios;
 #[cfg(test)]
+mod splits;
+#[cfg(test)]
 mod tests;

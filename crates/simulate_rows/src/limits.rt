@@ -1,7 +1,7 @@
 // Runs at the limits of what is accepted.
 use crate::captures::{DATAGRAM, HEAD, capture_of, capture_with, push_record};
 use crate::scenarios::{Words, plain, scenario_of};
-use crate::tests::played;
+use crate::tests::{LISTED, REPORT, played};
 use maglev_cli::{CliFault, simulate};
 use pcap_file::{FromRead, PcapFault, ToWrite};
 use std::alloc::{AllocError, Global};
@@ -15,7 +15,7 @@ fn many_records(rt: HostRuntime) {
         push_record(&mut capture, &DATAGRAM).expect(&rt, "memory");
     }
     let words = plain("'live 0', 'install 0 1', 'take 1200'");
-    let written = played(rt.alloc(), words, capture.as_slice(), true).expect(&rt, "a run");
+    let written = played(rt.alloc(), words, capture.as_slice(), LISTED).expect(&rt, "a run");
     assert_eq!(rt; written.output.len(), 24 + 1200 * 80);
     let report = written.report.as_slice();
     assert!(rt; report.len() > 65_536);
@@ -44,7 +44,7 @@ fn large_datagrams(rt: HostRuntime) {
     let mut words = plain("'live 0', 'install 0 1', 'take 1'");
     words.keys = "check = false\n";
     let capture = capture_of_length(rt.alloc(), 65_511).expect(&rt, "memory");
-    let written = played(rt.alloc(), words, capture.as_slice(), false).expect(&rt, "a run");
+    let written = played(rt.alloc(), words, capture.as_slice(), REPORT).expect(&rt, "a run");
     let output = written.output.as_slice();
     assert_eq!(rt; output.len(), 24 + 16 + 65_535);
     assert_eq!(rt; capture.len(), 24 + 16 + 65_511);
@@ -54,7 +54,7 @@ fn large_datagrams(rt: HostRuntime) {
     );
     assert_eq!(rt; &output[64..], &capture.as_slice()[40..]);
     let capture = capture_of_length(rt.alloc(), 65_512).expect(&rt, "memory");
-    let written = played(rt.alloc(), words, capture.as_slice(), false).expect(&rt, "a run");
+    let written = played(rt.alloc(), words, capture.as_slice(), REPORT).expect(&rt, "a run");
     assert_eq!(rt; written.output.len(), 24);
     let report =
         b"packets 1\nlost 0\nunrouted 0\nskipped 0\nleft 0\ncut no\nreceived 1\nforwarded 0\ndrop TooLarge 1\nwaiting 0\nrefused 0\n";
@@ -71,7 +71,14 @@ fn is_too_long(rt: &impl Abort, alloc: Global, words: Words<'_>) {
     let mut output = ToWrite::new(Vec::new(alloc));
     let mut report = ToWrite::new(Vec::new(alloc));
     let scenario = text.as_bytes();
-    let done = simulate(alloc, scenario, &mut input, &mut output, &mut report, true);
+    let done = simulate(
+        alloc,
+        scenario,
+        &mut input,
+        &mut output,
+        &mut report,
+        LISTED,
+    );
     assert_eq!(rt; done, Err(CliFault::Capture(PcapFault::TooLong)));
     assert_eq!(rt; output.into_inner().len(), 104);
     assert_eq!(rt; report.into_inner().len(), 0);
@@ -117,7 +124,7 @@ fn the_largest_cluster(rt: HostRuntime) {
         &mut input,
         &mut output,
         &mut report,
-        true,
+        LISTED,
     );
     assert_eq!(rt; done, Ok(()));
     let listing =

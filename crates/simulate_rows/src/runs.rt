@@ -1,7 +1,7 @@
 // The command `run`: clusters on threads.
 use crate::captures::{DATAGRAM, WRITTEN_HEAD, WRITTEN_RECORD, capture_of};
 use crate::scenarios::{Words, plain, scenario_of};
-use crate::tests::{APART, TWO_SENT, Written, played, sink, source};
+use crate::tests::{APART, REPORT, TWO_SENT, Written, played, sink, source};
 use maglev_cli::{CliFault, run};
 use pcap_file::{FromRead, PcapFault, ToWrite};
 use std::alloc::Global;
@@ -74,7 +74,7 @@ fn a_cluster_with_a_restart(rt: HostRuntime) {
 fn as_simulated(rt: HostRuntime) {
     let words = plain("'install 0 1', 'install 1 1', 'take 4', 'again 1', 'take 9'");
     let capture = capture_of(rt.alloc(), "xyzyx").expect(&rt, "memory");
-    let simulated = played(rt.alloc(), words, capture.as_slice(), false).expect(&rt, "a run");
+    let simulated = played(rt.alloc(), words, capture.as_slice(), REPORT).expect(&rt, "a run");
     let written = ran(&rt, rt.alloc(), words, capture.as_slice()).expect(&rt, "a run");
     let mut sorted = Vec::new(rt.alloc());
     let whole = simulated.output.as_slice();

@@ -3,12 +3,24 @@ use crate::captures::{
 };
 use crate::devices::{FailingSink, FailingSource};
 use crate::scenarios::{A_DOWN, A_MOVED, ALL, B_DOWN, Words, of_versions, plain, scenario_of};
-use maglev_cli::{CliFault, explain_run, simulate};
+use maglev_cli::{CliFault, Wanted, explain_run, simulate};
 use pcap_file::{CallCounts, FromRead, PcapFault, ToWrite};
 use pool_versions::PoolFault;
 use std::alloc::{AllocError, Global};
 use std::process::Abort;
 use std::test::Fail;
+
+/// The report alone.
+pub(crate) const REPORT: Wanted = Wanted {
+    list: false,
+    splits: false,
+};
+
+/// The report with the listing before it.
+pub(crate) const LISTED: Wanted = Wanted {
+    list: true,
+    splits: false,
+};
 
 pub(crate) const APART: &str = "'install 0 1', 'install 1 2', 'take 2'";
 
@@ -26,14 +38,21 @@ pub(crate) fn played(
     alloc: Global,
     words: Words<'_>,
     capture: &[u8],
-    list: bool,
+    wanted: Wanted,
 ) -> Result<Written, CliFault> {
     let text = scenario_of(alloc, words)?;
     let mut input = FromRead::new(capture);
     let mut output = ToWrite::new(Vec::new(alloc));
     let mut report = ToWrite::new(Vec::new(alloc));
     let scenario = text.as_bytes();
-    match simulate(alloc, scenario, &mut input, &mut output, &mut report, list) {
+    match simulate(
+        alloc,
+        scenario,
+        &mut input,
+        &mut output,
+        &mut report,
+        wanted,
+    ) {
         Ok(()) => Ok(Written {
             output: output.into_inner(),
             report: report.into_inner(),
@@ -44,14 +63,14 @@ pub(crate) fn played(
 
 fn reports(rt: &impl Abort, alloc: Global, words: Words<'_>, letters: &str, text: &str) {
     let capture = capture_of(alloc, letters).expect(rt, "memory");
-    let written = played(alloc, words, capture.as_slice(), false).expect(rt, "a run");
+    let written = played(alloc, words, capture.as_slice(), REPORT).expect(rt, "a run");
     assert_eq!(rt; written.report.as_slice(), text.as_bytes());
 }
 
 // The listing, up to the report's first words.
 fn lists(rt: &impl Abort, alloc: Global, words: Words<'_>, letters: &str, text: &str) {
     let capture = capture_of(alloc, letters).expect(rt, "memory");
-    let written = played(alloc, words, capture.as_slice(), true).expect(rt, "a run");
+    let written = played(alloc, words, capture.as_slice(), LISTED).expect(rt, "a run");
     let kept = text.len().min(written.report.len());
     assert_eq!(rt; &written.report[..kept], text.as_bytes());
     assert!(rt; written.report[kept..].starts_with(b"packets "));
@@ -102,7 +121,7 @@ fn two_nodes(rt: HostRuntime) {
 fn a_listing(rt: HostRuntime) {
     let steps = "'live 0', 'install 0 1', 'take 1', 'install 0 2', 'take 1'";
     let capture = capture_of(rt.alloc(), "zz").expect(&rt, "memory");
-    let written = played(rt.alloc(), plain(steps), capture.as_slice(), true).expect(&rt, "a run");
+    let written = played(rt.alloc(), plain(steps), capture.as_slice(), LISTED).expect(&rt, "a run");
     let lines =
         b"0 install 0 1: installed\n1 arrive 0 0: placed 0\n2 serve 0 0 1: forward B@10.8.0.2 from 1\n3 install 0 2: installed\n4 arrive 0 1: placed 0\n5 serve 0 0 2: forward A@10.8.0.1 from 2\n";
     let report = written.report.as_slice();
@@ -205,7 +224,7 @@ const ONE: &str = "'install 0 1', 'take 1'";
 
 // One packet is sent, at 1 second and 999,999 microseconds.
 fn is_sent(rt: &impl Abort, alloc: Global, words: Words<'_>, capture: &[u8], datagram: &[u8]) {
-    let written = played(alloc, words, capture, false).expect(rt, "a run");
+    let written = played(alloc, words, capture, REPORT).expect(rt, "a run");
     let output = written.output.as_slice();
     assert_eq!(rt; output.len(), 104);
     if output.len() == 104 {
@@ -217,7 +236,7 @@ fn is_sent(rt: &impl Abort, alloc: Global, words: Words<'_>, capture: &[u8], dat
 
 // One packet, or none, and nothing is sent.
 fn is_not_sent(rt: &impl Abort, alloc: Global, words: Words<'_>, capture: &[u8], text: &str) {
-    let written = played(alloc, words, capture, false).expect(rt, "a run");
+    let written = played(alloc, words, capture, REPORT).expect(rt, "a run");
     assert_eq!(rt; written.output.as_slice(), WRITTEN_HEAD.as_slice());
     assert_eq!(rt; written.report.as_slice(), text.as_bytes());
 }
@@ -337,7 +356,14 @@ fn is_no_capture(rt: &impl Abort, alloc: Global, capture: &[u8], fault: PcapFaul
     let mut output = ToWrite::new(Vec::new(alloc));
     let mut report = ToWrite::new(Vec::new(alloc));
     let scenario = text.as_bytes();
-    let done = simulate(alloc, scenario, &mut input, &mut output, &mut report, false);
+    let done = simulate(
+        alloc,
+        scenario,
+        &mut input,
+        &mut output,
+        &mut report,
+        REPORT,
+    );
     assert_eq!(rt; done, Err(CliFault::Capture(fault)));
     assert_eq!(rt; output.into_inner().len(), kept);
     let mut input = FromRead::new(capture);
@@ -388,7 +414,7 @@ fn is_no_scenario(rt: &impl Abort, alloc: Global, text: &[u8], fault: CliFault) 
     let mut input = source(&HEAD, 0);
     let mut output = sink(alloc, 0);
     let mut report = sink(alloc, 0);
-    let done = simulate(alloc, text, &mut input, &mut output, &mut report, false);
+    let done = simulate(alloc, text, &mut input, &mut output, &mut report, REPORT);
     assert_eq!(rt; done, Err(fault));
     let done = explain_run(alloc, text, &mut input, 0, 0, &mut report);
     assert_eq!(rt; done, Err(fault));
@@ -409,8 +435,9 @@ fn refused_scenarios(rt: HostRuntime) {
     is_no_scenario(&rt, rt.alloc(), long.as_slice(), CliFault::TooLong);
     is_no_scenario(&rt, rt.alloc(), &long.as_slice()[1..], CliFault::BadFormat);
     is_no_scenario(&rt, rt.alloc(), b"format = ", CliFault::BadToml);
-    is_no_scenario(&rt, rt.alloc(), b"format = 2", CliFault::BadFormat);
+    is_no_scenario(&rt, rt.alloc(), b"format = 3", CliFault::BadFormat);
     is_no_scenario(&rt, rt.alloc(), b"format = 1", CliFault::BadKey);
+    is_no_scenario(&rt, rt.alloc(), b"format = 2", CliFault::BadKey);
     let other = of_versions(&[ALL, "'A@10.8.0.1', 'A@10.8.0.256'"], ONE);
     is_refused(&rt, rt.alloc(), other, CliFault::BadMember);
     let other = of_versions(&[ALL, "'A@10.8.0.1', 'A@10.8.0.2'"], ONE);
@@ -425,11 +452,11 @@ fn refused_scenarios(rt: HostRuntime) {
 #[test]
 fn each_cut(rt: HostRuntime) {
     let capture = capture_of(rt.alloc(), "xy").expect(&rt, "memory");
-    let whole = played(rt.alloc(), plain(APART), capture.as_slice(), false).expect(&rt, "a run");
+    let whole = played(rt.alloc(), plain(APART), capture.as_slice(), REPORT).expect(&rt, "a run");
     assert_eq!(rt; capture.len(), 24 + 2 * 56);
     for length in 24..capture.len() {
         let beginning = &capture.as_slice()[..length];
-        let written = played(rt.alloc(), plain(APART), beginning, false).expect(&rt, "a run");
+        let written = played(rt.alloc(), plain(APART), beginning, REPORT).expect(&rt, "a run");
         let records = (length - 24) / 56;
         let cut = if (length - 24) % 56 == 0 { "no" } else { "yes" };
         let text = format!(in rt.alloc();
@@ -458,7 +485,7 @@ fn is_between(length: usize) -> bool {
 fn a_failing_input(rt: HostRuntime) {
     let capture = capture_of(rt.alloc(), "xy").expect(&rt, "memory");
     let text = scenario_of(rt.alloc(), plain(APART)).expect(&rt, "memory");
-    let whole = played(rt.alloc(), plain(APART), capture.as_slice(), false).expect(&rt, "a run");
+    let whole = played(rt.alloc(), plain(APART), capture.as_slice(), REPORT).expect(&rt, "a run");
     assert_eq!(rt; whole.output.len(), 184);
     for fails_at in 0..12u64 {
         let mut input = source(capture.as_slice(), fails_at);
@@ -471,7 +498,7 @@ fn a_failing_input(rt: HostRuntime) {
             &mut input,
             &mut output,
             &mut report,
-            false,
+            REPORT,
         );
         let written = output.bytes.as_slice();
         assert!(rt; whole.output.starts_with(written), "at call {fails_at}");
@@ -496,7 +523,7 @@ fn a_failing_input(rt: HostRuntime) {
 fn a_failing_output(rt: HostRuntime) {
     let capture = capture_of(rt.alloc(), "xy").expect(&rt, "memory");
     let text = scenario_of(rt.alloc(), plain(APART)).expect(&rt, "memory");
-    let whole = played(rt.alloc(), plain(APART), capture.as_slice(), false).expect(&rt, "a run");
+    let whole = played(rt.alloc(), plain(APART), capture.as_slice(), REPORT).expect(&rt, "a run");
     let scenario = text.as_bytes();
     for fails_at in 0..13u64 {
         let mut input = source(capture.as_slice(), u64::MAX);
@@ -508,7 +535,7 @@ fn a_failing_output(rt: HostRuntime) {
             &mut input,
             &mut output,
             &mut report,
-            false,
+            REPORT,
         );
         let written = output.bytes.as_slice();
         assert!(rt; whole.output.starts_with(written), "at call {fails_at}");
@@ -529,7 +556,7 @@ fn a_failing_output(rt: HostRuntime) {
             &mut input,
             &mut output,
             &mut report,
-            false,
+            REPORT,
         );
         assert_eq!(rt; done, Err(CliFault::Write), "at call {fails_at}");
         assert_eq!(rt; output.bytes.as_slice(), whole.output.as_slice());

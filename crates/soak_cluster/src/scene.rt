@@ -8,7 +8,7 @@ use cluster_core::Setup;
 use cluster_node::{Cause, Packet};
 use five_tuple::Flow;
 use hash_laws::Fnv;
-use maglev_table::{Name, TableSize};
+use maglev_table::{Name, TableSize, Weight};
 use node_records::Command;
 use pool_versions::{Backend, Catalogue, Member, Service, Version};
 use selection::Scheme;
@@ -40,7 +40,11 @@ fn services(alloc: Global, dice: &mut Dice) -> Result<Vec<Service>, AllocError> 
         if let Some(name) = Name::new(name) {
             let backend = Backend { name, addr };
             let up = !dice.once_in(3);
-            members.push(Member { backend, up })?;
+            members.push(Member {
+                backend,
+                up,
+                weight: Weight::one(),
+            })?;
         }
     }
     let mut services = Vec::new(alloc);

@@ -16,11 +16,12 @@ complete -c maglev -n '__fish_seen_subcommand_from pick' -l no-check -d 'don'\''
 complete -c maglev -n '__fish_seen_subcommand_from pick' -l help -d 'Print help'
 complete -c maglev -n '__fish_seen_subcommand_from compare' -l size -x -a '7 13 251 1021 8191 65537' -d 'slots of the table: 7, 13, 251, 1021, 8191 or 65537'
 complete -c maglev -n '__fish_seen_subcommand_from compare' -l hash -x -a 'fnv sha256 sum' -d 'hash of names and flows: fnv, sha256 or sum'
-complete -c maglev -n '__fish_seen_subcommand_from compare' -l old -x -d 'members before: NAME@ADDRESS or NAME@ADDRESS/down, joined by single spaces'
+complete -c maglev -n '__fish_seen_subcommand_from compare' -l old -x -d 'members before: NAME@ADDRESS, then *W for a weight from 1 to 16, then /down where it is down, joined by single spaces'
 complete -c maglev -n '__fish_seen_subcommand_from compare' -l new -x -d 'members after'
 complete -c maglev -n '__fish_seen_subcommand_from compare' -l help -d 'Print help'
 complete -c maglev -n '__fish_seen_subcommand_from simulate' -F
 complete -c maglev -n '__fish_seen_subcommand_from simulate' -l list -d 'print each event and what it came to before the report'
+complete -c maglev -n '__fish_seen_subcommand_from simulate' -l splits -d 'print each flow that was split, and why, before the report'
 complete -c maglev -n '__fish_seen_subcommand_from simulate' -l verbose -d 'with a fault, say where it is and what was expected, on standard error'
 complete -c maglev -n '__fish_seen_subcommand_from simulate' -l help -d 'Print help'
 complete -c maglev -n '__fish_seen_subcommand_from explain' -F

@@ -1,6 +1,9 @@
-use Rattle.std.proofs.Common.{◌≡◌}
+use Rattle.std.proofs.Common.{◌≡◌, length}
 use Rattle.std.specs.List.{All}
 use Rattle.bench_populate.proofs.lists_of.Given as goal
 
-abbrev pub invariant-loop-number : goal.invariant-loop-number
-invariant-loop-number l = All (λ p. p.size ≡ l.size) l.lists.items
+abbrev pub invariant-loop-name : goal.invariant-loop-name
+invariant-loop-name l = record {
+  sized : All (λ p. p.size ≡ l.size) l.lists.items;
+  each : length l.lists.items ≡ l.name-index;
+}

@@ -28,4 +28,4 @@ returns-clause-picked g c = λ steady.
 
 pub returns-clause-slots : goal.returns-clause-slots
 returns-clause-slots g c = tables_are_even (g.H.FlowHash.plain c.args.setup.now.hash) c.args.setup.now.size c.args.catalogue.now
-    (subst (λ (z : ℕ). is_table_size z ≡ true) c.size.ensures c.slots-slots.ensures.listed)
+    (subst (λ (z : ℕ). is_table_size z ≡ true) c.size.ensures c.slots-slots.ensures.listed) c.keeps_doubles_out.ensures

@@ -26,7 +26,7 @@ returns-in-Ok-clause-ok g c =
     }
 
 pub returns-in-Ok-clause-kept : goal.returns-in-Ok-clause-kept
-returns-in-Ok-clause-kept g c = λ ran. keeps c.args.scenario.now ran.head.link ran.records ran.nodes ran.history c.slots-slots.ensures.listed ran.run.joins
+returns-in-Ok-clause-kept g c = λ ran. keeps c.args.scenario.now ran.head.link ran.records ran.nodes ran.history c.slots-slots.ensures.listed c.keeps_doubles_out.ensures ran.run.joins
 
 pub returns-clause-stopped : goal.returns-clause-stopped
 returns-clause-stopped g c =

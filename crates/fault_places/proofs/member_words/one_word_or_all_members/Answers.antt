@@ -2,4 +2,4 @@ use Rattle.fault_places.proofs.MemberLaws.{one_word_or_all_members}
 use Rattle.fault_places.proofs.member_words.one_word_or_all_members.Goals as goal
 
 pub returns : goal.returns
-returns c = λ ms. one_word_or_all_members ms
+returns c = λ format ms. one_word_or_all_members format ms

@@ -4,4 +4,4 @@ use Rattle.fault_places.specs.MemberPlaces.{word_in_versions}
 use Rattle.fault_places.proofs.member_words.word_in_versions.Given as goal
 
 abbrev pub invariant-loop-n : goal.invariant-loop-n
-invariant-loop-n l = word_in_versions l.n (items_view (drop l.n l.values)) ≡ word_in_versions 0 (items_view l.values)
+invariant-loop-n l = word_in_versions l.format l.n (items_view (drop l.n l.values)) ≡ word_in_versions l.format 0 (items_view l.values)

@@ -1,5 +1,5 @@
-use Rattle.std.proofs.Common.{◌≡◌, ◌<◌, ◌≤◌, ◌+◌, ◌-◌, ◌∷◌, [], List, Option, Vec, Global, map, replicate, length, get_or, set, Some, None, ℕ, ◌%◌, rules, arith, refl, sym, ◌∙◌, ap, subst}
-use Rattle.std.specs.Option.{IsSome, is_none}
+use Rattle.std.proofs.Common.{◌≡◌, ◌<◌, List, Option, Vec, Global, map, length, get_or, Some, None, ℕ, ◌%◌, rules, arith, refl, ◌∙◌}
+use Rattle.std.specs.Option.{is_none}
 use Rattle.std.specs.List.{find}
 use Rattle.std.proofs.lemmas.Nat.{mod_below}
 use Rattle.maglev_table.specs.Turns.{takers, claims, one_turn_each, AreFull}

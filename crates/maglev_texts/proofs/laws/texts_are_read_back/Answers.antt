@@ -1,6 +1,7 @@
 use Rattle.maglev_texts.proofs.Numerals.{read_back, only_read}
 use Rattle.maglev_texts.proofs.Addresses.{addresses_read_back, only_addresses_read}
 use Rattle.maglev_texts.proofs.MemberTexts.{members_read_back, only_members_read}
+use Rattle.maglev_texts.proofs.WeighedTexts.{weighed_read_back, words_mean_the_same}
 use Rattle.maglev_texts.proofs.laws.texts_are_read_back.Goals as goal
 
 pub returns-clause-decimals : goal.returns-clause-decimals
@@ -16,7 +17,13 @@ pub returns-clause-only_addresses : goal.returns-clause-only_addresses
 returns-clause-only_addresses c = λ a text h. only_addresses_read a text h
 
 pub returns-clause-members : goal.returns-clause-members
-returns-clause-members c = λ m named few. members_read_back m named few
+returns-clause-members c = λ m one named few. members_read_back m one named few
 
 pub returns-clause-only_members : goal.returns-clause-only_members
 returns-clause-only_members c = λ m text h. only_members_read m text h
+
+pub returns-clause-weighed_members : goal.returns-clause-weighed_members
+returns-clause-weighed_members c = λ m low high named few. weighed_read_back m low high named few
+
+pub returns-clause-unweighed : goal.returns-clause-unweighed
+returns-clause-unweighed c = λ m text h. words_mean_the_same m text h

@@ -5,4 +5,4 @@ use Rattle.scenario.specs.Drafts.{service_in, plain_service_draft}
 use Rattle.scenario.proofs.versions.read_services.Given as goal
 
 abbrev pub invariant-loop-value : goal.invariant-loop-value
-invariant-loop-value l = option_map (λ rest. map plain_service_draft l.found.items ++ rest) (all_items service_in (items_view (drop l.value-index l.values))) ≡ all_items service_in (items_view l.values)
+invariant-loop-value l = option_map (λ rest. map plain_service_draft l.found.items ++ rest) (all_items (service_in l.format) (items_view (drop l.value-index l.values))) ≡ all_items (service_in l.format) (items_view l.values)

@@ -5,4 +5,4 @@ use Rattle.scenario.specs.Drafts.{version_in, plain_version_draft}
 use Rattle.scenario.proofs.versions.read_versions.Given as goal
 
 abbrev pub invariant-loop-value : goal.invariant-loop-value
-invariant-loop-value l = option_map (λ rest. map plain_version_draft l.found.items ++ rest) (all_items version_in (items_view (drop l.value-index l.values))) ≡ all_items version_in (items_view l.values)
+invariant-loop-value l = option_map (λ rest. map plain_version_draft l.found.items ++ rest) (all_items (version_in l.format) (items_view (drop l.value-index l.values))) ≡ all_items (version_in l.format) (items_view l.values)

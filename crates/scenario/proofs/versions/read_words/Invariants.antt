@@ -5,4 +5,4 @@ use Rattle.scenario.specs.Drafts.{word_of}
 use Rattle.scenario.proofs.versions.read_words.Given as goal
 
 abbrev pub invariant-loop-value : goal.invariant-loop-value
-invariant-loop-value l = option_map (λ rest. l.found.items ++ rest) (all_items word_of (items_view (drop l.value-index l.values))) ≡ all_items word_of (items_view l.values)
+invariant-loop-value l = option_map (λ rest. l.found.items ++ rest) (all_items (word_of l.format) (items_view (drop l.value-index l.values))) ≡ all_items (word_of l.format) (items_view l.values)

@@ -1,7 +1,7 @@
 use Rattle.std.proofs.Common.{reverse, string_bytes, subst}
 use Rattle.cluster_core.specs.Histories.{outcomes_of}
 use Rattle.cluster_run.specs.Ruling.{rules_of}
-use Rattle.selection.specs.Picks.{slot_of_flow}
+use Rattle.flow_splits.specs.Causes.{lookups_of}
 use Rattle.scenario_play.specs.declared.asking.Asked.{Asked}
 use Rattle.scenario_play.specs.Notebooks.{AreOf}
 use Rattle.scenario_play.proofs.Asks.{picked_if, line_told}
@@ -20,5 +20,5 @@ line-requires-clause-other g c = λ steady.
 pub returns-in-Events : goal.returns-in-Events
 returns-in-Events g c =
     let two = subst (λ (a : Asked). AreOf a c.args.played.now.play.past c.args.notes) c.in-Events.is c.requires.notes in
-    line_told string_bytes c.line.result (λ x. slot_of_flow (g.H.FlowHash.plain c.args.task.now.rules.setup.hash) c.args.task.now.rules.setup.size x) c.args.task.now.asked c.args.played.now.play c.args.played.now.packets c.args.played.now.ending c.in-Events.one c.in-Events.other
+    line_told string_bytes c.line.result (lookups_of (g.H.FlowHash.plain c.args.task.now.rules.setup.hash) c.args.task.now.rules.setup.size c.args.task.now.rules.catalogue) c.args.task.now.asked c.args.played.now.play c.args.played.now.packets c.args.played.now.ending c.in-Events.one c.in-Events.other
     c.args.notes.one c.args.notes.other c.in-Events.is two.one_is two.other_is c.line.ensures

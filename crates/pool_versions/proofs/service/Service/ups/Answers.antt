@@ -1,20 +1,14 @@
-use Rattle.std.proofs.Common.{◌≡◌, ◌∙◌, ap, filter, rules}
-use Rattle.std.specs.List.Sorted.{ties}
+use Rattle.std.proofs.Common.{◌≡◌, ◌∙◌, ap, map}
 use Rattle.pool_versions.specs.Pool.{ups}
-use Rattle.pool_versions.proofs.Ascending.{ups_are_members}
-use Rattle.pool_versions.proofs.Stable.{by_name, by_name_is_order, compares_by_name, ups_are}
+use Rattle.pool_versions.proofs.Ascending.{ups_permute, ups_are_members}
 use Rattle.pool_versions.proofs.service.Service.ups.Goals as goal
 
-pub returns-clause-ascending : goal.returns-clause-ascending
-returns-clause-ascending c = c.in_ok-sort_by.ensures.sorted by_name by_name_is_order (compares_by_name (λ a r q k. search rules))
-
-pub returns-clause-value : goal.returns-clause-value
-returns-clause-value c =
-    ups_are c.args.self.now.members.items c.sort_by.new.self.items
-    (c.in_ok-sort_by.ensures.sorted by_name by_name_is_order (compares_by_name (λ a r q k. search rules)))
-    (λ z. c.in_ok-sort_by.ensures.stable by_name by_name_is_order (compares_by_name (λ a r q k. search rules)) z ∙ ap (filter (ties by_name z)) (search rules))
+pub returns-clause-permutation : goal.returns-clause-permutation
+returns-clause-permutation c =
+    let e : c.in_ok-backends.backends.items ≡ ups c.args.self.now.members.items = c.in_ok-backends.ensures ∙ ap (map (λ m. m.backend)) (c.as_slice.ensures.value ∙ c.in_ok-members.ensures.value) in
+    rw e (ups_permute c.args.self.now.members.items)
 
 pub returns-clause-short : goal.returns-clause-short
 returns-clause-short c =
-    let e : c.sort_by.new.self.items ≡ ups c.args.self.now.members.items = returns-clause-value c in
+    let e : c.in_ok-backends.backends.items ≡ ups c.args.self.now.members.items = c.in_ok-backends.ensures ∙ ap (map (λ m. m.backend)) (c.as_slice.ensures.value ∙ c.in_ok-members.ensures.value) in
     rw e (ups_are_members c.args.self.now.members.items)

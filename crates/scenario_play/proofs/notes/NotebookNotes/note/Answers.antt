@@ -1,18 +1,24 @@
-use Rattle.std.proofs.Common.{◌≡◌, ◌∷◌, Bool, true, sym, ap, ◌∙◌, subst}
+use Rattle.std.proofs.Common.{◌≡◌, ◌∷◌, refl, sym, ◌∙◌, subst}
 use Rattle.cluster_core.specs.Histories.{outcomes_of}
 use Rattle.cluster_run.specs.declared.counts.Counts.{Counts}
 use Rattle.cluster_run.specs.Noting.{CountsAre, said_by}
 use Rattle.cluster_run.proofs.Counted.{then_ok}
+use Rattle.flow_splits.specs.declared.book.SplitBook.{SplitBook}
 use Rattle.scenario_play.specs.declared.asking.Asked.{Asked}
 use Rattle.scenario_play.specs.declared.asking.Asked.TheVariants.{Report}
-use Rattle.scenario_play.specs.Notebooks.{AreOf}
+use Rattle.scenario_play.specs.Notebooks.{BookIf, AreOf}
+use Rattle.scenario_play.proofs.Noted.{lists_same}
 use Rattle.scenario_play.proofs.notes.NotebookNotes.note.Goals as goal
 
-pub returns-then-list : goal.returns-then-list
-returns-then-list c = λ past packet h.
+pub returns-in_ok-list_if-in-Report : goal.returns-in_ok-list_if-in-Report
+returns-in_ok-list_if-in-Report c = λ past packet h.
     let s = said_by c.args.event.now packet c.args.outcome.now in
-    let is : c.args.asked.now ≡ Report true = c.in-Report.is ∙ ap (λ (b : Bool). Report b) c.if-list.true in
+    let is : c.args.asked.now ≡ Report c.in-Report.wanted = c.in-Report.is in
     let was = subst (λ (a : Asked). AreOf a past c.args.self.now) is h in
-    then_ok c.list.result _ _
-    (λ l. subst (λ (a : Asked). AreOf a (s ∷ past) c.list.new.self) (sym is) (subst (λ (x : Counts). CountsAre (outcomes_of (s ∷ past)) x) (sym c.list.ensures.counts) (c.in_ok-count-in-Report.ensures (outcomes_of past) was.0), l))
-    (c.list.ensures.lists past packet (record { number = was.1.number; lines = was.1.lines }))
+    then_ok c.book_if.result _ _
+    (λ b. subst (λ (a : Asked). AreOf a (s ∷ past) c.book_if.new.self) (sym is) (
+      subst (λ (x : Counts). CountsAre (outcomes_of (s ∷ past)) x) (sym (c.book_if.ensures.counts ∙ c.list_if.ensures.counts)) (c.in_ok-count-in-Report.ensures (outcomes_of past) was.0),
+      lists_same c.in-Report.wanted.list (s ∷ past) c.list_if.new.self c.book_if.new.self c.book_if.ensures.number c.book_if.ensures.lines (c.in_ok-list_if-in-Report.ensures.lists past packet (lists_same c.in-Report.wanted.list past c.args.self.now _ refl refl was.1)),
+      b,
+    ))
+    (c.book_if.ensures.books past packet (subst (λ (x : SplitBook). BookIf c.in-Report.wanted.splits past x) (sym c.list_if.ensures.book) was.2))

@@ -11,11 +11,11 @@ invariant_of-result g c =
     let made : c.as_slice.result.now ≡ preferences (g.H.FlowHash.plain c.args.self.now.hash) c.args.size c.args.ups.now = c.as_slice.ensures.value ∙ c.in_ok-lists.ensures in
     let none = rw made at c.in_ok-table.ensures.none in
     let some = rw made at c.in_ok-table.ensures.some in
-    rw (c.in_ok-ups.ensures.items, c.in_ok-slots.ensures) (even_table (g.H.FlowHash.plain c.args.self.now.hash) c.args.size c.args.ups.now c.in_ok-table.table none some)
+    rw (c.in_ok-ups.ensures.items, c.in_ok-slots.ensures) (λ any. (even_table (g.H.FlowHash.plain c.args.self.now.hash) c.args.size c.args.ups.now c.args.weights.now c.in_ok-table.table none some any).full)
 
 pub returns-clause-table : goal.returns-clause-table
 returns-clause-table g c =
     let made : c.as_slice.result.now ≡ preferences (g.H.FlowHash.plain c.args.self.now.hash) c.args.size c.args.ups.now = c.as_slice.ensures.value ∙ c.in_ok-lists.ensures in
     let none = rw made at c.in_ok-table.ensures.none in
     let some = rw made at c.in_ok-table.ensures.some in
-    rw (c.in_ok-ups.ensures.items, c.in_ok-slots.ensures) (is_table_of (g.H.FlowHash.plain c.args.self.now.hash) c.args.size c.args.ups.now c.in_ok-table.table none some)
+    rw (c.in_ok-ups.ensures.items, c.in_ok-slots.ensures) (is_table_of (g.H.FlowHash.plain c.args.self.now.hash) c.args.size c.args.ups.now c.args.weights.now c.in_ok-table.table none some)

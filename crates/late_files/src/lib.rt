@@ -1,7 +1,8 @@
-//! Files and standard streams that are opened at the first call.
+//! Files and standard streams that are opened at the first call, and remember what the system refused them.
+#![tactic(auto)]
+
 ghost use Rattle.std.specs.Io.{ReadsAtMost, WritesAtMost};
 
-use maglev_cli::CliFault;
 use std::alloc::Global;
 use std::fs::{File, metadata};
 use std::io;
@@ -41,6 +42,15 @@ fn stand_in(rt: &HostRuntime) -> Option<File> {
     }
 }
 
+/// Why a file isn't open.
+#[derive(Clone, Copy, Debug, PartialEq, Eq)]
+pub enum FileFault {
+    /// There was no memory for its buffer.
+    Memory,
+    /// The system refused it, or opening it would have emptied a file that is read.
+    Refused,
+}
+
 /// What the system answered where it refused a file.
 #[derive(Clone, Copy)]
 pub struct Refusal {
@@ -58,10 +68,10 @@ impl Refusal {
     }
 
     // The fault of a file that can't be opened.
-    fn fault_or(self, fault: CliFault) -> CliFault {
+    fn fault(self) -> FileFault {
         match self.kind {
-            ErrorKind::OutOfMemory => CliFault::Memory,
-            _ => fault,
+            ErrorKind::OutOfMemory => FileFault::Memory,
+            _ => FileFault::Refused,
         }
     }
 
@@ -199,9 +209,9 @@ impl<'a> InputFile<'a> {
     }
 
     /// What opening the file was refused with, if it was.
-    pub fn fault(&self) -> Option<CliFault> {
+    pub fn fault(&self) -> Option<FileFault> {
         match (&self.reader, self.refusal) {
-            (None, Some(refusal)) => Some(refusal.fault_or(CliFault::OpenInput)),
+            (None, Some(refusal)) => Some(refusal.fault()),
             _ => None,
         }
     }
@@ -307,9 +317,9 @@ impl<'a> OutputFile<'a> {
     }
 
     /// What opening the file was refused with, if it was.
-    pub fn fault(&self) -> Option<CliFault> {
+    pub fn fault(&self) -> Option<FileFault> {
         match (&self.writer, self.refusal) {
-            (None, Some(refusal)) => Some(refusal.fault_or(CliFault::OpenOutput)),
+            (None, Some(refusal)) => Some(refusal.fault()),
             _ => None,
         }
     }
@@ -381,12 +391,8 @@ impl Kept {
     }
 
     /// Whether memory for the text was refused.
-    pub fn fault(&self) -> Option<CliFault> {
-        if self.is_short {
-            Some(CliFault::Memory)
-        } else {
-            None
-        }
+    pub fn is_short(&self) -> bool {
+        self.is_short
     }
 }
 

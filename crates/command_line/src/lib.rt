@@ -1,3 +1,6 @@
+//! The command line of the program: its commands, their options and what they say of themselves.
+#![tactic(auto)]
+
 use clap::{Arg, ArgAction, Command, Error, value_parser};
 use std::alloc::Global;
 
@@ -23,7 +26,7 @@ Faults, and what to do:
   OpenOutput                   check the path; a file that is read can't be OUTPUT
   ReadScenario, Read           check the disk
   BadToml, BadFormat, BadKey   correct the scenario: docs/FORMATS.md has each key
-  BadMember                    write NAME@ADDRESS or NAME@ADDRESS/down
+  BadMember                    write NAME@ADDRESS or NAME@ADDRESS/down; in format 2 also *W before /down
   BadNumber, NumberTaken       give each version a number of its own, from 1
   DoubleService, DoubleName    give each service its address, protocol and port, each member its name
   TooMany                      take fewer members than slots, or fewer services or versions
@@ -78,7 +81,7 @@ fn names<'a>(alloc: Global) -> Arg<'a> {
     Arg::new(alloc, "names")
         .value_name("NAME")
         .help(
-            "name of a backend: 1 to 32 letters, digits, '-' and '.', the first a letter or digit",
+            "name of a backend: 1 to 32 letters, digits, '-' and '.', the first a letter or digit; NAME*W gives it a weight from 1 to 16",
         )
         .required(true)
         .action(ArgAction::Append)
@@ -127,7 +130,7 @@ fn compare<'a>(alloc: Global) -> Result<Command<'a>, Error> {
     let old = members(
         alloc,
         "old",
-        "members before: NAME@ADDRESS or NAME@ADDRESS/down, joined by single spaces",
+        "members before: NAME@ADDRESS, then *W for a weight from 1 to 16, then /down where it is down, joined by single spaces",
     );
     let new = members(alloc, "new", "members after");
     let compare = Command::new(alloc, "compare")
@@ -187,12 +190,17 @@ fn simulate<'a>(alloc: Global) -> Result<Command<'a>, Error> {
         .long("list")
         .help("print each event and what it came to before the report")
         .action(ArgAction::SetTrue);
+    let splits = Arg::new(alloc, "splits")
+        .long("splits")
+        .help("print each flow that was split, and why, before the report")
+        .action(ArgAction::SetTrue);
     let simulate = Command::new(alloc, "simulate")
         .about(
             "Plays a scenario over a capture, writes what the cluster sends, and prints a report",
         )
         .after_help(SIMULATE_HELP)
         .arg(list)?
+        .arg(splits)?
         .arg(verbose(alloc))?
         .arg(scenario(alloc))?
         .arg(input(alloc))?

@@ -1,0 +1,5 @@
+pub mod Members
+pub mod Pairs
+pub mod Explained
+pub mod Walks
+pub mod Agreed

@@ -1,0 +1,13 @@
+use Rattle.std.proofs.Common.{length, ◌∙◌, ap, sym}
+use Rattle.maglev_table.specs.Weights.{or_next_round}
+use Rattle.maglev_table.proofs.Passes.{next_round_not, round_is}
+use Rattle.maglev_table.proofs.rounds.turn_after.Goals as goal
+
+pub returns-in-Some-clause-next : goal.returns-in-Some-clause-next
+returns-in-Some-clause-next c =
+    next_round_not (length c.args.weights.now) c.args.weights.now c.in-Some.next.pass c.in-Some.next.who c.in-Some.ensures.turn
+    ∙ ap (or_next_round (length c.args.weights.now) c.args.weights.now) c.in-Some.ensures.same
+
+pub returns-in-None-clause-next : goal.returns-in-None-clause-next
+returns-in-None-clause-next c =
+    sym (round_is (length c.args.weights.now) c.args.weights.now) ∙ ap (or_next_round (length c.args.weights.now) c.args.weights.now) (sym (c.turn_from.ensures.none c.in-None.is))

@@ -1,0 +1,46 @@
+ghost use Rattle.std.specs.Prelude.{◌≡◌, option_copied};
+ghost use Rattle.maglev_texts.specs.Parsing.{before_star, behind_star, weight_of, weighed_name_of};
+
+use crate::parsing::decimal;
+use maglev_table::{Name, Weight};
+
+/// The weight that a text is: a number from 1 to 16, without sign or leading zeros.
+pub fn weight(text: &[u8]) -> Option<Weight>
+    ensures { result ≡ weight_of text.now }
+{
+    let number = decimal(text, 16)?;
+    Weight::new(number as u8)
+}
+
+/// A word before its first star, and behind it, if there is one.
+pub(crate) fn at_star(word: &[u8]) -> (&[u8], Option<&[u8]>)
+    ensures head { result.0.now ≡ before_star word.entry.now }
+    ensures tail { option_copied result.1 ≡ behind_star word.entry.now }
+{
+    for (place, byte) in word.iter().enumerate() {
+        if *byte == b'*' {
+            return (&word[..place], Some(&word[place + 1..]));
+        }
+    }
+    (word, None)
+}
+
+/// A name and its weight.
+#[derive(Clone, Copy)]
+pub struct WeighedName {
+    pub name: Name,
+    pub weight: Weight,
+}
+
+/// The name and the weight that a word is: `NAME`, which counts once, or `NAME*W`.
+pub fn weighed_name(word: &[u8]) -> Option<WeighedName>
+    ensures { result ≡ weighed_name_of word.now }
+{
+    let (head, tail) = at_star(word);
+    let name = Name::new(head)?;
+    let weight = match tail {
+        Some(tail) => weight(tail)?,
+        None => Weight::one(),
+    };
+    Some(WeighedName { name, weight })
+}

@@ -1,0 +1,175 @@
+-- A document of format 1 means the same in format 2.
+use Rattle.std.proofs.Common.{◌≡◌, ℕ, Bool, true, false, List, [], ◌∷◌, codes, Option, Some, None, Result, Ok, Err, option_map, option_and_then, refl, sym, ap, ◌∙◌}
+use Rattle.std.specs.Prelude.{if◌then◌else◌}
+use Rattle.toml.specs.Data.{Data, Items, no_items, item, Members, as_str, as_table, get_member}
+use Rattle.pool_versions.specs.declared.backend.Member.{Member}
+use Rattle.maglev_texts.specs.Parsing.{address_of, member_of, weighed_member_of}
+use Rattle.maglev_texts.proofs.WeighedTexts.{words_mean_the_same}
+use Rattle.scenario.specs.Lookups.{number_at, text_at, items_at, all_items, all_of, has_only}
+use Rattle.scenario.specs.Words.{protocol_of_word, choices_of, limits_of}
+use Rattle.scenario.specs.Plain.{PlainService, PlainVersion}
+use Rattle.scenario.specs.Drafts.{service_keys, version_keys, word_of, service_draft, service_in, version_draft, version_in}
+use Rattle.scenario.specs.Steps.{PlainStep}
+use Rattle.scenario.specs.Meaning.{PlainDraft, Plan, root_keys, nodes_of, versions_in, steps_in, draft_of, draft_in, service_of, version_of, with_versions, with_draft, with_format, format_of, plan_of_draft, plan_of}
+use Rattle.scenario.specs.Alike.{AreAlike, FormatsMeanTheSame}
+use Rattle.scenario.specs.declared.formats.Format.{Format}
+use Rattle.scenario.specs.declared.formats.Format.TheVariants.{One, Two}
+use Rattle.scenario.specs.declared.setup.Choices.{Choices}
+use Rattle.scenario.specs.declared.setup.Limits.{Limits}
+use Rattle.scenario.specs.declared.fault.ScenarioFault.{ScenarioFault}
+
+-- a first one and the others
+parts : {B : Type 0} (o : Option B) (r : Option (List B)) (xs : List B) → option_and_then (λ b. option_map (λ rest. b ∷ rest) r) o ≡ Some xs → (b : B) × (rest : List B) × (o ≡ Some b) × (r ≡ Some rest) × (xs ≡ b ∷ rest)
+parts None r xs h = absurd cc
+parts (Some b) None xs h = absurd cc
+parts (Some b) (Some rest) xs h = (b, rest, refl, refl, (let e : b ∷ rest ≡ xs = cc in sym e))
+
+items_same : {B C : Type 0} (f f' : Data → Option B) (g : B → Option C) → ((d : Data) (x : B) (y : C) → f d ≡ Some x → g x ≡ Some y → f' d ≡ Some x)
+    → (ds : Items) (xs : List B) (ys : List C) → all_items f ds ≡ Some xs → all_of g xs ≡ Some ys → all_items f' ds ≡ Some xs
+items_same f f' g same no_items xs ys h k = h
+items_same f f' g same (item d ds) xs ys h k =
+    let p = parts (f d) (all_items f ds) xs h in
+    let q = parts (g p.0) (all_of g p.1) ys (ap (all_of g) (sym p.4) ∙ k) in
+    let here : f' d ≡ Some p.0 = same d p.0 q.0 p.2 q.2 in
+    let rest : all_items f' ds ≡ Some p.1 = items_same f f' g same ds p.1 q.1 p.3 q.3 in
+    rw (here, rest) (ap Some (sym p.4))
+
+mapped : {A B : Type 0} (f : A → B) (o : Option A) (b : B) → option_map f o ≡ Some b → (a : A) × (o ≡ Some a)
+mapped f None b h = absurd cc
+mapped f (Some a) b h = (a, refl)
+
+word_same : (o : Option (List ℕ)) (x : Option Member) (m : Member) → option_map member_of o ≡ Some x → x ≡ Some m → option_map weighed_member_of o ≡ Some x
+word_same None x m h k = absurd cc
+word_same (Some t) x m h k =
+    let e : member_of t ≡ x = cc in
+    ap Some (words_mean_the_same m t (e ∙ k) ∙ sym k)
+
+under_items : {B C : Type 0} (f f' : Data → Option B) (g : B → Option C) → ((d : Data) (x : B) (y : C) → f d ≡ Some x → g x ≡ Some y → f' d ≡ Some x)
+    → (o : Option Items) (xs : List B) (ys : List C) → option_and_then (all_items f) o ≡ Some xs → all_of g xs ≡ Some ys → option_and_then (all_items f') o ≡ option_and_then (all_items f) o
+under_items f f' g same None xs ys h k = refl
+under_items f f' g same (Some ds) xs ys h k = items_same f f' g same ds xs ys h k ∙ sym h
+
+-- a service
+abbrev made_service : Option ℕ → Option ℕ → Option ℕ → Option (List (Option Member)) → Option (PlainService (Option Member))
+made_service a b c members =
+    option_and_then (λ vip. option_and_then (λ proto. option_and_then (λ port. option_map (λ members. record { vip = vip; proto = proto; port = port; members = members }) members) c) b) a
+
+service_members : (a b c : Option ℕ) (ms : Option (List (Option Member))) (s : PlainService (Option Member)) → made_service a b c ms ≡ Some s → ms ≡ Some s.members
+service_members None b c ms s h = absurd cc
+service_members (Some x) None c ms s h = absurd cc
+service_members (Some x) (Some y) None ms s h = absurd cc
+service_members (Some x) (Some y) (Some z) None s h = absurd cc
+service_members (Some x) (Some y) (Some z) (Some ms) s h = made x y z ms s h
+  where
+    made : (x y z : ℕ) (ms : List (Option Member)) (s : PlainService (Option Member)) → Some (record { vip = x; proto = y; port = z; members = ms }) ≡ Some s → Some ms ≡ Some s.members
+    made x y z ms s h = ap (option_map (λ (t : PlainService (Option Member)). t.members)) h
+
+service_draft_same : (ms : Members) (s : PlainService (Option Member)) (t : PlainService Member) → service_draft One ms ≡ Some s → service_of s ≡ Some t → service_draft Two ms ≡ Some s
+unfolding service_draft
+service_draft_same ms s t h k =
+    let members : option_and_then (all_items (word_of One)) (items_at (codes "members") ms) ≡ Some s.members =
+    service_members (option_and_then address_of (text_at (codes "vip") ms)) (option_and_then protocol_of_word (text_at (codes "proto") ms)) (number_at 0 65535 (codes "port") ms) (option_and_then (all_items (word_of One)) (items_at (codes "members") ms)) s h in
+    let good = mapped (λ (members : List Member). let v : PlainService Member = record { vip = s.vip; proto = s.proto; port = s.port; members = members } in v) (all_of (λ o. o) s.members) t k in
+    ap (made_service (option_and_then address_of (text_at (codes "vip") ms)) (option_and_then protocol_of_word (text_at (codes "proto") ms)) (number_at 0 65535 (codes "port") ms))
+    (under_items (word_of One) (word_of Two) (λ o. o) (λ d x m h k. word_same (as_str d) x m h k) (items_at (codes "members") ms) s.members good.0 members good.1)
+    ∙ h
+
+when_only : {A : Type 0} (b : Bool) (o o' : Option A) (a : A) → (o ≡ Some a → o' ≡ Some a) → (if b then o else None) ≡ Some a → (if b then o' else None) ≡ Some a
+when_only true o o' a same h = same h
+when_only false o o' a same h = absurd cc
+
+in_table : {A : Type 0} (f f' : Members → Option A) (o : Option Members) (a : A) → ((ms : Members) → f ms ≡ Some a → f' ms ≡ Some a) → option_and_then f o ≡ Some a → option_and_then f' o ≡ Some a
+in_table f f' None a same h = absurd cc
+in_table f f' (Some ms) a same h = same ms h
+
+service_same : (d : Data) (s : PlainService (Option Member)) (t : PlainService Member) → service_in One d ≡ Some s → service_of s ≡ Some t → service_in Two d ≡ Some s
+service_same d s t h k =
+    in_table (λ ms. if has_only service_keys ms then service_draft One ms else None) (λ ms. if has_only service_keys ms then service_draft Two ms else None) (as_table d) s
+    (λ ms. when_only (has_only service_keys ms) (service_draft One ms) (service_draft Two ms) s (λ g. service_draft_same ms s t g k)) h
+
+-- a version
+abbrev made_version : Option ℕ → Option (List (PlainService (Option Member))) → Option (PlainVersion (Option Member))
+made_version a services = option_and_then (λ number. option_map (λ services. record { number = number; services = services }) services) a
+
+version_services : (a : Option ℕ) (ss : Option (List (PlainService (Option Member)))) (v : PlainVersion (Option Member)) → made_version a ss ≡ Some v → ss ≡ Some v.services
+version_services None ss v h = absurd cc
+version_services (Some x) None v h = absurd cc
+version_services (Some x) (Some ss) v h = ap (option_map (λ (w : PlainVersion (Option Member)). w.services)) h
+
+version_draft_same : (ms : Members) (v : PlainVersion (Option Member)) (w : PlainVersion Member) → version_draft One ms ≡ Some v → version_of v ≡ Some w → version_draft Two ms ≡ Some v
+unfolding version_draft
+version_draft_same ms v w h k =
+    let services : option_and_then (all_items (service_in One)) (items_at (codes "services") ms) ≡ Some v.services =
+    version_services (number_at 0 4294967295 (codes "number") ms) (option_and_then (all_items (service_in One)) (items_at (codes "services") ms)) v h in
+    let good = mapped (λ (services : List (PlainService Member)). let u : PlainVersion Member = record { number = v.number; services = services } in u) (all_of service_of v.services) w k in
+    ap (made_version (number_at 0 4294967295 (codes "number") ms))
+    (under_items (service_in One) (service_in Two) service_of service_same (items_at (codes "services") ms) v.services good.0 services good.1)
+    ∙ h
+
+version_same : (d : Data) (v : PlainVersion (Option Member)) (w : PlainVersion Member) → version_in One d ≡ Some v → version_of v ≡ Some w → version_in Two d ≡ Some v
+version_same d v w h k =
+    in_table (λ ms. if has_only version_keys ms then version_draft One ms else None) (λ ms. if has_only version_keys ms then version_draft Two ms else None) (as_table d) v
+    (λ ms. when_only (has_only version_keys ms) (version_draft One ms) (version_draft Two ms) v (λ g. version_draft_same ms v w g k)) h
+
+-- the whole
+abbrev made_draft : Option Choices → Option Limits → Option (List ℕ) → Option (List (PlainVersion (Option Member))) → Option (List (List ℕ)) → Option PlainDraft
+made_draft c l n v s =
+    option_and_then (λ choices. option_and_then (λ limits. option_and_then (λ nodes. option_and_then (λ versions. option_map (λ steps.
+    record { choices = choices; limits = limits; nodes = nodes; versions = versions; steps = steps }) s) v) n) l) c
+
+draft_versions : (c : Option Choices) (l : Option Limits) (n : Option (List ℕ)) (v : Option (List (PlainVersion (Option Member)))) (s : Option (List (List ℕ))) (d : PlainDraft) → made_draft c l n v s ≡ Some d → v ≡ Some d.versions
+draft_versions None l n v s d h = absurd cc
+draft_versions (Some c) None n v s d h = absurd cc
+draft_versions (Some c) (Some l) None v s d h = absurd cc
+draft_versions (Some c) (Some l) (Some n) None s d h = absurd cc
+draft_versions (Some c) (Some l) (Some n) (Some v) None d h = absurd cc
+draft_versions (Some c) (Some l) (Some n) (Some v) (Some s) d h = ap (option_map (λ (e : PlainDraft). e.versions)) h
+
+module _ (ms ns : Members) (a : AreAlike ms ns) where
+  choices_same : choices_of ns ≡ choices_of ms
+  unfolding choices_of
+  choices_same = rw (a.others (codes "size") refl, a.others (codes "hash") refl, a.others (codes "scheme") refl, a.others (codes "spread") refl) refl
+
+  limits_same : limits_of ns ≡ limits_of ms
+  unfolding limits_of
+  limits_same = rw (a.others (codes "workers") refl, a.others (codes "capacity") refl, a.others (codes "ring") refl, a.others (codes "check") refl) refl
+
+  nodes_same : nodes_of ns ≡ nodes_of ms
+  nodes_same = rw (a.others (codes "nodes") refl) refl
+
+  steps_same : steps_in ns ≡ steps_in ms
+  steps_same = rw (a.others (codes "steps") refl) refl
+
+  versions_at : versions_in Two ns ≡ versions_in Two ms
+  versions_at = rw (a.others (codes "versions") refl) refl
+
+  draft_of_same : (d : PlainDraft) (vs : List (PlainVersion Member)) → draft_of One ms ≡ Some d → all_of version_of d.versions ≡ Some vs → draft_of Two ns ≡ Some d
+  unfolding draft_of
+  draft_of_same d vs h k =
+      let held : versions_in One ms ≡ Some d.versions = draft_versions (choices_of ms) (limits_of ms) (nodes_of ms) (versions_in One ms) (steps_in ms) d h in
+      let versions : versions_in Two ms ≡ versions_in One ms = under_items (version_in One) (version_in Two) version_of version_same (items_at (codes "versions") ms) d.versions vs held k in
+      ap (λ c. made_draft c (limits_of ns) (nodes_of ns) (versions_in Two ns) (steps_in ns)) choices_same
+      ∙ ap (λ l. made_draft (choices_of ms) l (nodes_of ns) (versions_in Two ns) (steps_in ns)) limits_same
+      ∙ ap (λ n. made_draft (choices_of ms) (limits_of ms) n (versions_in Two ns) (steps_in ns)) nodes_same
+      ∙ ap (λ v. made_draft (choices_of ms) (limits_of ms) (nodes_of ms) v (steps_in ns)) (versions_at ∙ versions)
+      ∙ ap (made_draft (choices_of ms) (limits_of ms) (nodes_of ms) (versions_in One ms)) steps_same
+      ∙ h
+
+  draft_same : (d : PlainDraft) (vs : List (PlainVersion Member)) → draft_in One ms ≡ Some d → all_of version_of d.versions ≡ Some vs → draft_in Two ns ≡ Some d
+  draft_same d vs h k =
+      ap (λ (b : Bool). if b then draft_of Two ns else None) a.keys
+      ∙ when_only (has_only root_keys ms) (draft_of One ms) (draft_of Two ns) d (λ g. draft_of_same d vs g k) h
+
+  with_same : (p : Plan) (o : Option PlainDraft) → draft_in One ms ≡ o → with_draft o ≡ Ok p → with_draft (draft_in Two ns) ≡ Ok p
+  unfolding plan_of_draft
+  with_same p None e h = absurd cc
+  with_same p (Some d) e h = go (all_of version_of d.versions) refl h
+    where
+      go : (o : Option (List (PlainVersion Member))) → all_of version_of d.versions ≡ o → with_versions d o ≡ Ok p → with_draft (draft_in Two ns) ≡ Ok p
+      go None g k = absurd cc
+      go (Some vs) g k = ap with_draft (draft_same d vs e g) ∙ ap (with_versions d) g ∙ k
+
+pub formats_mean_the_same : FormatsMeanTheSame
+unfolding plan_of
+formats_mean_the_same ms ns p a h =
+    ap (λ o. with_format o ns) a.two ∙ with_same ms ns a p (draft_in One ms) refl (sym (ap (λ o. with_format o ms) a.one) ∙ h)

@@ -1,0 +1,36 @@
+#!/usr/bin/env python3
+"""Writes the capture of the rolling change: make_rolling.py OUT.
+
+240 connections of clients to 192.0.2.1, port 80, in five rounds of one packet each: before the change, after each of its three
+parts, and behind it. In each round the clients come in an order of their own, as they do.
+"""
+import pathlib
+import struct
+import sys
+
+sys.path.insert(0, str(pathlib.Path(__file__).resolve().parent))
+from make_capture import frame
+
+CLIENTS = 240
+ROUNDS = 5
+
+
+def client(number):
+    """The address and the port of a client."""
+    return f"198.51.{100 + number % 4}.{1 + number * 7 % 250}", 32768 + number * 97 % 28000
+
+
+def main():
+    with open(sys.argv[1], "wb") as out:
+        out.write(struct.pack("<IHHIIII", 0xA1B2C3D4, 2, 4, 0, 0, 65535, 1))
+        for turn in range(ROUNDS):
+            for place in range(CLIENTS):
+                # Steps prime to the number of clients, so that each comes once a round.
+                number = place * (1, 7, 11, 13, 17)[turn] % CLIENTS
+                data = frame(client(number), 80, turn * CLIENTS + place)
+                at = 1700000000 + turn, place * 4000
+                out.write(struct.pack("<4I", *at, len(data), len(data)) + data)
+
+
+if __name__ == "__main__":
+    main()
