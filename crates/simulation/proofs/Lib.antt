@@ -5,4 +5,5 @@ pub mod Intakes
 pub mod Going
 pub mod Followed
 pub mod Staged
+pub mod Named
 pub mod Reaching

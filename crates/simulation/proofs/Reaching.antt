@@ -30,10 +30,12 @@ use Rattle.simulation.specs.Plans.{Planned}
 use Rattle.simulation.specs.Sent.{packet_in, packets_of, sent, Wrote, WroteUntil}
 use Rattle.simulation.specs.Simulated.{course_of, traffic_of, sendings, IsOfRun}
 use Rattle.simulation.specs.Intake.{Taking, HasSeen, Seen, ReadOn, ReadStops, Stands}
-use Rattle.simulation.specs.PrivateKeeping.{AmongSteps, NamesAll, Holds}
+use Rattle.simulation.specs.PrivateKeeping.{times_named, to_keep, KeepsNamed}
 use Rattle.simulation.specs.PrivateGoing.{Left, Shortened}
 use Rattle.simulation.specs.PrivateStages.{Sound, Going, Reached, IsOver}
+use Rattle.simulation.specs.declared.keeping.Kept.{Kept}
 use Rattle.simulation.specs.declared.staging.Stage.{Stage}
+use Rattle.simulation.proofs.Named.{at_place, names_none}
 use Rattle.simulation.proofs.Going.{shortened}
 use Rattle.simulation.proofs.Intakes.{stands, stops_run}
 use Rattle.simulation.proofs.Sends.{unfailed_same, wrote_none, first_none, first_all, until_all}
@@ -52,10 +54,6 @@ seen_same t u text left seen h e g s = record {
   unfailed = s.unfailed;
   calls = λ none. s.calls (sym e ∙ none);
 }
-
-pub at_place : (seen more : List Record) (r : Record) (n : ℕ) → n ≡ length seen → slice_get (seen ++ r ∷ more) n ≡ Some r
-at_place [] more r n e = ap (λ (m : ℕ). slice_get (r ∷ more) m) e
-at_place (x ∷ seen) more r n e = ap (λ (m : ℕ). slice_get (x ∷ seen ++ r ∷ more) m) e ∙ at_place seen more r (length seen) refl
 
 pub pushed : (seen more : List Record) (r : Record) → seen ++ r ∷ more ≡ (seen ++ r ∷ []) ++ more
 pushed seen more r = sym (append_assoc seen (r ∷ []) more)
@@ -126,61 +124,55 @@ sound_same cluster plan link all c d qs ps begun out e f s = record {
 
 -- no record came: the input has ended, and the step is over
 pub reached_end : (cluster : Cluster) (choice : Choice) (plan : Planned) (text begun : Tape) (step : Step) (ss : List Step) (old new : Stage) (left left' out : Tape) → (r : Reached cluster choice plan text begun (step ∷ ss) old left out)
-    → Seen text r.seen left' new.intake × (is_some new.intake.ended ≡ true) → new.play ≡ old.play → new.relay ≡ old.relay → new.kept ≡ old.kept → new.intake.head ≡ old.intake.head
+    → Seen text r.seen left' new.intake × (is_some new.intake.ended ≡ true) → new.play ≡ old.play → new.relay ≡ old.relay → KeepsNamed r.seen ss new.kept → new.intake.head ≡ old.intake.head
     → ((link : Link) → Left cluster choice plan link (r.seen ++ []) (step ∷ ss) old.play → Left cluster choice plan link (r.seen ++ []) ss old.play)
     → Reached cluster choice plan text begun ss new left' out
 reached_end cluster choice plan text begun step ss old new left left' out r s p q k h turn = record {
   seen = r.seen;
   read = s.0;
   place = ap (λ (c : Course). c.read) p ∙ r.place;
-  named = subst (λ x. NamesAll plan.steps x) (sym k) r.named;
+  kept = k;
   going = λ more cond.
       let g : Going cluster choice plan old.intake.head.link (r.seen ++ []) (step ∷ ss) old begun out = r.going [] (λ _. refl) in
       subst (λ (l : List Record). Going cluster choice plan new.intake.head.link (r.seen ++ l) ss new begun out) (sym (cond s.1))
       (subst (λ (x : Head). Going cluster choice plan x.link (r.seen ++ []) ss new begun out) (sym h) (record {
         left = subst (λ (c : Course). Left cluster choice plan old.intake.head.link (r.seen ++ []) ss c) (sym p) (turn old.intake.head.link g.left);
         sound = sound_same cluster plan old.intake.head.link (r.seen ++ []) old.play new.play old.relay.waiting new.relay.waiting begun out (ap (λ (c : Course). c.past) p) (ap (λ x. x.waiting) q) g.sound;
-        holds = subst (λ x. Holds (r.seen ++ []) plan.steps new.play.read x) (sym k) (subst (λ (n : ℕ). Holds (r.seen ++ []) plan.steps n old.kept) (sym (ap (λ (c : Course). c.read) p)) g.holds);
       }));
 }
 
 -- what is fixed for a move over a further record
-pub record OneMore (plan : Planned) (text : Tape) (seen : List Record) (r : Record) (old new : Stage) (left' : Tape) : Type 0 where
+pub record OneMore (text : Tape) (seen : List Record) (r : Record) (old new : Stage) (left' : Tape) : Type 0 where
   pub read : Seen text (seen ++ r ∷ []) left' new.intake
   pub going : old.intake.ended ≡ None
   pub head : new.intake.head ≡ old.intake.head
-  pub named : NamesAll plan.steps new.kept
-  pub holds : (all : List Record) → Holds all plan.steps old.intake.given old.kept → slice_get all old.intake.given ≡ Some r → Holds all plan.steps (old.intake.given + 1) new.kept
 
 not_ended : (o : Option InputEnd) (X : Type 0) → o ≡ None → is_some o ≡ true → X
 not_ended o X e f = let bad : false ≡ true = ap is_some (sym e) ∙ f in cc
 
 -- a further record: what is left, and how sound it is, with that record and more behind it
 pub reached_more : (cluster : Cluster) (choice : Choice) (plan : Planned) (text begun : Tape) (ss ts : List Step) (old new : Stage) (left left' out out' : Tape) (x : Record) → (r : Reached cluster choice plan text begun ss old left out)
-    → OneMore plan text r.seen x old new left' → new.play.read ≡ old.play.read + 1
+    → OneMore text r.seen x old new left' → new.play.read ≡ old.play.read + 1 → KeepsNamed (r.seen ++ x ∷ []) ts new.kept
     → ((more : List Record) → Left cluster choice plan old.intake.head.link (r.seen ++ x ∷ more) ss old.play → Left cluster choice plan old.intake.head.link (r.seen ++ x ∷ more) ts new.play)
     → ((more : List Record) → Sound cluster plan old.intake.head.link (r.seen ++ x ∷ more) old.play old.relay.waiting begun out → Sound cluster plan old.intake.head.link (r.seen ++ x ∷ more) new.play new.relay.waiting begun out')
     → Reached cluster choice plan text begun ts new left' out'
-reached_more cluster choice plan text begun ss ts old new left left' out out' x r m n turn sound = record {
+reached_more cluster choice plan text begun ss ts old new left left' out out' x r m n k turn sound = record {
   seen = r.seen ++ x ∷ [];
   read = m.read;
   place = omega (arith, n, r.place, count_pushed r.seen x);
-  named = m.named;
+  kept = k;
   going = λ more cond.
       let g : Going cluster choice plan old.intake.head.link (r.seen ++ x ∷ more) ss old begun out = r.going (x ∷ more) (λ e. not_ended old.intake.ended (x ∷ more ≡ []) m.going e) in
-      let given : old.intake.given ≡ old.play.read = r.read.count ∙ sym r.place in
       subst (λ (h : Head). Going cluster choice plan h.link ((r.seen ++ x ∷ []) ++ more) ts new begun out') (sym m.head)
       (subst (λ (l : List Record). Going cluster choice plan old.intake.head.link l ts new begun out') (pushed r.seen more x) (record {
         left = turn more g.left;
         sound = sound more g.sound;
-        holds = subst (λ (k : ℕ). Holds (r.seen ++ x ∷ more) plan.steps k new.kept) (ap (λ (k : ℕ). k + 1) given ∙ sym n)
-            (m.holds (r.seen ++ x ∷ more) (subst (λ (k : ℕ). Holds (r.seen ++ x ∷ more) plan.steps k old.kept) (sym given) g.holds) (at_place r.seen more x old.intake.given r.read.count));
       }));
 }
 
 -- a further record was read, and the move over it stopped
 pub short_more : (cluster : Cluster) (choice : Choice) (plan : Planned) (text begun : Tape) (ss ts : List Step) (old mid : Stage) (left left' out out' : Tape) (x : Record) (d : Course) (fault : SimulationFault) → (r : Reached cluster choice plan text begun ss old left out)
-    → OneMore plan text r.seen x old mid left' → IsOfRun fault
+    → OneMore text r.seen x old mid left' → IsOfRun fault
     → (Left cluster choice plan old.intake.head.link (r.seen ++ x ∷ []) ss old.play → Left cluster choice plan old.intake.head.link (r.seen ++ x ∷ []) ts d)
     → (Sound cluster plan old.intake.head.link (r.seen ++ x ∷ []) old.play old.relay.waiting begun out → WroteUntil fault begun out' (sent (traffic_of plan old.intake.head.link (r.seen ++ x ∷ [])) (reverse d.past)))
     → Shortened cluster choice plan old.intake.head text left' begun out' fault
@@ -201,15 +193,15 @@ delivered_same w check x h i m n s t e f k =
 
 -- a step that has nothing left to do is over
 pub reached_turn : (cluster : Cluster) (choice : Choice) (plan : Planned) (text begun : Tape) (step : Step) (ss : List Step) (stage : Stage) (left out : Tape) → Reached cluster choice plan text begun (step ∷ ss) stage left out
-    → ((link : Link) (all : List Record) → Left cluster choice plan link all (step ∷ ss) stage.play → Left cluster choice plan link all ss stage.play) → Reached cluster choice plan text begun ss stage left out
-reached_turn cluster choice plan text begun step ss stage left out r turn = record {
+    → ((k : Kept) (seen : List Record) → KeepsNamed seen (step ∷ ss) k → KeepsNamed seen ss k) → ((link : Link) (all : List Record) → Left cluster choice plan link all (step ∷ ss) stage.play → Left cluster choice plan link all ss stage.play) → Reached cluster choice plan text begun ss stage left out
+reached_turn cluster choice plan text begun step ss stage left out r keeps turn = record {
   seen = r.seen;
   read = r.read;
   place = r.place;
-  named = r.named;
+  kept = keeps stage.kept r.seen r.kept;
   going = λ more cond.
       let g : Going cluster choice plan stage.intake.head.link (r.seen ++ more) (step ∷ ss) stage begun out = r.going more cond in
-      record { left = turn stage.intake.head.link (r.seen ++ more) g.left; sound = g.sound; holds = g.holds };
+      record { left = turn stage.intake.head.link (r.seen ++ more) g.left; sound = g.sound };
 }
 
 pub no_more_taken : (cluster : Cluster) (choice : Choice) (plan : Planned) (k : ℕ) (ss : List Step) (c : Course) → k ≡ 0 → (link : Link) (all : List Record) → Left cluster choice plan link all (take_of k ∷ ss) c → Left cluster choice plan link all ss c
@@ -239,26 +231,21 @@ taken_past (suc n) zero (p ∷ l) h = absurd (omega (arith, h))
 taken_past (suc n) (suc k) (p ∷ l) h = taken_past n k l (omega (arith, h))
 
 -- what a repeat finds
-pub if_some : (a b : ℕ) (o : Option Record) (r : Record) → Some r ≡ (if nat_lt a b then o else None) → (a < b) × (o ≡ Some r)
-if_some a b o r e = go (nat_lt a b) refl e
-  where
-    go : (t : Bool) → nat_lt a b ≡ t → Some r ≡ (if t then o else None) → (a < b) × (o ≡ Some r)
-    go true h k = (ltb-true a b h, sym k)
-    go false h k = let bad : Some r ≡ None = k in cc
+pub is_there : (seen more : List Record) (place : ℕ) (r : Record) → Some r ≡ slice_get seen place → (place < length seen) × (slice_get (seen ++ more) place ≡ Some r)
+is_there [] more place r e = let bad : Some r ≡ None = e in cc
+is_there (x ∷ seen) more zero r e = (omega arith, sym e)
+is_there (x ∷ seen) more (suc place) r e = let h = is_there seen more place r e in (omega (arith, h.0), h.1)
 
-pub if_none : (a b : ℕ) (o : Option Record) → None ≡ (if nat_lt a b then o else None) → (b ≤ a) ⊎ ((a < b) × (o ≡ None))
-if_none a b o e = go (nat_lt a b) refl e
-  where
-    go : (t : Bool) → nat_lt a b ≡ t → None ≡ (if t then o else None) → (b ≤ a) ⊎ ((a < b) × (o ≡ None))
-    go true h k = inr (ltb-true a b h, sym k)
-    go false h k = inl (ltb-false a b h)
+not_there : (seen : List Record) (place : ℕ) → None ≡ slice_get seen place → length seen ≤ place
+not_there [] place e = omega arith
+not_there (x ∷ seen) zero e = let bad : None ≡ Some x = e in cc
+not_there (x ∷ seen) (suc place) e = omega (arith, not_there seen place e)
 
 pub packet_there : (link : Link) (check : Bool) (all : List Record) (place read : ℕ) (o : Option Record) → place < read → slice_get all place ≡ o → slice_get (take read (packets_of link check all)) place ≡ option_map (packet_in link check) o
 packet_there link check all place read o h e = taken_at read place (packets_of link check all) h ∙ slice_get-map (packet_in link check) all place ∙ ap (option_map (packet_in link check)) e
 
-pub packet_none : (link : Link) (check : Bool) (all : List Record) (place read : ℕ) (kept : Option Record) → (read ≤ place) ⊎ ((place < read) × (kept ≡ None)) → (place < read → kept ≡ slice_get all place) → slice_get (take read (packets_of link check all)) place ≡ None
-packet_none link check all place read kept (inl h) f = taken_past read place (packets_of link check all) h
-packet_none link check all place read kept (inr h) f = packet_there link check all place read None h.0 (sym (f h.0) ∙ h.1)
+pub packet_none : (link : Link) (check : Bool) (seen more : List Record) (place read : ℕ) → read ≡ length seen → None ≡ slice_get seen place → slice_get (take read (packets_of link check (seen ++ more))) place ≡ None
+packet_none link check seen more place read n e = taken_past read place (packets_of link check (seen ++ more)) (omega (arith, n, not_there seen place e))
 
 -- a record was repeated, or skipped
 pub repeated : (cluster : Cluster) (choice : Choice) (plan : Planned) (link : Link) (all : List Record) (place : ℕ) (ss : List Step) (c d : Course) (p : Option Packet) → slice_get (take c.read (packets_of link plan.check all)) place ≡ p
@@ -269,31 +256,30 @@ repeated cluster choice plan link all place ss c d p h e l =
 
 -- no further record was read
 pub reached_same : (cluster : Cluster) (choice : Choice) (plan : Planned) (text begun : Tape) (ss ts : List Step) (old new : Stage) (left out out' : Tape) → (r : Reached cluster choice plan text begun ss old left out)
-    → (new.intake.given ≡ old.intake.given) × (new.intake.ended ≡ old.intake.ended) × (new.intake.head ≡ old.intake.head) → new.play.read ≡ old.play.read → new.kept ≡ old.kept
-    → ((all : List Record) → Holds all plan.steps old.play.read old.kept → Left cluster choice plan old.intake.head.link all ss old.play → Left cluster choice plan old.intake.head.link all ts new.play)
-    → ((all : List Record) → Holds all plan.steps old.play.read old.kept → Sound cluster plan old.intake.head.link all old.play old.relay.waiting begun out → Sound cluster plan old.intake.head.link all new.play new.relay.waiting begun out')
+    → (new.intake.given ≡ old.intake.given) × (new.intake.ended ≡ old.intake.ended) × (new.intake.head ≡ old.intake.head) → new.play.read ≡ old.play.read → KeepsNamed r.seen ts new.kept
+    → ((more : List Record) → Left cluster choice plan old.intake.head.link (r.seen ++ more) ss old.play → Left cluster choice plan old.intake.head.link (r.seen ++ more) ts new.play)
+    → ((more : List Record) → Sound cluster plan old.intake.head.link (r.seen ++ more) old.play old.relay.waiting begun out → Sound cluster plan old.intake.head.link (r.seen ++ more) new.play new.relay.waiting begun out')
     → Reached cluster choice plan text begun ts new left out'
 reached_same cluster choice plan text begun ss ts old new left out out' r i n k turn sound = record {
   seen = r.seen;
   read = seen_same old.intake new.intake text left r.seen i.2 i.1 i.0 r.read;
   place = n ∙ r.place;
-  named = subst (λ x. NamesAll plan.steps x) (sym k) r.named;
+  kept = k;
   going = λ more cond.
       let g : Going cluster choice plan old.intake.head.link (r.seen ++ more) ss old begun out = r.going more (λ e. cond (ap is_some i.1 ∙ e)) in
       subst (λ (h : Head). Going cluster choice plan h.link (r.seen ++ more) ts new begun out') (sym i.2) (record {
-        left = turn (r.seen ++ more) g.holds g.left;
-        sound = sound (r.seen ++ more) g.holds g.sound;
-        holds = subst (λ x. Holds (r.seen ++ more) plan.steps new.play.read x) (sym k) (subst (λ (m : ℕ). Holds (r.seen ++ more) plan.steps m old.kept) (sym n) g.holds);
+        left = turn more g.left;
+        sound = sound more g.sound;
       });
 }
 
 pub short_same : (cluster : Cluster) (choice : Choice) (plan : Planned) (text begun : Tape) (ss ts : List Step) (old : Stage) (left out out' : Tape) (d : Course) (fault : SimulationFault) → (r : Reached cluster choice plan text begun ss old left out) → IsOfRun fault
-    → (Holds r.seen plan.steps old.play.read old.kept → Left cluster choice plan old.intake.head.link r.seen ss old.play → Left cluster choice plan old.intake.head.link r.seen ts d)
-    → (Holds r.seen plan.steps old.play.read old.kept → Sound cluster plan old.intake.head.link r.seen old.play old.relay.waiting begun out → WroteUntil fault begun out' (sent (traffic_of plan old.intake.head.link r.seen) (reverse d.past)))
+    → (Left cluster choice plan old.intake.head.link r.seen ss old.play → Left cluster choice plan old.intake.head.link r.seen ts d)
+    → (Sound cluster plan old.intake.head.link r.seen old.play old.relay.waiting begun out → WroteUntil fault begun out' (sent (traffic_of plan old.intake.head.link r.seen) (reverse d.past)))
     → Shortened cluster choice plan old.intake.head text left begun out' fault
 short_same cluster choice plan text begun ss ts old left out out' d fault r named turn cut =
     let g = subst (λ (l : List Record). Going cluster choice plan old.intake.head.link l ss old begun out) (append-nil r.seen) (r.going [] (λ _. refl)) in
-    shortened cluster choice plan old.intake.head text left begun out' fault r.seen ts d (stops_run old.intake.head text left r.seen fault named (stands old.intake text left r.seen r.read)) (turn g.holds g.left) (cut g.holds g.sound)
+    shortened cluster choice plan old.intake.head text left begun out' fault r.seen ts d (stops_run old.intake.head text left r.seen fault named (stands old.intake text left r.seen r.read)) (turn g.left) (cut g.sound)
 
 -- the counts after a repeat
 pub counted_again : (given n : ℕ) (w : World) (p : Packet) (c d : Course) (place : ℕ) → d ≡ deliver w place p c → Counted given n c → Counted given (n + 1) d
@@ -311,6 +297,13 @@ stepped_left cluster choice plan link all s ss c d e l =
     let w = world_of cluster choice (packets_of link plan.check all) in
     ap (λ (x : Course). run w ss x) e ∙ sym (run_cons w s ss c) ∙ l
 
+is_apart : (s : Step) → names_records s ≡ false → (k : ℕ) → s ≡ again_of k → ⊥
+is_apart s h k e = let bad : true ≡ false = ap names_records (sym e) ∙ h in cc
+
+pub kept_apart : (seen : List Record) (s : Step) (ss : List Step) (k : Kept) → names_records s ≡ false → KeepsNamed seen (s ∷ ss) k → KeepsNamed seen ss k
+kept_apart seen s ss k q h place =
+    h place ∙ ap (λ (b : Bool). to_keep (if b then suc (times_named place ss) else times_named place ss) (slice_get seen place)) (names_none place s (is_apart s q))
+
 pub counted_apart : (given n : ℕ) (w : World) (s : Step) (c d : Course) → names_records s ≡ false → d ≡ after w s c → Counted given n c → Counted given (n + 1) d
 counted_apart given n w s c d q e h =
     let k : Keeps c (after w s c) = apart_keeps w s c q in
@@ -322,9 +315,6 @@ read_apart w s c d q e = ap (λ (x : Course). x.read) e ∙ (apart_keeps w s c q
 pub next_step : (ss : List Step) (i : ℕ) (s : Step) → i < length ss → s ≡ get_or ss i s → drop i ss ≡ s ∷ drop (i + 1) ss
 next_step ss i s lt e = rw (add-one, drop-cons ss i s) (ap (λ (x : Step). x ∷ drop (suc i) ss) (sym e))
 
-pub among_steps : (ss : List Step) (i : ℕ) (s : Step) → i < length ss → s ≡ get_or ss i s → AmongSteps s ss
-among_steps ss i s lt e = (i, slice_get-get_or ss i s lt ∙ ap (λ (x : Step). Some x) (sym e))
-
 pub passed_none : (head : Head) (text : Option (List ℕ)) → Passed head text [] text
 passed_none head None = tt
 passed_none head (Some t) = refl
@@ -335,9 +325,9 @@ begun_left cluster choice plan link all c e = ap (λ (x : Course). run (world_of
 
 -- at the start everything is to be done
 pub reached_start : (cluster : Cluster) (choice : Choice) (plan : Planned) (text out : Tape) (stage : Stage) → cluster.workers ≤ 16 → cluster.nodes ≡ length plan.nodes → length stage.relay.waiting ≡ length plan.nodes * 16 → Orderly cluster
-    → stage.play ≡ start (length plan.nodes) → stage.intake.ended ≡ None → stage.intake.given ≡ 0 → NamesAll plan.steps stage.kept → ((all : List Record) (k : Cluster) → Mirrors all k [] stage.relay.waiting)
+    → stage.play ≡ start (length plan.nodes) → stage.intake.ended ≡ None → stage.intake.given ≡ 0 → KeepsNamed [] plan.steps stage.kept → ((all : List Record) (k : Cluster) → Mirrors all k [] stage.relay.waiting)
     → Reached cluster choice plan text out plan.steps stage text out
-reached_start cluster choice plan text out stage few nodes room orderly play ended given named mirrors = record {
+reached_start cluster choice plan text out stage few nodes room orderly play ended given kept mirrors = record {
   seen = [];
   read = record {
     has = subst (λ (o : Option InputEnd). HasSeen stage.intake.head o text.bytes [] text.bytes) (sym ended) (passed_none stage.intake.head text.bytes);
@@ -346,7 +336,7 @@ reached_start cluster choice plan text out stage few nodes room orderly play end
     calls = λ _. (0, omega arith, omega arith);
   };
   place = ap (λ (c : Course). c.read) play;
-  named = named;
+  kept = kept;
   going = λ more cond. record {
     left = begun_left cluster choice plan stage.intake.head.link more stage.play play;
     sound = record {
@@ -357,7 +347,6 @@ reached_start cluster choice plan text out stage few nodes room orderly play end
       mirrors = subst (λ (l : List Said). Mirrors more cluster l stage.relay.waiting) (sym (ap (λ (c : Course). c.past) play)) (mirrors more cluster);
       sent = subst (λ (l : List Said). Wrote out out (sent (traffic_of plan stage.intake.head.link more) (reverse l))) (sym (ap (λ (c : Course). c.past) play)) (wrote_none out);
     };
-    holds = λ place again lt. absurd (omega (arith, lt, ap (λ (c : Course). c.read) play));
   };
 }
 

@@ -1,33 +1,48 @@
--- The records that are kept since a later step delivers them again.
-use Rattle.std.specs.Prelude.{◌≡◌, ◌<◌, ℕ, Bool, List, Option, Some, slice_get, true, is_some, option_and_then, option_map}
+-- The records that are kept since a step that is left delivers them again.
+use Rattle.std.specs.Prelude.{◌≡◌, ◌==◌, ℕ, zero, suc, Bool, true, false, List, [], ◌∷◌, Option, Some, None, slice_get, option_map, if◌then◌else◌}
 use Rattle.std.specs.Ordering.{nat_cmp}
 use Rattle.std.specs.BTreeMap.{get}
 use Rattle.pcap_file.specs.Format.{Packet as Record, packet}
 use Rattle.scenario_steps.specs.declared.Step.{Step}
 use Rattle.scenario_steps.specs.declared.Step.TheVariants as steps
+use Rattle.simulation.specs.declared.keeping.Later.{Later}
 use Rattle.simulation.specs.declared.keeping.Kept.{Kept}
 
--- the record of a place is to be kept
-abbrev pub is_named : Kept → ℕ → Bool
-is_named k place = is_some (get nat_cmp k.frames place)
-
--- the record that is kept of a place
-abbrev pub found : Kept → ℕ → Option Record
-found k place = option_and_then (λ o. option_map packet o) (get nat_cmp k.frames place)
-
 -- a step delivers the record of this place again
-pub record IsAgain (place : ℕ) (ss : List Step) : Type 0 where
-  pub index : ℕ
-  pub there : slice_get ss index ≡ Some (steps.Again place)
+abbrev pub names : ℕ → Step → Bool
+names place (steps.Install n v) = false
+names place (steps.Live ns) = false
+names place (steps.Take k) = false
+names place (steps.Lose k) = false
+names place (steps.Again k) = place == k
+names place (steps.Full n m) = false
+names place (steps.Hold n) = false
+names place (steps.Drain n) = false
+names place (steps.Restart n) = false
 
--- a step is one of these
-abbrev pub AmongSteps : Step → List Step → Type 0
-AmongSteps step ss = (index : ℕ) × (slice_get ss index ≡ Some step)
+-- how many of these steps do
+abbrev pub times_named : ℕ → List Step → ℕ
+times_named place [] = 0
+times_named place (s ∷ ss) = if names place s then suc (times_named place ss) else times_named place ss
 
--- all that steps name are to be kept
-abbrev pub NamesAll : List Step → Kept → Type 0
-NamesAll ss k = (place : ℕ) → IsAgain place ss → is_named k place ≡ true
+-- how many steps name a place, and its record where that was read
+abbrev pub kept_of : Later → ℕ × Option Record
+kept_of l = (l.times, option_map packet l.frame)
 
--- of the records read so far those that a step names are kept
-abbrev pub Holds : List Record → List Step → ℕ → Kept → Type 0
-Holds all ss read k = (place : ℕ) → IsAgain place ss → place < read → found k place ≡ slice_get all place
+-- what is kept of a place
+abbrev pub kept_at : Kept → ℕ → Option (ℕ × Option Record)
+kept_at k place = option_map kept_of (get nat_cmp k.places place)
+
+abbrev pub times_in : Option (ℕ × Option Record) → ℕ
+times_in None = 0
+times_in (Some p) = p.0
+
+-- what is to be kept of a place that so many steps name: nothing where none does
+abbrev pub to_keep : ℕ → Option Record → Option (ℕ × Option Record)
+to_keep zero r = None
+to_keep (suc n) r = Some (suc n, r)
+
+-- where these records were read and these steps are left: of each place just that is kept. So a record is kept exactly where
+-- it was read and a step that is left names it
+abbrev pub KeepsNamed : List Record → List Step → Kept → Type 0
+KeepsNamed seen ss k = (place : ℕ) → kept_at k place ≡ to_keep (times_named place ss) (slice_get seen place)

@@ -17,7 +17,7 @@ use Rattle.simulation.specs.Plans.{Planned}
 use Rattle.simulation.specs.Sent.{Wrote}
 use Rattle.simulation.specs.Simulated.{course_of, sendings}
 use Rattle.simulation.specs.Intake.{Seen}
-use Rattle.simulation.specs.PrivateKeeping.{NamesAll, Holds}
+use Rattle.simulation.specs.PrivateKeeping.{KeepsNamed}
 use Rattle.simulation.specs.PrivateGoing.{Left, SentSoFar}
 use Rattle.simulation.specs.declared.staging.Stage.{Stage}
 
@@ -35,14 +35,14 @@ pub record Sound (cluster : Cluster) (plan : Planned) (link : Link) (all : List 
 pub record Going (cluster : Cluster) (choice : Choice) (plan : Planned) (link : Link) (all : List Record) (ss : List Step) (stage : Stage) (begun out : Tape) : Type 0 where
   pub left : Left cluster choice plan link all ss stage.play
   pub sound : Sound cluster plan link all stage.play stage.relay.waiting begun out
-  pub holds : Holds all plan.steps stage.play.read stage.kept
 
--- with these steps left: some records were read, and whatever comes behind them, the run is going
+-- with these steps left: some records were read, just those of them are kept that a step left names, and whatever comes
+-- behind them, the run is going
 pub record Reached (cluster : Cluster) (choice : Choice) (plan : Planned) (text begun : Tape) (ss : List Step) (stage : Stage) (left out : Tape) : Type 0 where
   pub seen : List Record
   pub read : Seen text seen left stage.intake
   pub place : stage.play.read ≡ length seen
-  pub named : NamesAll plan.steps stage.kept
+  pub kept : KeepsNamed seen ss stage.kept
   pub going : (more : List Record) → (is_some stage.intake.ended ≡ true → more ≡ []) → Going cluster choice plan stage.intake.head.link (seen ++ more) ss stage begun out
 
 -- a record was taken, so that one fewer is to be taken; or the input has ended, so that none is

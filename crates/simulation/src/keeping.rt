@@ -1,22 +1,30 @@
-//! Records that are kept since a later step delivers them again.
-ghost use Rattle.std.specs.Prelude.{◌≡◌, ◌==◌, ◌&&◌, true, IfOk, OnOk, ℕ, List, Some, None, if◌then◌else◌, option_map};
-ghost use Rattle.pcap_file.specs.Format.{packet};
+//! Records that are kept since a step that is left delivers them again.
+ghost use Rattle.std.specs.Prelude.{◌≡◌, ◌==◌, ◌++◌, ◌∷◌, [], ℕ, List, Some, None, IfOk, OnOk, if◌then◌else◌, option_map, length, slice_get};
+ghost use Rattle.pcap_file.specs.Format.{Packet as Record, packet};
 ghost use Rattle.scenario_steps.specs.declared.Step.{Step};
-ghost use Rattle.simulation.specs.PrivateKeeping.{is_named, found, NamesAll};
+ghost use Rattle.course.specs.PrivateStreams.{again_of};
+ghost use Rattle.simulation.specs.PrivateKeeping.{kept_of, kept_at, times_in, KeepsNamed};
 
 use pcap_file::Frame;
 use scenario_steps::Step;
 use std::alloc::{AllocError, Global};
 use std::collections::BTreeMap;
 
-/// The records that steps name, by place in the capture; none yet where one wasn't read.
+/// How many steps that are left deliver a record again, and the record, once it was read.
+#[derive(Drop)]
+pub(crate) struct Later {
+    times: u64,
+    frame: Option<Frame>,
+}
+
+/// The records that steps which are left deliver again, by place in the capture.
 #[derive(Drop)]
 pub(crate) struct Kept {
-    frames: BTreeMap<u32, Option<Frame>>,
+    places: BTreeMap<u32, Later>,
 }
 
 // A record once more.
-pub(crate) fn copy_of(alloc: Global, frame: &Frame) -> Result<Frame, AllocError>
+fn copy_of(alloc: Global, frame: &Frame) -> Result<Frame, AllocError>
     ensures { IfOk result (λ f. packet f ≡ packet frame.now) }
 {
     Ok(Frame {
@@ -27,68 +35,92 @@ pub(crate) fn copy_of(alloc: Global, frame: &Frame) -> Result<Frame, AllocError>
     })
 }
 
+// A record once more, where there is one.
+fn copy_of_one(alloc: Global, frame: &Option<Frame>) -> Result<Option<Frame>, AllocError>
+    ensures { IfOk result (λ o. option_map packet o ≡ option_map packet frame.now) }
+{
+    match frame {
+        Some(frame) => Ok(Some(copy_of(alloc, frame)?)),
+        None => Ok(None),
+    }
+}
+
 impl Kept {
-    fn none(alloc: Global) -> Kept
-        ensures { (place : ℕ) → found result place ≡ None }
+    // How many steps that are left name a place.
+    fn times(&self, place: u32) -> u64
+        ensures { result ≡ times_in (kept_at self.now place) }
     {
-        Kept {
-            frames: BTreeMap::new(alloc),
+        match self.places.get(&place) {
+            Some(later) => later.times,
+            None => 0,
         }
     }
 
-    // The record of a place is to be kept.
-    fn name(&mut self, place: u32) -> Result<(), AllocError>
-        ensures named { OnOk result (is_named self.new place ≡ true) }
-        ensures others { OnOk result ((q : ℕ) → is_named self.old q ≡ true → is_named self.new q ≡ true) }
-        ensures none { ((q : ℕ) → found self.old q ≡ None) → OnOk result ((q : ℕ) → found self.new q ≡ None) }
+    // This is kept of a place from now on.
+    fn set(&mut self, place: u32, later: Later) -> Result<(), AllocError>
+        ensures { OnOk result ((q : ℕ) → kept_at self.new q ≡ (if q == place then Some (kept_of later) else kept_at self.old q)) }
     {
-        match self.frames.insert(place, None) {
+        match self.places.insert(place, later) {
             Ok(_) => Ok(()),
             Err(_) => Err(AllocError),
         }
     }
 
-    // Those that the steps name are to be kept.
-    pub(crate) fn of_steps(alloc: Global, steps: &[Step]) -> Result<Kept, AllocError>
-        ensures named { IfOk result (NamesAll steps.now) }
-        ensures none { IfOk result (λ k. (place : ℕ) → found k place ≡ None) }
+    // Nothing is kept of a place from now on: what was.
+    fn let_go(&mut self, place: u32) -> Option<Later>
+        ensures was { option_map kept_of result ≡ kept_at self.old place }
+        ensures gone { (q : ℕ) → kept_at self.new q ≡ (if q == place then None else kept_at self.old q) }
     {
-        let mut kept = Kept::none(alloc);
+        self.places.remove(&place)
+    }
+
+    // No record was read, and all steps are left.
+    pub(crate) fn of_steps(alloc: Global, steps: &[Step]) -> Result<Kept, AllocError>
+        ensures { IfOk result (KeepsNamed [] steps.now) }
+    {
+        let mut kept = Kept {
+            places: BTreeMap::new(alloc),
+        };
         for step in steps {
             if let Step::Again(place) = step {
-                kept.name(*place)?;
+                let times = kept.times(*place) + 1;
+                kept.set(*place, Later { times, frame: None })?;
             }
         }
         Ok(kept)
     }
 
-    // The record of a place was read.
+    // The record of the next place was read. It is kept if a step that is left names it.
     pub(crate) fn note(
         &mut self,
         alloc: Global,
         place: u32,
         frame: &Frame,
     ) -> Result<(), AllocError>
-        ensures named { OnOk result ((q : ℕ) → is_named self.new q ≡ is_named self.old q) }
-        ensures found { OnOk result ((q : ℕ) → found self.new q ≡ (if (q == place) && is_named self.old place then Some (packet frame.now) else found self.old q)) }
+        ensures { (seen : List Record) (ss : List Step) → place ≡ length seen → KeepsNamed seen ss self.old → OnOk result (KeepsNamed (seen ++ packet frame.now ∷ []) ss self.new) }
     {
-        if !self.frames.contains_key(&place) {
+        let times = self.times(place);
+        if times == 0 {
             return Ok(());
         }
-        let copy = copy_of(alloc, frame)?;
-        match self.frames.insert(place, Some(copy)) {
-            Ok(_) => Ok(()),
-            Err(_) => Err(AllocError),
-        }
+        let frame = Some(copy_of(alloc, frame)?);
+        self.set(place, Later { times, frame })
     }
 
-    // The record of a place, if it is kept.
-    pub(crate) fn get(&self, place: u32) -> Option<&Frame>
-        ensures { option_map (λ f. packet f.now) result ≡ found self.now place }
+    // A step that names a place is done: the record, if it was read. With the last of these steps it is let go.
+    pub(crate) fn take(&mut self, alloc: Global, place: u32) -> Result<Option<Frame>, AllocError>
+        ensures record { (seen : List Record) (ss : List Step) → KeepsNamed seen (again_of place ∷ ss) self.old → IfOk result (λ o. option_map packet o ≡ slice_get seen place) }
+        ensures keeps { (seen : List Record) (ss : List Step) → KeepsNamed seen (again_of place ∷ ss) self.old → OnOk result (KeepsNamed seen ss self.new) }
     {
-        match self.frames.get(&place) {
-            Some(Some(frame)) => Some(frame),
-            _ => None,
+        let Some(Later { times, frame }) = self.let_go(place) else {
+            return Ok(None);
+        };
+        if times <= 1 {
+            return Ok(frame);
         }
+        let copy = copy_of_one(alloc, &frame)?;
+        let times = times - 1;
+        self.set(place, Later { times, frame })?;
+        Ok(copy)
     }
 }

@@ -1,5 +1,5 @@
 //! A run record by record.
-ghost use Rattle.std.specs.Prelude.{◌≡◌, ◌≢◌, ◌<◌, ◌≤◌, ◌+◌, ◌^◌, ◌∷◌, [], ℕ, List, Option, Some, None, true, false, nat_lt, if◌then◌else◌, option_map, length, drop, slice_get, reverse, IfOk, IfErr, OnOk};
+ghost use Rattle.std.specs.Prelude.{◌≡◌, ◌≢◌, ◌<◌, ◌≤◌, ◌+◌, ◌^◌, ◌∷◌, ◌++◌, [], ℕ, List, Some, true, false, length, slice_get, reverse, IfOk, IfErr, OnOk};
 ghost use Rattle.pcap_file.specs.Device.{Tape};
 ghost use Rattle.pcap_file.specs.Format.{Packet as Record, packet, max_records};
 ghost use Rattle.scenario_steps.specs.declared.Step.{Step};
@@ -13,12 +13,12 @@ ghost use Rattle.simulation.specs.Sent.{packet_in, sent, WroteUntil};
 ghost use Rattle.simulation.specs.Simulated.{traffic_of, IsOfRun};
 ghost use Rattle.simulation.specs.PrivateGoing.{Shortened};
 ghost use Rattle.simulation.specs.Intake.{Seen, SeenMore, ReadStops};
-ghost use Rattle.simulation.specs.PrivateKeeping.{IsAgain, AmongSteps, NamesAll, Holds, found};
+ghost use Rattle.simulation.specs.PrivateKeeping.{KeepsNamed};
 ghost use Rattle.simulation.specs.PrivateStages.{Sound, Going, Reached, IsOver, still_to_take, still_to_lose};
 
 use crate::fault::SimulationFault;
 use crate::intake::Intake;
-use crate::keeping::{Kept, copy_of};
+use crate::keeping::Kept;
 use crate::plan::Plan;
 use crate::playing::Played;
 use crate::relaying::Relay;
@@ -154,7 +154,7 @@ impl Stage {
         self.relay.settle_all(&wire, events, output)
     }
 
-    // Reads a record, and keeps it where a step delivers it again.
+    // Reads a record, and keeps it where a step that is left delivers it again.
     fn read_one<I: Source>(&mut self, alloc: Global, input: &mut I) -> Result<bool, SimulationFault>
         ensures play { self.new.play ≡ self.old.play }
         ensures relay { self.new.relay ≡ self.old.relay }
@@ -162,9 +162,8 @@ impl Stage {
         ensures more { (text : Tape) (seen : List Record) → Seen text seen (I.tape input.old) self.old.intake → IfOk result (λ more. SeenMore more text seen (I.tape input.new) self.new.intake) }
         ensures same { IfOk result (λ more. more ≡ true → (self.new.intake.ended ≡ self.old.intake.ended) × (self.new.intake.given ≡ self.old.intake.given + 1)) }
         ensures none { IfOk result (λ more. more ≡ false → (self.new.intake.given ≡ self.old.intake.given) × (self.new.kept ≡ self.old.kept)) }
-        ensures named { (ss : List Step) → NamesAll ss self.old.kept → OnOk result (NamesAll ss self.new.kept) }
-        ensures holds { (all : List Record) (ss : List Step) → NamesAll ss self.old.kept → Holds all ss self.old.intake.given self.old.kept →
-            IfOk result (λ more. more ≡ true → slice_get all self.old.intake.given ≡ Some self.new.intake.record_read → Holds all ss (self.old.intake.given + 1) self.new.kept) }
+        ensures keeps { (seen : List Record) (ss : List Step) → self.old.intake.given ≡ length seen → KeepsNamed seen ss self.old.kept →
+            IfOk result (λ more. more ≡ true → KeepsNamed (seen ++ self.new.intake.record_read ∷ []) ss self.new.kept) }
         ensures few { self.new.intake.given ≤ max_records }
         ensures unwritten { IfErr result (λ fault. fault ≢ SimulationFault.Write) }
         ensures stops { (text : Tape) (seen : List Record) → Seen text seen (I.tape input.old) self.old.intake → IfErr result (ReadStops self.old.intake text seen (I.tape input.new)) }
@@ -301,20 +300,6 @@ impl Stage {
         Ok(())
     }
 
-    // The record of a place, if it was read and is kept.
-    fn seen_one(&self, alloc: Global, place: u32) -> Result<Option<Frame>, AllocError>
-        ensures value { IfOk result (λ o. option_map packet o ≡ (if nat_lt place self.now.intake.given then found self.now.kept place else None)) }
-        ensures few { self.now.intake.given ≤ max_records }
-    {
-        if place >= self.intake.given() {
-            return Ok(None);
-        }
-        match self.kept.get(place) {
-            Some(frame) => Ok(Some(copy_of(alloc, frame)?)),
-            None => Ok(None),
-        }
-    }
-
     // Delivers a record again, or skips it where it wasn't read.
     fn again<C: Core, P: Spread, O: Sink>(
         &mut self,
@@ -334,14 +319,16 @@ impl Stage {
         ensures few { (n : ℕ) → Counted self.old.intake.given n self.old.play → OnOk result (Counted self.new.intake.given (n + 1) self.new.play) }
         ensures head { self.new.intake.head ≡ self.old.intake.head }
         ensures named { IfErr result IsOfRun }
-        ensures reached { (choice : Choice) (text begun left : Tape) (ss : List Step) → SameChoice choice (P.choice spread.now) → IsAgain place plan.entry.steps.now →
+        ensures reached { (choice : Choice) (text begun left : Tape) (ss : List Step) → SameChoice choice (P.choice spread.now) →
             Reached (C.cluster setup.now) choice (planned plan.entry) text begun (again_of place ∷ ss) self.old left (O.tape output.old) →
             OnOk result (Reached (C.cluster setup.now) choice (planned plan.entry) text begun ss self.new left (O.tape output.new)) }
-        ensures short { (choice : Choice) (text begun left : Tape) (ss : List Step) → SameChoice choice (P.choice spread.now) → IsAgain place plan.entry.steps.now →
+        ensures short { (choice : Choice) (text begun left : Tape) (ss : List Step) → SameChoice choice (P.choice spread.now) →
             Reached (C.cluster setup.now) choice (planned plan.entry) text begun (again_of place ∷ ss) self.old left (O.tape output.old) →
             IfErr result (λ fault. Shortened (C.cluster setup.now) choice (planned plan.entry) self.old.intake.head text left begun (O.tape output.new) fault) }
     {
-        match self.seen_one(alloc, place) {
+        // A capture has few records, so the counts have room.
+        let _ = self.intake.given();
+        match self.kept.take(alloc, place) {
             Ok(Some(frame)) => {
                 let _ = self.intake.exchange(frame);
                 match self.deliver(alloc, core, setup, spread, plan, place, output) {
@@ -413,10 +400,10 @@ impl Stage {
         ensures choice { SameChoice (P.choice spread.old) (P.choice spread.new) }
         ensures few { (n : ℕ) → Counted self.old.intake.given n self.old.play → OnOk result (Counted self.new.intake.given (n + 1) self.new.play) }
         ensures head { self.new.intake.head ≡ self.old.intake.head }
-        ensures reached { (choice : Choice) (text begun : Tape) (ss : List Step) → SameChoice choice (P.choice spread.old) → AmongSteps step.now plan.entry.steps.now →
+        ensures reached { (choice : Choice) (text begun : Tape) (ss : List Step) → SameChoice choice (P.choice spread.old) →
             Reached (C.cluster setup.now) choice (planned plan.entry) text begun (step.now ∷ ss) self.old (I.tape input.old) (O.tape output.old) →
             OnOk result (Reached (C.cluster setup.now) choice (planned plan.entry) text begun ss self.new (I.tape input.new) (O.tape output.new)) }
-        ensures short { (choice : Choice) (text begun : Tape) (ss : List Step) → SameChoice choice (P.choice spread.old) → AmongSteps step.now plan.entry.steps.now →
+        ensures short { (choice : Choice) (text begun : Tape) (ss : List Step) → SameChoice choice (P.choice spread.old) →
             Reached (C.cluster setup.now) choice (planned plan.entry) text begun (step.now ∷ ss) self.old (I.tape input.old) (O.tape output.old) →
             IfErr result (λ fault. Shortened (C.cluster setup.now) choice (planned plan.entry) self.old.intake.head text (I.tape input.new) begun (O.tape output.new) fault) }
     {

@@ -1,4 +1,4 @@
-use Rattle.std.proofs.Common.{◌≡◌, ◌+◌, ◌<◌, ◌∷◌, [], ℕ, Some, None, refl, sym, subst, ap, ◌∙◌, arith, reverse, option_map}
+use Rattle.std.proofs.Common.{◌≡◌, ◌+◌, ◌<◌, ◌∷◌, ◌++◌, [], ℕ, Some, None, slice_get, refl, sym, subst, ap, ◌∙◌, arith, reverse, option_map}
 use Rattle.pcap_file.specs.Format.{packet}
 use Rattle.course.specs.Course.{Course}
 use Rattle.course.specs.Room.{Counted}
@@ -10,29 +10,29 @@ use Rattle.simulation.specs.Plans.{planned}
 use Rattle.simulation.specs.Intake.{Taking}
 use Rattle.simulation.specs.Sent.{packet_in, packets_of, sent, WroteUntil}
 use Rattle.simulation.specs.Simulated.{traffic_of}
-use Rattle.simulation.specs.PrivateKeeping.{found}
+use Rattle.simulation.specs.PrivateKeeping.{KeepsNamed}
 use Rattle.simulation.specs.PrivateStages.{Sound}
 use Rattle.simulation.specs.declared.staging.Stage.{Stage}
-use Rattle.simulation.proofs.Reaching.{short_of, sound_same, if_some, if_none, packet_there, packet_none, repeated, reached_same, short_same, counted_again, counted_skip}
+use Rattle.simulation.proofs.Reaching.{short_of, sound_same, is_there, packet_there, packet_none, repeated, reached_same, short_same, counted_again, counted_skip}
 use Rattle.simulation.proofs.staging.Stage.again.Goals as goal
 
 pub deliver-requires-clause-room : goal.deliver-requires-clause-room
-deliver-requires-clause-room g c = omega (arith, c.requires.few.1, c.requires.few.2.read, c.requires.few.2.unrouted, c.seen_one.ensures.few)
+deliver-requires-clause-room g c = omega (arith, c.requires.few.1, c.requires.few.2.read, c.requires.few.2.unrouted, c.given.ensures.few)
 
 pub deliver-requires-clause-many : goal.deliver-requires-clause-many
-deliver-requires-clause-many g c = omega (arith, c.requires.few.1, c.requires.few.2.read, c.requires.few.2.nth, c.seen_one.ensures.few)
+deliver-requires-clause-many g c = omega (arith, c.requires.few.1, c.requires.few.2.read, c.requires.few.2.nth, c.given.ensures.few)
 
 pub repeat-requires-clause-room : goal.repeat-requires-clause-room
-repeat-requires-clause-room g c = omega (arith, c.requires.few.1, c.requires.few.2.read, c.requires.few.2.unrouted, c.seen_one.ensures.few)
+repeat-requires-clause-room g c = omega (arith, c.requires.few.1, c.requires.few.2.read, c.requires.few.2.unrouted, c.given.ensures.few)
 
 pub repeat-requires-clause-many : goal.repeat-requires-clause-many
-repeat-requires-clause-many g c = omega (arith, c.requires.few.1, c.requires.few.2.read, c.requires.few.2.nth, c.seen_one.ensures.few)
+repeat-requires-clause-many g c = omega (arith, c.requires.few.1, c.requires.few.2.read, c.requires.few.2.nth, c.given.ensures.few)
 
 pub returns-in-Err-clause-short : goal.returns-in-Err-clause-short
-returns-in-Err-clause-short g c = λ choice text begun left ss same named r. short_of _ _ (planned c.args.plan) text begun _ c.args.self.now _ _ r
+returns-in-Err-clause-short g c = λ choice text begun left ss same r. short_of _ _ (planned c.args.plan) text begun _ c.args.self.now _ _ r
 
 pub returns-in-Err-repeat-clause-short : goal.returns-in-Err-repeat-clause-short
-returns-in-Err-repeat-clause-short g c = λ choice text begun left ss same named r. short_of _ _ (planned c.args.plan) text begun _ c.args.self.now _ _ r
+returns-in-Err-repeat-clause-short g c = λ choice text begun left ss same r. short_of _ _ (planned c.args.plan) text begun _ c.args.self.now _ _ r
 
 pub returns-in-Ok-repeat-clause-few : goal.returns-in-Ok-repeat-clause-few
 returns-in-Ok-repeat-clause-few g c = λ n h.
@@ -40,21 +40,20 @@ returns-in-Ok-repeat-clause-few g c = λ n h.
     counted_skip c.args.self.now.intake.given n c.args.self.now.play c.repeat.new.self (c.in-Ok-repeat.ensures.after w0 refl (λ live flow nth. refl) ∙ repeat_none w0 c.args.place c.args.self.now.play) h
 
 pub returns-in-Ok-repeat-clause-reached : goal.returns-in-Ok-repeat-clause-reached
-returns-in-Ok-repeat-clause-reached g c = λ choice text begun left ss same named r.
+returns-in-Ok-repeat-clause-reached g c = λ choice text begun left ss same r.
     let cluster = g.C.Core.cluster c.args.setup.now in
     let plan = planned c.args.plan in
     let old = c.args.self.now in
-    let new : Stage = record { play = c.repeat.new.self; events = c.repeat.new.events; relay = old.relay; kept = old.kept; intake = old.intake } in
+    let new : Stage = record { play = c.repeat.new.self; events = c.repeat.new.events; relay = old.relay; kept = c.take.new.self; intake = old.intake } in
     let w0 = world_of cluster choice [] in
     let skip = c.in-Ok-repeat.ensures.after w0 refl same ∙ repeat_none w0 c.args.place old.play in
-    let given : old.intake.given ≡ old.play.read = r.read.count ∙ sym r.place in
-    let none = if_none c.args.place old.intake.given (found old.kept c.args.place) (sym (ap (λ o. option_map packet o) c.in-Ok-None.field-0-is) ∙ c.in-Ok-None.ensures.value) in
-    reached_same cluster choice plan text begun (again_of c.args.place ∷ ss) ss old new left _ _ r (refl, refl, refl) (ap (λ (x : Course). x.read) skip) refl
-    (λ all h l. let w = world_of cluster choice (packets_of old.intake.head.link plan.check all) in
-    repeated cluster choice plan old.intake.head.link all c.args.place ss old.play new.play None
-    (packet_none old.intake.head.link plan.check all c.args.place old.play.read (found old.kept c.args.place) (rw (sym given) none) (λ lt. h c.args.place named lt))
+    let none : None ≡ slice_get r.seen c.args.place = sym (ap (λ o. option_map packet o) c.in-Ok-None.field-0-is) ∙ c.in-Ok-None.ensures.record r.seen ss r.kept in
+    reached_same cluster choice plan text begun (again_of c.args.place ∷ ss) ss old new left _ _ r (refl, refl, refl) (ap (λ (x : Course). x.read) skip) (c.in-Ok-None.ensures.keeps r.seen ss r.kept)
+    (λ more l. let w = world_of cluster choice (packets_of old.intake.head.link plan.check (r.seen ++ more)) in
+    repeated cluster choice plan old.intake.head.link (r.seen ++ more) c.args.place ss old.play new.play None
+    (packet_none old.intake.head.link plan.check r.seen more c.args.place old.play.read r.place none)
     (c.in-Ok-repeat.ensures.after w refl same) l)
-    (λ all h s. sound_same cluster plan old.intake.head.link all old.play new.play old.relay.waiting old.relay.waiting begun _ (ap (λ (x : Course). x.past) skip) refl s)
+    (λ more s. sound_same cluster plan old.intake.head.link (r.seen ++ more) old.play new.play old.relay.waiting old.relay.waiting begun _ (ap (λ (x : Course). x.past) skip) refl s)
 
 pub returns-in-Ok-clause-few : goal.returns-in-Ok-clause-few
 returns-in-Ok-clause-few g c = λ n h.
@@ -64,48 +63,49 @@ returns-in-Ok-clause-few g c = λ n h.
     (counted_again c.args.self.now.intake.given n w0 _ c.args.self.now.play c.deliver.new.self.play c.args.place (c.in-Ok.ensures.play w0 refl (λ live flow nth. refl)) h)
 
 pub returns-in-Ok-clause-reached : goal.returns-in-Ok-clause-reached
-returns-in-Ok-clause-reached g c = λ choice text begun left ss same named r.
+returns-in-Ok-clause-reached g c = λ choice text begun left ss same r.
     let cluster = g.C.Core.cluster c.args.setup.now in
     let plan = planned c.args.plan in
     let old = c.args.self.now in
     let new = c.deliver.new.self in
     let link = old.intake.head.link in
     let x = packet c.in-Ok-Some.frame in
-    let got = if_some c.args.place old.intake.given (found old.kept c.args.place) x (sym (ap (λ o. option_map packet o) c.in-Ok-Some.field-0-is) ∙ c.in-Ok-Some.ensures.value) in
-    let given : old.intake.given ≡ old.play.read = r.read.count ∙ sym r.place in
-    let lt : c.args.place < old.play.read = omega (arith, got.0, given) in
+    let got : Some x ≡ slice_get r.seen c.args.place = sym (ap (λ o. option_map packet o) c.in-Ok-Some.field-0-is) ∙ c.in-Ok-Some.ensures.record r.seen ss r.kept in
     let rest = c.exchange.ensures.rest in
     let w0 = world_of cluster choice [] in
     reached_same cluster choice plan text begun (again_of c.args.place ∷ ss) ss old new left _ _ r
     (c.in-Ok.ensures.intake.0 ∙ ap (λ (t : Taking). t.given) rest, c.in-Ok.ensures.intake.1 ∙ ap (λ (t : Taking). t.ended) rest, c.in-Ok.ensures.intake.2 ∙ ap (λ (t : Taking). t.head) rest)
-    (ap (λ (y : Course). y.read) (c.in-Ok.ensures.play w0 refl same) ∙ (deliver_hands w0 c.args.place _ old.play).read) c.in-Ok.ensures.kept
-    (λ all h l. let w = world_of cluster choice (packets_of link plan.check all) in
+    (ap (λ (y : Course). y.read) (c.in-Ok.ensures.play w0 refl same) ∙ (deliver_hands w0 c.args.place _ old.play).read)
+    (subst (KeepsNamed r.seen ss) (sym c.in-Ok.ensures.kept) (c.in-Ok-Some.ensures.keeps r.seen ss r.kept))
+    (λ more l. let all = r.seen ++ more in
+    let w = world_of cluster choice (packets_of link plan.check all) in
+    let there = is_there r.seen more c.args.place x got in
     repeated cluster choice plan link all c.args.place ss old.play new.play (Some (packet_in link plan.check x))
-    (packet_there link plan.check all c.args.place old.play.read (Some x) lt (sym (h c.args.place named lt) ∙ got.1))
+    (packet_there link plan.check all c.args.place old.play.read (Some x) (omega (arith, there.0, r.place)) there.1)
     (c.in-Ok.ensures.play w refl same ∙ ap (λ (t : Taking). deliver w c.args.place (packet_in t.head.link plan.check t.record_read) old.play) rest ∙ sym (repeat_some w c.args.place (packet_in link plan.check x) old.play)) l)
-    (λ all h s. subst (λ (t : Taking). Sound cluster plan t.head.link all new.play new.relay.waiting begun (g.O.Sink.tape c.deliver.new.output)) rest
+    (λ more s. let all = r.seen ++ more in
+    subst (λ (t : Taking). Sound cluster plan t.head.link all new.play new.relay.waiting begun (g.O.Sink.tape c.deliver.new.output)) rest
     (c.in-Ok.ensures.sound all begun
     (subst (λ (t : Taking). Sound cluster plan t.head.link all old.play old.relay.waiting begun (g.O.Sink.tape c.args.output.now)) (sym rest) s)
-    (sym (h c.args.place named lt) ∙ got.1 ∙ ap (λ (t : Taking). Some t.record_read) (sym rest))))
+    ((is_there r.seen more c.args.place x got).1 ∙ ap (λ (t : Taking). Some t.record_read) (sym rest))))
 
 pub returns-in-Err-deliver-clause-short : goal.returns-in-Err-deliver-clause-short
-returns-in-Err-deliver-clause-short g c = λ choice text begun left ss same named r.
+returns-in-Err-deliver-clause-short g c = λ choice text begun left ss same r.
     let cluster = g.C.Core.cluster c.args.setup.now in
     let plan = planned c.args.plan in
     let old = c.args.self.now in
     let link = old.intake.head.link in
     let x = packet c.in-Ok-Some.frame in
-    let got = if_some c.args.place old.intake.given (found old.kept c.args.place) x (sym (ap (λ o. option_map packet o) c.in-Ok-Some.field-0-is) ∙ c.in-Ok-Some.ensures.value) in
-    let given : old.intake.given ≡ old.play.read = r.read.count ∙ sym r.place in
-    let lt : c.args.place < old.play.read = omega (arith, got.0, given) in
+    let got : Some x ≡ slice_get r.seen c.args.place = sym (ap (λ o. option_map packet o) c.in-Ok-Some.field-0-is) ∙ c.in-Ok-Some.ensures.record r.seen ss r.kept in
+    let lt = (is_there r.seen [] c.args.place x got).0 in
     let rest = c.exchange.ensures.rest in
     let w = world_of cluster choice (packets_of link plan.check r.seen) in
     let d : Course = deliver w c.args.place (packet_in link plan.check x) old.play in
     short_same cluster choice plan text begun (again_of c.args.place ∷ ss) ss old left _ _ d c.in-Err-deliver.fault r c.in-Err-deliver.ensures.named
-    (λ h l. repeated cluster choice plan link r.seen c.args.place ss old.play d (Some (packet_in link plan.check x))
-    (packet_there link plan.check r.seen c.args.place old.play.read (Some x) lt (sym (h c.args.place named lt) ∙ got.1))
+    (λ l. repeated cluster choice plan link r.seen c.args.place ss old.play d (Some (packet_in link plan.check x))
+    (packet_there link plan.check r.seen c.args.place old.play.read (Some x) (omega (arith, lt, r.place)) (sym got))
     (sym (repeat_some w c.args.place (packet_in link plan.check x) old.play)) l)
-    (λ h s. subst (λ (t : Taking). WroteUntil c.in-Err-deliver.fault begun (g.O.Sink.tape c.deliver.new.output) (sent (traffic_of plan t.head.link r.seen) (reverse (deliver w c.args.place (packet_in t.head.link plan.check t.record_read) old.play).past))) rest
+    (λ s. subst (λ (t : Taking). WroteUntil c.in-Err-deliver.fault begun (g.O.Sink.tape c.deliver.new.output) (sent (traffic_of plan t.head.link r.seen) (reverse (deliver w c.args.place (packet_in t.head.link plan.check t.record_read) old.play).past))) rest
     (c.in-Err-deliver.ensures.cut w r.seen begun refl same
     (subst (λ (t : Taking). Sound cluster plan t.head.link r.seen old.play old.relay.waiting begun (g.O.Sink.tape c.args.output.now)) (sym rest) s)
-    (sym (h c.args.place named lt) ∙ got.1 ∙ ap (λ (t : Taking). Some t.record_read) (sym rest))))
+    (sym got ∙ ap (λ (t : Taking). Some t.record_read) (sym rest))))

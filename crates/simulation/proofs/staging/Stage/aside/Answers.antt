@@ -1,11 +1,12 @@
-use Rattle.std.proofs.Common.{◌+◌, ◌∷◌, [], refl, sym, subst, ap}
+use Rattle.std.proofs.Common.{◌+◌, ◌∷◌, ◌++◌, [], refl, sym, subst, ap}
 use Rattle.course.specs.Course.{Course}
 use Rattle.course.specs.Room.{Counted}
 use Rattle.course.specs.Steps.{world_of, after}
 use Rattle.simulation.specs.Plans.{planned}
 use Rattle.simulation.specs.Intake.{Taking}
 use Rattle.simulation.specs.Sent.{packets_of}
-use Rattle.simulation.proofs.Reaching.{reached_same, short_same, stepped_left, counted_apart, read_apart}
+use Rattle.simulation.specs.PrivateKeeping.{KeepsNamed}
+use Rattle.simulation.proofs.Reaching.{reached_same, short_same, stepped_left, counted_apart, read_apart, kept_apart}
 use Rattle.simulation.proofs.staging.Stage.aside.Goals as goal
 
 pub returns-in-Ok-clause-few : goal.returns-in-Ok-clause-few
@@ -24,9 +25,10 @@ returns-in-Ok-clause-reached g c = λ choice text begun left ss r.
     let w0 = world_of cluster choice [] in
     reached_same cluster choice plan text begun (c.args.step.now ∷ ss) ss old new left _ _ r
     (ap (λ (t : Taking). t.given) same, ap (λ (t : Taking). t.ended) same, ap (λ (t : Taking). t.head) same)
-    (read_apart w0 c.args.step.now old.play new.play c.requires.apart (c.in-Ok.ensures.play w0 refl c.requires.apart)) c.in-Ok.ensures.kept
-    (λ all h l. stepped_left cluster choice plan old.intake.head.link all c.args.step.now ss old.play new.play (c.in-Ok.ensures.play (world_of cluster choice (packets_of old.intake.head.link plan.check all)) refl c.requires.apart) l)
-    (λ all h s. c.in-Ok.ensures.sound all begun c.requires.apart s)
+    (read_apart w0 c.args.step.now old.play new.play c.requires.apart (c.in-Ok.ensures.play w0 refl c.requires.apart))
+    (subst (KeepsNamed r.seen ss) (sym c.in-Ok.ensures.kept) (kept_apart r.seen c.args.step.now ss old.kept c.requires.apart r.kept))
+    (λ more l. stepped_left cluster choice plan old.intake.head.link (r.seen ++ more) c.args.step.now ss old.play new.play (c.in-Ok.ensures.play (world_of cluster choice (packets_of old.intake.head.link plan.check (r.seen ++ more))) refl c.requires.apart) l)
+    (λ more s. c.in-Ok.ensures.sound (r.seen ++ more) begun c.requires.apart s)
 
 pub returns-in-Err-clause-short : goal.returns-in-Err-clause-short
 returns-in-Err-clause-short g c = λ choice text begun left ss r.
@@ -36,5 +38,5 @@ returns-in-Err-clause-short g c = λ choice text begun left ss r.
     let w = world_of cluster choice (packets_of old.intake.head.link plan.check r.seen) in
     let d : Course = after w c.args.step.now old.play in
     short_same cluster choice plan text begun (c.args.step.now ∷ ss) ss old left _ _ d c.in-Err.fault r c.in-Err.ensures.named
-    (λ h l. stepped_left cluster choice plan old.intake.head.link r.seen c.args.step.now ss old.play d refl l)
-    (λ h s. c.in-Err.ensures.cut w r.seen begun refl c.requires.apart s)
+    (λ l. stepped_left cluster choice plan old.intake.head.link r.seen c.args.step.now ss old.play d refl l)
+    (λ s. c.in-Err.ensures.cut w r.seen begun refl c.requires.apart s)

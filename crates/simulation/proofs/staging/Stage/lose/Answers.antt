@@ -33,7 +33,7 @@ loop-preserved g c = record {
 pub returns-clause-reached : goal.returns-clause-reached
 returns-clause-reached g c = λ cluster choice plan text begun out ss r.
     reached_turn cluster choice plan text begun (lose_of (c.args.count - c.loop.counter)) ss c.loop.self _ _ (c.loop.invariant.reached cluster choice plan text begun out ss r)
-    (no_more_lost cluster choice plan (c.args.count - c.loop.counter) ss c.loop.self.play (omega arith))
+    (λ k seen h. h) (no_more_lost cluster choice plan (c.args.count - c.loop.counter) ss c.loop.self.play (omega arith))
 
 pub returns-in-Err-clause-short : goal.returns-in-Err-clause-short
 returns-in-Err-clause-short g c = λ cluster choice plan text begun out ss r.

@@ -1,22 +1,22 @@
-use Rattle.std.proofs.Common.{◌∷◌, Some, subst, ◌∙◌, ap}
+use Rattle.std.proofs.Common.{◌∷◌, subst}
 use Rattle.scenario_steps.specs.declared.Step.{Step}
 use Rattle.simulation.specs.Plans.{planned}
 use Rattle.simulation.specs.PrivateStages.{Reached}
 use Rattle.simulation.proofs.staging.Stage.step.Goals as goal
 
 pub returns-in-Take-clause-short : goal.returns-in-Take-clause-short
-returns-in-Take-clause-short g c = λ choice text begun ss same among r.
+returns-in-Take-clause-short g c = λ choice text begun ss same r.
     c.take.ensures.short choice text begun ss same
     (subst (λ (s : Step). Reached (g.C.Core.cluster c.args.setup.now) choice (planned c.args.plan) text begun (s ∷ ss) c.args.self.now (g.I.Source.tape c.args.input.now) (g.O.Sink.tape c.args.output.now)) c.in-Take.is r)
 
 pub returns-in-Lose-clause-short : goal.returns-in-Lose-clause-short
-returns-in-Lose-clause-short g c = λ choice text begun ss same among r.
+returns-in-Lose-clause-short g c = λ choice text begun ss same r.
     c.lose.ensures.short (g.C.Core.cluster c.args.setup.now) choice (planned c.args.plan) text begun (g.O.Sink.tape c.args.output.now) ss
     (subst (λ (s : Step). Reached (g.C.Core.cluster c.args.setup.now) choice (planned c.args.plan) text begun (s ∷ ss) c.args.self.now (g.I.Source.tape c.args.input.now) (g.O.Sink.tape c.args.output.now)) c.in-Lose.is r)
 
 pub returns-in-Again-clause-short : goal.returns-in-Again-clause-short
-returns-in-Again-clause-short g c = λ choice text begun ss same among r.
-    c.again.ensures.short choice text begun _ ss same (record { index = among.0; there = among.1 ∙ ap (λ (s : Step). Some s) c.in-Again.is })
+returns-in-Again-clause-short g c = λ choice text begun ss same r.
+    c.again.ensures.short choice text begun _ ss same
     (subst (λ (s : Step). Reached (g.C.Core.cluster c.args.setup.now) choice (planned c.args.plan) text begun (s ∷ ss) c.args.self.now (g.I.Source.tape c.args.input.now) (g.O.Sink.tape c.args.output.now)) c.in-Again.is r)
 
 pub returns-in_default : goal.returns-in_default
@@ -26,6 +26,6 @@ returns-in_default g c = record {
   choice = c.aside.ensures.choice;
   few = c.aside.ensures.few;
   head = c.aside.ensures.head;
-  reached = λ choice text begun ss same among r. c.aside.ensures.reached choice text begun _ ss r;
-  short = λ choice text begun ss same among r. c.aside.ensures.short choice text begun _ ss r;
+  reached = λ choice text begun ss same r. c.aside.ensures.reached choice text begun _ ss r;
+  short = λ choice text begun ss same r. c.aside.ensures.short choice text begun _ ss r;
 }

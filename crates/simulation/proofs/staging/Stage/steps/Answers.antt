@@ -4,7 +4,7 @@ use Rattle.scenario_steps.specs.declared.Step.{Step}
 use Rattle.simulation.specs.Plans.{planned}
 use Rattle.simulation.specs.PrivateGoing.{Shortened}
 use Rattle.simulation.specs.PrivateStages.{Reached}
-use Rattle.simulation.proofs.Reaching.{next_step, among_steps}
+use Rattle.simulation.proofs.Reaching.{next_step}
 use Rattle.simulation.proofs.staging.Stage.steps.Goals as goal
 
 pub returns-in-Err-clause-short : goal.returns-in-Err-clause-short
@@ -13,7 +13,7 @@ returns-in-Err-clause-short g c = λ text begun r.
     let here = subst (λ (l : List Step). Reached (g.C.Core.cluster c.args.setup.now) (g.P.Spread.choice c.args.spread.now) (planned c.args.plan) text begun l c.loop-step.self (g.I.Source.tape c.loop-step.input) (g.O.Sink.tape c.loop-step.output))
     (next_step c.args.plan.steps.now i c.step-item.result (omega arith) c.step-item.is) (c.loop-step.invariant.reached text begun r) in
     subst (λ (h : Head). Shortened (g.C.Core.cluster c.args.setup.now) (g.P.Spread.choice c.args.spread.now) (planned c.args.plan) h text (g.I.Source.tape c.step.new.input) begun (g.O.Sink.tape c.step.new.output) c.in-Err.fault) c.loop-step.invariant.head
-    (c.in-Err.ensures.short (g.P.Spread.choice c.args.spread.now) text begun (drop (i + 1) c.args.plan.steps.now) c.loop-step.invariant.same (among_steps c.args.plan.steps.now i c.step-item.result (omega arith) c.step-item.is) here)
+    (c.in-Err.ensures.short (g.P.Spread.choice c.args.spread.now) text begun (drop (i + 1) c.args.plan.steps.now) c.loop-step.invariant.same here)
 
 pub loop-step-preserved : goal.loop-step-preserved
 loop-step-preserved g c =
@@ -27,5 +27,5 @@ loop-step-preserved g c =
       reached = λ text begun r.
           let here = subst (λ (l : List Step). Reached (g.C.Core.cluster c.args.setup.now) (g.P.Spread.choice c.args.spread.now) (planned c.args.plan) text begun l c.loop-step.self (g.I.Source.tape c.loop-step.input) (g.O.Sink.tape c.loop-step.output))
           (next_step c.args.plan.steps.now i c.step-item.result (omega arith) c.step-item.is) (c.loop-step.invariant.reached text begun r) in
-          c.in-Ok.ensures.reached (g.P.Spread.choice c.args.spread.now) text begun (drop (i + 1) c.args.plan.steps.now) c.loop-step.invariant.same (among_steps c.args.plan.steps.now i c.step-item.result (omega arith) c.step-item.is) here;
+          c.in-Ok.ensures.reached (g.P.Spread.choice c.args.spread.now) text begun (drop (i + 1) c.args.plan.steps.now) c.loop-step.invariant.same here;
     }

@@ -44,4 +44,4 @@ pub returns-clause-reached : goal.returns-clause-reached
 returns-clause-reached g c = λ choice text begun ss same r.
     let cluster = g.C.Core.cluster c.args.setup.now in
     reached_turn cluster choice (planned c.args.plan) text begun (take_of (c.args.count - c.loop.counter)) ss c.loop.self _ _ (c.loop.invariant.reached choice text begun ss same r)
-    (no_more_taken cluster choice (planned c.args.plan) (c.args.count - c.loop.counter) ss c.loop.self.play (omega arith))
+    (λ k seen h. h) (no_more_taken cluster choice (planned c.args.plan) (c.args.count - c.loop.counter) ss c.loop.self.play (omega arith))

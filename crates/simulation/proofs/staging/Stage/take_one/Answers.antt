@@ -9,15 +9,17 @@ use Rattle.simulation.specs.Plans.{planned}
 use Rattle.simulation.specs.Sent.{packet_in, packets_of, sent, WroteUntil}
 use Rattle.simulation.specs.Simulated.{traffic_of}
 use Rattle.simulation.specs.Intake.{SeenMore}
+use Rattle.simulation.specs.PrivateKeeping.{KeepsNamed}
 use Rattle.simulation.specs.PrivateStages.{Sound}
-use Rattle.simulation.proofs.Reaching.{short_read, reached_end, took_all, OneMore, seen_same, reached_more, short_more, took, at_place, sound_same, counted_taken, delivered_same}
+use Rattle.simulation.proofs.Named.{at_place}
+use Rattle.simulation.proofs.Reaching.{short_read, reached_end, took_all, OneMore, seen_same, reached_more, short_more, took, sound_same, counted_taken, delivered_same}
 use Rattle.simulation.proofs.staging.Stage.take_one.Goals as goal
 
 pub returns-in-Ok-false-clause-reached : goal.returns-in-Ok-false-clause-reached
 returns-in-Ok-false-clause-reached g c = λ choice text begun ss k same r.
     let cluster = g.C.Core.cluster c.args.setup.now in
     reached_end cluster choice (planned c.args.plan) text begun (take_of (k + 1)) ss c.args.self.now c.read_one.new.self _ _ _ r (subst (λ (b : Bool). SeenMore b text r.seen (g.I.Source.tape c.read_one.new.input) c.read_one.new.self.intake) c.in-Ok-false.field-0-test (c.in-Ok-false.ensures.more text r.seen r.read))
-    c.in-Ok-false.ensures.play c.in-Ok-false.ensures.relay (c.in-Ok-false.ensures.none c.in-Ok-false.field-0-test).1 c.in-Ok-false.ensures.head
+    c.in-Ok-false.ensures.play c.in-Ok-false.ensures.relay (subst (KeepsNamed r.seen ss) (sym (c.in-Ok-false.ensures.none c.in-Ok-false.field-0-test).1) r.kept) c.in-Ok-false.ensures.head
     (λ link l. took_all cluster choice (planned c.args.plan) link r.seen (k + 1) ss c.args.self.now.play r.place l)
 
 pub returns-in-Err-clause-short : goal.returns-in-Err-clause-short
@@ -48,15 +50,14 @@ returns-in-Ok-clause-reached g c = λ choice text begun ss k same r.
     let read = subst (λ (b : Bool). SeenMore b text r.seen (g.I.Source.tape c.read_one.new.input) mid.intake) c.in-Ok-true.field-0-test (c.in-Ok-true.ensures.more text r.seen r.read) in
     let moved : s ≡ record old.play { read = old.play.read + 1 } = c.next_place-place.ensures.after ∙ ap (λ (y : Course). record y { read = y.read + 1 }) c.in-Ok-true.ensures.play in
     let place : c.next_place-place.result ≡ old.play.read = c.next_place-place.ensures.place ∙ ap (λ (y : Course). y.read) c.in-Ok-true.ensures.play in
-    let more : OneMore plan text r.seen x old new (g.I.Source.tape c.read_one.new.input) = record {
+    let more : OneMore text r.seen x old new (g.I.Source.tape c.read_one.new.input) = record {
       read = seen_same mid.intake new.intake text _ (r.seen ++ x ∷ []) c.in-Ok.ensures.intake.2 c.in-Ok.ensures.intake.1 c.in-Ok.ensures.intake.0 read.0;
       going = sym (c.in-Ok-true.ensures.same c.in-Ok-true.field-0-test).0 ∙ read.1;
       head = c.in-Ok.ensures.intake.2 ∙ c.in-Ok-true.ensures.head;
-      named = rw c.in-Ok.ensures.kept (c.in-Ok-true.ensures.named plan.steps r.named);
-      holds = λ all h e. rw c.in-Ok.ensures.kept (c.in-Ok-true.ensures.holds all plan.steps r.named h c.in-Ok-true.field-0-test e);
     } in
     reached_more cluster choice plan text begun (take_of (k + 1) ∷ ss) (take_of k ∷ ss) old new _ _ _ _ x r more
     (handed_next (world_of cluster choice []) _ old.play s new.play c.next_place-place.result moved (c.in-Ok.ensures.play (world_of cluster choice []) refl same)).0
+    (rw c.in-Ok.ensures.kept (c.in-Ok-true.ensures.keeps r.seen (take_of k ∷ ss) r.read.count r.kept c.in-Ok-true.field-0-test))
     (λ rest l. let w = world_of cluster choice (packets_of link plan.check (r.seen ++ x ∷ rest)) in
     took cluster choice plan link r.seen rest x k ss old.play new.play r.place
     (c.in-Ok.ensures.play w refl same ∙ delivered_same w plan.check x mid.intake.head old.intake.head c.next_place-place.result old.play.read s (record old.play { read = old.play.read + 1 }) c.in-Ok-true.ensures.head place moved) l)
@@ -78,12 +79,10 @@ returns-in-Err-deliver-clause-short g c = λ choice text begun ss k same r.
     let read = subst (λ (b : Bool). SeenMore b text r.seen (g.I.Source.tape c.read_one.new.input) mid.intake) c.in-Ok-true.field-0-test (c.in-Ok-true.ensures.more text r.seen r.read) in
     let moved : s ≡ record old.play { read = old.play.read + 1 } = c.next_place-place.ensures.after ∙ ap (λ (y : Course). record y { read = y.read + 1 }) c.in-Ok-true.ensures.play in
     let place : c.next_place-place.result ≡ old.play.read = c.next_place-place.ensures.place ∙ ap (λ (y : Course). y.read) c.in-Ok-true.ensures.play in
-    let more : OneMore plan text r.seen x old mid (g.I.Source.tape c.read_one.new.input) = record {
+    let more : OneMore text r.seen x old mid (g.I.Source.tape c.read_one.new.input) = record {
       read = read.0;
       going = sym (c.in-Ok-true.ensures.same c.in-Ok-true.field-0-test).0 ∙ read.1;
       head = c.in-Ok-true.ensures.head;
-      named = c.in-Ok-true.ensures.named plan.steps r.named;
-      holds = λ all h e. c.in-Ok-true.ensures.holds all plan.steps r.named h c.in-Ok-true.field-0-test e;
     } in
     let w = world_of cluster choice (packets_of link plan.check (r.seen ++ x ∷ [])) in
     let d : Course = deliver w old.play.read (packet_in link plan.check x) (record old.play { read = old.play.read + 1 }) in

@@ -1,0 +1,115 @@
+-- What is kept as steps are counted, records are read, and steps are done.
+use Rattle.std.proofs.Common.{◌≡◌, ◌⊎◌, inl, inr, take, ℕ, zero, suc, ◌+◌, ◌≤◌, ◌<◌, true, false, List, [], ◌∷◌, ◌++◌, length, Option, Some, None, refl, sym, ap, ◌∙◌, subst, arith, slice_get, get_or}
+use Rattle.std.proofs.lemmas.Bool.{cases_eq, eq-eqb, ne_eqb, cond-true, cond-false}
+use Rattle.std.proofs.lemmas.List.{length-take}
+use Rattle.std.proofs.lemmas.List.Recursion.{is_count_by}
+use Rattle.std.proofs.lemmas.List.Sums.{count_by-le-length, count_by_more_yes, count_by_more_no}
+use Rattle.std.specs.Prelude.{Bool, ◌==◌, if◌then◌else◌, count_by}
+use Rattle.pcap_file.specs.Format.{Packet as Record}
+use Rattle.scenario_steps.specs.declared.Step.{Step}
+use Rattle.scenario_steps.specs.declared.Step.TheVariants as steps
+use Rattle.course.specs.PrivateStreams.{again_of}
+use Rattle.simulation.specs.declared.keeping.Kept.{Kept}
+use Rattle.simulation.specs.PrivateKeeping.{names, times_named, kept_at, times_in, to_keep, KeepsNamed}
+
+times_count : (q : ℕ) (ss : List Step) → times_named q ss ≡ count_by (names q) ss
+times_count q ss = is_count_by (times_named q) (names q) refl (λ s rest. ap (λ (n : ℕ). if names q s then n else times_named q rest) (omega arith)) ss
+
+pub times_few : (q : ℕ) (ss : List Step) (i : ℕ) → times_named q (take i ss) ≤ i
+times_few q ss i = omega (arith, times_count q (take i ss), count_by-le-length (names q) (take i ss), length-take i ss)
+
+-- the count with one step more
+times_more : (q : ℕ) (ss : List Step) (i : ℕ) (s : Step) → i < length ss → s ≡ get_or ss i s → names q s ≡ true → times_named q (take (i + 1) ss) ≡ suc (times_named q (take i ss))
+times_more q ss i s lt e y = omega (arith, times_count q (take (i + 1) ss), times_count q (take i ss), count_by_more_yes (names q) ss i s lt (ap (names q) (sym e) ∙ y))
+
+times_same : (q : ℕ) (ss : List Step) (i : ℕ) (s : Step) → i < length ss → s ≡ get_or ss i s → names q s ≡ false → times_named q (take (i + 1) ss) ≡ times_named q (take i ss)
+times_same q ss i s lt e n = times_count q (take (i + 1) ss) ∙ count_by_more_no (names q) ss i s lt (ap (names q) (sym e) ∙ n) ∙ sym (times_count q (take i ss))
+
+pub times_kept : (n : ℕ) (r : Option Record) → times_in (to_keep n r) ≡ n
+times_kept zero r = refl
+times_kept (suc n) r = refl
+
+some_kept : (n : ℕ) (r : Option Record) → (n ≡ 0 → ⊥) → Some (n, r) ≡ to_keep n r
+some_kept zero r bad = absurd (bad refl)
+some_kept (suc n) r bad = refl
+
+-- a step that names a place was counted
+pub counted_again : (ss : List Step) (i : ℕ) (s : Step) (place times : ℕ) (old new : Kept) → i < length ss → s ≡ get_or ss i s → s ≡ again_of place
+    → ((q : ℕ) → kept_at old q ≡ to_keep (times_named q (take i ss)) None) → times ≡ times_in (kept_at old place) + 1
+    → ((q : ℕ) → kept_at new q ≡ (if q == place then Some (times, None) else kept_at old q)) → (q : ℕ) → kept_at new q ≡ to_keep (times_named q (take (i + 1) ss)) None
+counted_again ss i s place times old new lt e a h t n q = go (cases_eq q place)
+  where
+    go : (q ≡ place) ⊎ (q ≡ place → ⊥) → kept_at new q ≡ to_keep (times_named q (take (i + 1) ss)) None
+    go (inl f) =
+        let before : times_in (kept_at old q) ≡ times_named q (take i ss) = ap times_in (h q) ∙ times_kept (times_named q (take i ss)) None in
+        let count : times ≡ suc (times_named q (take i ss)) = omega (arith, t, before, ap (λ (p : ℕ). times_in (kept_at old p)) f) in
+        let more : times_named q (take (i + 1) ss) ≡ suc (times_named q (take i ss)) = times_more q ss i s lt e (ap (names q) a ∙ eq-eqb q place f) in
+        n q ∙ cond-true (q == place) (Some (times, None)) (kept_at old q) (eq-eqb q place f) ∙ ap (λ (m : ℕ). Some (m, None)) count ∙ sym (ap (λ (m : ℕ). to_keep m None) more)
+    go (inr f) =
+        n q ∙ cond-false (q == place) (Some (times, None)) (kept_at old q) (ne_eqb q place f) ∙ h q
+        ∙ ap (λ (m : ℕ). to_keep m None) (sym (times_same q ss i s lt e (ap (names q) a ∙ ne_eqb q place f)))
+
+-- a step that delivers nothing again names no place
+pub names_none : (place : ℕ) (s : Step) → ((k : ℕ) → s ≡ again_of k → ⊥) → names place s ≡ false
+names_none place (steps.Install n v) bad = refl
+names_none place (steps.Live ns) bad = refl
+names_none place (steps.Take k) bad = refl
+names_none place (steps.Lose k) bad = refl
+names_none place (steps.Again k) bad = absurd (bad k refl)
+names_none place (steps.Full n m) bad = refl
+names_none place (steps.Hold n) bad = refl
+names_none place (steps.Drain n) bad = refl
+names_none place (steps.Restart n) bad = refl
+
+-- another step was
+pub counted_other : (ss : List Step) (i : ℕ) (s : Step) (k : Kept) → i < length ss → s ≡ get_or ss i s → ((q : ℕ) → names q s ≡ false)
+    → ((q : ℕ) → kept_at k q ≡ to_keep (times_named q (take i ss)) None) → (q : ℕ) → kept_at k q ≡ to_keep (times_named q (take (i + 1) ss)) None
+counted_other ss i s k lt e n h q = h q ∙ ap (λ (m : ℕ). to_keep m None) (sym (times_same q ss i s lt e (n q)))
+
+pub at_place : (seen more : List Record) (r : Record) (n : ℕ) → n ≡ length seen → slice_get (seen ++ r ∷ more) n ≡ Some r
+at_place [] more r n e = ap (λ (m : ℕ). slice_get (r ∷ more) m) e
+at_place (x ∷ seen) more r n e = ap (λ (m : ℕ). slice_get (x ∷ seen ++ r ∷ more) m) e ∙ at_place seen more r (length seen) refl
+
+apart_place : (seen : List Record) (x : Record) (q : ℕ) → (q ≡ length seen → ⊥) → slice_get (seen ++ x ∷ []) q ≡ slice_get seen q
+apart_place [] x zero bad = absurd (bad refl)
+apart_place [] x (suc q) bad = refl
+apart_place (y ∷ seen) x zero bad = refl
+apart_place (y ∷ seen) x (suc q) bad = apart_place seen x q (λ e. bad (ap suc e))
+
+-- the next record was read, and no step that is left names it
+pub noted_none : (seen : List Record) (ss : List Step) (x : Record) (k : Kept) (place : ℕ) → place ≡ length seen → times_in (kept_at k place) ≡ 0 → KeepsNamed seen ss k → KeepsNamed (seen ++ x ∷ []) ss k
+noted_none seen ss x k place e z h q = go (cases_eq q place)
+  where
+    go : (q ≡ place) ⊎ (q ≡ place → ⊥) → kept_at k q ≡ to_keep (times_named q ss) (slice_get (seen ++ x ∷ []) q)
+    go (inl f) =
+        let none : times_named q ss ≡ 0 = sym (times_kept (times_named q ss) (slice_get seen q)) ∙ ap times_in (sym (h q)) ∙ ap (λ (p : ℕ). times_in (kept_at k p)) f ∙ z in
+        h q ∙ ap (λ (m : ℕ). to_keep m (slice_get seen q)) none ∙ sym (ap (λ (m : ℕ). to_keep m (slice_get (seen ++ x ∷ []) q)) none)
+    go (inr f) = h q ∙ ap (to_keep (times_named q ss)) (sym (apart_place seen x q (λ g. f (g ∙ sym e))))
+
+-- the next record was read, and a step that is left names it
+pub noted_some : (seen : List Record) (ss : List Step) (x : Record) (old new : Kept) (place times : ℕ) → place ≡ length seen → times ≡ times_in (kept_at old place) → (times ≡ 0 → ⊥)
+    → ((q : ℕ) → kept_at new q ≡ (if q == place then Some (times, Some x) else kept_at old q)) → KeepsNamed seen ss old → KeepsNamed (seen ++ x ∷ []) ss new
+noted_some seen ss x old new place times e t bad n h q = go (cases_eq q place)
+  where
+    go : (q ≡ place) ⊎ (q ≡ place → ⊥) → kept_at new q ≡ to_keep (times_named q ss) (slice_get (seen ++ x ∷ []) q)
+    go (inl f) =
+        let count : times ≡ times_named q ss = t ∙ ap (λ (p : ℕ). times_in (kept_at old p)) (sym f) ∙ ap times_in (h q) ∙ times_kept (times_named q ss) (slice_get seen q) in
+        n q ∙ cond-true (q == place) (Some (times, Some x)) (kept_at old q) (eq-eqb q place f) ∙ some_kept times (Some x) bad
+        ∙ ap (λ (m : ℕ). to_keep m (Some x)) count ∙ ap (to_keep (times_named q ss)) (sym (at_place seen [] x q (f ∙ e)))
+    go (inr f) =
+        n q ∙ cond-false (q == place) (Some (times, Some x)) (kept_at old q) (ne_eqb q place f) ∙ h q
+        ∙ ap (to_keep (times_named q ss)) (sym (apart_place seen x q (λ g. f (g ∙ sym e))))
+
+-- what was kept of the place that the next step names
+pub again_kept : (seen : List Record) (ss : List Step) (place : ℕ) (k : Kept) → KeepsNamed seen (again_of place ∷ ss) k → kept_at k place ≡ Some (suc (times_named place ss), slice_get seen place)
+again_kept seen ss place k h =
+    h place ∙ ap (λ (b : Bool). to_keep (if b then suc (times_named place ss) else times_named place ss) (slice_get seen place)) (eq-eqb place place refl)
+
+-- that step was done
+pub taken : (seen : List Record) (ss : List Step) (place : ℕ) (old new : Kept) → KeepsNamed seen (again_of place ∷ ss) old → kept_at new place ≡ to_keep (times_named place ss) (slice_get seen place)
+    → ((q : ℕ) → (q ≡ place → ⊥) → kept_at new q ≡ kept_at old q) → KeepsNamed seen ss new
+taken seen ss place old new h here others q = go (cases_eq q place)
+  where
+    go : (q ≡ place) ⊎ (q ≡ place → ⊥) → kept_at new q ≡ to_keep (times_named q ss) (slice_get seen q)
+    go (inl f) = subst (λ (p : ℕ). kept_at new p ≡ to_keep (times_named p ss) (slice_get seen p)) (sym f) here
+    go (inr f) = others q f ∙ h q ∙ ap (λ (b : Bool). to_keep (if b then suc (times_named q ss) else times_named q ss) (slice_get seen q)) (ne_eqb q place f)
