@@ -1,10 +1,10 @@
 -- What is kept as steps are counted, records are read, and steps are done.
-use Rattle.std.proofs.Common.{◌≡◌, ◌⊎◌, inl, inr, take, ℕ, zero, suc, ◌+◌, ◌≤◌, ◌<◌, true, false, List, [], ◌∷◌, ◌++◌, length, Option, Some, None, refl, sym, ap, ◌∙◌, subst, arith, slice_get, get_or}
+use Rattle.std.proofs.Common.{◌≡◌, ◌⊎◌, inl, inr, take, ℕ, zero, suc, ◌+◌, ◌≤◌, ◌<◌, true, false, List, [], ◌∷◌, ◌++◌, length, Option, Some, None, refl, sym, ap, ◌∙◌, arith, slice_get, get_or}
 use Rattle.std.proofs.lemmas.Bool.{cases_eq, eq-eqb, ne_eqb, cond-true, cond-false}
 use Rattle.std.proofs.lemmas.List.{length-take}
 use Rattle.std.proofs.lemmas.List.Recursion.{is_count_by}
 use Rattle.std.proofs.lemmas.List.Sums.{count_by-le-length, count_by_more_yes, count_by_more_no}
-use Rattle.std.specs.Prelude.{Bool, ◌==◌, if◌then◌else◌, count_by}
+use Rattle.std.specs.Prelude.{◌==◌, if◌then◌else◌, count_by}
 use Rattle.pcap_file.specs.Format.{Packet as Record}
 use Rattle.scenario_steps.specs.declared.Step.{Step}
 use Rattle.scenario_steps.specs.declared.Step.TheVariants as steps
@@ -76,16 +76,6 @@ apart_place [] x (suc q) bad = refl
 apart_place (y ∷ seen) x zero bad = refl
 apart_place (y ∷ seen) x (suc q) bad = apart_place seen x q (λ e. bad (ap suc e))
 
--- the next record was read, and no step that is left names it
-pub noted_none : (seen : List Record) (ss : List Step) (x : Record) (k : Kept) (place : ℕ) → place ≡ length seen → times_in (kept_at k place) ≡ 0 → KeepsNamed seen ss k → KeepsNamed (seen ++ x ∷ []) ss k
-noted_none seen ss x k place e z h q = go (cases_eq q place)
-  where
-    go : (q ≡ place) ⊎ (q ≡ place → ⊥) → kept_at k q ≡ to_keep (times_named q ss) (slice_get (seen ++ x ∷ []) q)
-    go (inl f) =
-        let none : times_named q ss ≡ 0 = sym (times_kept (times_named q ss) (slice_get seen q)) ∙ ap times_in (sym (h q)) ∙ ap (λ (p : ℕ). times_in (kept_at k p)) f ∙ z in
-        h q ∙ ap (λ (m : ℕ). to_keep m (slice_get seen q)) none ∙ sym (ap (λ (m : ℕ). to_keep m (slice_get (seen ++ x ∷ []) q)) none)
-    go (inr f) = h q ∙ ap (to_keep (times_named q ss)) (sym (apart_place seen x q (λ g. f (g ∙ sym e))))
-
 -- the next record was read, and a step that is left names it
 pub noted_some : (seen : List Record) (ss : List Step) (x : Record) (old new : Kept) (place times : ℕ) → place ≡ length seen → times ≡ times_in (kept_at old place) → (times ≡ 0 → ⊥)
     → ((q : ℕ) → kept_at new q ≡ (if q == place then Some (times, Some x) else kept_at old q)) → KeepsNamed seen ss old → KeepsNamed (seen ++ x ∷ []) ss new
@@ -99,17 +89,3 @@ noted_some seen ss x old new place times e t bad n h q = go (cases_eq q place)
     go (inr f) =
         n q ∙ cond-false (q == place) (Some (times, Some x)) (kept_at old q) (ne_eqb q place f) ∙ h q
         ∙ ap (to_keep (times_named q ss)) (sym (apart_place seen x q (λ g. f (g ∙ sym e))))
-
--- what was kept of the place that the next step names
-pub again_kept : (seen : List Record) (ss : List Step) (place : ℕ) (k : Kept) → KeepsNamed seen (again_of place ∷ ss) k → kept_at k place ≡ Some (suc (times_named place ss), slice_get seen place)
-again_kept seen ss place k h =
-    h place ∙ ap (λ (b : Bool). to_keep (if b then suc (times_named place ss) else times_named place ss) (slice_get seen place)) (eq-eqb place place refl)
-
--- that step was done
-pub taken : (seen : List Record) (ss : List Step) (place : ℕ) (old new : Kept) → KeepsNamed seen (again_of place ∷ ss) old → kept_at new place ≡ to_keep (times_named place ss) (slice_get seen place)
-    → ((q : ℕ) → (q ≡ place → ⊥) → kept_at new q ≡ kept_at old q) → KeepsNamed seen ss new
-taken seen ss place old new h here others q = go (cases_eq q place)
-  where
-    go : (q ≡ place) ⊎ (q ≡ place → ⊥) → kept_at new q ≡ to_keep (times_named q ss) (slice_get seen q)
-    go (inl f) = subst (λ (p : ℕ). kept_at new p ≡ to_keep (times_named p ss) (slice_get seen p)) (sym f) here
-    go (inr f) = others q f ∙ h q ∙ ap (λ (b : Bool). to_keep (if b then suc (times_named q ss) else times_named q ss) (slice_get seen q)) (ne_eqb q place f)

@@ -1,9 +1,8 @@
 -- How a run record by record reaches its next record.
-use Rattle.std.proofs.Common.{◌≡◌, ◌⊎◌, inl, inr, take, ℕ, zero, suc, ◌+◌, ◌-◌, ◌*◌, ◌≤◌, ◌<◌, Bool, true, false, List, [], ◌∷◌, ◌++◌, length, reverse, Option, Some, None, is_some, refl, sym, ap, ◌∙◌, subst, arith, append_assoc, append-nil, length-append, slice_get, get_or, drop, drop-cons, add-one}
+use Rattle.std.proofs.Common.{◌≡◌, take, ℕ, zero, suc, ◌+◌, ◌-◌, ◌*◌, ◌≤◌, ◌<◌, Bool, true, false, List, [], ◌∷◌, ◌++◌, length, reverse, Option, Some, None, is_some, refl, sym, ap, ◌∙◌, subst, arith, append_assoc, append-nil, length-append, slice_get, get_or, drop, drop-cons, add-one}
 use Rattle.std.proofs.lemmas.List.{map-append}
-use Rattle.std.proofs.lemmas.Option.{slice_get-map, slice_get-get_or}
-use Rattle.std.proofs.lemmas.Bool.{ltb-false, ltb-true}
-use Rattle.std.specs.Prelude.{nat_lt, if◌then◌else◌, option_map, ◌≢◌}
+use Rattle.std.proofs.lemmas.Option.{slice_get-map}
+use Rattle.std.specs.Prelude.{if◌then◌else◌, option_map, ◌≢◌}
 use Rattle.ip_headers.specs.declared.Link.{Link}
 use Rattle.pcap_file.specs.declared.format.Head.{Head}
 use Rattle.pcap_file.specs.declared.format.InputEnd.{InputEnd}
@@ -35,7 +34,7 @@ use Rattle.simulation.specs.PrivateGoing.{Left, Shortened}
 use Rattle.simulation.specs.PrivateStages.{Sound, Going, Reached, IsOver}
 use Rattle.simulation.specs.declared.keeping.Kept.{Kept}
 use Rattle.simulation.specs.declared.staging.Stage.{Stage}
-use Rattle.simulation.proofs.Named.{at_place, names_none}
+use Rattle.simulation.proofs.Named.{names_none}
 use Rattle.simulation.proofs.Going.{shortened}
 use Rattle.simulation.proofs.Intakes.{stands, stops_run}
 use Rattle.simulation.proofs.Sends.{unfailed_same, wrote_none, first_none, first_all, until_all}

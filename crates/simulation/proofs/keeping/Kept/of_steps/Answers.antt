@@ -13,10 +13,10 @@ overflow_add-times c =
 
 pub loop-step-preserved : goal.loop-step-preserved
 loop-step-preserved c = elim c.match-step.branch [
-    in-Again+in_ok-set w ↦ λ q. ap (λ (k : Kept). kept_at k q) w.kept-is
-        ∙ counted_again c.args.steps.now c.loop-step.step-index c.step-item.result w.in-Again.place (w.times-times.result + 1) c.loop-step.kept w.set.new.self c.loop-step-test.true c.step-item.is w.in-Again.is
-        c.loop-step.invariant (ap (λ (n : ℕ). n + 1) w.times-times.ensures) w.in_ok-set.ensures q
+  | in-Again+in_ok-set w ↦ λ q. ap (λ (k : Kept). kept_at k q) w.kept-is
+      ∙ counted_again c.args.steps.now c.loop-step.step-index c.step-item.result w.in-Again.place (w.times-times.result + 1) c.loop-step.kept w.set.new.self c.loop-step-test.true c.step-item.is w.in-Again.is
+      c.loop-step.invariant (ap (λ (n : ℕ). n + 1) w.times-times.ensures) w.in_ok-set.ensures q
   | in_default w ↦ λ q. ap (λ (k : Kept). kept_at k q) w.kept-is
-        ∙ counted_other c.args.steps.now c.loop-step.step-index c.step-item.result c.loop-step.kept c.loop-step-test.true c.step-item.is (λ place. names_none place c.step-item.result w.in_default.not-Again)
-        c.loop-step.invariant q
-  ]
+      ∙ counted_other c.args.steps.now c.loop-step.step-index c.step-item.result c.loop-step.kept c.loop-step-test.true c.step-item.is (λ place. names_none place c.step-item.result w.in_default.not-Again)
+      c.loop-step.invariant q
+]

@@ -1,4 +1,4 @@
-use Rattle.std.proofs.Common.{◌≡◌, ◌+◌, ◌<◌, ◌∷◌, ◌++◌, [], ℕ, Some, None, slice_get, refl, sym, subst, ap, ◌∙◌, arith, reverse, option_map}
+use Rattle.std.proofs.Common.{◌≡◌, ◌+◌, ◌∷◌, ◌++◌, [], ℕ, Some, None, slice_get, refl, sym, subst, ap, ◌∙◌, arith, reverse, option_map}
 use Rattle.pcap_file.specs.Format.{packet}
 use Rattle.course.specs.Course.{Course}
 use Rattle.course.specs.Room.{Counted}
