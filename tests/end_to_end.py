@@ -393,6 +393,15 @@ def test_spreading_and_waiting():
 """
     counts = report(3, 3, received=3, lost=2)
     simulates("lost records", text, capture("yzx"), events + counts, words=["--list"])
+    # A record comes again before it was read, and then, with other steps between, as often as the steps say.
+    repeats = ["again 0", "take 1", "again 0", "again 1", "lose 1", "again 1", "again 2"]
+    text = scenario(["live 0", "install 0 1", "again 1", "take 1", *repeats])
+    events = "0 install 0 1: installed\n"
+    sent = [(0, "A@10.8.0.1"), (0, "A@10.8.0.1"), (1, "B@10.8.0.2"), (0, "A@10.8.0.1"), (1, "B@10.8.0.2"), (1, "B@10.8.0.2"), (2, "A@10.8.0.1")]
+    for turn, (place, backend) in enumerate(sent):
+        events += f"{2 * turn + 1} arrive 0 {place}: placed 0\n{2 * turn + 2} serve 0 0 1: forward {backend} from 1\n"
+    counts = report(3, 7, received=7, lost=1, skipped=1)
+    simulates("repeats", text, capture("yzx"), events + counts, model.Run(text, capture("yzx")).output(), ["--list"])
 
 
 def test_simulate_captures():
@@ -754,6 +763,20 @@ def test_against_the_model():
             answer = with_files(text, data, lambda folder: run(words, cwd=folder))
             line = expected.explained(one, other).encode()
             check(f"explain {one} {other} of scenario {seed}", answer == (0, line, b""), f"{answer} {line!r}")
+
+
+def test_repeats_against_the_model():
+    """The same where most steps deliver one of a few records again: before it was read, in between and for the last time."""
+    for seed in range(40):
+        source = random.Random(seed)
+        most = source.randrange(1, 12)
+        steps = ["install 0 1", "install 1 1"]
+        for _ in range(source.randrange(60)):
+            one = f"again {source.randrange(most)}"
+            steps.append(source.choice([one, one, one, f"take {source.randrange(3)}", "lose 1", "hold 0", "drain 0", "restart 1"]))
+        text, data = scenario(steps, workers=2), random_capture(source)
+        expected = model.Run(text, data)
+        simulates(f"repeats {seed} of the model", text, data, expected.listing() + expected.report(), expected.output(), ["--list"])
 
 
 def test_weights_against_the_model():

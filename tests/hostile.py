@@ -4,6 +4,7 @@
 Captures cut at each byte, headers with each value of a field, and scenarios and captures at the edges of what may be read.
 The last line is 'N passed, N failed'.
 """
+import os
 import pathlib
 import struct
 import subprocess
@@ -195,6 +196,27 @@ def test_floods():
             told = int(lines["forwarded"]) + int(lines.get("drop RingsFull", 0))
             holds = reports(answer, "received 60000", "waiting 0") and told == 60_000
             check(f"{command} with tables of {capacity}", holds, repr(answer[:3]))
+
+
+def test_repeats():
+    """Each of 40,000 records comes again right behind it: those of 1,400 bytes take no more memory than those of 40."""
+    steps = ["install 0 1"]
+    for place in range(40_000):
+        steps += ["take 1", f"again {place}"]
+    peaks = []
+    with tempfile.TemporaryDirectory() as name:
+        folder = pathlib.Path(name)
+        (folder / "s.toml").write_text(scenario(steps))
+        for length in [40, 1400]:
+            (folder / "in.pcap").write_bytes(head() + record(P + bytes(length - 40)) * 40_000)
+            child = subprocess.Popen([PROGRAM, "simulate", "s.toml", "in.pcap", "out.pcap"], cwd=folder, stdout=subprocess.PIPE)
+            told = child.stdout.read().decode().splitlines()
+            _, status, usage = os.wait4(child.pid, 0)
+            child.returncode = os.waitstatus_to_exitcode(status)
+            peaks.append(usage.ru_maxrss)
+            check(f"repeats of {length} bytes", child.returncode == 0 and "forwarded 80000" in told, repr(told))
+    # In kilobytes: the larger records are 56 MB.
+    check("memory of repeats", peaks[1] < peaks[0] + 8192, repr(peaks))
 
 
 if __name__ == "__main__":

@@ -349,6 +349,20 @@ fn counts(rt: HostRuntime) {
     );
 }
 
+// A record comes again before it was read, and then, with other steps between, as often as the steps say.
+#[test]
+fn repeats(rt: HostRuntime) {
+    reports(
+        &rt,
+        rt.alloc(),
+        plain(
+            "'live 0', 'install 0 1', 'again 1', 'take 1', 'again 0', 'take 1', 'again 0', 'again 1', 'lose 1', 'again 1', 'again 2'",
+        ),
+        "yzx",
+        "packets 3\nlost 1\nunrouted 0\nskipped 1\nleft 0\ncut no\nreceived 7\nforwarded 7\nwaiting 0\nrefused 0\n",
+    );
+}
+
 // The capture is refused: nothing stands in the report.
 fn is_no_capture(rt: &impl Abort, alloc: Global, capture: &[u8], fault: PcapFault, kept: usize) {
     let text = scenario_of(alloc, plain(ONE)).expect(rt, "memory");
