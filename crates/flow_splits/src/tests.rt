@@ -175,7 +175,9 @@ fn a_history(rt: HostRuntime) {
     let c = backend(&rt, b"C", 0x0a08_0003);
     let events = [serve(1), serve(2), serve(3)];
     let outcomes = [forward(1006, &a, 1), forward(1006, &c, 2)];
-    let book = SplitBook::of_history(alloc, TableKey::fixed(), &events, &outcomes).expect(&rt, "memory");
+    let book = SplitBook::of_history(alloc, TableKey::fixed(), &events, &outcomes).expect(
+        &rt, "memory",
+    );
     let lines =
         "split tcp 10.0.0.1:1006>192.0.2.1:80 events 0 1 slot 5 version 1 A@10.8.0.1 version 2 C@10.8.0.3 moved
 flows 1

@@ -64,9 +64,7 @@ fn a_restart_on_threads(rt: HostRuntime) {
     splits(
         &rt,
         rt.alloc(),
-        plain(
-            "'install 0 1', 'install 1 1', 'take 4', 'restart 0', 'install 0 2', 'take 4'",
-        ),
+        plain("'install 0 1', 'install 1 1', 'take 4', 'restart 0', 'install 0 2', 'take 4'"),
         "xxyyxxyy",
         "split tcp 10.0.0.1:1006>192.0.2.1:80 events 3 9 slot 5 version 1 A@10.8.0.1 version 2 C@10.8.0.3 moved
 split tcp 10.0.0.1:1006>192.0.2.1:80 events 9 16 slot 5 version 2 C@10.8.0.3 version 1 A@10.8.0.1 moved
