@@ -315,15 +315,19 @@ def test_simulate_rows():
     lists("round robin", text, "yxx", {3: a1, 5: a1, 7: "forward B@10.8.0.2 from 1"})
     explains("round robin splits", text, "yxx", 7, 5, "split slot 5 version 1 B@10.8.0.2 version 1 A@10.8.0.1")
 
+
+def told(port, events, slot, one, other, cause):
+    """The line of a split."""
+    return f"split tcp 10.0.0.1:{port}>192.0.2.1:80 events {events} slot {slot} version {one} version {other} {cause}\n"
+
+
+def counts(flows, down, moved):
+    """The lines behind those of the splits."""
+    return f"flows {flows}\nsplit {down + moved}\ndown {down}\nmoved {moved}\n"
+
+
 def test_splits():
     """`--splits`: which flows are sent to two backends in turn, and why; worked out by hand."""
-
-    def told(port, events, slot, one, other, cause):
-        return f"split tcp 10.0.0.1:{port}>192.0.2.1:80 events {events} slot {slot} version {one} version {other} {cause}\n"
-
-    def counts(flows, down, moved):
-        return f"flows {flows}\nsplit {down + moved}\ndown {down}\nmoved {moved}\n"
-
     a1, a3, c2 = "1 A@10.8.0.1", "3 A@10.8.0.9", "2 C@10.8.0.3"
     apart = scenario(["install 0 1", "install 1 2", "take 2"])
     one = told(1006, "3 5", 5, a1, c2, "moved") + counts(1, 0, 1)
@@ -503,29 +507,29 @@ def test_simulate_faults():
     misused("simulate without an output", ["simulate", "s.toml", "in.pcap"])
 
 
-def ran(text, data):
+def ran(text, data, words=()):
     """Status, standard output, standard error and OUTPUT (None where there is none) of `run`."""
 
     def use(folder):
-        answer = run(["run", "s.toml", "in.pcap", "out.pcap"], cwd=folder)
+        answer = run(["run", *words, "s.toml", "in.pcap", "out.pcap"], cwd=folder)
         out = folder / "out.pcap"
         return (*answer, out.read_bytes() if out.exists() else None)
 
     return with_files(text, data, use)
 
 
-def runs(name, text, data, expected, output=None):
-    """`run` prints this report and `audit agrees`, and where OUTPUT is given writes exactly that."""
-    status, out, err, made = ran(text, data)
+def runs(name, text, data, expected, output=None, words=()):
+    """`run` prints this text and `audit agrees`, and where OUTPUT is given writes exactly that."""
+    status, out, err, made = ran(text, data, words)
     check(name, (status, out, err) == (0, (expected + "audit agrees\n").encode(), b""), f"{status} {out!r} {err!r}")
     if output is not None:
         check(name + ", what is written", made == output, repr(made))
     return made
 
 
-def breaks_off(name, text, data, fault, output=None):
+def breaks_off(name, text, data, fault, output=None, words=()):
     """`run` ends with this fault and nothing on standard output, and OUTPUT holds this (None: it wasn't made)."""
-    status, out, err, made = ran(text, data)
+    status, out, err, made = ran(text, data, words)
     is_right = (status, out, err, made) == (1, b"", f"fault: {fault}\n".encode(), output)
     check(name, is_right, f"{status} {out!r} {err!r} {made!r}")
 
@@ -604,6 +608,52 @@ def test_run_as_simulated():
         runs(f"scenario {seed} on threads", text, data, printed.decode(), WRITTEN_HEAD + b"".join(by_node))
 
 
+def test_run_splits():
+    """`run --splits`, worked out by hand: no version comes while packets wait, so that no schedule changes the history."""
+    a1, c2 = "1 A@10.8.0.1", "2 C@10.8.0.3"
+    apart = scenario(["install 0 1", "install 1 2", "take 2"])
+    lines = told(1006, "2 5", 5, a1, c2, "moved") + counts(1, 0, 1)
+    runs("run: one split", apart, capture("xx"), lines + report(2, 2), words=["--splits"])
+    runs("run: no split", apart, capture("yy"), counts(1, 0, 0) + report(2, 2), words=["--splits"])
+    runs("run: no send", scenario(["take 1"]), capture("y"), counts(0, 0, 0) + report(1, 0, drops="drop NoVersion 1\n"), words=["--splits"])
+    steps = ["install 0 1", "install 1 1", "take 4", "restart 0", "install 0 2", "take 4"]
+    lines = told(1006, "3 9", 5, a1, c2, "moved") + told(1006, "9 16", 5, c2, a1, "moved") + counts(2, 0, 2)
+    for _ in range(10):
+        made = runs("run: splits by a restart", scenario(steps), capture("xxyyxxyy"), lines + report(8, 8), words=["--splits"])
+        runs("the same without its splits", scenario(steps), capture("xxyyxxyy"), report(8, 8), made)
+    alone = scenario(["live 0", "install 0 1", "take 1", "restart 0", "install 0 2", "take 1"], [ALL, A_DOWN])
+    lines = told(1000, "2 6", 6, a1, "2 B@10.8.0.2", "down") + counts(1, 1, 0)
+    for verb in (simulates, runs):
+        verb(f"{verb.__name__}: a packet a life", alone, capture("yy"), lines + report(2, 2), words=["--splits"])
+    text = scenario(["install 0 1", "install 1 1", "take 3"], scheme="round")
+    lines = told(1006, "4 7", 5, "1 B@10.8.0.2", a1, "moved") + counts(2, 0, 1)
+    runs("run: a split by turns", text, capture("yxx"), lines + report(3, 3), words=["--splits"])
+
+
+def steps_by_lives(source, nodes, _workers):
+    """Steps in which all nodes live a few lives side by side, and get their version before any packet of a life."""
+    steps = []
+    for life in range(source.randrange(1, 5)):
+        steps += [f"restart {node}" for node in range(nodes) if life]
+        steps += [f"install {node} {source.choice([life + 1, source.randrange(1, 5)])}" for node in range(nodes)]
+        for _ in range(source.randrange(1, 6)):
+            live = " ".join(str(node) for node in source.sample(range(nodes), source.randrange(nodes + 1)))
+            more = [f"take {source.randrange(1, 20)}", f"take {source.randrange(1, 20)}", f"lose {source.randrange(3)}", f"again {source.randrange(20)}"]
+            steps.append(source.choice([*more, f"live {live}".strip()]))
+    return steps
+
+
+def test_run_splits_against_the_model():
+    """What is told of the splits of random runs is what the plain model says of its events, in the order of their histories."""
+    weights = ("", "", *(f"*{weight}" for weight in range(1, 17)))
+    for seed in range(40):
+        source = random.Random(2000 + seed)
+        text, data = random_scenario(source, weights, steps_by_lives), random_capture(source)
+        expected = model.Run(text, data)
+        split = expected.on_threads().splits() + expected.report()
+        runs(f"the splits of scenario {seed} by lives, on threads", text, data, split, words=["--splits"])
+
+
 def test_run_faults():
     good = scenario(["install 0 1", "take 1"])
     breaks_off("run: no TOML", "format = ", HEAD, "BadToml")
@@ -616,6 +666,7 @@ def test_run_faults():
     breaks_off("run: pcapng", good, bytes.fromhex("0a0d0d0a") + bytes(40), "BadMagic")
     long = struct.pack(">4I", 0, 0, 262145, 262145)
     breaks_off("run: a record that is too long", good, HEAD + record(P) + long, "TooLong")
+    breaks_off("run: splits of a capture that isn't one", good, b"", "ShortHeader", words=["--splits"])
     breaks_at_files("run")
     misused("run without an output", ["run", "s.toml", "in.pcap"])
     misused("run with a list", ["run", "--list", "s.toml", "in.pcap", "out.pcap"])
@@ -727,13 +778,13 @@ def random_steps(source, nodes, workers):
     return steps
 
 
-def random_scenario(source, weights=("",)):
+def random_scenario(source, weights=("",), steps_of=random_steps):
     """A scenario with all that a scenario may have; of format 2 where weights are given."""
     nodes, workers = source.randrange(1, 4), source.randrange(1, 5)
     text = f'format = {1 if weights == ("",) else 2}\nsize = {source.choice([7, 13, 251])}\nhash = "{source.choice(["fnv", "sha256", "sum"])}"\n'
     text += f'scheme = "{source.choice(["maglev", "maglev", "plain", "round"])}"\nspread = "{source.choice(["hash", "turn"])}"\n'
     text += f"workers = {workers}\ncapacity = {source.randrange(1, 5)}\ncheck = {source.choice(['true', 'false'])}\n"
-    text += f"nodes = {listed([f'10.9.0.{node}' for node in range(nodes)])}\nsteps = {listed(random_steps(source, nodes, workers))}\n"
+    text += f"nodes = {listed([f'10.9.0.{node}' for node in range(nodes)])}\nsteps = {listed(steps_of(source, nodes, workers))}\n"
     for number in range(1, 5):
         text += f"[[versions]]\nnumber = {number}\nservices = ["
         for proto, port in [("tcp", 80), ("udp", 53)]:

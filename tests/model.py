@@ -3,6 +3,7 @@
 It shares nothing with the program but the documents: tables are filled turn by turn from written-out lists, connection tables
 are lists, and a capture is read whole. It reads only scenarios and captures that nothing is wrong with.
 """
+import copy
 import hashlib
 import struct
 import tomllib
@@ -322,6 +323,20 @@ class Run:
         lines += [f"waiting {received - forwarded - sum(drops)}"]
         lines += [f"refused {sum(outcome.startswith('refused') for outcome in outcomes)}"]
         return "".join(line + "\n" for line in lines)
+
+    def on_threads(self):
+        """The run with its events in the order of a history of threads: node by node, and of each life what the node was told,
+        then the servings, worker by worker, and last the restart."""
+        lives, placed = {}, []
+        for event, outcome, sent in self.events:
+            word, node, *rest = event.split(" ")
+            life = lives.setdefault(node, 0)
+            part = {"serve": 1, "restart": 2}.get(word, 0)
+            lives[node] += word == "restart"
+            placed.append(((int(node), life, part, int(rest[0]) if part == 1 else 0), (event, outcome, sent)))
+        told = copy.copy(self)
+        told.events = [event for _, event in sorted(placed, key=lambda one: one[0])]
+        return told
 
     def splits(self):
         """A line for each two sends of one flow, with none of that flow between them, to different backends, and their counts."""

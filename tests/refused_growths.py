@@ -50,6 +50,11 @@ EVENTS = "0 install 0 1: installed\n1 arrive 0 0: placed 0\n2 serve 0 0 1: forwa
 REPORT = "packets 1\nlost 0\nunrouted 0\nskipped 0\nleft 0\ncut no\nreceived 1\nforwarded 1\nwaiting 0\nrefused 0\n"
 AUDITED = REPORT + "audit agrees\n"
 FILES = {"s.toml": SCENARIO, "in.pcap": CAPTURE}
+# Two packets of one flow at two nodes, of which the second has a version in which A is down.
+APART = SCENARIO.replace(b'"take 1"', b'"install 1 2", "take 2"') + SCENARIO[SCENARIO.index(b"[[") :].replace(b"number = 1", b"number = 2").replace(b'0.1"', b'0.1/down"')
+SPLIT = {"s.toml": APART, "in.pcap": CAPTURE + CAPTURE[24:]}
+FLOW = "split tcp 10.0.0.1:1000>192.0.2.1:80 events {} slot 6 version 1 A@10.8.0.1 version 2 B@10.8.0.2 down\nflows 1\nsplit 1\ndown 1\nmoved 0\n"
+TWO = REPORT.replace(" 1\n", " 2\n")
 LOST = (1, b"", b"fault: ThreadLost\n")
 # Two nodes of two workers each, of which one restarts.
 RESTARTING, EIGHT = soak_run.restarting()
@@ -77,9 +82,11 @@ CASES = [
     Case(["pick", "--size", "7", "--hash", "sum", "A", "B", "C"], "tcp 10.0.0.1:1000>192.0.2.1:80 slot 6 backend A\n", TCP),
     Case(["simulate", "s.toml", "in.pcap", "out.pcap"], REPORT, files=FILES, written={"out.pcap": SENT}),
     Case(["simulate", "--list", "s.toml", "in.pcap", "out.pcap"], EVENTS + REPORT, files=FILES, written={"out.pcap": SENT}),
+    Case(["simulate", "--splits", "s.toml", "in.pcap", "out.pcap"], FLOW.format("3 5") + TWO, files=SPLIT),
     Case(["explain", "s.toml", "in.pcap", "2", "2"], "same\n", files=FILES),
     Case(["run", "s.toml", "in.pcap", "out.pcap"], AUDITED, files=FILES, written={"out.pcap": SENT}, faults=[LOST]),
     Case(["run", "s.toml", "in.pcap", "out.pcap"], RESTARTED, files=CLUSTER, faults=[LOST]),
+    Case(["run", "--splits", "s.toml", "in.pcap", "out.pcap"], FLOW.format("2 5") + TWO + "audit agrees\n", files=SPLIT, faults=[LOST]),
 ]
 
 

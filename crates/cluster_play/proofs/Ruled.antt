@@ -13,6 +13,8 @@ use Rattle.cluster_node.specs.declared.outcomes.Outcome.{Outcome}
 use Rattle.cluster_core.specs.Setups.{Fixed, rules_for}
 use Rattle.cluster_core.specs.Headline.{Agreement, Keeping}
 use Rattle.cluster_core.specs.Histories.{IsSteady}
+use Rattle.cluster_core.specs.Tables.{TablesDiffer}
+use Rattle.flow_splits.proofs.Agreed.{history_picks, history_tables}
 use Rattle.cluster_core.proofs.Sends.{agreement}
 use Rattle.cluster_core.proofs.Keeps.{keeping}
 use Rattle.cluster_core.proofs.Slots.{tables_differ, tables_are_even}
@@ -56,9 +58,12 @@ keeps s link records nodes history listed sound joined =
     let rules = rules_in s in
     let packets = packets_in s link records in
     let agree : IsSteady rules → Agreement rules history.outcomes.items = λ steady. subst (λ (os : List Outcome). Agreement rules os) (sym joined.told) (agreement rules steady packets history.events.items) in
+    let differ : s.scheme ≡ Maglev → TablesDiffer (plain_of s.hash) s.size s.catalogue history.outcomes.items = λ is. tables_differ rules (plain_of s.hash) s.size s.catalogue history.outcomes.items (λ candidates x. ap (λ (kind : SchemeKind). pick_by kind (plain_of s.hash) s.size candidates x 0) is) (λ v x. refl) (agree (maglev_steady s is)) in
     record {
       agreement = agree;
       keeping = subst (λ (os : List Outcome). Keeping rules [] packets history.events.items os) (sym joined.told) (keeping rules [] packets history.events.items);
-      tables = λ is. tables_differ rules (plain_of s.hash) s.size s.catalogue history.outcomes.items (λ candidates x. ap (λ (kind : SchemeKind). pick_by kind (plain_of s.hash) s.size candidates x 0) is) (λ v x. refl) (agree (maglev_steady s is));
+      tables = differ;
+      splits = λ steady. history_picks rules history.events.items history.outcomes.items (agree steady);
+      split_slots = λ is. history_tables (plain_of s.hash) s.size s.catalogue history.events.items history.outcomes.items (differ is);
       slots = λ is. tables_are_even (plain_of s.hash) s.size s.catalogue listed sound;
     }

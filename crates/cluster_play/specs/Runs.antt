@@ -1,5 +1,5 @@
 -- The run of a scenario's cluster on threads over a capture that was read whole.
-use Rattle.std.specs.Prelude.{◌≡◌, ◌⊎◌, ℕ, Bool, true, false, List, ◌++◌, length, codes, Some, None}
+use Rattle.std.specs.Prelude.{◌≡◌, ◌⊎◌, ℕ, Bool, true, false, List, [], ◌++◌, length, reverse, codes, Some, None}
 use Rattle.std.specs.Io.KnownBytes.{Appends}
 use Rattle.ip_headers.specs.declared.Link.{Link}
 use Rattle.pcap_file.specs.declared.format.Head.{Head}
@@ -7,6 +7,9 @@ use Rattle.pcap_file.specs.declared.format.InputEnd.{InputEnd}
 use Rattle.pcap_file.specs.Device.{Tape, Unfailed}
 use Rattle.pcap_file.specs.Format.{Packet as Record}
 use Rattle.cluster_node.specs.declared.packets.Packet.{Packet}
+use Rattle.cluster_node.specs.declared.events.Said.{Said}
+use Rattle.flow_splits.specs.Splits.{said_of}
+use Rattle.flow_splits.specs.Texts.{splits_text}
 use Rattle.cluster_core.specs.declared.counts.Totals.{Totals}
 use Rattle.course.specs.declared.play.Tally.{Tally}
 use Rattle.course.specs.Tally.{tally_of}
@@ -17,7 +20,7 @@ use Rattle.node_records.specs.declared.nodes.NodeRecord.{NodeRecord}
 use Rattle.node_records.specs.declared.nodes.History.{History}
 use Rattle.node_records.specs.Runs.{AreRuns, JoinsRuns}
 use Rattle.scenario.specs.declared.reading.Scenario.{Scenario}
-use Rattle.scenario_play.specs.Described.{rules_in, choice_in, plan_in}
+use Rattle.scenario_play.specs.Described.{rules_in, choice_in, plan_in, lookups_in}
 use Rattle.scenario_play.specs.Answers.{totals_in, is_cut}
 use Rattle.listing.specs.Report.{report_text}
 use Rattle.simulation.specs.declared.fault.SimulationFault.{SimulationFault}
@@ -49,12 +52,21 @@ abbrev pub audit_line : Bool → List ℕ
 audit_line true = codes "audit agrees\n"
 audit_line false = codes "audit differs\n"
 
+-- the record of a history, which has the newest event in front; the packets of arrivals are left out
+abbrev pub record_of : History → List Said
+record_of h = reverse (said_of h.events.items h.outcomes.items)
+
+-- what is told of the splits of a history, where it is asked for
+abbrev pub splits_if : Bool → Scenario → History → List ℕ
+splits_if true s h = splits_text (lookups_in s) (record_of h)
+splits_if false s h = []
+
 abbrev pub run_report : Tally → Totals → Bool → Bool → List ℕ
 run_report tally totals cut agrees = report_text tally totals cut ++ audit_line agrees
 
 -- a cluster on threads knows each step; it ran over the whole input, the output got the capture of what the nodes sent, node by node and life
--- by life, and the text is the report of that run
-pub record Ran (s : Scenario) (input input' output output' : Tape) (text : List ℕ) : Type 0 where
+-- by life, and the text is the report of that run, behind what is told of its splits where it is asked for
+pub record Ran (s : Scenario) (splits : Bool) (input input' output output' : Tape) (text : List ℕ) : Type 0 where
   pub known : first_unknown_of s.steps.items ≡ None
   pub head : Head
   pub records : List Record
@@ -65,7 +77,7 @@ pub record Ran (s : Scenario) (input input' output output' : Tape) (text : List 
   pub run : AreOfRun s head.link records nodes history
   pub written : Appends output.bytes output'.bytes (capture_text (sent_by_nodes (traffic_of (plan_in s) head.link records) nodes))
   pub unfailed : Unfailed output output'
-  pub report : text ≡ run_report (tally_in s head.link records) (totals_in history.outcomes.items) (is_cut ending) true
+  pub report : text ≡ splits_if splits s history ++ run_report (tally_in s head.link records) (totals_in history.outcomes.items) (is_cut ending) true
 
 -- the same up to the output, which got a beginning of that capture; it is cut between records, unless writing failed
 pub record BreaksOff (fault : SimulationFault) (s : Scenario) (input input' output output' : Tape) : Type 0 where

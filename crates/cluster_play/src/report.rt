@@ -2,13 +2,17 @@
 ghost use Rattle.std.specs.Prelude.{◌≡◌, ◌≤◌, IfOk, string_bytes};
 ghost use Rattle.cluster_core.specs.Totals.{came_all, went_all};
 ghost use Rattle.scenario_play.specs.Answers.{totals_in, is_cut};
-ghost use Rattle.cluster_play.specs.Runs.{audit_line, run_report};
+ghost use Rattle.cluster_play.specs.Runs.{audit_line, splits_if, run_report};
 
 use cluster_core::{Totals, totals};
 use cluster_node::Outcome;
+use cluster_threads::ClusterRun;
+use connection_table::TableKey;
 use course::Tally;
+use flow_splits::{SplitBook, push_splits};
 use listing::report_text;
 use pcap_file::InputEnd;
+use scenario::Scenario;
 use scenario_play::is_cut;
 use std::alloc::{AllocError, Global};
 
@@ -17,6 +21,26 @@ fn totals_of(outcomes: &[Outcome]) -> Totals
     ensures { result ≡ totals_in outcomes.now }
 {
     totals(outcomes)
+}
+
+/// What is told of the splits of a run's history, where it is asked for. The book of splits hashes by the key.
+pub(crate) fn splits_told(
+    alloc: Global,
+    key: TableKey,
+    scenario: &Scenario,
+    run: &ClusterRun,
+    splits: bool,
+) -> Result<String, AllocError>
+    requires { scenario.now.catalogue.size ≡ scenario.now.size }
+    ensures { IfOk result (λ s. string_bytes s ≡ splits_if splits scenario.now run.now.history) }
+{
+    let mut text = String::new(alloc);
+    if !splits {
+        return Ok(text);
+    }
+    let book = SplitBook::of_history(alloc, key, run.history(), run.outcomes())?;
+    push_splits(&mut text, &scenario.hash, &scenario.catalogue, &book)?;
+    Ok(text)
 }
 
 fn audit_line(agrees: bool) -> &'static str

@@ -1,16 +1,16 @@
 //! A scenario's cluster runs on threads over a capture.
-ghost use Rattle.std.specs.Prelude.{◌≡◌, ◌≤◌, ℕ, length, map, Some, Err, IfOk, IfErr, string_bytes, true};
+ghost use Rattle.std.specs.Prelude.{◌≡◌, ◌≤◌, ◌++◌, ℕ, length, map, Some, Err, IfOk, IfErr, string_bytes, true};
 ghost use Rattle.pcap_file.specs.Format.{packet, max_records};
 ghost use Rattle.cluster_commands.specs.Knowing.{first_unknown_of};
 ghost use Rattle.scenario.specs.Meaning.{HasLimits};
 ghost use Rattle.scenario_play.specs.Answers.{totals_in, is_cut};
-ghost use Rattle.cluster_play.specs.Runs.{AreOfRun, Ran, Halted, tally_in, run_report};
+ghost use Rattle.cluster_play.specs.Runs.{AreOfRun, Ran, Halted, tally_in, splits_if, run_report};
 ghost use Rattle.cluster_play.specs.Kept.{KeepsPromises};
 ghost use Rattle.cluster_play.specs.PrivateStops.{IsOfThreads};
 
 use crate::orders::orders_of;
 use crate::reading::{Captured, packets_of, read_whole};
-use crate::report::run_report;
+use crate::report::{run_report, splits_told};
 use crate::sending::write_capture;
 use crate::stop::RunStop;
 use crate::threads::run_named;
@@ -52,12 +52,13 @@ fn run_over<R: Threads + Wait + Sync>(
     key: TableKey,
     scenario: &Scenario,
     captured: &Captured,
+    splits: bool,
 ) -> Result<Done, RunStop>
     requires limits { HasLimits scenario.now }
     requires size { scenario.now.catalogue.size ≡ scenario.now.size }
     requires few { length captured.now.frames.items ≤ max_records }
     ensures run { IfOk result (λ d. AreOfRun scenario.now captured.now.head.link (map packet captured.now.frames.items) d.run.nodes.items d.run.history) }
-    ensures report { IfOk result (λ d. string_bytes d.text ≡ run_report (tally_in scenario.now captured.now.head.link (map packet captured.now.frames.items)) (totals_in d.run.history.outcomes.items) (is_cut captured.now.ending) true) }
+    ensures report { IfOk result (λ d. string_bytes d.text ≡ splits_if splits scenario.now d.run.history ++ run_report (tally_in scenario.now captured.now.head.link (map packet captured.now.frames.items)) (totals_in d.run.history.outcomes.items) (is_cut captured.now.ending) true) }
     ensures stopped { IfErr result IsOfThreads }
 {
     let wire = wire_of(scenario, captured.head.link);
@@ -72,13 +73,15 @@ fn run_over<R: Threads + Wait + Sync>(
         orders.commands.as_slice(),
     )?;
     let outcomes = audited.run.outcomes();
-    let text = run_report(
+    let mut text = splits_told(alloc, key, scenario, &audited.run, splits)?;
+    let report = run_report(
         alloc,
         orders.tally,
         outcomes,
         captured.ending,
         audited.agrees,
     )?;
+    text.push_str(report.as_str())?;
     Ok(Done {
         run: audited.run,
         text,
@@ -86,9 +89,11 @@ fn run_over<R: Threads + Wait + Sync>(
 }
 
 /// Runs a scenario's cluster on threads over a capture, and answers the report, which ends in `audit agrees` where a replay
-/// of the run's history comes to what it came to: by the clause `ok` it always does. The capture is read to its end before
-/// any thread starts, and the steps become the nodes' commands. Once all threads are joined, what the nodes sent is written
-/// as another capture: node by node, and of each node life by life. The connection tables hash by the key.
+/// of the run's history comes to what it came to: by the clause `ok` it always does. With `splits` a line for each two
+/// packets that follow one another in a flow, in the history's order, and went to different backends stands before it, and
+/// how many there were; events are numbered as in the history. The capture is read to its end before any thread starts, and
+/// the steps become the nodes' commands. Once all threads are joined, what the nodes sent is written as another capture: node
+/// by node, and of each node life by life. The connection tables and the book of splits hash by the key.
 ///
 /// Before anything is called the steps are looked at: `full`, `hold` and `drain` are none of a cluster on threads. Whatever
 /// goes wrong before the writing leaves the output as it was. Where memory for a datagram in a tunnel is refused the output
@@ -97,20 +102,22 @@ fn run_over<R: Threads + Wait + Sync>(
 /// By the clause `kept` the run keeps the promises, whatever the schedule was: for a scheme to which the turn doesn't matter
 /// two packets of one flow that were sent to different backends were chosen under versions that pick these backends, for
 /// Maglev under versions whose tables name them at the flow's slot; a worker keeps a flow's backend while its entry stands
-/// and the backend is up; and every slot of Maglev's tables names an up backend, and backends' slot counts differ by at most
-/// one.
+/// and the backend is up; and every slot of Maglev's tables names an up backend, and backends' slot counts stand as their
+/// weights. The two versions of each split pick its two backends, for such a scheme, and for Maglev name them at the flow's
+/// slot.
 pub fn run_scenario<R: Threads + Wait + Sync, I: Source, O: Sink>(
     rt: &R,
     alloc: Global,
     key: TableKey,
     scenario: &Scenario,
+    splits: bool,
     input: &mut I,
     output: &mut O,
 ) -> Result<String, RunStop>
     requires limits { HasLimits scenario.now }
     requires size { scenario.now.catalogue.size ≡ scenario.now.size }
-    ensures ok { IfOk result (λ s. Ran scenario.now (I.tape input.old) (I.tape input.new) (O.tape output.old) (O.tape output.new) (string_bytes s)) }
-    ensures kept { IfOk result (λ s. (ran : Ran scenario.now (I.tape input.old) (I.tape input.new) (O.tape output.old) (O.tape output.new) (string_bytes s)) → KeepsPromises scenario.now ran.head.link ran.records ran.history) }
+    ensures ok { IfOk result (λ s. Ran scenario.now splits (I.tape input.old) (I.tape input.new) (O.tape output.old) (O.tape output.new) (string_bytes s)) }
+    ensures kept { IfOk result (λ s. (ran : Ran scenario.now splits (I.tape input.old) (I.tape input.new) (O.tape output.old) (O.tape output.new) (string_bytes s)) → KeepsPromises scenario.now ran.head.link ran.records ran.history) }
     ensures unknown { (place : ℕ) → first_unknown_of scenario.now.steps.items ≡ Some place → result ≡ Err (RunStop.UnknownStep place) }
     ensures stopped { IfErr result (Halted scenario.now (I.tape input.old) (I.tape input.new) (O.tape output.old) (O.tape output.new)) }
 {
@@ -121,7 +128,7 @@ pub fn run_scenario<R: Threads + Wait + Sync, I: Source, O: Sink>(
         None => {}
     }
     let captured = read_whole(alloc, input)?;
-    let done = run_over(rt, alloc, key, scenario, &captured)?;
+    let done = run_over(rt, alloc, key, scenario, &captured, splits)?;
     let wire = wire_of(scenario, captured.head.link);
     let frames = captured.frames.as_slice();
     let nodes = done.run.nodes.as_slice();

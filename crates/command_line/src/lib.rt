@@ -40,7 +40,7 @@ Faults, and what to do:
 /// What stands below the help of `run`.
 const RUN_HELP: &str = "Example: maglev run examples/failover.toml examples/failover.pcap sent.pcap
 
-SCENARIO, INPUT and OUTPUT may be -, as for simulate. Steps are those of simulate but for full, hold and drain, which are BadStep.
+SCENARIO, INPUT and OUTPUT may be -, as for simulate. Steps are those of simulate but for full, hold and drain, which are BadStep. With --splits events are numbered, and packets ordered, as in the run's history: node by node, of each life what the node was told and then the servings, worker by worker.
 
 Faults are those of simulate, and:
   ThreadLost           allow more threads, or take fewer nodes and workers
@@ -185,14 +185,17 @@ fn verbose<'a>(alloc: Global) -> Arg<'a> {
         .action(ArgAction::SetTrue)
 }
 
+fn splits<'a>(alloc: Global) -> Arg<'a> {
+    Arg::new(alloc, "splits")
+        .long("splits")
+        .help("print each flow that was split, and why, before the report")
+        .action(ArgAction::SetTrue)
+}
+
 fn simulate<'a>(alloc: Global) -> Result<Command<'a>, Error> {
     let list = Arg::new(alloc, "list")
         .long("list")
         .help("print each event and what it came to before the report")
-        .action(ArgAction::SetTrue);
-    let splits = Arg::new(alloc, "splits")
-        .long("splits")
-        .help("print each flow that was split, and why, before the report")
         .action(ArgAction::SetTrue);
     let simulate = Command::new(alloc, "simulate")
         .about(
@@ -200,7 +203,7 @@ fn simulate<'a>(alloc: Global) -> Result<Command<'a>, Error> {
         )
         .after_help(SIMULATE_HELP)
         .arg(list)?
-        .arg(splits)?
+        .arg(splits(alloc))?
         .arg(verbose(alloc))?
         .arg(scenario(alloc))?
         .arg(input(alloc))?
@@ -228,6 +231,7 @@ fn run<'a>(alloc: Global) -> Result<Command<'a>, Error> {
             "Runs a scenario's cluster on threads over a capture, writes what the nodes send, node by node, and prints a report with an audit",
         )
         .after_help(RUN_HELP)
+        .arg(splits(alloc))?
         .arg(verbose(alloc))?
         .arg(scenario(alloc))?
         .arg(input(alloc))?

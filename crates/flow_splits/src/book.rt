@@ -10,16 +10,17 @@ ghost use Rattle.flow_splits.specs.Splits.{split_after, splits_of, flows_of, sai
 
 use crate::sending::{Sending, Split, sent_by};
 use cluster_node::{Event, Outcome};
+use connection_table::TableKey;
 use five_tuple::Flow;
 use std::alloc::{AllocError, Global};
 use std::collections::HashMap;
 
 /// What is known of a cluster's events so far: how many there were, the last send of each flow, and the splits in the order
-/// of their later sends. Its memory grows with the flows and the splits, and not with the events.
+/// of their later sends. Its memory grows with the flows and the splits, and not with the events. Flows are hashed by a key.
 #[derive(Drop)]
 pub struct SplitBook {
     number: u64,
-    last: HashMap<Flow, Sending>,
+    last: HashMap<Flow, Sending, TableKey>,
     splits: Vec<Split>,
 }
 
@@ -37,12 +38,12 @@ impl SplitBook {
     ghost use Rattle.flow_splits.specs.Books.{IsBookOf};
 
     /// The book of no events.
-    pub fn new(alloc: Global) -> SplitBook
+    pub fn new(alloc: Global, key: TableKey) -> SplitBook
         ensures { IsBookOf [] result }
     {
         SplitBook {
             number: 0,
-            last: HashMap::new(alloc),
+            last: HashMap::with_hasher(alloc, key),
             splits: Vec::new(alloc),
         }
     }
@@ -101,12 +102,13 @@ impl SplitBook {
     /// The book of a history: its events with what each came to, as far as both lists go.
     pub fn of_history(
         alloc: Global,
+        key: TableKey,
         events: &[Event],
         outcomes: &[Outcome],
     ) -> Result<SplitBook, AllocError>
         ensures { IfOk result (λ b. IsBookOf (reverse (said_of events.now outcomes.now)) b) }
     {
-        let mut book = SplitBook::new(alloc);
+        let mut book = SplitBook::new(alloc, key);
         for (event, outcome) in events.iter().zip(outcomes.iter()) {
             book.note(event, outcome)?;
         }

@@ -1,6 +1,7 @@
 //! Splits of short histories, worked out by hand.
 use crate::{SplitBook, SplitCause, cause_of, push_splits};
 use cluster_node::{Cause, Event, Outcome};
+use connection_table::TableKey;
 use five_tuple::Flow;
 use hash_laws::SumHash;
 use maglev_table::{Name, TableSize, Weight};
@@ -103,7 +104,7 @@ fn told(rt: &impl Abort, alloc: Global, book: &SplitBook) -> String {
 #[test]
 fn nothing_was_sent(rt: HostRuntime) {
     let alloc = rt.alloc();
-    let mut book = SplitBook::new(alloc);
+    let mut book = SplitBook::new(alloc, TableKey::fixed());
     let counts = "flows 0\nsplit 0\ndown 0\nmoved 0\n";
     assert_eq!(&rt; told(&rt, alloc, &book).as_str(), counts);
     let installed = Event::Install {
@@ -122,7 +123,7 @@ fn two_splits_of_one_flow(rt: HostRuntime) {
     let alloc = rt.alloc();
     let a = backend(&rt, b"A", 0x0a08_0001);
     let c = backend(&rt, b"C", 0x0a08_0003);
-    let mut book = SplitBook::new(alloc);
+    let mut book = SplitBook::new(alloc, TableKey::fixed());
     note(&rt, &mut book, 1, &forward(1006, &a, 1));
     note(&rt, &mut book, 1, &forward(1000, &a, 1));
     note(&rt, &mut book, 2, &forward(1006, &c, 2));
@@ -153,7 +154,7 @@ fn causes(rt: HostRuntime) {
     let b = backend(&rt, b"B", 0x0a08_0002);
     let moved = backend(&rt, b"B", 0x0a08_0009);
     let c = backend(&rt, b"C", 0x0a08_0003);
-    let mut book = SplitBook::new(alloc);
+    let mut book = SplitBook::new(alloc, TableKey::fixed());
     note(&rt, &mut book, 1, &forward(1000, &moved, 1));
     note(&rt, &mut book, 1, &forward(1000, &b, 1));
     note(&rt, &mut book, 2, &forward(1000, &c, 1));
@@ -174,7 +175,9 @@ fn a_history(rt: HostRuntime) {
     let c = backend(&rt, b"C", 0x0a08_0003);
     let events = [serve(1), serve(2), serve(3)];
     let outcomes = [forward(1006, &a, 1), forward(1006, &c, 2)];
-    let book = SplitBook::of_history(alloc, &events, &outcomes).expect(&rt, "memory");
+    let book = SplitBook::of_history(alloc, TableKey::fixed(), &events, &outcomes).expect(
+        &rt, "memory",
+    );
     let lines =
         "split tcp 10.0.0.1:1006>192.0.2.1:80 events 0 1 slot 5 version 1 A@10.8.0.1 version 2 C@10.8.0.3 moved
 flows 1

@@ -173,6 +173,7 @@ pub fn run_files<'x, T: Threads + Wait + Sync>(
     threads: &T,
     files: &Paths<'x>,
     text: &[u8],
+    splits: bool,
 ) -> Result<(), Trouble> {
     let to_error = is_standard_output(rt, files.output);
     let mut output = ToWrite::new(OutputFile::new(rt, files.output, files.read()));
@@ -186,6 +187,7 @@ pub fn run_files<'x, T: Threads + Wait + Sync>(
         &mut input,
         &mut output,
         &mut report,
+        splits,
     );
     ended(rt, outcome, input, output, report, to_error)
 }

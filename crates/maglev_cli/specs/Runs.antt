@@ -1,5 +1,5 @@
 -- The command that runs a scenario's cluster on threads.
-use Rattle.std.specs.Prelude.{◌≡◌, ◌⊎◌, List, ℕ}
+use Rattle.std.specs.Prelude.{◌≡◌, ◌⊎◌, Bool, List, ℕ}
 use Rattle.std.specs.Io.KnownBytes.{Appends}
 use Rattle.pcap_file.specs.Device.{Tape, Unfailed, PutRefused}
 use Rattle.node_duties.specs.declared.fault.RunFault.{RunFault}
@@ -29,11 +29,11 @@ stop_fault (Threads fault) = threads_fault fault
 
 -- the cluster of the scenario that the text means ran on threads over the input, the output got what the nodes sent, and the
 -- report the run's; and the run keeps the promises
-pub record Runs (text : List ℕ) (input input' output output' report report' : Tape) : Type 0 where
+pub record Runs (splits : Bool) (text : List ℕ) (input input' output output' report report' : Tape) : Type 0 where
   pub scenario : Scenario
   pub means : Means text scenario
   pub answer : List ℕ
-  pub ran : Ran scenario input input' output output' answer
+  pub ran : Ran scenario splits input input' output output' answer
   pub kept : KeepsPromises scenario ran.head.link ran.records ran.history
   pub written : Appends report.bytes report'.bytes answer
   pub unfailed : Unfailed report report'
@@ -47,18 +47,18 @@ pub record RunStops (fault : CliFault) (text : List ℕ) (input input' output ou
   pub stopped : Halted scenario input input' output output' why
 
 -- the same as when the cluster ran, but the report was given up
-pub record RunReportFails (fault : CliFault) (text : List ℕ) (input input' output output' report report' : Tape) : Type 0 where
+pub record RunReportFails (fault : CliFault) (splits : Bool) (text : List ℕ) (input input' output output' report report' : Tape) : Type 0 where
   pub scenario : Scenario
   pub means : Means text scenario
   pub answer : List ℕ
-  pub ran : Ran scenario input input' output output' answer
+  pub ran : Ran scenario splits input input' output output' answer
   pub named : fault ≡ Write
   pub refused : PutRefused answer report report'
 
 -- the command stopped by this fault: the text is no scenario, and nothing was called; or the run stopped, and nothing was
 -- reported; or the report was given up
-abbrev pub RunCommandFails : CliFault → List ℕ → Tape → Tape → Tape → Tape → Tape → Tape → Type 0 → Type 0 → Type 0
-RunCommandFails fault text input input' output output' report report' Uncalled Unreported =
+abbrev pub RunCommandFails : CliFault → Bool → List ℕ → Tape → Tape → Tape → Tape → Tape → Tape → Type 0 → Type 0 → Type 0
+RunCommandFails fault splits text input input' output output' report report' Uncalled Unreported =
     (ScenarioFails fault text × Uncalled)
     ⊎ ((RunStops fault text input input' output output' × Unreported)
-    ⊎ RunReportFails fault text input input' output output' report report')
+    ⊎ RunReportFails fault splits text input input' output output' report report')

@@ -37,7 +37,8 @@ fn stop_fault(stop: RunStop) -> CliFault
 }
 
 /// The command `run`: runs a scenario's cluster on threads over a capture, writes what the nodes sent as another capture,
-/// node by node, and then the report, which ends in `audit agrees`.
+/// node by node, and then the report, which ends in `audit agrees`, with what is told of its splits before it where `splits`
+/// holds.
 ///
 /// The devices aren't called before the scenario was accepted and none of its steps is `full`, `hold` or `drain`. After a
 /// fault that isn't `Write` nothing stands in the report, and the output is as it was, unless memory was refused while it was
@@ -49,13 +50,14 @@ pub fn run<T: Threads + Wait + Sync, I: Source, O: Sink, R: Sink>(
     input: &mut I,
     output: &mut O,
     report: &mut R,
+    splits: bool,
 ) -> Result<(), CliFault>
-    ensures ran { OnOk result (Runs scenario.now (I.tape input.old) (I.tape input.new) (O.tape output.old) (O.tape output.new) (R.tape report.old) (R.tape report.new)) }
-    ensures stopped { IfErr result (λ fault. RunCommandFails fault scenario.now (I.tape input.old) (I.tape input.new) (O.tape output.old) (O.tape output.new) (R.tape report.old) (R.tape report.new)
+    ensures ran { OnOk result (Runs splits scenario.now (I.tape input.old) (I.tape input.new) (O.tape output.old) (O.tape output.new) (R.tape report.old) (R.tape report.new)) }
+    ensures stopped { IfErr result (λ fault. RunCommandFails fault splits scenario.now (I.tape input.old) (I.tape input.new) (O.tape output.old) (O.tape output.new) (R.tape report.old) (R.tape report.new)
         ((input.new ≡ input.old) × (output.new ≡ output.old) × (report.new ≡ report.old)) (report.new ≡ report.old)) }
 {
     let key = TableKey::fixed();
-    match run_keyed(rt, alloc, key, scenario, input, output, report) {
+    match run_keyed(rt, alloc, key, scenario, input, output, report, splits) {
         Ok(()) => Ok(()),
         Err(fault) => Err(fault),
     }
@@ -70,16 +72,17 @@ pub fn run_keyed<T: Threads + Wait + Sync, I: Source, O: Sink, R: Sink>(
     input: &mut I,
     output: &mut O,
     report: &mut R,
+    splits: bool,
 ) -> Result<(), CliFault>
-    ensures ran { OnOk result (Runs scenario.now (I.tape input.old) (I.tape input.new) (O.tape output.old) (O.tape output.new) (R.tape report.old) (R.tape report.new)) }
-    ensures stopped { IfErr result (λ fault. RunCommandFails fault scenario.now (I.tape input.old) (I.tape input.new) (O.tape output.old) (O.tape output.new) (R.tape report.old) (R.tape report.new)
+    ensures ran { OnOk result (Runs splits scenario.now (I.tape input.old) (I.tape input.new) (O.tape output.old) (O.tape output.new) (R.tape report.old) (R.tape report.new)) }
+    ensures stopped { IfErr result (λ fault. RunCommandFails fault splits scenario.now (I.tape input.old) (I.tape input.new) (O.tape output.old) (O.tape output.new) (R.tape report.old) (R.tape report.new)
         ((input.new ≡ input.old) × (output.new ≡ output.old) × (report.new ≡ report.old)) (report.new ≡ report.old)) }
 {
     let scenario = match read(alloc, scenario) {
         Ok(scenario) => scenario,
         Err(fault) => return Err(scenario_fault(fault)),
     };
-    match run_scenario(rt, alloc, key, &scenario, input, output) {
+    match run_scenario(rt, alloc, key, &scenario, splits, input, output) {
         Ok(text) => put_text(report, text.as_str()),
         Err(stop) => Err(stop_fault(stop)),
     }

@@ -9,6 +9,7 @@ ghost use Rattle.cluster_run.specs.Noting.{said_by};
 use crate::asking::Asked;
 use cluster_node::{Event, Outcome};
 use cluster_run::{Counts, Notes};
+use connection_table::TableKey;
 use flow_splits::SplitBook;
 use listing::push_line;
 use std::alloc::{AllocError, Global};
@@ -45,14 +46,14 @@ fn kept(was: Option<Outcome>, number: u64, asked: u64, outcome: &Outcome) -> Opt
 impl Notebook {
     ghost use Rattle.scenario_play.specs.Notebooks.{Lists, ListsIf, BookIf, KeepsTwo, AreOf};
 
-    /// Nothing was noted.
-    pub(crate) fn new(alloc: Global) -> Notebook
+    /// Nothing was noted. The book of splits hashes by the key.
+    pub(crate) fn new(alloc: Global, key: TableKey) -> Notebook
         ensures { (asked : Asked) → AreOf asked [] result }
     {
         Notebook {
             counts: Counts::new(),
             lines: String::new(alloc),
-            book: SplitBook::new(alloc),
+            book: SplitBook::new(alloc, key),
             number: 0,
             one: None,
             other: None,

@@ -44,7 +44,7 @@ fn play_with<S: Scheme, P: Spread, I: Source, O: Sink>(
     ensures stopped { IfErr result (Stopped (cluster_of (λ s z. S.pick s z) (λ h. plain_of h) task.now.rules) (P.choice spread.old) (planned plan.entry) (I.tape input.old) (I.tape input.new) (O.tape output.old) (O.tape output.new)) }
 {
     let rules = &task.rules;
-    let notes = Notebook::new(alloc);
+    let notes = Notebook::new(alloc, rules.setup().key());
     let mut balancers = Balancers::<S, AnyHash, LruTable, Notebook>::make(alloc, rules, notes)?;
     rules.keep_order();
     match play_capture(alloc, plan, &mut balancers, task, spread, input, output) {
@@ -167,7 +167,7 @@ fn play_named<I: Source, O: Sink>(
 
 /// Plays a scenario over a capture, and answers what is asked of the run. What the cluster sends is written as another
 /// capture, which is begun once the input's header was accepted. Whatever goes wrong but a write, the output is cut between
-/// records. The connection tables hash by the key.
+/// records. The connection tables and the book of splits hash by the key.
 ///
 /// By the clause `kept` the run keeps the promises: for a scheme to which the turn doesn't matter two packets of one flow
 /// that were sent to different backends were chosen under versions that pick these backends, for Maglev under versions whose

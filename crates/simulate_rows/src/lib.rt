@@ -8,6 +8,8 @@ mod devices;
 #[cfg(test)]
 mod limits;
 #[cfg(test)]
+mod run_splits;
+#[cfg(test)]
 mod runs;
 #[cfg(test)]
 mod scenarios;

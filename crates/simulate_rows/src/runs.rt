@@ -9,21 +9,30 @@ use std::process::Abort;
 use std::sync::Wait;
 use std::thread::Threads;
 
-const AUDIT: &str = "audit agrees\n";
+pub(crate) const AUDIT: &str = "audit agrees\n";
 
 // What is written where a scenario's cluster runs over a capture in memory.
-fn ran<T: Threads + Wait + Sync>(
+pub(crate) fn ran<T: Threads + Wait + Sync>(
     rt: &T,
     alloc: Global,
     words: Words<'_>,
     capture: &[u8],
+    splits: bool,
 ) -> Result<Written, CliFault> {
     let text = scenario_of(alloc, words)?;
     let mut input = FromRead::new(capture);
     let mut output = ToWrite::new(Vec::new(alloc));
     let mut report = ToWrite::new(Vec::new(alloc));
     let scenario = text.as_bytes();
-    match run(rt, alloc, scenario, &mut input, &mut output, &mut report) {
+    match run(
+        rt,
+        alloc,
+        scenario,
+        &mut input,
+        &mut output,
+        &mut report,
+        splits,
+    ) {
         Ok(()) => Ok(Written {
             output: output.into_inner(),
             report: report.into_inner(),
@@ -50,7 +59,7 @@ fn a_cluster_with_a_restart(rt: HostRuntime) {
     words.keys = "ring = 16\n";
     let capture = capture_of(rt.alloc(), "yzyzyzyz").expect(&rt, "memory");
     for _ in 0..5u32 {
-        let written = ran(&rt, rt.alloc(), words, capture.as_slice()).expect(&rt, "a run");
+        let written = ran(&rt, rt.alloc(), words, capture.as_slice(), false).expect(&rt, "a run");
         reports(
             &rt,
             &written,
@@ -75,7 +84,7 @@ fn as_simulated(rt: HostRuntime) {
     let words = plain("'install 0 1', 'install 1 1', 'take 4', 'again 1', 'take 9'");
     let capture = capture_of(rt.alloc(), "xyzyx").expect(&rt, "memory");
     let simulated = played(rt.alloc(), words, capture.as_slice(), REPORT).expect(&rt, "a run");
-    let written = ran(&rt, rt.alloc(), words, capture.as_slice()).expect(&rt, "a run");
+    let written = ran(&rt, rt.alloc(), words, capture.as_slice(), false).expect(&rt, "a run");
     let mut sorted = Vec::new(rt.alloc());
     let whole = simulated.output.as_slice();
     assert_eq!(rt; whole.len(), 24 + 6 * 80);
@@ -103,7 +112,15 @@ fn is_unknown<T: Threads + Wait + Sync + Abort>(rt: &T, alloc: Global, steps: &s
     let mut output = sink(alloc, 0);
     let mut report = sink(alloc, 0);
     let scenario = text.as_bytes();
-    let done = run(rt, alloc, scenario, &mut input, &mut output, &mut report);
+    let done = run(
+        rt,
+        alloc,
+        scenario,
+        &mut input,
+        &mut output,
+        &mut report,
+        true,
+    );
     assert_eq!(rt; done, Err(CliFault::BadStep(step)));
     assert_eq!(rt;
         (input.counts.calls, output.counts.calls, report.counts.calls),
@@ -137,6 +154,7 @@ fn a_failing_input_of_threads(rt: HostRuntime) {
             &mut input,
             &mut output,
             &mut report,
+            false,
         );
         if fails_at < 11 {
             assert_eq!(rt;
@@ -158,7 +176,7 @@ fn a_failing_output_of_threads(rt: HostRuntime) {
     let capture = capture_of(rt.alloc(), "xy").expect(&rt, "memory");
     let text = scenario_of(rt.alloc(), plain(APART)).expect(&rt, "memory");
     let scenario = text.as_bytes();
-    let whole = ran(&rt, rt.alloc(), plain(APART), capture.as_slice()).expect(&rt, "a run");
+    let whole = ran(&rt, rt.alloc(), plain(APART), capture.as_slice(), false).expect(&rt, "a run");
     reports(&rt, &whole, TWO_SENT);
     for fails_at in 0..16u64 {
         let mut input = source(capture.as_slice(), u64::MAX);
@@ -178,6 +196,7 @@ fn a_failing_output_of_threads(rt: HostRuntime) {
             &mut input,
             &mut output,
             &mut report,
+            false,
         );
         assert!(rt; whole.output.starts_with(output.bytes.as_slice()));
         assert!(rt; whole.report.starts_with(report.bytes.as_slice()));

@@ -28,5 +28,6 @@ complete -c maglev -n '__fish_seen_subcommand_from explain' -F
 complete -c maglev -n '__fish_seen_subcommand_from explain' -l verbose -d 'with a fault, say where it is and what was expected, on standard error'
 complete -c maglev -n '__fish_seen_subcommand_from explain' -l help -d 'Print help'
 complete -c maglev -n '__fish_seen_subcommand_from run' -F
+complete -c maglev -n '__fish_seen_subcommand_from run' -l splits -d 'print each flow that was split, and why, before the report'
 complete -c maglev -n '__fish_seen_subcommand_from run' -l verbose -d 'with a fault, say where it is and what was expected, on standard error'
 complete -c maglev -n '__fish_seen_subcommand_from run' -l help -d 'Print help'
