@@ -4,7 +4,6 @@
 Captures cut at each byte, headers with each value of a field, and scenarios and captures at the edges of what may be read.
 The last line is 'N passed, N failed'.
 """
-import os
 import pathlib
 import struct
 import subprocess
@@ -18,6 +17,10 @@ from harness import PROGRAM, check, run_tests
 HEADER = bytes.fromhex("450000280000400040060000" + "0a000001" + "c0000201")
 P = HEADER[:10] + (65535 - model.folded(HEADER)).to_bytes(2, "big") + HEADER[12:]
 P += bytes.fromhex("03e80050" + "00000001" + "00000000" + "50022000" + "00000000")
+
+# Calls a program, and prints last how many kilobytes it took. A process of its own does so, since what a caller's took counts.
+MEASURE = "import resource, subprocess, sys; status = subprocess.run(sys.argv[1:]).returncode; "
+MEASURE += "print(resource.getrusage(resource.RUSAGE_CHILDREN).ru_maxrss); sys.exit(status)"
 
 
 def scenario(steps=("install 0 1", "take 1"), **more):
@@ -209,13 +212,12 @@ def test_repeats():
         (folder / "s.toml").write_text(scenario(steps))
         for length in [40, 1400]:
             (folder / "in.pcap").write_bytes(head() + record(P + bytes(length - 40)) * 40_000)
-            child = subprocess.Popen([PROGRAM, "simulate", "s.toml", "in.pcap", "out.pcap"], cwd=folder, stdout=subprocess.PIPE)
-            told = child.stdout.read().decode().splitlines()
-            _, status, usage = os.wait4(child.pid, 0)
-            child.returncode = os.waitstatus_to_exitcode(status)
-            peaks.append(usage.ru_maxrss)
-            check(f"repeats of {length} bytes", child.returncode == 0 and "forwarded 80000" in told, repr(told))
-    # In kilobytes: the larger records are 56 MB.
+            words = [sys.executable, "-c", MEASURE, PROGRAM, "simulate", "s.toml", "in.pcap", "out.pcap"]
+            done = subprocess.run(words, cwd=folder, capture_output=True, text=True)
+            *told, peak = done.stdout.splitlines()
+            peaks.append(int(peak))
+            check(f"repeats of {length} bytes", done.returncode == 0 and "forwarded 80000" in told, repr(done))
+    # The larger records are 56,000 kilobytes.
     check("memory of repeats", peaks[1] < peaks[0] + 8192, repr(peaks))
 
 

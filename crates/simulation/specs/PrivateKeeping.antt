@@ -42,7 +42,7 @@ abbrev pub to_keep : ℕ → Option Record → Option (ℕ × Option Record)
 to_keep zero r = None
 to_keep (suc n) r = Some (suc n, r)
 
--- where these records were read and these steps are left: of each place just that is kept. So a record is kept exactly where
--- it was read and a step that is left names it
+-- these records were read and these steps are left: of each place exactly this is kept, so that a record is kept where, and
+-- only where, it was read and a step that is left names it
 abbrev pub KeepsNamed : List Record → List Step → Kept → Type 0
 KeepsNamed seen ss k = (place : ℕ) → kept_at k place ≡ to_keep (times_named place ss) (slice_get seen place)
