@@ -1,6 +1,7 @@
 #!/usr/bin/env bash
-# chosen.sh [FLOWS PACKETS]: times `simulate` over packets of flows that were chosen to fall into one group of the kit's map,
-# beside as many of common flows, and prints the ratio of the best runs. Choosing 65,536 flows takes some seconds.
+# chosen.sh [FLOWS PACKETS]: times `simulate`, also with `--splits`, over packets of flows that were chosen to fall into one
+# group of the kit's map, beside as many of common flows, and prints the ratio of the best runs. Choosing 65,536 flows takes
+# some seconds.
 source "$(dirname "$(readlink -f "${BASH_SOURCE[0]}")")/common.sh"
 flows=${1:-65536} packets=${2:-200000}
 "$top/bin/maglev" --help >/dev/null # builds it
@@ -10,7 +11,9 @@ cc -O2 -o "$work/chosen" "$top/bench/chosen_flows.c"
 python3 "$top/bench/many_clients.py" "$work/common.pcap" "$packets" "$flows"
 python3 "$top/bench/many_clients.py" "$work/chosen.pcap" "$packets" "$flows" "$work/clients"
 scenario 1 65536 '"10.9.0.1"' "\"install 0 1\", \"take $packets\"" >"$work/scenario.toml"
-a=$(best "$maglev" simulate "$work/scenario.toml" "$work/chosen.pcap" "$work/sent.pcap")
-b=$(best "$maglev" simulate "$work/scenario.toml" "$work/common.pcap" "$work/sent.pcap")
-awk -v a="$a" -v b="$b" -v p="$packets" -v f="$flows" \
-    'BEGIN { printf "%d packets of %d flows: chosen %.3f s, common %.3f s, ratio %.2f\n", p, f, a, b, a / b }'
+for words in "" --splits; do
+    a=$(best "$maglev" simulate ${words:+"$words"} "$work/scenario.toml" "$work/chosen.pcap" "$work/sent.pcap")
+    b=$(best "$maglev" simulate ${words:+"$words"} "$work/scenario.toml" "$work/common.pcap" "$work/sent.pcap")
+    awk -v a="$a" -v b="$b" -v p="$packets" -v f="$flows" -v w="$words" \
+        'BEGIN { printf "%d packets of %d flows, simulate %s: chosen %.3f s, common %.3f s, ratio %.2f\n", p, f, w, a, b, a / b }'
+done

@@ -28,7 +28,7 @@ stop_fault (Simulation fault) = run_fault fault
 stop_fault (Threads fault) = threads_fault fault
 
 -- the cluster of the scenario that the text means ran on threads over the input, the output got what the nodes sent, and the
--- report the run's; and the run keeps the promises
+-- report the run's, behind its splits where they are asked for; and the run keeps the promises
 pub record Runs (splits : Bool) (text : List ℕ) (input input' output output' report report' : Tape) : Type 0 where
   pub scenario : Scenario
   pub means : Means text scenario
