@@ -21,6 +21,8 @@ impl Jitter {
 }
 
 impl Gate for Jitter {
+    fn preparing(&self, _node: u16, _version: u32) {}
+
     fn before(&self, node: u16, worker: u16, nth: u64) {
         self.pause(node, worker, nth);
     }

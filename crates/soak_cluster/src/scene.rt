@@ -20,7 +20,7 @@ const VIP: u32 = 0xc000_0201;
 pub const PACKETS: u32 = 8;
 
 /// How many versions the catalogue has.
-const VERSIONS: u32 = 5;
+const VERSIONS: u32 = 24;
 
 /// What is thrown for one run, beside its cluster.
 #[derive(Drop)]
