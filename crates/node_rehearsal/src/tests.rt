@@ -8,7 +8,7 @@ use cluster_core::replay;
 use cluster_node::{Cause, Event, Reason};
 use connection_table::{LruTable, PlainTable};
 use five_tuple::Flow;
-use hash_laws::SumHash;
+use hash_laws::{AnyHash, SumHash};
 use maglev_table::{Name, TableSize, Weight};
 use node_records::{Step, join_runs, none_lost};
 use pool_versions::{Backend, Member, Service, Version};
@@ -423,9 +423,8 @@ fn refuses_in_order<T: ConnTable>(rt: &impl Abort, alloc: Global) {
             (Act::Install(2), ("not newer", 0, 0)),
             (Act::Install(9), ("unknown version", 0, 0)),
             (Act::Arrive(THIRD), ("placed", 0, 2)),
-            // Below the packet's floor, and a version that there isn't.
+            // Below the packet's floor.
             (Act::Serve(0, 1), ("behind", 0, 0)),
-            (Act::Serve(0, 9), ("behind", 0, 0)),
             (Act::Serve(0, 2), ("forward", 3, 2)),
             (Act::Serve(0, 2), ("idle", 0, 0)),
             (Act::Arrive(3), ("dropped", 3, 0)),
@@ -651,6 +650,61 @@ fn records_that_do_not_fit(rt: HostRuntime) {
         fault_after(&rt, alloc, 1, &[0, 2], &[(0, 0, 1)], false),
         None
     );
+}
+
+// Whether a worker is one of the cluster by the sum hash whose tables have 7 slots and keep so many entries, after it handled a
+// packet under this version, prepared by this hash and for this size. The worker's own table keeps two entries.
+fn is_own(
+    rt: &impl Abort,
+    alloc: Global,
+    hash: AnyHash,
+    size: TableSize,
+    version: &Version,
+    capacity: u32,
+) -> bool {
+    let sums = Maglev { hash: AnyHash::Sum };
+    let own = setup(rt, alloc, sums, 1);
+    let nodes = Vec::from_slice(alloc, &[0x0a090001]).expect(rt, "memory");
+    let cluster = Setup::new(SumHash, sums, seven(rt), nodes, 1, capacity).expect(rt, "a setup");
+    let prepared = PreparedVersion::make(alloc, &Maglev { hash }, size, version).expect(rt, "memory");
+    let Ok(shared) = Arc::new(alloc, prepared) else {
+        panic!(rt; "memory");
+    };
+    let mut worker: WorkerRecord<Maglev<AnyHash>, PlainTable> = WorkerRecord::make(alloc, &own)
+        .expect(rt, "memory");
+    let item = item(rt, &[packet(1000)], 0);
+    worker.handle(&shared, &item).expect(rt, "memory");
+    assert_eq!(rt; worker.handled().len(), 1);
+    let workers = Vec::from_array(alloc, [worker]).expect(rt, "memory");
+    are_of(&cluster, &catalogue(rt, alloc), workers.as_slice())
+}
+
+// The catalogue's version 1 has A at address 1 and all members up.
+#[test]
+fn records_under_other_versions(rt: HostRuntime) {
+    let alloc = rt.alloc();
+    let all = [true, true, true];
+    let sum = AnyHash::Sum;
+    let thirteen = TableSize::new(13).expect(&rt, "a size");
+    let own = version(&rt, alloc, 1, 1, all);
+    assert!(rt; is_own(&rt, alloc, sum, seven(&rt), &own, 2));
+    // Another table's capacity, another hash, another size.
+    assert!(rt; !is_own(&rt, alloc, sum, seven(&rt), &own, 3));
+    assert!(rt; !is_own(&rt, alloc, AnyHash::Fnv, seven(&rt), &own, 2));
+    assert!(rt; !is_own(&rt, alloc, sum, thirteen, &own, 2));
+    // A number that the catalogue hasn't, and versions of number 1 with another address, and with a member that is down.
+    for (number, a, up) in [(6, 1, all), (1, 9, all), (1, 1, [true, true, false])] {
+        let other = version(&rt, alloc, number, a, up);
+        assert!(rt; !is_own(&rt, alloc, sum, seven(&rt), &other, 2));
+    }
+    // One with another weight.
+    let mut heavy = version(&rt, alloc, 1, 1, all);
+    for service in &mut heavy.services {
+        for member in &mut service.members {
+            member.weight = Weight::new(2).expect(&rt, "a weight");
+        }
+    }
+    assert!(rt; !is_own(&rt, alloc, sum, seven(&rt), &heavy, 2));
 }
 
 // What a node's run says of its packets: forwards, drops with NoVersion, and refusals, beside the length of each life's list.

@@ -57,7 +57,7 @@ fn services(alloc: Global, dice: &mut Dice) -> Result<Vec<Service>, AllocError> 
     Ok(services)
 }
 
-/// A catalogue of the versions 1 to 5.
+/// A catalogue of the versions from 1 on.
 pub fn catalogue(alloc: Global, size: TableSize, dice: &mut Dice) -> Result<Catalogue, AllocError>
     ensures { IfOk result (λ c. c.size ≡ size) }
 {
