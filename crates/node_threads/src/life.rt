@@ -3,7 +3,7 @@ ghost use Rattle.std.specs.Prelude.{◌≡◌, ◌≤◌, ◌<◌, ◌+◌, ◌+
 ghost use Rattle.cluster_core.specs.Setups.{Fixed, rules_for};
 ghost use Rattle.version_board.specs.Seats.{IsWatcherOf};
 ghost use Rattle.cluster_node.specs.declared.outcomes.Outcome.{Outcome};
-ghost use Rattle.node_records.specs.Works.{WorkView};
+ghost use Rattle.node_records.specs.Works.{IsOf};
 ghost use Rattle.node_records.specs.Ends.{all_handled};
 ghost use Rattle.cluster_node.specs.Rules.{Rules};
 ghost use Rattle.cluster_node.specs.declared.packets.Packet.{Packet};
@@ -272,7 +272,21 @@ fn muster<S: Scheme, T: ConnTable, B: Names>(
     Ok(workers)
 }
 
-// A life ended with a restart. The versions that its workers used are compared with the catalogue's first.
+// Compares the versions that a life's workers used with the catalogue's, and by what they were prepared with the cluster's.
+fn compare<S: Scheme, H: FlowHash, T: ConnTable>(
+    setup: &Setup<S, H>,
+    catalogue: &Catalogue,
+    workers: &[WorkerRecord<S, T>],
+) -> Result<(), RunFault>
+    ensures { OnOk result (All (λ w. IsOf (λ s z. S.pick s z) (rules_for (λ s z. S.pick s z) (λ h. H.plain h) setup.now catalogue.now) w) workers.now) }
+{
+    if !are_of(setup, catalogue, workers) {
+        return Err(RunFault::Foreign);
+    }
+    Ok(())
+}
+
+// A life ended with a restart. Its workers' versions are compared first.
 fn end_life<S: Scheme, H: FlowHash, T: ConnTable>(
     journal: &mut Journal,
     setup: &Setup<S, H>,
@@ -283,16 +297,14 @@ fn end_life<S: Scheme, H: FlowHash, T: ConnTable>(
         (packets : List Packet) (cs : List Command) (n : ℕ) (places : ℕ) → Going rules packets cs n places journal.old → OnOk result (Going rules packets (cs ++ Restart ∷ []) n places journal.new) }
     ensures counts { (lost : Bool) (shares : Counted) → Counts lost shares (journal.old.outcomes ++ served_from journal.old.node 0 (all_handled workers.now)) → OnOk result (Counts lost shares journal.new.outcomes) }
 {
-    if !are_of(setup, catalogue, workers) {
-        return Err(RunFault::Foreign);
-    }
+    compare(setup, catalogue, workers)?;
     match journal.end_life(workers, true) {
         Ok(()) => Ok(()),
         Err(fault) => Err(fault_of(fault)),
     }
 }
 
-// The last life ended. The same comparison comes first.
+// The last life ended. So are they here.
 fn end<S: Scheme, H: FlowHash, T: ConnTable>(
     journal: &mut Journal,
     setup: &Setup<S, H>,
@@ -304,9 +316,7 @@ fn end<S: Scheme, H: FlowHash, T: ConnTable>(
     ensures served { OnOk result (IsServed journal.old journal.new) }
     ensures counts { (lost : Bool) (shares : Counted) → Counts lost shares (journal.old.outcomes ++ served_from journal.old.node 0 (all_handled workers.now)) → OnOk result (Counts lost shares journal.new.outcomes) }
 {
-    if !are_of(setup, catalogue, workers) {
-        return Err(RunFault::Foreign);
-    }
+    compare(setup, catalogue, workers)?;
     match journal.end(workers, true) {
         Ok(()) => Ok(()),
         Err(fault) => Err(fault_of(fault)),

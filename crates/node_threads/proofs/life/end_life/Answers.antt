@@ -10,7 +10,7 @@ use Rattle.node_threads.proofs.life.end_life.Goals as goal
 pub returns-in-Ok-clause-going : goal.returns-in-Ok-clause-going
 returns-in-Ok-clause-going g c = λ packets cs n places going.
     let rules : Rules = rules_for (λ s z. g.S.Scheme.pick s z) (λ h. g.H.FlowHash.plain h) c.args.setup.now c.args.catalogue.now in
-    goes_more rules packets cs n places Restart c.args.journal.now c.end_life.new.self going (c.in-Ok.ensures.drives rules packets going.drives (c.are_of.ensures.of c.if-not-are_of.false)) c.in-Ok.ensures.command c.in-Ok.ensures.kept.0 c.in-Ok.ensures.kept.1
+    goes_more rules packets cs n places Restart c.args.journal.now c.end_life.new.self going (c.in-Ok.ensures.drives rules packets going.drives c.in_ok-compare.ensures) c.in-Ok.ensures.command c.in-Ok.ensures.kept.0 c.in-Ok.ensures.kept.1
 
 pub returns-in-Ok-clause-counts : goal.returns-in-Ok-clause-counts
 returns-in-Ok-clause-counts g c = λ lost shares had.
