@@ -38,7 +38,7 @@ impl<'a, R: Clock> Timed<'a, R> {
             return 0;
         };
         match start.elapsed(self.clock) {
-            Ok(time) => time.as_nanos() as u64,
+            Ok(time) => u64::try_from(time.as_nanos()).unwrap_or(0),
             Err(_) => 0,
         }
     }
