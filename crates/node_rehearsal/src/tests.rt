@@ -666,12 +666,15 @@ fn is_own(
     let own = setup(rt, alloc, sums, 1);
     let nodes = Vec::from_slice(alloc, &[0x0a090001]).expect(rt, "memory");
     let cluster = Setup::new(SumHash, sums, seven(rt), nodes, 1, capacity).expect(rt, "a setup");
-    let prepared = PreparedVersion::make(alloc, &Maglev { hash }, size, version).expect(rt, "memory");
+    let prepared = PreparedVersion::make(alloc, &Maglev { hash }, size, version).expect(
+        rt, "memory",
+    );
     let Ok(shared) = Arc::new(alloc, prepared) else {
         panic!(rt; "memory");
     };
-    let mut worker: WorkerRecord<Maglev<AnyHash>, PlainTable> = WorkerRecord::make(alloc, &own)
-        .expect(rt, "memory");
+    let mut worker: WorkerRecord<Maglev<AnyHash>, PlainTable> = WorkerRecord::make(
+        alloc, &own,
+    ).expect(rt, "memory");
     let item = item(rt, &[packet(1000)], 0);
     worker.handle(&shared, &item).expect(rt, "memory");
     assert_eq!(rt; worker.handled().len(), 1);
