@@ -11,11 +11,9 @@ use Rattle.cluster_node.specs.declared.outcomes.Outcome.TheVariants as outcomes
 use Rattle.cluster_node.specs.declared.outcomes.Cause.TheVariants as causes
 use Rattle.cluster_node.specs.declared.packets.Packet.{Packet}
 use Rattle.cluster_node.specs.Records.{WasRead}
-use Rattle.cluster_node.specs.Rules.{Rules}
-use Rattle.forwarder.specs.Serving.{Pick}
 use Rattle.node_records.specs.declared.step.Handled.{Handled}
 use Rattle.node_records.specs.Histories.{outcome_of}
-use Rattle.node_records.specs.Works.{WorkView, IsOf}
+use Rattle.node_records.specs.Works.{WorkView}
 
 -- all packets were read
 abbrev pub AreRead : List Packet → Type 0
@@ -66,9 +64,8 @@ with_choice NoBackend s = record s { dropped = one_more s.dropped causes.NoBacke
 abbrev pub CountsServed : Bool → Counted → List Handled → Type 0
 CountsServed lost shares hs = (n w : ℕ) → Counts lost shares (map (λ h. outcome_of n w h) hs)
 
--- a worker's record is one of a run with these rules, and its one part of the counts has what it handled
-pub record IsWork {S : Type 0} (pick_of : S → ℕ → Pick) (rules : Rules) (w : WorkView S) (lost : Bool) (shares : Counted) : Type 0 where
-  pub of : IsOf pick_of rules w
+-- a worker's one part of the counts has what it handled
+pub record IsWork {S : Type 0} (w : WorkView S) (lost : Bool) (shares : Counted) : Type 0 where
   pub part : shares.parts ≡ 1
   pub counts : CountsServed lost shares w.handled
 

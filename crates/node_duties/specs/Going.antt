@@ -1,10 +1,7 @@
 -- A journal that has obeyed some commands, and how far a life got in them.
 use Rattle.std.specs.Prelude.{◌≡◌, ◌≤◌, ◌<◌, ◌+◌, ℕ, Bool, List, length, take, slice_index_or}
-use Rattle.selection.specs.Readied.{Readied}
-use Rattle.forwarder.specs.Serving.{Pick}
 use Rattle.stats_book.specs.Counts.{Counted}
 use Rattle.cluster_node.specs.Rules.{Rules}
-use Rattle.cluster_core.specs.Runs.{AreGood}
 use Rattle.cluster_core.specs.Setups.{Fixed}
 use Rattle.pool_versions.specs.Pool.{Pools}
 use Rattle.node_duties.specs.Counts.{AreRead, Counts}
@@ -42,10 +39,9 @@ pub record IsEnded (rules : Rules) (packets : List Packet) (commands : List Comm
   pub next : stop < length commands → Going rules packets (take (stop + 1) commands) n places j
   pub last : length commands ≤ stop → IsLast rules packets commands n places j
 
--- a life may begin at a place of the commands: its versions are prepared, those before it were obeyed, and unless a count
--- was lost the shares have what the journal's outcomes come to
-pub record Begins {S : Type 0} (pick_of : S → ℕ → Pick) (rules : Rules) (versions : List (Readied S)) (packets : List Packet) (commands : List Command) (n places start : ℕ) (j : JournalView) (lost : Bool) (shares : Counted) : Type 0 where
-  pub good : AreGood pick_of rules versions
+-- a life may begin at a place of the commands: those before it were obeyed, and unless a count was lost the shares have what
+-- the journal's outcomes come to
+pub record Begins (rules : Rules) (packets : List Packet) (commands : List Command) (n places start : ℕ) (j : JournalView) (lost : Bool) (shares : Counted) : Type 0 where
   pub within : start ≤ length commands
   pub going : Going rules packets (take start commands) n places j
   pub some : 0 < shares.parts

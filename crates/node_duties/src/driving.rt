@@ -11,17 +11,19 @@ ghost use Rattle.node_duties.specs.Counts.{AreRead, Counts, with_came, with_drop
 ghost use Rattle.node_duties.specs.Going.{Going, IsDriven};
 
 use crate::fault::RunFault;
+use crate::gate::Gate;
+use crate::live::{Shared, prepare_after};
 use crate::plan::{Plan, Progress};
 use crate::post::Desk;
 use crate::ring::Inputs;
 use crate::tally::Tally;
-use cluster_core::Setup;
 use cluster_node::{Outcome, Packet};
 use hash_laws::FlowHash;
 use node_records::{Command, Journal};
 use pool_versions::Catalogue;
 use selection::Scheme;
 use stats_book::{Names, StatsBook};
+use std::alloc::Global;
 use std::sync::{Mutex, Wait};
 
 // Whether the catalogue has a version of this number.
@@ -31,26 +33,45 @@ fn knows(catalogue: &Catalogue, number: u32) -> bool
     catalogue.get(number).is_some()
 }
 
-// A version is installed, and then shown to the workers. The answer is the newest one then.
-fn publish<S: Scheme, H: FlowHash>(
-    journal: &mut Journal,
-    setup: &Setup<S, H>,
-    catalogue: &Catalogue,
-    desk: &mut Desk<'_>,
-    newest: u32,
+// A version that was installed is prepared after the newest one, and shown to the workers.
+fn show_next<S: Scheme, H: FlowHash, G: Gate, B: Names, R: Wait + Drop>(
+    alloc: Global,
+    plan: Plan<'_, S, H, G, B>,
+    desk: &mut Desk<'_, S, R>,
+    newest: &mut Option<Shared<S>>,
     number: u32,
-) -> Result<u32, RunFault>
-    ensures going { let rules = rules_for (λ s z. S.pick s z) (λ h. H.plain h) setup.now catalogue.now in
+) -> Result<(), RunFault> {
+    // Only a version that the catalogue has is installed.
+    let Some(version) = plan.catalogue.get(number) else {
+        return Err(RunFault::Foreign);
+    };
+    plan.gate.preparing(plan.node, number);
+    let next = prepare_after(alloc, plan.setup, version, newest)?;
+    desk.publish(&next)?;
+    *newest = Some(next);
+    Ok(())
+}
+
+// A version is installed, and then prepared and shown. One that isn't installed is neither.
+fn publish<S: Scheme, H: FlowHash, G: Gate, B: Names, R: Wait + Drop>(
+    alloc: Global,
+    plan: Plan<'_, S, H, G, B>,
+    journal: &mut Journal,
+    desk: &mut Desk<'_, S, R>,
+    newest: &mut Option<Shared<S>>,
+    number: u32,
+) -> Result<(), RunFault>
+    ensures going { let rules = rules_for (λ s z. S.pick s z) (λ h. H.plain h) plan.entry.setup.now plan.entry.catalogue.now in
         (packets : List Packet) (cs : List Command) (n : ℕ) (places : ℕ) → Going rules packets cs n places journal.old → OnOk result (Going rules packets (cs ++ Publish number ∷ []) n places journal.new) }
     ensures counts { (lost : Bool) (shares : Counted) → Counts lost shares journal.old.outcomes → OnOk result (Counts lost shares journal.new.outcomes) }
 {
-    let _ = setup.workers();
-    match journal.install(knows(catalogue, number), number) {
-        Ok(Outcome::Installed) => match desk.publish(number) {
-            Ok(()) => Ok(number),
-            Err(_) => Err(RunFault::Foreign),
+    let _ = plan.setup.workers();
+    match journal.install(knows(plan.catalogue, number), number) {
+        Ok(Outcome::Installed) => match show_next(alloc, plan, desk, newest, number) {
+            Ok(()) => Ok(()),
+            Err(fault) => Err(fault),
         },
-        Ok(_) => Ok(newest),
+        Ok(_) => Ok(()),
         Err(_) => Err(RunFault::Memory),
     }
 }
@@ -123,14 +144,16 @@ fn command_at(commands: &[Command], at: usize) -> Command
     commands[at]
 }
 
-/// Obeys the commands from one place on, up to a restart or the end of the list.
-pub fn drive<S: Scheme, H: FlowHash, G, B: Names, R: Wait>(
+/// Obeys the commands from one place on, up to a restart or the end of the list. A version is prepared when it is installed,
+/// after the newest one, and shown then.
+pub fn drive<S: Scheme, H: FlowHash, G: Gate, B: Names, R: Wait, W: Wait + Drop>(
     rt: &R,
+    alloc: Global,
     plan: Plan<'_, S, H, G, B>,
-    progress: Progress<B>,
-    desk: &mut Desk<'_>,
+    progress: Progress<S, B>,
+    desk: &mut Desk<'_, S, W>,
     inputs: &mut Inputs,
-) -> Result<Progress<B>, RunFault>
+) -> Result<Progress<S, B>, RunFault>
     requires within { progress.at ≤ length plan.commands.now }
     requires going { let rules = rules_for (λ s z. S.pick s z) (λ h. H.plain h) plan.setup.now plan.catalogue.now in Going rules plan.packets.now (take progress.at plan.commands.now) plan.node plan.ring progress.journal }
     requires some { 0 < progress.tally.shares.parts }
@@ -151,14 +174,7 @@ pub fn drive<S: Scheme, H: FlowHash, G, B: Names, R: Wait>(
     for at in from..plan.commands.len() {
         match command_at(plan.commands, at) {
             Command::Publish(number) => {
-                newest = publish(
-                    &mut journal,
-                    plan.setup,
-                    plan.catalogue,
-                    desk,
-                    newest,
-                    number,
-                )?;
+                publish(alloc, plan, &mut journal, desk, &mut newest, number)?;
             }
             Command::Offer(packet) => {
                 offer(rt, plan, &mut journal, &mut tally, inputs, packet)?;

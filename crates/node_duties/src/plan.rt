@@ -2,13 +2,14 @@
 ghost use Rattle.std.specs.Prelude.{◌≡◌, ◌<◌, ◌≤◌, ◌+◌, [], length};
 ghost use Rattle.node_duties.specs.Counts.{counted};
 
+use crate::live::Shared;
 use crate::tally::Tally;
 use cluster_core::Setup;
 use cluster_node::Packet;
 use hash_laws::FlowHash;
 use node_records::{Command, Journal};
 use pool_versions::Catalogue;
-use selection::{PreparedVersions, Scheme};
+use selection::Scheme;
 use stats_book::{Names, Shares, StatsBook};
 use std::alloc::AllocError;
 use std::sync::Mutex;
@@ -48,8 +49,6 @@ pub struct Plan<'e, S: Scheme, H: FlowHash, G, B: Names> {
     pub setup: &'e Setup<S, H>,
     /// Its versions.
     pub catalogue: &'e Catalogue,
-    /// Those that the commands publish, prepared.
-    pub versions: &'e PreparedVersions<S>,
     /// The packets that the commands offer, by number.
     pub packets: &'e [Packet],
     /// What the node's driver is told to do.
@@ -74,11 +73,11 @@ impl<'e, S: Scheme, H: FlowHash, G, B: Names> Copy for Plan<'e, S, H, G, B> {}
 
 /// How far a node got in its commands.
 #[derive(Drop)]
-pub struct Progress<B: Names> {
+pub struct Progress<S: Scheme, B: Names> {
     /// What its driver has written.
     pub journal: Journal,
-    /// The newest version installed, 0 where there is none.
-    pub newest: u32,
+    /// The newest version installed, prepared. A life begins with it.
+    pub newest: Option<Shared<S>>,
     /// The place of the next command, or that of the restart at which a life ends.
     pub at: usize,
     /// What was counted for what the driver has written.

@@ -1,11 +1,9 @@
 //! What a worker's thread does.
 ghost use Rattle.std.specs.Prelude.{◌≡◌, ◌<◌, ◌++◌, ◌∷◌, [], ℕ, IfOk, OnOk};
-ghost use Rattle.cluster_node.specs.Rules.{Rules};
-ghost use Rattle.cluster_core.specs.Setups.{Fixed, rules_for};
-ghost use Rattle.cluster_core.specs.Runs.{AreGood};
-ghost use Rattle.node_records.specs.Works.{WorkView, IsOf};
+ghost use Rattle.node_records.specs.Works.{WorkView};
 ghost use Rattle.node_duties.specs.Counts.{IsWork};
 
+use crate::fault::RunFault;
 use crate::gate::Gate;
 use crate::plan::Plan;
 use crate::post::Post;
@@ -25,9 +23,9 @@ use std::sync::Wait;
 
 /// What a worker's thread owns.
 #[derive(Drop)]
-pub struct Outfit<'a, B: Names> {
-    /// Its seat at the board.
-    pub post: Post<'a>,
+pub struct Outfit<'a, S: Scheme, B: Names> {
+    /// Its seat at the board, and where it reads versions.
+    pub post: Post<'a, S>,
     /// Its end of the driver's ring.
     pub ring: Consumer<Message>,
     /// Its end of the mux's ring.
@@ -40,8 +38,8 @@ pub struct Outfit<'a, B: Names> {
 
 // A worker's ends of what it shares with other threads.
 #[derive(Drop)]
-struct Ends<'a> {
-    post: Post<'a>,
+struct Ends<'a, S: Scheme> {
+    post: Post<'a, S>,
     ring: Consumer<Message>,
     out: Producer<Output>,
     number: u16,
@@ -50,17 +48,15 @@ struct Ends<'a> {
 // Looks and steps until the packet was served.
 fn serve_one<S: Scheme, T: ConnTable, R: Wait>(
     rt: &R,
-    post: &mut Post<'_>,
-    worker: &mut WorkerRecord<'_, S, T>,
+    post: &mut Post<'_, S>,
+    worker: &mut WorkerRecord<S, T>,
     item: &Item,
-) -> Result<Served, AllocError>
-    ensures of { (rules : Rules) → IsOf (λ s z. S.pick s z) rules worker.old → IsOf (λ s z. S.pick s z) rules worker.new }
-    ensures handled { IfOk result (λ s. (version : ℕ) × (worker.new.handled ≡ worker.old.handled ++ record { item = item.now; version = version; choice = s.choice; unstored = s.unstored } ∷ [])) }
+) -> Result<Served, RunFault>
+    ensures { IfOk result (λ s. (version : ℕ) × (worker.new.handled ≡ worker.old.handled ++ record { item = item.now; version = version; choice = s.choice; unstored = s.unstored } ∷ [])) }
 {
     let mut idle = Idle::new();
     for _ in rt.forever() {
-        let number = post.look();
-        match worker.handle(number, item)? {
+        match post.handle(worker, item)? {
             Step::Done(served) => return Ok(served),
             Step::Behind => idle.wait(),
         }
@@ -94,14 +90,13 @@ fn send_on<R: Wait>(
 fn serve_gated<S: Scheme, H: FlowHash, T: ConnTable, G: Gate, B: Names, R: Wait>(
     rt: &R,
     plan: Plan<'_, S, H, G, B>,
-    ends: &mut Ends<'_>,
-    run: &mut WorkerRun<'_, S, T, B>,
+    ends: &mut Ends<'_, S>,
+    run: &mut WorkerRun<S, T, B>,
     item: &Item,
     nth: u64,
-) -> Result<(), AllocError>
+) -> Result<(), RunFault>
     requires { 0 < run.old.tally.shares.parts }
-    ensures { (rules : Rules) → IsWork (λ s z. S.pick s z) rules run.old.record run.old.tally.lost run.old.tally.shares →
-        OnOk result (IsWork (λ s z. S.pick s z) rules run.new.record run.new.tally.lost run.new.tally.shares) }
+    ensures { IsWork run.old.record run.old.tally.lost run.old.tally.shares → OnOk result (IsWork run.new.record run.new.tally.lost run.new.tally.shares) }
 {
     plan.gate.before(plan.node, ends.number, nth);
     let WorkerRun { record, tally } = run;
@@ -113,23 +108,22 @@ fn serve_gated<S: Scheme, H: FlowHash, T: ConnTable, G: Gate, B: Names, R: Wait>
             plan.gate.after(plan.node, ends.number, nth);
             Ok(())
         }
-        Err(refusal) => {
+        Err(fault) => {
             plan.gate.after(plan.node, ends.number, nth);
-            Err(refusal)
+            Err(fault)
         }
     }
 }
 
 // A worker that has handled and counted nothing.
-fn begin<'e, S: Scheme, H: FlowHash, T: ConnTable, G, B: Names>(
+fn begin<S: Scheme, H: FlowHash, T: ConnTable, G, B: Names>(
     alloc: Global,
-    plan: Plan<'e, S, H, G, B>,
+    plan: Plan<'_, S, H, G, B>,
     part: Part<B>,
-) -> Result<WorkerRun<'e, S, T, B>, AllocError>
-    requires { AreGood (λ s z. S.pick s z) (rules_for (λ s z. S.pick s z) (λ h. H.plain h) plan.setup.now plan.catalogue.now) plan.versions.now }
-    ensures { IfOk result (λ w. IsWork (λ s z. S.pick s z) (rules_for (λ s z. S.pick s z) (λ h. H.plain h) plan.entry.setup.now plan.entry.catalogue.now) w.record w.tally.lost w.tally.shares) }
+) -> Result<WorkerRun<S, T, B>, AllocError>
+    ensures { IfOk result (λ w. IsWork w.record w.tally.lost w.tally.shares) }
 {
-    let record = WorkerRecord::make(alloc, plan.setup, plan.catalogue, plan.versions)?;
+    let record = WorkerRecord::make(alloc, plan.setup)?;
     Ok(WorkerRun {
         record,
         tally: Tally::of_part(part),
@@ -137,17 +131,16 @@ fn begin<'e, S: Scheme, H: FlowHash, T: ConnTable, G, B: Names>(
 }
 
 // Serves what comes, up to the closing mark or until memory is refused.
-fn serve_all<'e, S: Scheme, H: FlowHash, T: ConnTable, G: Gate, B: Names, R: Wait>(
+fn serve_all<S: Scheme, H: FlowHash, T: ConnTable, G: Gate, B: Names, R: Wait>(
     rt: &R,
     alloc: Global,
-    plan: Plan<'e, S, H, G, B>,
-    ends: &mut Ends<'_>,
+    plan: Plan<'_, S, H, G, B>,
+    ends: &mut Ends<'_, S>,
     part: Part<B>,
-) -> Result<WorkerRun<'e, S, T, B>, AllocError>
-    requires { AreGood (λ s z. S.pick s z) (rules_for (λ s z. S.pick s z) (λ h. H.plain h) plan.setup.now plan.catalogue.now) plan.versions.now }
-    ensures { IfOk result (λ w. IsWork (λ s z. S.pick s z) (rules_for (λ s z. S.pick s z) (λ h. H.plain h) plan.entry.setup.now plan.entry.catalogue.now) w.record w.tally.lost w.tally.shares) }
+) -> Result<WorkerRun<S, T, B>, RunFault>
+    ensures { IfOk result (λ w. IsWork w.record w.tally.lost w.tally.shares) }
 {
-    let mut run: WorkerRun<'e, S, T, B> = begin(alloc, plan, part)?;
+    let mut run: WorkerRun<S, T, B> = begin(alloc, plan, part)?;
     let mut nth = 0u64;
     for _ in rt.forever() {
         match pop_waiting(rt, &mut ends.ring) {
@@ -172,16 +165,15 @@ fn drain<R: Wait>(rt: &R, ring: &mut Consumer<Message>) {
     unreachable!()
 }
 
-/// Serves what comes through the ring, up to its closing mark, and sends one. A worker that was refused memory takes the
-/// rest without serving it.
-pub fn work<'e, S: Scheme, H: FlowHash, T: ConnTable, G: Gate, B: Names, R: Wait>(
+/// Serves what comes through the ring, up to its closing mark, and sends one. A worker that was refused memory (Memory), or
+/// that can't read the version that is shown (ThreadLost), takes the rest without serving it.
+pub fn work<S: Scheme, H: FlowHash, T: ConnTable, G: Gate, B: Names, R: Wait>(
     rt: &R,
     alloc: Global,
-    plan: Plan<'e, S, H, G, B>,
-    outfit: Outfit<'_, B>,
-) -> Result<WorkerRun<'e, S, T, B>, AllocError>
-    requires { AreGood (λ s z. S.pick s z) (rules_for (λ s z. S.pick s z) (λ h. H.plain h) plan.setup.now plan.catalogue.now) plan.versions.now }
-    ensures { IfOk result (λ w. IsWork (λ s z. S.pick s z) (rules_for (λ s z. S.pick s z) (λ h. H.plain h) plan.entry.setup.now plan.entry.catalogue.now) w.record w.tally.lost w.tally.shares) }
+    plan: Plan<'_, S, H, G, B>,
+    outfit: Outfit<'_, S, B>,
+) -> Result<WorkerRun<S, T, B>, RunFault>
+    ensures { IfOk result (λ w. IsWork w.record w.tally.lost w.tally.shares) }
 {
     let Outfit {
         post,

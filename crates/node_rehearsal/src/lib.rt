@@ -3,17 +3,15 @@
 //! the worked examples step by step.
 #![tactic(auto)]
 
-ghost use Rattle.std.specs.Prelude.{◌≡◌, ◌<◌, ◌++◌, ◌∷◌, [], ℕ, List, true, length, IfOk, OnOk, IsTrue, All, is_some};
+ghost use Rattle.std.specs.Prelude.{◌≡◌, ◌<◌, ◌++◌, ◌∷◌, [], ℕ, List, true, length, IfOk, OnOk, IsTrue, is_some};
 ghost use Rattle.pool_versions.specs.Pool.{version_at};
 ghost use Rattle.cluster_core.specs.Setups.{Fixed, rules_for};
-ghost use Rattle.cluster_core.specs.Runs.{AreGood};
 ghost use Rattle.node_records.specs.declared.command.Command.{Command};
 ghost use Rattle.node_records.specs.declared.command.Command.TheVariants.{Publish, Offer, Restart};
 ghost use Rattle.cluster_node.specs.declared.packets.Packet.{Packet};
 ghost use Rattle.node_records.specs.Histories.{commands_of, past_of, NoneWaits};
 ghost use Rattle.node_records.specs.Journals.{JournalView, Tells, Drives, IsServed};
 ghost use Rattle.node_rehearsal.specs.PrivateGoing.{Going};
-ghost use Rattle.node_records.specs.Works.{WorkView, IsOf};
 ghost use Rattle.node_records.specs.Runs.{IsRunOf};
 
 use cluster_core::Setup;
@@ -21,12 +19,11 @@ use cluster_node::{Item, Outcome, Packet};
 use connection_table::ConnTable;
 use forwarder::Choice;
 use hash_laws::FlowHash;
-use node_records::{
-    Command, Handled, Journal, LifeFault, NodeRecord, Rings, WorkerRecord, prepare_all,
-};
+use node_records::{Command, Handled, Journal, LifeFault, NodeRecord, Rings, WorkerRecord, are_of};
 use pool_versions::Catalogue;
-use selection::{PreparedVersions, Scheme};
+use selection::{PreparedVersion, Scheme};
 use std::alloc::{AllocError, Global};
+use std::sync::Arc;
 
 #[cfg(test)]
 mod tests;
@@ -94,19 +91,17 @@ fn gather(
     Ok(())
 }
 
-// A worker serves what is in its queue.
-fn serve<'v, S: Scheme, H: FlowHash, T: ConnTable>(
+// A worker serves what is in its queue, under the newest version.
+fn serve<S: Scheme, H: FlowHash, T: ConnTable>(
     alloc: Global,
     setup: &Setup<S, H>,
-    catalogue: &Catalogue,
-    versions: &'v PreparedVersions<S>,
-    newest: u32,
+    newest: &Option<Arc<PreparedVersion<S>>>,
     items: &[Item],
-) -> Result<WorkerRecord<'v, S, T>, AllocError>
-    requires { AreGood (λ s z. S.pick s z) (rules_for (λ s z. S.pick s z) (λ h. H.plain h) setup.now catalogue.now) versions.now }
-    ensures { IfOk result (λ w. IsOf (λ s z. S.pick s z) (rules_for (λ s z. S.pick s z) (λ h. H.plain h) setup.now catalogue.now) w) }
-{
-    let mut worker = WorkerRecord::make(alloc, setup, catalogue, versions)?;
+) -> Result<WorkerRecord<S, T>, AllocError> {
+    let mut worker = WorkerRecord::make(alloc, setup)?;
+    let Some(newest) = newest else {
+        return Ok(worker);
+    };
     for item in items {
         let _ = worker.handle(newest, item)?;
     }
@@ -114,20 +109,15 @@ fn serve<'v, S: Scheme, H: FlowHash, T: ConnTable>(
 }
 
 // All workers serve what is in their queues.
-fn serve_all<'v, S: Scheme, H: FlowHash, T: ConnTable>(
+fn serve_all<S: Scheme, H: FlowHash, T: ConnTable>(
     alloc: Global,
     setup: &Setup<S, H>,
-    catalogue: &Catalogue,
-    versions: &'v PreparedVersions<S>,
-    newest: u32,
+    newest: &Option<Arc<PreparedVersion<S>>>,
     queues: &Queues,
-) -> Result<Vec<WorkerRecord<'v, S, T>>, AllocError>
-    requires { AreGood (λ s z. S.pick s z) (rules_for (λ s z. S.pick s z) (λ h. H.plain h) setup.now catalogue.now) versions.now }
-    ensures { IfOk result (λ v. All (λ w. IsOf (λ s z. S.pick s z) (rules_for (λ s z. S.pick s z) (λ h. H.plain h) setup.now catalogue.now) w) v.items) }
-{
+) -> Result<Vec<WorkerRecord<S, T>>, AllocError> {
     let mut workers = Vec::new(alloc);
     for list in &queues.lists {
-        workers.push(serve(alloc, setup, catalogue, versions, newest, list.as_slice())?)?;
+        workers.push(serve(alloc, setup, newest, list.as_slice())?)?;
     }
     Ok(workers)
 }
@@ -135,7 +125,7 @@ fn serve_all<'v, S: Scheme, H: FlowHash, T: ConnTable>(
 fn gather_all<S: Scheme, T: ConnTable>(
     alloc: Global,
     node: u16,
-    workers: &[WorkerRecord<'_, S, T>],
+    workers: &[WorkerRecord<S, T>],
 ) -> Result<Vec<Outcome>, AllocError> {
     let mut sent = Vec::new(alloc);
     let mut number = 0u16;
@@ -153,22 +143,55 @@ fn keep(lists: &mut Vec<Vec<Outcome>>, list: Vec<Outcome>) -> Result<(), AllocEr
     }
 }
 
-// A version is installed. The answer is the newest one then.
+// Prepares the version of a number after the newest one.
+fn prepare<S: Scheme, H: FlowHash>(
+    alloc: Global,
+    setup: &Setup<S, H>,
+    catalogue: &Catalogue,
+    newest: &Option<Arc<PreparedVersion<S>>>,
+    number: u32,
+) -> Result<Arc<PreparedVersion<S>>, LifeFault> {
+    let Some(version) = catalogue.get(number) else {
+        return Err(LifeFault::Foreign);
+    };
+    let scheme = setup.scheme();
+    let prepared = match newest {
+        None => PreparedVersion::make(alloc, &scheme, setup.size(), version),
+        Some(before) => {
+            PreparedVersion::make_after(alloc, &scheme, setup.size(), version, before)
+        }
+    };
+    let Ok(prepared) = prepared else {
+        return Err(LifeFault::Memory);
+    };
+    match Arc::new(alloc, prepared) {
+        Ok(shared) => Ok(shared),
+        Err(_) => Err(LifeFault::Memory),
+    }
+}
+
+// A version is installed, and then prepared.
 fn publish<S: Scheme, H: FlowHash>(
+    alloc: Global,
     journal: &mut Journal,
     setup: &Setup<S, H>,
     catalogue: &Catalogue,
-    newest: u32,
+    newest: &mut Option<Arc<PreparedVersion<S>>>,
     number: u32,
-) -> Result<u32, LifeFault>
+) -> Result<(), LifeFault>
     ensures going { let rules = rules_for (λ s z. S.pick s z) (λ h. H.plain h) setup.now catalogue.now in
         (packets : List Packet) (cs : List Command) → Going rules packets cs journal.old → OnOk result (Going rules packets (cs ++ Publish number ∷ []) journal.new) }
     ensures kept { OnOk result ((journal.new.node ≡ journal.old.node) × (journal.new.ring ≡ journal.old.ring)) }
 {
-    let _ = setup.workers();
     match journal.install(knows(catalogue, number), number) {
-        Ok(Outcome::Installed) => Ok(number),
-        Ok(_) => Ok(newest),
+        Ok(Outcome::Installed) => match prepare(alloc, setup, catalogue, newest, number) {
+            Ok(next) => {
+                *newest = Some(next);
+                Ok(())
+            }
+            Err(fault) => Err(fault),
+        },
+        Ok(_) => Ok(()),
         Err(_) => Err(LifeFault::Memory),
     }
 }
@@ -199,21 +222,21 @@ fn restart<S: Scheme, H: FlowHash, T: ConnTable>(
     journal: &mut Journal,
     setup: &Setup<S, H>,
     catalogue: &Catalogue,
-    versions: &PreparedVersions<S>,
-    newest: u32,
+    newest: &Option<Arc<PreparedVersion<S>>>,
     queue: &Queues,
     node: u16,
 ) -> Result<Vec<Outcome>, LifeFault>
-    requires { AreGood (λ s z. S.pick s z) (rules_for (λ s z. S.pick s z) (λ h. H.plain h) setup.now catalogue.now) versions.now }
     ensures going { let rules = rules_for (λ s z. S.pick s z) (λ h. H.plain h) setup.now catalogue.now in
         (packets : List Packet) (cs : List Command) → Going rules packets cs journal.old → OnOk result (Going rules packets (cs ++ Restart ∷ []) journal.new) }
     ensures kept { OnOk result ((journal.new.node ≡ journal.old.node) × (journal.new.ring ≡ journal.old.ring)) }
 {
-    let workers: Vec<WorkerRecord<S, T>> = serve_all(
-        alloc, setup, catalogue, versions, newest, queue,
-    )?;
-    let sent = gather_all(alloc, node, workers.as_slice())?;
-    match journal.end_life(workers.as_slice(), true) {
+    let workers: Vec<WorkerRecord<S, T>> = serve_all(alloc, setup, newest, queue)?;
+    let records = workers.as_slice();
+    let sent = gather_all(alloc, node, records)?;
+    if !are_of(setup, catalogue, records) {
+        return Err(LifeFault::Foreign);
+    }
+    match journal.end_life(records, true) {
         Ok(()) => Ok(sent),
         Err(fault) => Err(fault),
     }
@@ -225,21 +248,21 @@ fn end<S: Scheme, H: FlowHash, T: ConnTable>(
     journal: &mut Journal,
     setup: &Setup<S, H>,
     catalogue: &Catalogue,
-    versions: &PreparedVersions<S>,
-    newest: u32,
+    newest: &Option<Arc<PreparedVersion<S>>>,
     queue: &Queues,
     node: u16,
 ) -> Result<Vec<Outcome>, LifeFault>
-    requires { AreGood (λ s z. S.pick s z) (rules_for (λ s z. S.pick s z) (λ h. H.plain h) setup.now catalogue.now) versions.now }
     ensures ended { let rules = rules_for (λ s z. S.pick s z) (λ h. H.plain h) setup.now catalogue.now in
         (packets : List Packet) → Drives rules packets journal.old → OnOk result (Tells rules packets journal.new × NoneWaits (past_of rules packets journal.new.node journal.new.events)) }
     ensures served { OnOk result (IsServed journal.old journal.new) }
 {
-    let workers: Vec<WorkerRecord<S, T>> = serve_all(
-        alloc, setup, catalogue, versions, newest, queue,
-    )?;
-    let sent = gather_all(alloc, node, workers.as_slice())?;
-    match journal.end(workers.as_slice(), true) {
+    let workers: Vec<WorkerRecord<S, T>> = serve_all(alloc, setup, newest, queue)?;
+    let records = workers.as_slice();
+    let sent = gather_all(alloc, node, records)?;
+    if !are_of(setup, catalogue, records) {
+        return Err(LifeFault::Foreign);
+    }
+    match journal.end(records, true) {
         Ok(_) => Ok(sent),
         Err(fault) => Err(fault),
     }
@@ -258,16 +281,15 @@ pub fn rehearse<S: Scheme, H: FlowHash, T: ConnTable>(
     requires { node < length setup.now.nodes }
     ensures { let rules = rules_for (λ s z. S.pick s z) (λ h. H.plain h) setup.now catalogue.now in IfOk result (λ r. IsRunOf rules packets.now node ring commands.now r) }
 {
-    let versions = prepare_all(alloc, setup, catalogue, commands)?;
     let count = setup.workers();
     let mut journal = Journal::new(alloc, node, ring, count)?;
     let mut queue = empty_queues(alloc, count, ring)?;
     let mut sent = Vec::new(alloc);
-    let mut newest = 0;
+    let mut newest = None;
     for command in commands {
         match *command {
             Command::Publish(number) => {
-                newest = publish(&mut journal, setup, catalogue, newest, number)?;
+                publish(alloc, &mut journal, setup, catalogue, &mut newest, number)?;
             }
             Command::Offer(packet) => {
                 offer(&mut journal, setup, catalogue, packets, &mut queue, packet)?;
@@ -278,8 +300,7 @@ pub fn rehearse<S: Scheme, H: FlowHash, T: ConnTable>(
                     &mut journal,
                     setup,
                     catalogue,
-                    &versions,
-                    newest,
+                    &newest,
                     &queue,
                     node,
                 )?;
@@ -288,16 +309,7 @@ pub fn rehearse<S: Scheme, H: FlowHash, T: ConnTable>(
             }
         }
     }
-    let list = end::<S, H, T>(
-        alloc,
-        &mut journal,
-        setup,
-        catalogue,
-        &versions,
-        newest,
-        &queue,
-        node,
-    )?;
+    let list = end::<S, H, T>(alloc, &mut journal, setup, catalogue, &newest, &queue, node)?;
     keep(&mut sent, list)?;
     journal.finish(sent)
 }

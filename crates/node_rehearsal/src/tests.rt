@@ -1,7 +1,6 @@
 //! The worked examples, step by step, on both tables and with every scheme, and runs beside the replay of their histories.
 ghost use Rattle.std.specs.Prelude.{◌≡◌, Some};
-ghost use Rattle.cluster_core.specs.Setups.{Fixed, rules_for};
-ghost use Rattle.cluster_core.specs.Runs.{AreGood};
+ghost use Rattle.cluster_core.specs.Setups.{Fixed};
 ghost use Rattle.cluster_node.specs.Records.{WasRead};
 
 use super::*;
@@ -9,7 +8,7 @@ use cluster_core::replay;
 use cluster_node::{Cause, Event, Reason};
 use connection_table::{LruTable, PlainTable};
 use five_tuple::Flow;
-use hash_laws::SumHash;
+use hash_laws::{AnyHash, SumHash};
 use maglev_table::{Name, TableSize, Weight};
 use node_records::{Step, join_runs, none_lost};
 use pool_versions::{Backend, Member, Service, Version};
@@ -150,7 +149,8 @@ impl Queues {
         &mut self,
         rt: &impl Abort,
         worker: u16,
-        record: &mut WorkerRecord<'_, S, T>,
+        record: &mut WorkerRecord<S, T>,
+        versions: &[Arc<PreparedVersion<S>>],
         number: u32,
     ) -> Told {
         let at = worker as usize;
@@ -162,7 +162,10 @@ impl Queues {
             return ("idle", 0, 0);
         }
         let item = queue[0];
-        let step = record.handle(number, &item).expect(rt, "memory");
+        let Some(version) = of_number(versions, number) else {
+            return ("not prepared", 0, 0);
+        };
+        let step = record.handle(version, &item).expect(rt, "memory");
         if let Step::Done(_) = step {
             queue.remove(0);
         }
@@ -176,7 +179,8 @@ fn acted<S: Scheme, T: ConnTable>(
     catalogue: &Catalogue,
     packets: &[Packet],
     queues: &mut Queues,
-    workers: &mut [WorkerRecord<'_, S, T>],
+    workers: &mut [WorkerRecord<S, T>],
+    versions: &[Arc<PreparedVersion<S>>],
     act: Act,
 ) -> Told {
     match act {
@@ -194,44 +198,46 @@ fn acted<S: Scheme, T: ConnTable>(
         }
         Act::Serve(worker, number) => {
             assert!(rt; (worker as usize) < workers.len());
-            queues.give(rt, worker, &mut workers[worker as usize], number)
+            queues.give(rt, worker, &mut workers[worker as usize], versions, number)
         }
     }
 }
 
-// The versions that these commands publish.
+// The version of a number.
+fn of_number<S: Scheme>(
+    versions: &[Arc<PreparedVersion<S>>],
+    number: u32,
+) -> Option<&Arc<PreparedVersion<S>>> {
+    versions.iter().find(|version| version.number() == number)
+}
+
+// The versions that these commands publish, each prepared alone.
 fn prepared<S: Scheme, H: FlowHash>(
     rt: &impl Abort,
     alloc: Global,
     setup: &Setup<S, H>,
     catalogue: &Catalogue,
     commands: &[Command],
-) -> PreparedVersions<S>
-    ensures { AreGood (λ s z. S.pick s z) (rules_for (λ s z. S.pick s z) (λ h. H.plain h) setup.now catalogue.now) result }
-{
-    prepare_all(alloc, setup, catalogue, commands).expect(rt, "memory")
-}
-
-// The versions of these numbers are there.
-fn are_there<S: Scheme>(versions: &PreparedVersions<S>, numbers: &[u32]) -> bool {
-    numbers
-        .iter()
-        .all(|number| versions.find(*number).is_some())
+) -> Vec<Arc<PreparedVersion<S>>> {
+    let mut versions = Vec::new(alloc);
+    for command in commands {
+        if let Command::Publish(number) = *command {
+            let version = prepare(alloc, setup, catalogue, &None, number).expect(rt, "a version");
+            versions.push(version).expect(rt, "memory");
+        }
+    }
+    versions
 }
 
 // Workers that have handled nothing.
-fn fresh_workers<'v, S: Scheme, H: FlowHash, T: ConnTable>(
+fn fresh_workers<S: Scheme, H: FlowHash, T: ConnTable>(
     rt: &impl Abort,
     alloc: Global,
     setup: &Setup<S, H>,
-    catalogue: &Catalogue,
-    versions: &'v PreparedVersions<S>,
-) -> Vec<WorkerRecord<'v, S, T>>
-    requires { AreGood (λ s z. S.pick s z) (rules_for (λ s z. S.pick s z) (λ h. H.plain h) setup.now catalogue.now) versions.now }
-{
+) -> Vec<WorkerRecord<S, T>> {
     let mut workers = Vec::new(alloc);
     for _ in 0..setup.workers() {
-        let worker = WorkerRecord::make(alloc, setup, catalogue, versions).expect(rt, "memory");
+        let worker = WorkerRecord::make(alloc, setup).expect(rt, "memory");
         workers.push(worker).expect(rt, "memory");
     }
     workers
@@ -265,7 +271,8 @@ fn plays_with<S: Scheme, T: ConnTable>(
     alloc: Global,
     setup: &Setup<S, SumHash>,
     catalogue: &Catalogue,
-    mut workers: Vec<WorkerRecord<'_, S, T>>,
+    mut workers: Vec<WorkerRecord<S, T>>,
+    versions: &[Arc<PreparedVersion<S>>],
     ring: u32,
     steps: &[(Act, Told)],
 )
@@ -282,6 +289,7 @@ fn plays_with<S: Scheme, T: ConnTable>(
             &packets,
             &mut queues,
             workers.as_mut_slice(),
+            versions,
             *act,
         );
         assert_eq!(rt; got, *want, "step {at}");
@@ -307,9 +315,17 @@ fn plays<S: Scheme, T: ConnTable>(
     let catalogue = catalogue(rt, alloc);
     let all = [1, 2, 3, 4, 5].map(|number| Command::Publish(number));
     let versions = prepared(rt, alloc, setup, &catalogue, &all);
-    assert!(rt; are_there(&versions, &[1, 2, 3, 4, 5]));
-    let workers = fresh_workers::<S, SumHash, T>(rt, alloc, setup, &catalogue, &versions);
-    plays_with(rt, alloc, setup, &catalogue, workers, ring, steps);
+    let workers = fresh_workers::<S, SumHash, T>(rt, alloc, setup);
+    plays_with(
+        rt,
+        alloc,
+        setup,
+        &catalogue,
+        workers,
+        versions.as_slice(),
+        ring,
+        steps,
+    );
 }
 
 const FIRST: u32 = 0;
@@ -407,9 +423,8 @@ fn refuses_in_order<T: ConnTable>(rt: &impl Abort, alloc: Global) {
             (Act::Install(2), ("not newer", 0, 0)),
             (Act::Install(9), ("unknown version", 0, 0)),
             (Act::Arrive(THIRD), ("placed", 0, 2)),
-            // Below the packet's floor, and a version that there isn't.
+            // Below the packet's floor.
             (Act::Serve(0, 1), ("behind", 0, 0)),
-            (Act::Serve(0, 9), ("behind", 0, 0)),
             (Act::Serve(0, 2), ("forward", 3, 2)),
             (Act::Serve(0, 2), ("idle", 0, 0)),
             (Act::Arrive(3), ("dropped", 3, 0)),
@@ -562,9 +577,7 @@ fn fault_after(
     let packets = [packet(1000), packet(1001), packet(1006)];
     let all = [Command::Publish(1), Command::Publish(2)];
     let versions = prepared(rt, alloc, &setup, &catalogue, &all);
-    let mut workers = fresh_workers::<Maglev<SumHash>, SumHash, PlainTable>(
-        rt, alloc, &setup, &catalogue, &versions,
-    );
+    let mut workers = fresh_workers::<Maglev<SumHash>, SumHash, PlainTable>(rt, alloc, &setup);
     let mut journal = Journal::new(alloc, 0, 16, setup.workers()).expect(rt, "memory");
     let mut queues = empty_queues(alloc, count, 16).expect(rt, "memory");
     journal.install(true, 1).expect(rt, "memory");
@@ -577,7 +590,8 @@ fn fault_after(
         let at = *worker as usize;
         assert!(rt; at < workers.len());
         let item = item(rt, &packets, *number);
-        workers[at].handle(*under, &item).expect(rt, "memory");
+        let version = of_number(versions.as_slice(), *under).expect(rt, "a version");
+        workers[at].handle(version, &item).expect(rt, "memory");
     }
     let before = journal.events().len();
     let fault = journal.end_life(workers.as_slice(), drained).err();
@@ -636,6 +650,64 @@ fn records_that_do_not_fit(rt: HostRuntime) {
         fault_after(&rt, alloc, 1, &[0, 2], &[(0, 0, 1)], false),
         None
     );
+}
+
+// Whether a worker is one of the cluster by the sum hash whose tables have 7 slots and keep so many entries, after it handled a
+// packet under this version, prepared by this hash and for this size. The worker's own table keeps two entries.
+fn is_own(
+    rt: &impl Abort,
+    alloc: Global,
+    hash: AnyHash,
+    size: TableSize,
+    version: &Version,
+    capacity: u32,
+) -> bool {
+    let sums = Maglev { hash: AnyHash::Sum };
+    let own = setup(rt, alloc, sums, 1);
+    let nodes = Vec::from_slice(alloc, &[0x0a090001]).expect(rt, "memory");
+    let cluster = Setup::new(SumHash, sums, seven(rt), nodes, 1, capacity).expect(rt, "a setup");
+    let prepared = PreparedVersion::make(alloc, &Maglev { hash }, size, version).expect(
+        rt, "memory",
+    );
+    let Ok(shared) = Arc::new(alloc, prepared) else {
+        panic!(rt; "memory");
+    };
+    let mut worker: WorkerRecord<Maglev<AnyHash>, PlainTable> = WorkerRecord::make(
+        alloc, &own,
+    ).expect(rt, "memory");
+    let item = item(rt, &[packet(1000)], 0);
+    worker.handle(&shared, &item).expect(rt, "memory");
+    assert_eq!(rt; worker.handled().len(), 1);
+    let workers = Vec::from_array(alloc, [worker]).expect(rt, "memory");
+    are_of(&cluster, &catalogue(rt, alloc), workers.as_slice())
+}
+
+// The catalogue's version 1 has A at address 1 and all members up.
+#[test]
+fn records_under_other_versions(rt: HostRuntime) {
+    let alloc = rt.alloc();
+    let all = [true, true, true];
+    let sum = AnyHash::Sum;
+    let thirteen = TableSize::new(13).expect(&rt, "a size");
+    let own = version(&rt, alloc, 1, 1, all);
+    assert!(rt; is_own(&rt, alloc, sum, seven(&rt), &own, 2));
+    // Another table's capacity, another hash, another size.
+    assert!(rt; !is_own(&rt, alloc, sum, seven(&rt), &own, 3));
+    assert!(rt; !is_own(&rt, alloc, AnyHash::Fnv, seven(&rt), &own, 2));
+    assert!(rt; !is_own(&rt, alloc, sum, thirteen, &own, 2));
+    // A number that the catalogue hasn't, and versions of number 1 with another address, and with a member that is down.
+    for (number, a, up) in [(6, 1, all), (1, 9, all), (1, 1, [true, true, false])] {
+        let other = version(&rt, alloc, number, a, up);
+        assert!(rt; !is_own(&rt, alloc, sum, seven(&rt), &other, 2));
+    }
+    // One with another weight.
+    let mut heavy = version(&rt, alloc, 1, 1, all);
+    for service in &mut heavy.services {
+        for member in &mut service.members {
+            member.weight = Weight::new(2).expect(&rt, "a weight");
+        }
+    }
+    assert!(rt; !is_own(&rt, alloc, sum, seven(&rt), &heavy, 2));
 }
 
 // What a node's run says of its packets: forwards, drops with NoVersion, and refusals, beside the length of each life's list.
@@ -734,9 +806,7 @@ fn a_life_that_is_not_drained(rt: HostRuntime) {
     let catalogue = catalogue(&rt, alloc);
     let packets = [packet(1000)];
     let versions = prepared(&rt, alloc, &setup, &catalogue, &[Command::Publish(1)]);
-    let mut workers = fresh_workers::<Maglev<SumHash>, SumHash, PlainTable>(
-        &rt, alloc, &setup, &catalogue, &versions,
-    );
+    let mut workers = fresh_workers::<Maglev<SumHash>, SumHash, PlainTable>(&rt, alloc, &setup);
     let mut journal = Journal::new(alloc, 0, 16, 1).expect(&rt, "memory");
     let mut queues = empty_queues(alloc, 1, 16).expect(&rt, "memory");
     for act in [Act::Install(1), Act::Arrive(0), Act::Arrive(0)] {
@@ -747,6 +817,7 @@ fn a_life_that_is_not_drained(rt: HostRuntime) {
             &packets,
             &mut queues,
             workers.as_mut_slice(),
+            versions.as_slice(),
             act,
         );
     }
@@ -769,6 +840,7 @@ fn a_life_that_is_not_drained(rt: HostRuntime) {
             &packets,
             &mut queues,
             workers.as_mut_slice(),
+            versions.as_slice(),
             act,
         );
         assert_eq!(rt; got, want);
@@ -788,9 +860,7 @@ fn finished(rt: &impl Abort, alloc: Global, gathered: &[usize]) -> Option<LifeFa
     let catalogue = catalogue(rt, alloc);
     let packets = [packet(1000), packet(1001)];
     let versions = prepared(rt, alloc, &setup, &catalogue, &[Command::Publish(1)]);
-    let mut workers = fresh_workers::<Maglev<SumHash>, SumHash, LruTable>(
-        rt, alloc, &setup, &catalogue, &versions,
-    );
+    let mut workers = fresh_workers::<Maglev<SumHash>, SumHash, LruTable>(rt, alloc, &setup);
     let mut journal = Journal::new(alloc, 0, 16, 1).expect(rt, "memory");
     let mut queues = empty_queues(alloc, 1, 16).expect(rt, "memory");
     for act in [
@@ -807,6 +877,7 @@ fn finished(rt: &impl Abort, alloc: Global, gathered: &[usize]) -> Option<LifeFa
             &packets,
             &mut queues,
             workers.as_mut_slice(),
+            versions.as_slice(),
             act,
         );
     }

@@ -1,10 +1,9 @@
 //! One life of a node: its threads are started, fed and joined.
 ghost use Rattle.std.specs.Prelude.{◌≡◌, ◌≤◌, ◌<◌, ◌+◌, ◌++◌, ◌∷◌, [], ℕ, Bool, List, take, length, None, IfOk, OnOk, All};
 ghost use Rattle.cluster_core.specs.Setups.{Fixed, rules_for};
-ghost use Rattle.cluster_core.specs.Runs.{AreGood};
 ghost use Rattle.version_board.specs.Seats.{IsWatcherOf};
 ghost use Rattle.cluster_node.specs.declared.outcomes.Outcome.{Outcome};
-ghost use Rattle.node_records.specs.Works.{WorkView, IsOf};
+ghost use Rattle.node_records.specs.Works.{IsOf};
 ghost use Rattle.node_records.specs.Ends.{all_handled};
 ghost use Rattle.cluster_node.specs.Rules.{Rules};
 ghost use Rattle.cluster_node.specs.declared.packets.Packet.{Packet};
@@ -21,11 +20,12 @@ use cluster_core::Setup;
 use cluster_node::Outcome;
 use connection_table::ConnTable;
 use hash_laws::FlowHash;
+use left_right::ReadHandle;
 use node_duties::{
-    Desk, Gate, Inputs, OfRun, Outfit, Output, Plan, Post, Progress, RunFault, Tally, WorkerRun,
-    drive, fault_of, gather, work,
+    CountsOwn, Current, Desk, Gate, Inputs, Outfit, Output, Plan, Post, Progress, RunFault, Stage,
+    Tally, WorkerRun, drive, fault_of, gather, work,
 };
-use node_records::{Journal, WorkerRecord};
+use node_records::{Journal, WorkerRecord, are_of};
 use pool_versions::Catalogue;
 use rtrb::{Consumer, RingBuffer};
 use selection::Scheme;
@@ -36,14 +36,14 @@ use std::thread;
 use std::thread::{PromisedHandle, Scope, Threads};
 use version_board::{Watcher, WordBoard};
 
-// What a worker's thread answers: what it did, or that memory was refused.
-type Answer<'e, S, T, B> = Result<WorkerRun<'e, S, T, B>, AllocError>;
+// What a worker's thread answers: what it did, or why it did not do all.
+type Answer<S, T, B> = Result<WorkerRun<S, T, B>, RunFault>;
 
 /// The rings of a life: what its workers own, the driver's ends and the mux's ends.
 #[derive(Drop)]
-pub struct Laid<'a, B: Names> {
+pub struct Laid<'a, S: Scheme, B: Names> {
     /// One for each worker.
-    pub outfits: Vec<Outfit<'a, B>>,
+    pub outfits: Vec<Outfit<'a, S, B>>,
     /// The driver's ends.
     pub inputs: Inputs,
     /// The mux's ends.
@@ -52,45 +52,73 @@ pub struct Laid<'a, B: Names> {
 
 /// What a life leaves.
 #[derive(Drop)]
-pub struct LifeRun<B: Names> {
+pub struct LifeRun<S: Scheme, B: Names> {
     /// How far the node got.
-    pub progress: Progress<B>,
+    pub progress: Progress<S, B>,
     /// What was sent, as the mux gathered it.
     pub sent: Vec<Outcome>,
 }
 
 // The workers' threads, and why not all were started.
 #[derive(Drop)]
-struct Started<'e, S: Scheme, H: FlowHash, T: ConnTable, B: Names> {
-    handles: Vec<PromisedHandle<Answer<'e, S, T, B>, OfRun<'e, 'e, S, H>>>,
+struct Started<S: Scheme, T: ConnTable, B: Names> {
+    handles: Vec<PromisedHandle<Answer<S, T, B>, CountsOwn>>,
     fault: Option<RunFault>,
 }
 
-/// The rings of a life, each of so many places, and what its workers own.
-pub fn lay<'a, B: Names>(
+// A worker's place to read versions. One that isn't had is a thread that couldn't be started.
+fn reader_of<S: Scheme, R: Wait + Drop>(
+    stage: &Stage<S, R>,
+) -> Result<ReadHandle<Current<S>>, RunFault> {
+    match stage.handle() {
+        Ok(reader) => Ok(reader),
+        Err(_) => Err(RunFault::ThreadLost),
+    }
+}
+
+/// What the workers see of their driver's versions: for each seat of the board a place to read.
+pub fn post_all<'a, S: Scheme, R: Wait + Drop>(
     alloc: Global,
     board: &'a WordBoard,
+    stage: &Stage<S, R>,
     seats: Vec<Watcher>,
+) -> Result<Vec<Post<'a, S>>, RunFault>
+    requires { All (λ w. IsWatcherOf board.now w) seats.items }
+    ensures { IfOk result (λ v. length v.items ≡ length seats.items) }
+{
+    let mut posts = Vec::new(alloc);
+    for seat in seats {
+        let reader = reader_of(stage)?;
+        let Ok(()) = posts.push(Post::new(board, seat, reader)) else {
+            return Err(RunFault::Memory);
+        };
+    }
+    Ok(posts)
+}
+
+/// The rings of a life, each of so many places, and what its workers own.
+pub fn lay<'a, S: Scheme, B: Names>(
+    alloc: Global,
+    posts: Vec<Post<'a, S>>,
     places: u32,
     tally: &mut Tally<B>,
-) -> Result<Laid<'a, B>, AllocError>
-    requires seats { All (λ w. IsWatcherOf board.now w) seats.items }
-    requires parts { length seats.items < tally.old.shares.parts }
-    ensures outfits { IfOk result (λ l. length l.outfits.items ≡ length seats.items) }
-    ensures parts { OnOk result (tally.new.shares.parts + length seats.items ≡ tally.old.shares.parts) }
+) -> Result<Laid<'a, S, B>, AllocError>
+    requires { length posts.items < tally.old.shares.parts }
+    ensures outfits { IfOk result (λ l. length l.outfits.items ≡ length posts.entry.items) }
+    ensures parts { OnOk result (tally.new.shares.parts + length posts.entry.items ≡ tally.old.shares.parts) }
     ensures same { OnOk result ((tally.new.shares ≡ record tally.old.shares { parts = tally.new.shares.parts }) × (tally.new.lost ≡ tally.old.lost)) }
 {
     let mut outfits = Vec::new(alloc);
     let mut rings = Vec::new(alloc);
     let mut outputs = Vec::new(alloc);
     let mut number = 0u16;
-    for seat in seats {
+    for post in posts {
         let (input, ring) = RingBuffer::new(alloc, places as usize)?;
         let (out, output) = RingBuffer::new(alloc, places as usize)?;
         rings.push(input)?;
         outputs.push(output)?;
         outfits.push(Outfit {
-            post: Post::new(board, seat),
+            post,
             ring,
             out,
             part: tally.part(),
@@ -120,13 +148,11 @@ fn start<
     rt: &'e R,
     alloc: Global,
     plan: Plan<'e, S, H, G, B>,
-    outfits: Vec<Outfit<'e, B>>,
-) -> Started<'e, S, H, T, B>
+    outfits: Vec<Outfit<'e, S, B>>,
+) -> Started<S, T, B>
 where
     S::Prepared: Send + Sync,
-    requires { AreGood (λ s z. S.pick s z) (rules_for (λ s z. S.pick s z) (λ h. H.plain h) plan.setup.now plan.catalogue.now) plan.versions.now }
-    ensures promises { All (λ h. (h.promise.setup.now ≡ plan.entry.setup.now) × (h.promise.catalogue.now ≡ plan.entry.catalogue.now)) result.handles.items }
-    ensures all { result.fault ≡ None → length result.handles.items ≡ length outfits.entry.items }
+    ensures { result.fault ≡ None → length result.handles.items ≡ length outfits.entry.items }
 {
     let mut handles = Vec::new(alloc);
     for outfit in outfits {
@@ -134,15 +160,10 @@ where
             let fault = Some(RunFault::Memory);
             return Started { handles, fault };
         }
-        let promise = OfRun {
-            setup: plan.setup,
-            catalogue: plan.catalogue,
-        };
         match scope.spawn_with(
-            promise,
-            move || -> Result<WorkerRun<'_, S, T, B>, AllocError>
-                requires { AreGood (λ s z. S.pick s z) (rules_for (λ s z. S.pick s z) (λ h. H.plain h) plan.setup.now plan.catalogue.now) plan.versions.now }
-                ensures { IfOk result (λ w. IsWork (λ s z. S.pick s z) (rules_for (λ s z. S.pick s z) (λ h. H.plain h) plan.entry.setup.now plan.entry.catalogue.now) w.record w.tally.lost w.tally.shares) }
+            CountsOwn,
+            move || -> Result<WorkerRun<S, T, B>, RunFault>
+                ensures { IfOk result (λ w. IsWork w.record w.tally.lost w.tally.shares) }
             { work(rt, alloc, plan, outfit) },
         ) {
             Ok(handle) => handles.push_reserved(handle),
@@ -158,81 +179,86 @@ where
     }
 }
 
+// What the workers of a life did, as far as they were joined, and why one of them did not do all. Memory comes first.
+#[derive(Drop)]
+struct Joined<S: Scheme, T: ConnTable, B: Names> {
+    runs: Vec<WorkerRun<S, T, B>>,
+    fault: Option<RunFault>,
+}
+
+// The fault that comes first of two.
+fn first_of(fault: Option<RunFault>, other: RunFault) -> RunFault {
+    match fault {
+        Some(RunFault::Memory) => RunFault::Memory,
+        _ => other,
+    }
+}
+
 // Joins a worker, and keeps what it did if it did it all and there is memory.
-fn join_one<'v, 'e, S: Scheme, H: FlowHash, T: ConnTable, B: Names, R: Threads>(
+fn join_one<S: Scheme, T: ConnTable, B: Names, R: Threads>(
     rt: &R,
-    setup: &Setup<S, H>,
-    catalogue: &Catalogue,
-    runs: &mut Vec<WorkerRun<'v, S, T, B>>,
-    handle: PromisedHandle<Answer<'v, S, T, B>, OfRun<'e, 'e, S, H>>,
+    joined: &mut Joined<S, T, B>,
+    handle: PromisedHandle<Answer<S, T, B>, CountsOwn>,
 )
-    requires { (handle.promise.setup.now ≡ setup.now) × (handle.promise.catalogue.now ≡ catalogue.now) }
-    ensures { All (λ w. IsWork (λ s z. S.pick s z) (rules_for (λ s z. S.pick s z) (λ h. H.plain h) setup.now catalogue.now) w.record w.tally.lost w.tally.shares) runs.old.items →
-        All (λ w. IsWork (λ s z. S.pick s z) (rules_for (λ s z. S.pick s z) (λ h. H.plain h) setup.now catalogue.now) w.record w.tally.lost w.tally.shares) runs.new.items }
+    ensures of { All (λ w. IsWork w.record w.tally.lost w.tally.shares) joined.old.runs.items → All (λ w. IsWork w.record w.tally.lost w.tally.shares) joined.new.runs.items }
+    ensures all { joined.new.fault ≡ None → (joined.old.fault ≡ None) × (length joined.new.runs.items ≡ length joined.old.runs.items + 1) }
 {
-    let _ = setup.workers();
-    let _ = catalogue.size();
     match handle.join(rt) {
-        Err(_) => (),
-        Ok(done) => match runs.push(done) {
+        Err(fault) => joined.fault = Some(first_of(joined.fault, fault)),
+        Ok(done) => match joined.runs.push(done) {
             Ok(()) => (),
-            Err(_) => (),
+            Err(_) => joined.fault = Some(RunFault::Memory),
         },
     }
 }
 
-// Joins all workers, whatever becomes of them.
-fn join_all<'v, 'e, S: Scheme, H: FlowHash, T: ConnTable, B: Names, R: Threads>(
+// Joins all workers, whatever becomes of them. Memory comes before ThreadLost.
+fn join_all<S: Scheme, T: ConnTable, B: Names, R: Threads>(
     rt: &R,
     alloc: Global,
-    setup: &Setup<S, H>,
-    catalogue: &Catalogue,
-    handles: Vec<PromisedHandle<Answer<'v, S, T, B>, OfRun<'e, 'e, S, H>>>,
-) -> Result<Vec<WorkerRun<'v, S, T, B>>, AllocError>
-    requires { All (λ h. (h.promise.setup.now ≡ setup.now) × (h.promise.catalogue.now ≡ catalogue.now)) handles.items }
-    ensures of { IfOk result (λ v. All (λ w. IsWork (λ s z. S.pick s z) (rules_for (λ s z. S.pick s z) (λ h. H.plain h) setup.now catalogue.now) w.record w.tally.lost w.tally.shares) v.items) }
-    ensures all { IfOk result (λ v. length v.items ≡ length handles.entry.items) }
+    handles: Vec<PromisedHandle<Answer<S, T, B>, CountsOwn>>,
+) -> Result<Vec<WorkerRun<S, T, B>>, RunFault>
+    ensures of { IfOk result (λ v. All (λ w. IsWork w.record w.tally.lost w.tally.shares) v.items) }
+    ensures all { IfOk result (λ v. length v.items ≡ length handles.items) }
 {
-    let mut runs = Vec::new(alloc);
-    let count = handles.len();
+    let mut joined = Joined {
+        runs: Vec::new(alloc),
+        fault: None,
+    };
     for handle in handles {
-        join_one(rt, setup, catalogue, &mut runs, handle);
+        join_one(rt, &mut joined, handle);
     }
-    if runs.len() != count {
-        return Err(AllocError);
+    let Joined { runs, fault } = joined;
+    match fault {
+        Some(fault) => Err(fault),
+        None => Ok(runs),
     }
-    Ok(runs)
 }
 
 // Not all threads of a life could be started: those that were end, with nothing offered.
-fn give_up<'v, 'e, S: Scheme, H: FlowHash, T: ConnTable, B: Names, R: Threads + Wait>(
+fn give_up<S: Scheme, T: ConnTable, B: Names, R: Threads + Wait>(
     rt: &R,
     alloc: Global,
-    setup: &Setup<S, H>,
-    catalogue: &Catalogue,
     inputs: &mut Inputs,
-    handles: Vec<PromisedHandle<Answer<'v, S, T, B>, OfRun<'e, 'e, S, H>>>,
+    handles: Vec<PromisedHandle<Answer<S, T, B>, CountsOwn>>,
     fault: RunFault,
-) -> RunFault
-    requires { All (λ h. (h.promise.setup.now ≡ setup.now) × (h.promise.catalogue.now ≡ catalogue.now)) handles.items }
-{
+) -> RunFault {
     inputs.close(rt);
-    match join_all(rt, alloc, setup, catalogue, handles) {
-        Ok(_) => fault,
-        Err(_) => RunFault::Memory,
+    match join_all(rt, alloc, handles) {
+        Err(RunFault::Memory) => RunFault::Memory,
+        _ => fault,
     }
 }
 
 // What the workers counted comes to their driver's tally, and their records are kept.
-fn muster<'v, S: Scheme, T: ConnTable, B: Names>(
+fn muster<S: Scheme, T: ConnTable, B: Names>(
     alloc: Global,
     tally: &mut Tally<B>,
-    runs: Vec<WorkerRun<'v, S, T, B>>,
-) -> Result<Vec<WorkerRecord<'v, S, T>>, AllocError>
-    ensures of { (rules : Rules) → All (λ w. IsWork (λ s z. S.pick s z) rules w.record w.tally.lost w.tally.shares) runs.entry.items → IfOk result (λ v. All (λ w. IsOf (λ s z. S.pick s z) rules w) v.items) }
-    ensures parts { (rules : Rules) → All (λ w. IsWork (λ s z. S.pick s z) rules w.record w.tally.lost w.tally.shares) runs.entry.items → OnOk result (tally.new.shares.parts ≡ tally.old.shares.parts + length runs.entry.items) }
-    ensures counts { (rules : Rules) (os : List Outcome) (n : ℕ) → All (λ w. IsWork (λ s z. S.pick s z) rules w.record w.tally.lost w.tally.shares) runs.entry.items → Counts tally.old.lost tally.old.shares os →
-        IfOk result (λ v. Counts tally.new.lost tally.new.shares (os ++ served_from n 0 (all_handled v.items))) }
+    runs: Vec<WorkerRun<S, T, B>>,
+) -> Result<Vec<WorkerRecord<S, T>>, AllocError>
+    requires { All (λ w. IsWork w.record w.tally.lost w.tally.shares) runs.items }
+    ensures parts { OnOk result (tally.new.shares.parts ≡ tally.old.shares.parts + length runs.items) }
+    ensures counts { (os : List Outcome) (n : ℕ) → Counts tally.old.lost tally.old.shares os → IfOk result (λ v. Counts tally.new.lost tally.new.shares (os ++ served_from n 0 (all_handled v.items))) }
 {
     let mut workers = Vec::new(alloc);
     for done in runs {
@@ -246,41 +272,51 @@ fn muster<'v, S: Scheme, T: ConnTable, B: Names>(
     Ok(workers)
 }
 
-// A life ended with a restart.
+// Compares the versions that a life's workers used with the catalogue's, and by what they were prepared with the cluster's.
+fn compare<S: Scheme, H: FlowHash, T: ConnTable>(
+    setup: &Setup<S, H>,
+    catalogue: &Catalogue,
+    workers: &[WorkerRecord<S, T>],
+) -> Result<(), RunFault>
+    ensures { OnOk result (All (λ w. IsOf (λ s z. S.pick s z) (rules_for (λ s z. S.pick s z) (λ h. H.plain h) setup.now catalogue.now) w) workers.now) }
+{
+    if !are_of(setup, catalogue, workers) {
+        return Err(RunFault::Foreign);
+    }
+    Ok(())
+}
+
+// A life ended with a restart. Its workers' versions are compared first.
 fn end_life<S: Scheme, H: FlowHash, T: ConnTable>(
     journal: &mut Journal,
     setup: &Setup<S, H>,
     catalogue: &Catalogue,
-    workers: &[WorkerRecord<'_, S, T>],
+    workers: &[WorkerRecord<S, T>],
 ) -> Result<(), RunFault>
-    requires { All (λ w. IsOf (λ s z. S.pick s z) (rules_for (λ s z. S.pick s z) (λ h. H.plain h) setup.now catalogue.now) w) workers.now }
     ensures going { let rules = rules_for (λ s z. S.pick s z) (λ h. H.plain h) setup.now catalogue.now in
         (packets : List Packet) (cs : List Command) (n : ℕ) (places : ℕ) → Going rules packets cs n places journal.old → OnOk result (Going rules packets (cs ++ Restart ∷ []) n places journal.new) }
     ensures counts { (lost : Bool) (shares : Counted) → Counts lost shares (journal.old.outcomes ++ served_from journal.old.node 0 (all_handled workers.now)) → OnOk result (Counts lost shares journal.new.outcomes) }
 {
-    let _ = setup.workers();
-    let _ = catalogue.size();
+    compare(setup, catalogue, workers)?;
     match journal.end_life(workers, true) {
         Ok(()) => Ok(()),
         Err(fault) => Err(fault_of(fault)),
     }
 }
 
-// The last life ended.
+// The last life ended. So are they here.
 fn end<S: Scheme, H: FlowHash, T: ConnTable>(
     journal: &mut Journal,
     setup: &Setup<S, H>,
     catalogue: &Catalogue,
-    workers: &[WorkerRecord<'_, S, T>],
+    workers: &[WorkerRecord<S, T>],
 ) -> Result<(), RunFault>
-    requires { All (λ w. IsOf (λ s z. S.pick s z) (rules_for (λ s z. S.pick s z) (λ h. H.plain h) setup.now catalogue.now) w) workers.now }
     ensures ended { let rules = rules_for (λ s z. S.pick s z) (λ h. H.plain h) setup.now catalogue.now in
         (packets : List Packet) → Drives rules packets journal.old → OnOk result (Tells rules packets journal.new × NoneWaits (past_of rules packets journal.new.node journal.new.events)) }
     ensures served { OnOk result (IsServed journal.old journal.new) }
     ensures counts { (lost : Bool) (shares : Counted) → Counts lost shares (journal.old.outcomes ++ served_from journal.old.node 0 (all_handled workers.now)) → OnOk result (Counts lost shares journal.new.outcomes) }
 {
-    let _ = setup.workers();
-    let _ = catalogue.size();
+    compare(setup, catalogue, workers)?;
     match journal.end(workers, true) {
         Ok(()) => Ok(()),
         Err(fault) => Err(fault_of(fault)),
@@ -293,14 +329,14 @@ fn end_driven<S: Scheme, H: FlowHash, T: ConnTable, G, B: Names>(
     alloc: Global,
     plan: Plan<'_, S, H, G, B>,
     from: usize,
-    driven: Progress<B>,
-    runs: Vec<WorkerRun<'_, S, T, B>>,
-) -> Result<Progress<B>, RunFault>
+    driven: Progress<S, B>,
+    runs: Vec<WorkerRun<S, T, B>>,
+) -> Result<Progress<S, B>, RunFault>
     requires driven { let rules = rules_for (λ s z. S.pick s z) (λ h. H.plain h) plan.setup.now plan.catalogue.now in IsDriven rules plan.packets.now plan.commands.now plan.node plan.ring from driven.at driven.journal }
-    requires of { All (λ w. IsWork (λ s z. S.pick s z) (rules_for (λ s z. S.pick s z) (λ h. H.plain h) plan.setup.now plan.catalogue.now) w.record w.tally.lost w.tally.shares) runs.items }
+    requires of { All (λ w. IsWork w.record w.tally.lost w.tally.shares) runs.items }
     requires counts { AreRead plan.packets.now → Counts driven.tally.lost driven.tally.shares driven.journal.outcomes }
     ensures ended { let rules = rules_for (λ s z. S.pick s z) (λ h. H.plain h) plan.entry.setup.now plan.entry.catalogue.now in IfOk result (λ d. IsEnded rules plan.entry.packets.now plan.entry.commands.now plan.entry.node plan.entry.ring from d.at d.journal) }
-    ensures parts { IfOk result (λ d. d.tally.shares.parts ≡ driven.tally.shares.parts + length runs.entry.items) }
+    ensures parts { IfOk result (λ d. d.tally.shares.parts ≡ driven.tally.shares.parts + length runs.items) }
     ensures counts { AreRead plan.entry.packets.now → IfOk result (λ d. Counts d.tally.lost d.tally.shares d.journal.outcomes) }
 {
     let _ = from;
@@ -331,6 +367,14 @@ fn end_driven<S: Scheme, H: FlowHash, T: ConnTable, G, B: Names>(
     })
 }
 
+// What is told where a worker did not do all: that a driver was refused memory comes first.
+fn told_first<P: Drop>(driven: Result<P, RunFault>, fault: RunFault) -> RunFault {
+    match driven {
+        Err(RunFault::Memory) => RunFault::Memory,
+        _ => fault,
+    }
+}
+
 // Starts the threads of a life, drives it, and joins them all.
 fn run_threads<
     's,
@@ -346,13 +390,13 @@ fn run_threads<
     rt: &'e R,
     alloc: Global,
     plan: Plan<'e, S, H, G, B>,
-    laid: Laid<'e, B>,
-    desk: Desk<'e>,
-    progress: Progress<B>,
-) -> Result<LifeRun<B>, RunFault>
+    laid: Laid<'e, S, B>,
+    desk: Desk<'e, S, &'e R>,
+    progress: Progress<S, B>,
+) -> Result<LifeRun<S, B>, RunFault>
 where
     S::Prepared: Send + Sync,
-    requires { Begins (λ s z. S.pick s z) (rules_for (λ s z. S.pick s z) (λ h. H.plain h) plan.setup.now plan.catalogue.now) plan.versions.now plan.packets.now plan.commands.now plan.node plan.ring progress.at progress.journal progress.tally.lost progress.tally.shares }
+    requires { Begins (rules_for (λ s z. S.pick s z) (λ h. H.plain h) plan.setup.now plan.catalogue.now) plan.packets.now plan.commands.now plan.node plan.ring progress.at progress.journal progress.tally.lost progress.tally.shares }
     ensures { IfOk result (λ r. IsLived (rules_for (λ s z. S.pick s z) (λ h. H.plain h) plan.entry.setup.now plan.entry.catalogue.now) plan.entry.packets.now plan.entry.commands.now plan.entry.node plan.entry.ring progress.at (progress.tally.shares.parts + length laid.entry.outfits.items) r.progress.at r.progress.journal r.progress.tally.lost r.progress.tally.shares) }
 {
     let Laid {
@@ -363,38 +407,26 @@ where
     let mut inputs = inputs;
     let mut desk = desk;
     let from = progress.at;
-    let started: Started<'e, S, H, T, B> = start(scope, rt, alloc, plan, outfits);
+    let started: Started<S, T, B> = start(scope, rt, alloc, plan, outfits);
     let Started { handles, fault } = started;
     if let Some(fault) = fault {
-        return Err(give_up(
-            rt,
-            alloc,
-            plan.setup,
-            plan.catalogue,
-            &mut inputs,
-            handles,
-            fault,
-        ));
+        return Err(give_up(rt, alloc, &mut inputs, handles, fault));
     }
     let Ok(mux) = scope.spawn(move || gather(rt, alloc, outputs)) else {
-        return Err(give_up(
-            rt,
-            alloc,
-            plan.setup,
-            plan.catalogue,
-            &mut inputs,
-            handles,
-            RunFault::ThreadLost,
-        ));
+        return Err(give_up(rt, alloc, &mut inputs, handles, RunFault::ThreadLost));
     };
-    let driven = drive(rt, plan, progress, &mut desk, &mut inputs);
+    let driven = drive(rt, alloc, plan, progress, &mut desk, &mut inputs);
     inputs.close(rt);
-    let runs = join_all(rt, alloc, plan.setup, plan.catalogue, handles);
+    let runs = join_all(rt, alloc, handles);
     let sent = mux.join(rt);
-    let runs = runs?;
     let sent = sent?;
-    let progress = end_driven(alloc, plan, from, driven?, runs)?;
-    Ok(LifeRun { progress, sent })
+    match runs {
+        Err(fault) => Err(told_first(driven, fault)),
+        Ok(runs) => {
+            let progress = end_driven(alloc, plan, from, driven?, runs)?;
+            Ok(LifeRun { progress, sent })
+        }
+    }
 }
 
 // Takes apart what a life begins with.
@@ -412,9 +444,9 @@ fn run_begun<
     rt: &'e R,
     alloc: Global,
     life: Begun<'e, S, H, G, B>,
-    laid: Laid<'e, B>,
-    desk: Desk<'e>,
-) -> Result<LifeRun<B>, RunFault>
+    laid: Laid<'e, S, B>,
+    desk: Desk<'e, S, &'e R>,
+) -> Result<LifeRun<S, B>, RunFault>
 where
     S::Prepared: Send + Sync,
     ensures { IfOk result (λ r. IsLived (rules_for (λ s z. S.pick s z) (λ h. H.plain h) life.entry.setup life.entry.catalogue) life.entry.packets life.entry.commands life.entry.node life.entry.ring life.entry.start (life.entry.parts + length laid.entry.outfits.items) r.progress.at r.progress.journal r.progress.tally.lost r.progress.tally.shares) }
@@ -439,9 +471,9 @@ pub fn run_life<
     rt: &'e R,
     alloc: Global,
     life: Begun<'e, S, H, G, B>,
-    laid: Laid<'e, B>,
-    desk: Desk<'e>,
-) -> Result<LifeRun<B>, RunFault>
+    laid: Laid<'e, S, B>,
+    desk: Desk<'e, S, &'e R>,
+) -> Result<LifeRun<S, B>, RunFault>
 where
     S::Prepared: Send + Sync,
     ensures { IfOk result (λ r. IsLived (rules_for (λ s z. S.pick s z) (λ h. H.plain h) life.entry.setup life.entry.catalogue) life.entry.packets life.entry.commands life.entry.node life.entry.ring life.entry.start (life.entry.parts + length laid.entry.outfits.items) r.progress.at r.progress.journal r.progress.tally.lost r.progress.tally.shares) }
@@ -449,7 +481,7 @@ where
     thread::scope(
         thread::scope_env(),
         rt,
-        move |scope| -> Result<LifeRun<B>, RunFault>
+        move |scope| -> Result<LifeRun<S, B>, RunFault>
             ensures { IfOk result (λ r. IsLived (rules_for (λ s z. S.pick s z) (λ h. H.plain h) life.entry.setup life.entry.catalogue) life.entry.packets life.entry.commands life.entry.node life.entry.ring life.entry.start (life.entry.parts + length laid.entry.outfits.items) r.progress.at r.progress.journal r.progress.tally.lost r.progress.tally.shares) }
         { run_begun::<S, H, T, G, B, R>(scope, rt, alloc, life, laid, desk) },
     )

@@ -7,6 +7,7 @@
 mod backend;
 mod catalogue;
 mod doubles;
+mod same;
 mod service;
 
 pub use backend::{Backend, Member};

@@ -309,3 +309,103 @@ fn counts_at_their_limits(rt: HostRuntime) {
         Err(PoolFault::TooMany)
     );
 }
+
+// Versions that differ in one thing each from the version 3 with the ports 80 and 443 and these two members.
+fn changed(rt: &impl Abort, alloc: Global, both: &[Member; 2]) -> Vec<Version> {
+    let [first, second] = *both;
+    let weight = Weight::new(3).expect(rt, "a weight");
+    let name = Name::new(b"Z").expect(rt, "a name");
+    let mut others = Vec::new(alloc);
+    for (number, ports) in [
+        (4u32, [80u16, 443].as_slice()),
+        (3, &[443, 80]),
+        (3, &[80]),
+        (3, &[80, 443, 444]),
+        (3, &[80, 444]),
+    ] {
+        others
+            .push(version(rt, alloc, number, ports, both))
+            .expect(rt, "memory");
+    }
+    for members in [
+        [second, first].as_slice(),
+        &[first],
+        &[first, second, first],
+        &[Member { weight, ..first }, second],
+        &[Member { up: false, ..first }, second],
+        &[first, Member { up: true, ..second }],
+        &[
+            Member {
+                backend: Backend {
+                    addr: 9,
+                    ..first.backend
+                },
+                ..first
+            },
+            second,
+        ],
+        &[
+            first,
+            Member {
+                backend: Backend {
+                    name,
+                    ..second.backend
+                },
+                ..second
+            },
+        ],
+    ] {
+        others
+            .push(version(rt, alloc, 3, &[80, 443], members))
+            .expect(rt, "memory");
+    }
+    others
+}
+
+#[test]
+fn versions_are_compared_part_by_part(rt: HostRuntime) {
+    let alloc = rt.alloc();
+    let both = [
+        weighed(&rt, b"A", 1, true, 2),
+        weighed(&rt, b"B", 2, false, 1),
+    ];
+    let one = version(&rt, alloc, 3, &[80, 443], &both);
+    assert!(rt; one.same(&one));
+    assert!(rt; one.same(&version(&rt, alloc, 3, &[80, 443], &both)));
+    for (at, other) in changed(&rt, alloc, &both).iter().enumerate() {
+        assert!(rt; !one.same(other), "at {at}");
+        assert!(rt; !other.same(&one), "at {at}");
+        assert!(rt; other.same(other), "at {at}");
+    }
+    let mut udp = version(&rt, alloc, 3, &[80, 443], &both);
+    for service in &mut udp.services {
+        service.proto = 17;
+    }
+    assert!(rt; !one.same(&udp));
+    let mut elsewhere = version(&rt, alloc, 3, &[80, 443], &both);
+    for service in &mut elsewhere.services {
+        service.vip = VIP + 1;
+    }
+    assert!(rt; !one.same(&elsewhere));
+}
+
+#[test]
+fn a_copy_has_every_part(rt: HostRuntime) {
+    let alloc = rt.alloc();
+    let both = [
+        weighed(&rt, b"A", 1, true, 2),
+        weighed(&rt, b"B", 2, false, 1),
+    ];
+    let one = version(&rt, alloc, 3, &[80, 443], &both);
+    let copy = one.copy(alloc).expect(&rt, "memory");
+    assert_eq!(rt; copy.number, 3);
+    assert_eq!(rt; copy.services.len(), 2);
+    for (service, port) in copy.services.iter().zip([80u16, 443].iter()) {
+        assert!(rt; service.vip == VIP && service.proto == 6 && service.port == *port);
+        assert!(rt; service.members.as_slice() == both.as_slice());
+    }
+    drop(one);
+    let nothing = version(&rt, alloc, 1, &[], &both);
+    let copy = nothing.copy(alloc).expect(&rt, "memory");
+    assert!(rt; copy.number == 1 && copy.services.is_empty());
+}

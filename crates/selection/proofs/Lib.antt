@@ -4,3 +4,4 @@ pub mod Halves
 pub mod Places
 pub mod Tables
 pub mod Versions
+pub mod Sources

@@ -1,8 +1,10 @@
 //! A version, prepared for a scheme.
 ghost use Rattle.std.specs.Prelude.{◌≡◌, ◌<◌, ◌↔◌, true, option_copied, MatchOption, IsErrOf, IsSomeAnd, Contains, IfOk, IfSome, None, [], length, count_by};
+ghost use Rattle.std.specs.Arc.{arc_value};
 ghost use Rattle.std.specs.HashMap.{get};
 ghost use Rattle.std.specs.List.{list_any};
 ghost use Rattle.five_tuple.specs.declared.Flow.{Flow};
+ghost use Rattle.pool_versions.specs.Same.{AreSame};
 ghost use Rattle.selection.specs.Candidates.{candidates_under};
 ghost use Rattle.selection.specs.Places.{key_of_flow, same_key, ArePlaced};
 ghost use Rattle.selection.specs.Readied.{Readied, readied_version, ready_for, ups_for, has_more_ups, IsUpFor};
@@ -15,6 +17,7 @@ use pool_versions::{Backend, Member, Service, Version};
 use std::alloc::{AllocError, Global};
 use std::collections::HashMap;
 use std::marker::Model;
+use std::sync::Arc;
 
 /// A version, prepared for a scheme and a table size: each of its services with its up backends.
 #[derive(Drop)]
@@ -25,18 +28,22 @@ pub struct PreparedVersion<S: Scheme> {
     services: Vec<Ready<S>>,
     // How many services stand behind the first one of a key.
     places: HashMap<ServiceKey, usize>,
+    // What it was made from.
+    version: Arc<Version>,
 }
 
 impl<S: Scheme> Model for PreparedVersion<S> {
     ghost use Rattle.std.specs.HashMap.{get};
+    ghost use Rattle.std.specs.Prelude.{◌≡◌};
+    ghost use Rattle.std.specs.Arc.{arc_value};
     ghost use Rattle.selection.specs.Places.{same_key, ArePlaced};
-    ghost use Rattle.selection.specs.Readied.{Readied, AreFor};
+    ghost use Rattle.selection.specs.Readied.{Readied, AreFor, readied_version};
 
     ghost Value = { Readied S };
 
     ghost view = { λ a. record { scheme = a.scheme; size = a.size; number = a.number; services = a.services.items } };
 
-    ghost invariant = { λ a. AreFor a.scheme a.size a.services.items × ArePlaced (get same_key a.places) a.services.items };
+    ghost invariant = { λ a. AreFor a.scheme a.size a.services.items × ArePlaced (get same_key a.places) a.services.items × (record { scheme = a.scheme; size = a.size; number = a.number; services = a.services.items } ≡ readied_version a.scheme a.size (arc_value a.version)) };
 }
 
 // How many members are up.
@@ -75,18 +82,38 @@ fn places_of<S: Scheme>(
     Ok(places)
 }
 
+// A version that is the same, for several owners.
+fn shared_copy(alloc: Global, version: &Version) -> Result<Arc<Version>, AllocError>
+    ensures { IfOk result (λ v. AreSame (arc_value v) version.now) }
+{
+    match Arc::new(alloc, version.copy(alloc)?) {
+        Ok(shared) => Ok(shared),
+        Err(_) => Err(AllocError),
+    }
+}
+
 impl<S: Scheme> PreparedVersion<S> {
     // A version of no services, before which nothing was prepared.
-    fn of_no_services(alloc: Global, scheme: &S, size: TableSize) -> PreparedVersion<S>
-        ensures { result ≡ record { scheme = scheme.now; size = size; number = 0; services = [] } }
-    {
-        PreparedVersion {
+    fn of_no_services(
+        alloc: Global,
+        scheme: &S,
+        size: TableSize,
+    ) -> Result<PreparedVersion<S>, AllocError> {
+        let version = Version {
+            number: 0,
+            services: Vec::new(alloc),
+        };
+        let Ok(version) = Arc::new(alloc, version) else {
+            return Err(AllocError);
+        };
+        Ok(PreparedVersion {
             scheme: *scheme,
             size,
             number: 0,
             services: Vec::new(alloc),
             places: HashMap::new(alloc),
-        }
+            version,
+        })
     }
 
     /// Prepares a version for a scheme and a size. TooMany is answered exactly where a service has more up backends than
@@ -101,7 +128,10 @@ impl<S: Scheme> PreparedVersion<S> {
         ensures ups { IfOk result (λ p. (x : Flow) → ups_for x p.services ≡ candidates_under version.now x) }
         ensures too_many { IsErrOf result PrepareFault.TooMany ↔ (list_any (has_more_ups size) version.now.services.items ≡ true) }
     {
-        let nothing = Self::of_no_services(alloc, scheme, size);
+        if any_has_more_ups(version.services.as_slice(), size) {
+            return Err(PrepareFault::TooMany);
+        }
+        let nothing = Self::of_no_services(alloc, scheme, size)?;
         Self::make_after(alloc, scheme, size, version, &nothing)
     }
 
@@ -137,6 +167,7 @@ impl<S: Scheme> PreparedVersion<S> {
             number: version.number,
             services,
             places,
+            version: shared_copy(alloc, version)?,
         })
     }
 
@@ -159,6 +190,20 @@ impl<S: Scheme> PreparedVersion<S> {
         ensures { result ≡ self.now.size }
     {
         self.size
+    }
+
+    /// The version that it was made from. This is that version's preparation, for the scheme and the size that it has.
+    pub fn version(&self) -> &Version
+        ensures { self.now ≡ readied_version self.now.scheme self.now.size result.now }
+    {
+        &self.version
+    }
+
+    /// The same, for who keeps it longer than the tables. It costs no copy, and is refused only where it has too many owners.
+    pub fn share_version(&self) -> Result<Arc<Version>, AllocError>
+        ensures { IfOk result (λ v. self.now ≡ readied_version self.now.scheme self.now.size (arc_value v)) }
+    {
+        Arc::try_clone(&self.version)
     }
 
     // The first service of a key.

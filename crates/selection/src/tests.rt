@@ -346,6 +346,32 @@ fn a_version_of_other_weights(rt: HostRuntime) {
     assert_eq!(rt; addresses(&light), addresses(&weighty));
 }
 
+// What a version was made from is told by it, also where it shares tables with the one before, and outlives it.
+#[test]
+fn a_version_tells_what_it_was_made_from(rt: HostRuntime) {
+    let alloc = rt.alloc();
+    let maglev = Maglev { hash: SumHash };
+    let all = version(&rt, alloc, [true, true, true]);
+    let heavy = weighed_version(&rt, alloc, [true, true, true], 3);
+    let first = PreparedVersion::make(alloc, &maglev, seven(&rt), &all).expect(&rt, "memory");
+    assert!(rt; first.version().same(&all));
+    assert!(rt; !first.version().same(&heavy));
+    let second = PreparedVersion::make_after(alloc, &maglev, seven(&rt), &heavy, &first).expect(
+        &rt, "memory",
+    );
+    assert!(rt; second.version().same(&heavy));
+    assert!(rt; !second.version().same(&all));
+    let third = PreparedVersion::make_after(alloc, &maglev, seven(&rt), &heavy, &second).expect(
+        &rt, "memory",
+    );
+    let kept = third.share_version().expect(&rt, "an owner more");
+    drop(first);
+    drop(second);
+    drop(third);
+    assert!(rt; kept.same(&heavy));
+    assert!(rt; !kept.same(&all));
+}
+
 // Hashes of two kinds: what one prepared doesn't serve the other.
 #[test]
 fn a_version_after_one_of_another_hash(rt: HostRuntime) {

@@ -4,7 +4,8 @@ use node_threads::Gate;
 use stats_book::Stats;
 use std::thread::yield_now;
 
-/// Round each serving it yields up to three times, by its seed and what is served.
+/// Round each serving, and before a version is prepared, it yields up to three times, by its seed and what is served or
+/// prepared.
 #[derive(Drop)]
 pub struct Jitter {
     pub seed: u64,
@@ -21,6 +22,10 @@ impl Jitter {
 }
 
 impl Gate for Jitter {
+    fn preparing(&self, node: u16, version: u32) {
+        self.pause(node, 65_535, u64::from(version));
+    }
+
     fn before(&self, node: u16, worker: u16, nth: u64) {
         self.pause(node, worker, nth);
     }

@@ -20,7 +20,7 @@ const VIP: u32 = 0xc000_0201;
 pub const PACKETS: u32 = 8;
 
 /// How many versions the catalogue has.
-const VERSIONS: u32 = 5;
+const VERSIONS: u32 = 24;
 
 /// What is thrown for one run, beside its cluster.
 #[derive(Drop)]
@@ -57,7 +57,7 @@ fn services(alloc: Global, dice: &mut Dice) -> Result<Vec<Service>, AllocError> 
     Ok(services)
 }
 
-/// A catalogue of the versions 1 to 5.
+/// A catalogue of the versions from 1 on.
 pub fn catalogue(alloc: Global, size: TableSize, dice: &mut Dice) -> Result<Catalogue, AllocError>
     ensures { IfOk result (λ c. c.size ≡ size) }
 {

@@ -7,7 +7,7 @@ use Rattle.node_records.specs.Journals.{JournalView}
 use Rattle.node_rehearsal.specs.PrivateGoing.{Going}
 use Rattle.node_rehearsal.proofs.Goes.{obeyed_more, obeyed_all, same_run}
 use Rattle.node_rehearsal.proofs.rehearse.Goals as goal
-use Rattle.node_rehearsal.proofs.rehearse.Goals.{in-Publish+in_ok-newest-in-Publish, in-Offer+in_ok-offer-in-Offer, in-Restart+in_ok-list-in-Restart+in_ok-keep-in-Restart+in_ok-queue-in-Restart}
+use Rattle.node_rehearsal.proofs.rehearse.Goals.{in-Publish+in_ok-publish-in-Publish, in-Offer+in_ok-offer-in-Offer, in-Restart+in_ok-list-in-Restart+in_ok-keep-in-Restart+in_ok-queue-in-Restart}
 
 pub loop-command-init : goal.loop-command-init
 loop-command-init g c =
@@ -25,10 +25,10 @@ loop-command-preserved g c =
     let i : ℕ = c.loop-command.command-index in
     let had = c.loop-command.invariant in
     elim c.match-command.branch [
-      | in-Publish+in_ok-newest-in-Publish w ↦ record {
-        going = subst (λ (z : JournalView). Going rules c.args.packets.now (take (i + 1) c.args.commands.now) z) (sym w.journal-is) (obeyed_more rules c.args.packets.now c.args.commands.now i (Publish w.in-Publish.number) _ w.publish.new.journal c.loop-command-test.true w.in-Publish.is (w.in_ok-newest-in-Publish.ensures.going c.args.packets.now (take i c.args.commands.now) had.going));
-        node = ap (λ (j : JournalView). j.node) w.journal-is ∙ w.in_ok-newest-in-Publish.ensures.kept.0 ∙ had.node;
-        ring = ap (λ (j : JournalView). j.ring) w.journal-is ∙ w.in_ok-newest-in-Publish.ensures.kept.1 ∙ had.ring;
+      | in-Publish+in_ok-publish-in-Publish w ↦ record {
+        going = subst (λ (z : JournalView). Going rules c.args.packets.now (take (i + 1) c.args.commands.now) z) (sym w.journal-is) (obeyed_more rules c.args.packets.now c.args.commands.now i (Publish w.in-Publish.number) _ w.publish.new.journal c.loop-command-test.true w.in-Publish.is (w.in_ok-publish-in-Publish.ensures.going c.args.packets.now (take i c.args.commands.now) had.going));
+        node = ap (λ (j : JournalView). j.node) w.journal-is ∙ w.in_ok-publish-in-Publish.ensures.kept.0 ∙ had.node;
+        ring = ap (λ (j : JournalView). j.ring) w.journal-is ∙ w.in_ok-publish-in-Publish.ensures.kept.1 ∙ had.ring;
       }
       | in-Offer+in_ok-offer-in-Offer w ↦ record {
         going = subst (λ (z : JournalView). Going rules c.args.packets.now (take (i + 1) c.args.commands.now) z) (sym w.journal-is) (obeyed_more rules c.args.packets.now c.args.commands.now i (Offer w.in-Offer.packet) _ w.offer.new.journal c.loop-command-test.true w.in-Offer.is (w.in_ok-offer-in-Offer.ensures.going (take i c.args.commands.now) had.going));

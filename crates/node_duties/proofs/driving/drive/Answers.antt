@@ -7,7 +7,7 @@ use Rattle.node_duties.specs.Counts.{Counts}
 use Rattle.node_duties.specs.Going.{Going}
 use Rattle.node_duties.proofs.Goes.{obeyed_more}
 use Rattle.node_duties.proofs.driving.drive.Goals as goal
-use Rattle.node_duties.proofs.driving.drive.Goals.{in-Publish+in_ok-newest-in-Publish, in-Offer+in_ok-offer-in-Offer}
+use Rattle.node_duties.proofs.driving.drive.Goals.{in-Publish+in_ok-publish-in-Publish, in-Offer+in_ok-offer-in-Offer}
 
 pub loop-at-preserved : goal.loop-at-preserved
 loop-at-preserved g c =
@@ -15,10 +15,10 @@ loop-at-preserved g c =
     let i : ℕ = c.loop-at.at in
     let had = c.loop-at.invariant in
     elim c.match-command_at.branch [
-      | in-Publish+in_ok-newest-in-Publish w ↦ record {
-        going = subst (λ (z : JournalView). Going rules c.args.plan.packets.now (take (i + 1) c.args.plan.commands.now) c.args.plan.node c.args.plan.ring z) (sym w.journal-is) (obeyed_more rules c.args.plan.packets.now c.args.plan.commands.now c.args.plan.node c.args.plan.ring i (Publish w.in-Publish.number) (Publish 0) w.publish.new.journal c.loop-at-test.true (c.command_at.ensures (Publish 0) ∙ w.in-Publish.is) (w.in_ok-newest-in-Publish.ensures.going c.args.plan.packets.now (take i c.args.plan.commands.now) c.args.plan.node c.args.plan.ring had.going));
+      | in-Publish+in_ok-publish-in-Publish w ↦ record {
+        going = subst (λ (z : JournalView). Going rules c.args.plan.packets.now (take (i + 1) c.args.plan.commands.now) c.args.plan.node c.args.plan.ring z) (sym w.journal-is) (obeyed_more rules c.args.plan.packets.now c.args.plan.commands.now c.args.plan.node c.args.plan.ring i (Publish w.in-Publish.number) (Publish 0) w.publish.new.journal c.loop-at-test.true (c.command_at.ensures (Publish 0) ∙ w.in-Publish.is) (w.in_ok-publish-in-Publish.ensures.going c.args.plan.packets.now (take i c.args.plan.commands.now) c.args.plan.node c.args.plan.ring had.going));
         parts = ap (λ t. t.shares.parts) w.tally-is ∙ had.parts;
-        counts = λ read. subst (λ t. Counts t.lost t.shares c.match-command_at.journal.outcomes) (sym w.tally-is) (subst (λ (z : JournalView). Counts c.loop-at.tally.lost c.loop-at.tally.shares z.outcomes) (sym w.journal-is) (w.in_ok-newest-in-Publish.ensures.counts c.loop-at.tally.lost c.loop-at.tally.shares (had.counts read)));
+        counts = λ read. subst (λ t. Counts t.lost t.shares c.match-command_at.journal.outcomes) (sym w.tally-is) (subst (λ (z : JournalView). Counts c.loop-at.tally.lost c.loop-at.tally.shares z.outcomes) (sym w.journal-is) (w.in_ok-publish-in-Publish.ensures.counts c.loop-at.tally.lost c.loop-at.tally.shares (had.counts read)));
       }
       | in-Offer+in_ok-offer-in-Offer w ↦ record {
         going = subst (λ (z : JournalView). Going rules c.args.plan.packets.now (take (i + 1) c.args.plan.commands.now) c.args.plan.node c.args.plan.ring z) (sym w.journal-is) (obeyed_more rules c.args.plan.packets.now c.args.plan.commands.now c.args.plan.node c.args.plan.ring i (Offer w.in-Offer.packet) (Publish 0) w.offer.new.journal c.loop-at-test.true (c.command_at.ensures (Publish 0) ∙ w.in-Offer.is) (w.in_ok-offer-in-Offer.ensures.going (take i c.args.plan.commands.now) c.args.plan.node c.args.plan.ring had.going));

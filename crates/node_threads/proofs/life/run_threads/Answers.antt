@@ -6,7 +6,7 @@ pub returns : goal.returns
 returns g c =
     let all : c.start-started.result.fault ≡ None = search rules in
     record {
-      ended = c.in_ok-progress.ensures.ended;
-      parts_are = omega (arith, c.in_ok-progress.ensures.parts, c.in_ok-driven.ensures.parts, c.in_ok-runs.ensures.all, c.start-started.ensures.all all);
-      counts = λ read. c.in_ok-progress.ensures.counts read;
+      ended = c.in_ok-progress-in-Ok-runs.ensures.ended;
+      parts_are = omega (arith, c.in_ok-progress-in-Ok-runs.ensures.parts, c.in_ok-driven-in-Ok-runs.ensures.parts, c.in-Ok-runs.ensures.all, c.start-started.ensures all);
+      counts = λ read. c.in_ok-progress-in-Ok-runs.ensures.counts read;
     }

@@ -1,11 +1,9 @@
 use Rattle.std.proofs.Common.{◌≡◌, List, false, refl, sym, subst, ap, ◌∙◌, arith}
 use Rattle.std.proofs.lemmas.Result.{IfOk-weaker}
-use Rattle.selection.specs.Readied.{Readied}
 use Rattle.stats_book.specs.Counts.{Counted}
 use Rattle.cluster_node.specs.Rules.{Rules}
 use Rattle.cluster_node.specs.declared.outcomes.Outcome.{Outcome}
 use Rattle.cluster_core.specs.Setups.{rules_for}
-use Rattle.cluster_core.specs.Runs.{AreGood}
 use Rattle.node_records.specs.declared.nodes.NodeRecord.{NodeRecord}
 use Rattle.node_records.specs.Histories.{commands_of}
 use Rattle.node_records.specs.Journals.{JournalView}
@@ -33,7 +31,6 @@ loop-sent-init g c =
 
 pub new-requires-in-loop-sent-clause-begins : goal.new-requires-in-loop-sent-clause-begins
 new-requires-in-loop-sent-clause-begins g c = record {
-  good = c.in_ok-versions.ensures.good;
   within = c.loop-sent.invariant.within;
   going = c.loop-sent.invariant.going;
   some = omega (arith, c.loop-sent.invariant.parts, c.args.task.parts);

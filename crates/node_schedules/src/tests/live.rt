@@ -1,0 +1,136 @@
+//! A version that is prepared and shown while the workers run.
+use super::{forwarded, run, setup, x_to_a};
+use cluster_node::Outcome;
+use connection_table::PlainTable;
+use hash_laws::SumHash;
+use node_records::Command;
+use node_threads::Gate;
+use stats_book::Stats;
+use std::alloc::Global;
+use std::sync::atomic::{AtomicU64, Ordering};
+use std::test::Fail;
+use std::thread;
+
+// How often a call waits for another thread before it gives up.
+const TURNS: u64 = 10_000_000;
+
+/// How often each call came, and what never came.
+#[derive(Drop)]
+struct Held {
+    // The last version that the driver was about to prepare.
+    prepared: AtomicU64,
+    served: AtomicU64,
+    missed: AtomicU64,
+    // The version before which the driver waits for the first serving, and the one for which that serving waits.
+    waits: u32,
+    awaits: u32,
+}
+
+impl Held {
+    fn new(waits: u32, awaits: u32) -> Held {
+        Held {
+            prepared: AtomicU64::new(0),
+            served: AtomicU64::new(0),
+            missed: AtomicU64::new(0),
+            waits,
+            awaits,
+        }
+    }
+
+    // Waits until the number is there.
+    fn wait(&self, number: &AtomicU64, least: u64) {
+        for _ in 0..TURNS {
+            if number.load(Ordering::SeqCst) >= least {
+                return;
+            }
+            thread::yield_now();
+        }
+        self.missed.store(1, Ordering::SeqCst);
+    }
+}
+
+impl Gate for Held {
+    fn preparing(&self, _node: u16, version: u32) {
+        self.prepared.store(u64::from(version), Ordering::SeqCst);
+        if version == self.waits {
+            self.wait(&self.served, 1);
+        }
+    }
+
+    fn before(&self, _node: u16, _worker: u16, _nth: u64) {}
+
+    fn counted(&self, _node: u16, _worker: u16, _stats: Stats) {}
+
+    fn after(&self, _node: u16, _worker: u16, nth: u64) {
+        self.served.store(nth.wrapping_add(1), Ordering::SeqCst);
+        if nth == 0 {
+            self.wait(&self.prepared, u64::from(self.awaits));
+        }
+    }
+}
+
+// The driver prepares version 2 only once the first packet was served, so that packet was served while version 2 wasn't
+// prepared. The entry of x stands, and x goes where it went.
+#[test]
+fn a_version_is_prepared_while_workers_run(rt: HostRuntime) -> Result<(), Fail> {
+    let alloc: Global = rt.alloc();
+    let setup = setup(&rt, alloc, SumHash, 1);
+    let gate = Held::new(2, 0);
+    let commands = [
+        Command::Publish(1),
+        Command::Offer(2),
+        Command::Publish(2),
+        Command::Offer(2),
+    ];
+    let run = run::<PlainTable, _, _, _>(&rt, alloc, &setup, &commands, 1, &gate);
+    assert!(rt; gate.missed.load(Ordering::SeqCst) == 0);
+    assert!(rt; gate.prepared.load(Ordering::SeqCst) == 2);
+    assert!(rt; run.sent().len() == 1);
+    let wanted: [Outcome; 2] = [x_to_a(&rt), x_to_a(&rt)];
+    for list in run.sent() {
+        assert!(rt; list.as_slice() == wanted.as_slice());
+    }
+    Ok(())
+}
+
+// A serving waits for the driver, which shows two more versions meanwhile: so the worker holds nothing that it reads while
+// it waits.
+#[test]
+fn nothing_is_held_over_a_wait(rt: HostRuntime) -> Result<(), Fail> {
+    let alloc: Global = rt.alloc();
+    let setup = setup(&rt, alloc, SumHash, 1);
+    let gate = Held::new(0, 4);
+    let commands = [
+        Command::Publish(1),
+        Command::Offer(2),
+        Command::Publish(2),
+        Command::Publish(3),
+        Command::Publish(4),
+        Command::Offer(2),
+    ];
+    let run = run::<PlainTable, _, _, _>(&rt, alloc, &setup, &commands, 16, &gate);
+    assert!(rt; gate.missed.load(Ordering::SeqCst) == 0);
+    assert!(rt; gate.prepared.load(Ordering::SeqCst) == 4);
+    assert_eq!(rt; forwarded(&run), 2usize);
+    Ok(())
+}
+
+// A version that is unknown or not newer is not prepared.
+#[test]
+fn only_newer_versions_are_prepared(rt: HostRuntime) -> Result<(), Fail> {
+    let alloc: Global = rt.alloc();
+    let setup = setup(&rt, alloc, SumHash, 1);
+    let gate = Held::new(0, 0);
+    let commands = [
+        Command::Publish(2),
+        Command::Publish(1),
+        Command::Publish(2),
+        Command::Publish(77),
+        Command::Offer(2),
+    ];
+    let run = run::<PlainTable, _, _, _>(&rt, alloc, &setup, &commands, 16, &gate);
+    assert!(rt; gate.missed.load(Ordering::SeqCst) == 0);
+    assert!(rt; gate.prepared.load(Ordering::SeqCst) == 2);
+    assert_eq!(rt; forwarded(&run), 1usize);
+    Ok(())
+}
