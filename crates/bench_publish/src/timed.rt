@@ -12,9 +12,9 @@ pub struct Timed<'a, R> {
     // In nanoseconds from the start: when the first version was prepared, and the last.
     first: AtomicU64,
     last: AtomicU64,
-    // When each worker began to serve.
-    since: [AtomicU64; 16],
-    busy: AtomicU64,
+    // The sums of the times at which servings began and ended, which may wrap.
+    began: AtomicU64,
+    ended: AtomicU64,
     served: AtomicU64,
 }
 
@@ -26,8 +26,8 @@ impl<'a, R: Clock> Timed<'a, R> {
             start: Instant::now(clock).ok(),
             first: AtomicU64::new(0),
             last: AtomicU64::new(0),
-            since: [const { AtomicU64::new(0) }; 16],
-            busy: AtomicU64::new(0),
+            began: AtomicU64::new(0),
+            ended: AtomicU64::new(0),
             served: AtomicU64::new(0),
         }
     }
@@ -51,7 +51,8 @@ impl<'a, R: Clock> Timed<'a, R> {
 
     /// All that workers took to serve.
     pub fn busy(&self) -> u64 {
-        self.busy.load(Ordering::SeqCst)
+        let began = self.began.load(Ordering::SeqCst);
+        self.ended.load(Ordering::SeqCst).wrapping_sub(began)
     }
 
     /// How many packets were served.
@@ -69,17 +70,14 @@ impl<'a, R: Clock> Gate for Timed<'a, R> {
         self.last.store(now, Ordering::SeqCst);
     }
 
-    fn before(&self, _node: u16, worker: u16, _nth: u64) {
-        let since = &self.since[usize::from(worker % 16)];
-        since.store(self.now(), Ordering::SeqCst);
+    fn before(&self, _node: u16, _worker: u16, _nth: u64) {
+        self.began.fetch_add(self.now(), Ordering::SeqCst);
     }
 
     fn counted(&self, _node: u16, _worker: u16, _stats: Stats) {}
 
-    fn after(&self, _node: u16, worker: u16, _nth: u64) {
-        let since = self.since[usize::from(worker % 16)].load(Ordering::SeqCst);
-        let took = self.now().saturating_sub(since);
-        self.busy.fetch_add(took, Ordering::SeqCst);
+    fn after(&self, _node: u16, _worker: u16, _nth: u64) {
+        self.ended.fetch_add(self.now(), Ordering::SeqCst);
         self.served.fetch_add(1, Ordering::SeqCst);
     }
 }
