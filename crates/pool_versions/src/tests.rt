@@ -310,56 +310,63 @@ fn counts_at_their_limits(rt: HostRuntime) {
     );
 }
 
-// Versions that differ in one thing each from the version 3 with the ports 80 and 443 and these two members.
-fn changed(rt: &impl Abort, alloc: Global, both: &[Member; 2]) -> Vec<Version> {
-    let [first, second] = *both;
-    let weight = Weight::new(3).expect(rt, "a weight");
-    let name = Name::new(b"Z").expect(rt, "a name");
+fn keep(rt: &impl Abort, versions: &mut Vec<Version>, version: Version) {
+    versions.push(version).expect(rt, "memory");
+}
+
+// Versions that differ from the version 3 with the ports 80 and 443 in their number or their services.
+fn of_other_services(rt: &impl Abort, alloc: Global, both: &[Member]) -> Vec<Version> {
     let mut others = Vec::new(alloc);
-    for (number, ports) in [
-        (4u32, [80u16, 443].as_slice()),
-        (3, &[443, 80]),
-        (3, &[80]),
-        (3, &[80, 443, 444]),
-        (3, &[80, 444]),
-    ] {
-        others
-            .push(version(rt, alloc, number, ports, both))
-            .expect(rt, "memory");
-    }
-    for members in [
-        [second, first].as_slice(),
-        &[first],
-        &[first, second, first],
-        &[Member { weight, ..first }, second],
-        &[Member { up: false, ..first }, second],
-        &[first, Member { up: true, ..second }],
-        &[
-            Member {
-                backend: Backend {
-                    addr: 9,
-                    ..first.backend
-                },
-                ..first
-            },
-            second,
-        ],
-        &[
-            first,
-            Member {
-                backend: Backend {
-                    name,
-                    ..second.backend
-                },
-                ..second
-            },
-        ],
-    ] {
-        others
-            .push(version(rt, alloc, 3, &[80, 443], members))
-            .expect(rt, "memory");
-    }
+    keep(rt, &mut others, version(rt, alloc, 4, &[80, 443], both));
+    keep(rt, &mut others, version(rt, alloc, 3, &[443, 80], both));
+    keep(rt, &mut others, version(rt, alloc, 3, &[80, 444], both));
+    keep(rt, &mut others, version(rt, alloc, 3, &[80], both));
+    keep(
+        rt,
+        &mut others,
+        version(rt, alloc, 3, &[80, 443, 444], both),
+    );
     others
+}
+
+// A member's name, address, state and weight.
+type Told = (u8, u32, bool, u8);
+
+// The version 3 with these ports and two members.
+fn of_two(rt: &impl Abort, alloc: Global, first: Told, second: Told) -> Version {
+    let mut members = Vec::new(alloc);
+    members
+        .push(weighed(rt, &[first.0], first.1, first.2, first.3))
+        .expect(rt, "memory");
+    members
+        .push(weighed(rt, &[second.0], second.1, second.2, second.3))
+        .expect(rt, "memory");
+    version(rt, alloc, 3, &[80, 443], members.as_slice())
+}
+
+// Those that differ from it in one thing of a member, or have none.
+fn of_other_members(rt: &impl Abort, alloc: Global) -> Vec<Version> {
+    let mut others = Vec::new(alloc);
+    for (first, second) in [
+        ((b'B', 2, false, 1), (b'A', 1, true, 2)),
+        ((b'Z', 1, true, 2), (b'B', 2, false, 1)),
+        ((b'A', 9, true, 2), (b'B', 2, false, 1)),
+        ((b'A', 1, false, 2), (b'B', 2, false, 1)),
+        ((b'A', 1, true, 3), (b'B', 2, false, 1)),
+        ((b'A', 1, true, 2), (b'B', 2, true, 1)),
+    ] {
+        keep(rt, &mut others, of_two(rt, alloc, first, second));
+    }
+    keep(rt, &mut others, version(rt, alloc, 3, &[80, 443], &[]));
+    others
+}
+
+fn are_others(rt: &impl Abort, one: &Version, others: &[Version]) {
+    for (at, other) in others.iter().enumerate() {
+        assert!(rt; !one.same(other), "at {at}");
+        assert!(rt; !other.same(one), "at {at}");
+        assert!(rt; other.same(other), "at {at}");
+    }
 }
 
 #[test]
@@ -372,11 +379,10 @@ fn versions_are_compared_part_by_part(rt: HostRuntime) {
     let one = version(&rt, alloc, 3, &[80, 443], &both);
     assert!(rt; one.same(&one));
     assert!(rt; one.same(&version(&rt, alloc, 3, &[80, 443], &both)));
-    for (at, other) in changed(&rt, alloc, &both).iter().enumerate() {
-        assert!(rt; !one.same(other), "at {at}");
-        assert!(rt; !other.same(&one), "at {at}");
-        assert!(rt; other.same(other), "at {at}");
-    }
+    let others = of_other_services(&rt, alloc, &both);
+    are_others(&rt, &one, others.as_slice());
+    let others = of_other_members(&rt, alloc);
+    are_others(&rt, &one, others.as_slice());
     let mut udp = version(&rt, alloc, 3, &[80, 443], &both);
     for service in &mut udp.services {
         service.proto = 17;
