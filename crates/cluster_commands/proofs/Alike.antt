@@ -154,6 +154,7 @@ after_alike a b choice packets (steps.Drain n) c d h =
     (alike_back (release n c) (drain_from w n 0 a.workers (release n c)) (drain_alike w n 0 a.workers (release n c)))
     (alike_both (release n c) (release n d) (drain_from v n 0 b.workers (release n d)) (release_alike n c d h) (drain_alike v n 0 b.workers (release n d)))
 after_alike a b choice packets (steps.Restart n) c d h = say_alike (world_of a choice packets) (world_of b choice packets) (Restart n) (Restart n) None None (release n c) (release n d) refl (release_alike n c d h)
+after_alike a b choice packets (steps.Stop n) c d h = say_alike (world_of a choice packets) (world_of b choice packets) (Restart n) (Restart n) None None (release n c) (release n d) refl (release_alike n c d h)
 
 run_alike : (a b : Cluster) (choice : Choice) (packets : List Packet) (ss : List Step) (c d : Course) → Alike c d → Alike (run (world_of a choice packets) ss c) (run (world_of b choice packets) ss d)
 unfolding run

@@ -84,6 +84,7 @@ after_clean w (steps.Full n m) c k h = let bad : false ≡ true = k in cc
 after_clean w (steps.Hold n) c k h = let bad : false ≡ true = k in cc
 after_clean w (steps.Drain n) c k h = let bad : false ≡ true = k in cc
 after_clean w (steps.Restart n) c k h = record { none = h.none; events = (tt, h.events) }
+after_clean w (steps.Stop n) c k h = record { none = h.none; events = (tt, h.events) }
 
 -- how many are known before the first that isn't
 abbrev known_len : List Step → ℕ

@@ -1,5 +1,5 @@
 -- What the steps of a scenario tell the drivers of a cluster's nodes.
-use Rattle.std.specs.Prelude.{◌≡◌, ◌<◌, ◌==◌, ℕ, Bool, true, false, not, List, None, map, reverse, filter}
+use Rattle.std.specs.Prelude.{◌≡◌, ◌<◌, ◌==◌, ℕ, Bool, true, false, not, List, [], ◌∷◌, ◌++◌, None, if◌then◌else◌, map, reverse, filter}
 use Rattle.cluster_node.specs.declared.packets.Packet.{Packet}
 use Rattle.cluster_node.specs.declared.events.Event.{Event}
 use Rattle.cluster_node.specs.declared.events.Event.TheVariants.{Install, Arrive, Serve, Restart}
@@ -9,6 +9,8 @@ use Rattle.node_records.specs.declared.command.Command.TheVariants.{Publish, Off
 use Rattle.node_records.specs.declared.command.Command.TheVariants as commands
 use Rattle.node_records.specs.Histories.{commands_of}
 use Rattle.scenario_steps.specs.declared.Step.{Step}
+use Rattle.scenario_steps.specs.declared.Step.TheVariants as steps
+use Rattle.node_records.specs.Losses.{ending}
 use Rattle.spreader.specs.Choices.{Choice}
 use Rattle.course.specs.Cluster.{Cluster}
 use Rattle.course.specs.Course.{Course}
@@ -36,14 +38,43 @@ course_on cluster choice packets steps nodes = run (world_of cluster choice pack
 abbrev pub plan_of : Choice → List Packet → List Step → ℕ → Course
 plan_of choice packets steps nodes = course_on noting choice packets steps nodes
 
+-- whether a step ends the life of a node: if so, whether it drains it
+abbrev pub ends_by : ℕ → Step → List Bool
+ends_by n (steps.Install m v) = []
+ends_by n (steps.Live ns) = []
+ends_by n (steps.Take k) = []
+ends_by n (steps.Lose k) = []
+ends_by n (steps.Again k) = []
+ends_by n (steps.Full m marks) = []
+ends_by n (steps.Hold m) = []
+ends_by n (steps.Drain m) = []
+ends_by n (steps.Restart m) = if m == n then true ∷ [] else []
+ends_by n (steps.Stop m) = if m == n then false ∷ [] else []
+
+-- the same of all steps, in order
+abbrev pub ends_on : ℕ → List Step → List Bool
+ends_on n [] = []
+ends_on n (s ∷ ss) = ends_by n s ++ ends_on n ss
+
+-- these commands, each restart as the command that ends a life so
+abbrev pub ended_by : List Bool → List Command → List Command
+ended_by [] cs = cs
+ended_by (drained ∷ ds) [] = []
+ended_by (drained ∷ ds) (Publish v ∷ cs) = Publish v ∷ ended_by (drained ∷ ds) cs
+ended_by (drained ∷ ds) (Offer k ∷ cs) = Offer k ∷ ended_by (drained ∷ ds) cs
+ended_by (drained ∷ ds) (commands.Restart ∷ cs) = ending drained ∷ ended_by ds cs
+ended_by (drained ∷ ds) (commands.Stop ∷ cs) = commands.Stop ∷ ended_by (drained ∷ ds) cs
+
+-- what a node's driver is told of the steps: what their course says of the node, and there each restart as its step ends the life
 abbrev pub orders_of : Choice → List Packet → List Step → ℕ → List (List Command)
-orders_of choice packets steps nodes = orders_in nodes (events_of (plan_of choice packets steps nodes))
+orders_of choice packets steps nodes = map (λ n. ended_by (ends_on n steps) (commands_on n (events_of (plan_of choice packets steps nodes)))) (below nodes)
 
 -- a packet that is offered is one of so many
 abbrev pub IsThere : ℕ → Command → Type 0
 IsThere count (Publish v) = Unit {0}
 IsThere count (Offer k) = k < count
 IsThere count commands.Restart = Unit {0}
+IsThere count commands.Stop = Unit {0}
 
 abbrev pub is_serve : Event → Bool
 is_serve (Install n v) = false
@@ -56,6 +87,7 @@ abbrev pub event_of : ℕ → Command → Event
 event_of n (Publish v) = Install n v
 event_of n (Offer k) = Arrive n k none_marked
 event_of n commands.Restart = Restart n
+event_of n commands.Stop = Restart n
 
 -- Where all steps are known, the commands tell all: what a course has of a node is what the node's commands say, and servings.
 abbrev pub KnownStepsAreTold : Type 0

@@ -69,6 +69,45 @@ fn commands_by(alloc: Global, nodes: u16, history: &[Said]) -> Result<Vec<Vec<Co
     Ok(commands)
 }
 
+// Whether a step ends the life of a node: if so, whether it drains it.
+fn ends_by(step: &Step, node: u16) -> Option<bool>
+    ensures { option_list result ≡ ends_by node step.now }
+{
+    match step {
+        Step::Restart(own) if *own == node => Some(true),
+        Step::Stop(own) if *own == node => Some(false),
+        _ => None,
+    }
+}
+
+// Whether the first of these steps that ends a node's life drains it, and the steps behind that one. Where none does, yes.
+fn next_end<'a>(steps: &'a [Step], node: u16) -> (bool, &'a [Step])
+    ensures { IsNextEnd (ends_on node steps.now) result.0 (ends_on node result.1.now) }
+{
+    for at in 0..steps.len() {
+        if let Some(drained) = ends_by(&steps[at], node) {
+            return (drained, &steps[at + 1..]);
+        }
+    }
+    (true, &[])
+}
+
+// A node's commands, in which each restart becomes the command that ends the life as its step does.
+fn end_by_steps(own: &mut Vec<Command>, node: u16, steps: &[Step])
+    ensures { own.new.items ≡ ended_by (ends_on node steps.now) own.old.items }
+{
+    let mut rest = steps;
+    for at in 0..own.len() {
+        if own[at] == Command::Restart {
+            let (drained, behind) = next_end(rest, node);
+            if !drained {
+                own[at] = Command::Stop;
+            }
+            rest = behind;
+        }
+    }
+}
+
 /// What the steps tell the drivers of so many nodes, and what becomes of the capture's records.
 ///
 /// The spreader is asked once for each packet that is delivered, in the order of the steps. `full`, `hold` and `drain`

@@ -101,6 +101,8 @@ impl Meet {
 impl Gate for Meet {
     fn preparing(&self, _node: u16, _version: u32) {}
 
+    fn stopping(&self, _node: u16) {}
+
     fn before(&self, node: u16, worker: u16, nth: u64) {
         let me = usize::from(node | worker);
         if nth > 0 || me > 1 {

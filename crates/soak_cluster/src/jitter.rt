@@ -26,6 +26,10 @@ impl Gate for Jitter {
         self.pause(node, 65_535, u64::from(version));
     }
 
+    fn stopping(&self, node: u16) {
+        self.pause(node, 65_534, 0);
+    }
+
     fn before(&self, node: u16, worker: u16, nth: u64) {
         self.pause(node, worker, nth);
     }
