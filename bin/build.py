@@ -139,13 +139,22 @@ def prove_libraries(crates, below, trees, progress):
     return True
 
 
-def write_sources(name):
-    """Lists the code that the program is built from, and its folders, each ended by a zero byte. A definition or a proof
-    changes no program."""
+def sources(name):
+    """The code that a program is built from, and its folders. A definition or a proof changes no program."""
     folders = [CRATES / one / "src" for one in needed(name, stands_on())]
-    paths = [path for folder in folders for path in [folder, *folder.rglob("*")]]
-    words = [os.fsencode(path.relative_to(TOP)) + b"\0" for path in [TOP / "crates.txt", *paths]]
+    return [TOP / "crates.txt", *(path for folder in folders for path in [folder, *folder.rglob("*")])]
+
+
+def write_sources(name):
+    """Lists what the program is built from, each path ended by a zero byte."""
+    words = [os.fsencode(path.relative_to(TOP)) + b"\0" for path in sources(name)]
     (CRATES / name / "out" / "sources").write_bytes(b"".join(words))
+
+
+def is_current(name):
+    """Whether a program stands, and nothing of what it is built from is newer."""
+    program = CRATES / name / "out" / name
+    return program.exists() and all(path.stat().st_mtime <= program.stat().st_mtime for path in sources(name))
 
 
 def prove_program(name, progress):

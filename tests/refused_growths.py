@@ -17,6 +17,9 @@ import tempfile
 import soak_run
 from harness import TOP, told
 
+sys.path.append(str(TOP / "bin"))
+import build
+
 PROGRAM = str(TOP / "crates" / "maglev" / "out" / "maglev")
 MOST_GROWTHS = 100_000
 # What a run says that was refused memory.
@@ -160,8 +163,10 @@ def refuse_all(folder, cases):
 
 
 def built(crate):
-    """Builds a program of this repository, and gives its path."""
-    subprocess.run(["rt", "run"], cwd=TOP / "crates" / crate, capture_output=True, check=True)
+    """Gives the path of a program of this repository. It is built where it doesn't stand, or something of its code is newer:
+    the gate leaves each program."""
+    if not build.is_current(crate):
+        subprocess.run(["rt", "run"], cwd=TOP / "crates" / crate, capture_output=True, check=True)
     return str(TOP / "crates" / crate / "out" / crate)
 
 
