@@ -1,3 +1,4 @@
+pub mod Lasts
 pub mod Members
 pub mod Pairs
 pub mod Explained

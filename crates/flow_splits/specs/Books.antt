@@ -1,14 +1,34 @@
 -- A book of each flow's last send, and of the splits so far, is that of a record.
-use Rattle.std.specs.Prelude.{◌≡◌, List, length}
+use Rattle.std.specs.Prelude.{◌≡◌, ℕ, Bool, List, length, Option, Some, option_map, slice_get}
 use Rattle.std.specs.HashMap.{get, hash_map_len}
 use Rattle.five_tuple.specs.declared.Flow.{Flow}
 use Rattle.connection_table.specs.Touches.{same_flow}
+use Rattle.pool_versions.specs.declared.backend.Backend.{Backend}
 use Rattle.cluster_node.specs.declared.events.Said.{Said}
 use Rattle.flow_splits.specs.declared.book.SplitBook.{SplitBook}
+use Rattle.flow_splits.specs.declared.last_sends.FlowKey.{FlowKey}
+use Rattle.flow_splits.specs.declared.last_sends.LastSend.{LastSend}
+use Rattle.flow_splits.specs.declared.last_sends.LastSends.{LastSends}
+use Rattle.flow_splits.specs.declared.sending.Sending.{Sending}
 use Rattle.flow_splits.specs.Splits.{last_sent, splits_of, flows_of}
+
+-- each place of the one list is the same backend's in the other
+abbrev pub Keeps : List Backend → List Backend → Type 0
+Keeps old new = (k : ℕ) (b : Backend) → slice_get old k ≡ Some b → slice_get new k ≡ Some b
+
+abbrev pub same_key : FlowKey → FlowKey → Bool
+same_key a b = same_flow a.flow b.flow
+
+-- the send that a flow's entry stands for, by the backend at its place
+abbrev pub told : List Backend → Flow → LastSend → Option Sending
+told backends x l = option_map (λ b. record { number = l.number; flow = x; version = l.version; backend = b; origin = l.origin }) (slice_get backends l.place)
+
+-- each flow's entry stands for its last send, and the others have none
+pub record AreLast (sent : Flow → Option Sending) (l : LastSends) : Type 0 where
+  pub each : (x : Flow) → option_map (λ s. told l.backends.all.items x s) (get same_key l.sends (record { flow = x })) ≡ option_map Some (sent x)
 
 pub record IsBookOf (past : List Said) (b : SplitBook) : Type 0 where
   pub number : b.number ≡ length past
-  pub last : (x : Flow) → get same_flow b.last x ≡ last_sent past x
-  pub flows : hash_map_len b.last ≡ length (flows_of past)
+  pub last : AreLast (λ x. last_sent past x) b.last
+  pub flows : hash_map_len b.last.sends ≡ length (flows_of past)
   pub splits : b.splits.items ≡ splits_of past

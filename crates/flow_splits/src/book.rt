@@ -1,26 +1,27 @@
 //! The last send of each flow, and the splits so far.
 ghost use Rattle.std.specs.Prelude.{◌≡◌, ◌+◌, ◌++◌, ◌∷◌, [], List, length, reverse, Option, Some, IfOk, OnOk, is_some, if◌then◌else◌};
-ghost use Rattle.std.specs.HashMap.{get, hash_map_len};
+ghost use Rattle.std.specs.HashMap.{hash_map_len};
 ghost use Rattle.five_tuple.specs.declared.Flow.{Flow};
 ghost use Rattle.connection_table.specs.Touches.{same_flow};
 ghost use Rattle.cluster_node.specs.declared.events.Said.{Said};
 ghost use Rattle.cluster_node.specs.declared.packets.Packet.{Packet};
 ghost use Rattle.selection.specs.Readied.{same_backend};
+ghost use Rattle.flow_splits.specs.declared.sending.Sending.{Sending};
 ghost use Rattle.flow_splits.specs.Splits.{split_after, splits_of, flows_of, said_of};
+ghost use Rattle.flow_splits.specs.Books.{AreLast};
 
+use crate::last_sends::LastSends;
 use crate::sending::{Sending, Split, sent_by};
 use cluster_node::{Event, Outcome};
 use connection_table::TableKey;
-use five_tuple::Flow;
 use std::alloc::{AllocError, Global};
-use std::collections::HashMap;
 
 /// What is known of a cluster's events so far: how many there were, the last send of each flow, and the splits in the order
 /// of their later sends. Its memory grows with the flows and the splits, and not with the events. Flows are hashed by a key.
 #[derive(Drop)]
 pub struct SplitBook {
     number: u64,
-    last: HashMap<Flow, Sending, TableKey>,
+    last: LastSends,
     splits: Vec<Split>,
 }
 
@@ -43,7 +44,7 @@ impl SplitBook {
     {
         SplitBook {
             number: 0,
-            last: HashMap::with_hasher(alloc, key),
+            last: LastSends::new(alloc, key),
             splits: Vec::new(alloc),
         }
     }
@@ -69,13 +70,12 @@ impl SplitBook {
 
     // A send is its flow's last.
     fn send(&mut self, later: &Sending) -> Result<(), AllocError>
-        ensures last { OnOk result ((x : Flow) → get same_flow self.new.last x ≡ (if same_flow later.now.flow x then Some later.now else get same_flow self.old.last x)) }
-        ensures flows { OnOk result (hash_map_len self.new.last ≡ hash_map_len self.old.last + (if is_some (get same_flow self.old.last later.now.flow) then 0 else 1)) }
-        ensures splits { OnOk result (self.new.splits.items ≡ self.old.splits.items ++ split_after (get same_flow self.old.last later.now.flow) later.now) }
+        ensures last { (sent : Flow → Option Sending) → AreLast sent self.old.last → OnOk result (AreLast (λ x. if same_flow later.now.flow x then Some later.now else sent x) self.new.last) }
+        ensures flows { (sent : Flow → Option Sending) → AreLast sent self.old.last → OnOk result (hash_map_len self.new.last.sends ≡ hash_map_len self.old.last.sends + (if is_some (sent later.now.flow) then 0 else 1)) }
+        ensures splits { (sent : Flow → Option Sending) → AreLast sent self.old.last → OnOk result (self.new.splits.items ≡ self.old.splits.items ++ split_after (sent later.now.flow) later.now) }
         ensures number { self.new.number ≡ self.old.number }
     {
-        let before = self.last.insert(later.flow, *later)?;
-        match before {
+        match self.last.put(later)? {
             None => Ok(()),
             Some(first) => self.compare(&first, later),
         }

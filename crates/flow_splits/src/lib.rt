@@ -4,8 +4,10 @@
 //! `SplitBook` finds them as a cluster's events come; it keeps the last send of each flow and the splits, and no event.
 #![tactic(auto)]
 
+mod backends;
 mod book;
 mod cause;
+mod last_sends;
 mod laws;
 mod lines;
 mod sending;
