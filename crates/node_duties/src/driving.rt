@@ -151,8 +151,8 @@ fn command_at(commands: &[Command], at: usize) -> Command
     commands[at]
 }
 
-/// Obeys the commands from one place on, up to one that ends the life or the end of the list. A version is prepared when it is installed,
-/// after the newest one, and shown then.
+/// Obeys the commands from one place on, up to one that ends the life or the end of the list. A version is prepared when it
+/// is installed, after the newest one, and shown then.
 pub fn drive<S: Scheme, H: FlowHash, G: Gate, B: Names, R: Wait, W: Wait + Drop>(
     rt: &R,
     alloc: Global,

@@ -2,7 +2,8 @@
 use stats_book::Stats;
 
 /// Is called by a worker round each serving, in the worker's own thread, and by the driver before it prepares a version and
-/// once it has told the workers to halt: a place for tests and for watchers. `nth` counts that worker's servings in its life, from 0.
+/// once it has told the workers to halt: a place for tests and for watchers. `nth` counts that worker's servings in its
+/// life, from 0.
 ///
 /// Nothing is held over a call, so a gate may take its time; the thread that calls it waits for it.
 pub trait Gate {

@@ -179,8 +179,9 @@ fn drain<S: Scheme, R: Wait>(rt: &R, ends: &mut Ends<'_, S>) {
     unreachable!()
 }
 
-/// Serves what comes through the ring, up to its closing mark or until the workers are told to halt, and sends a closing mark. A worker that was refused memory (Memory), or
-/// that can't read the version that is shown (ThreadLost), takes the rest without serving it.
+/// Serves what comes through the ring, up to its closing mark or until the workers are told to halt, and sends a closing
+/// mark. A worker that was refused memory (Memory), or that can't read the version that is shown (ThreadLost), takes the rest
+/// without serving it.
 pub fn work<S: Scheme, H: FlowHash, T: ConnTable, G: Gate, B: Names, R: Wait>(
     rt: &R,
     alloc: Global,

@@ -1,6 +1,6 @@
 //! A node's run on one thread, in one of the orders that its threads might take: its records are those that threads make
-//! (at a stop those of workers that served nothing in that life), and what it promises is what a run on threads promises. The tests compare it with the replay of its history, and play
-//! the worked examples step by step.
+//! (at a stop those of workers that served nothing in that life), and what it promises is what a run on threads promises.
+//! The tests compare it with the replay of its history, and play the worked examples step by step.
 #![tactic(auto)]
 
 ghost use Rattle.std.specs.Prelude.{◌≡◌, ◌<◌, ◌++◌, ◌∷◌, [], ℕ, List, true, length, IfOk, OnOk, IsTrue, is_some};

@@ -33,12 +33,7 @@ fn a_look_sees_what_was_published(rt: HostRuntime) -> Result<(), Fail> {
 }
 
 // Once the workers are told to halt each of them heeds it, and the numbers stay.
-fn halt_beside(
-    rt: &impl Abort,
-    board: &WordBoard,
-    publisher: &mut Publisher,
-    watcher: &mut Watcher,
-)
+fn halt_beside(rt: &impl Abort, board: &WordBoard, publisher: &mut Publisher, watcher: &mut Watcher)
     requires publisher { IsPublisherOf board.now publisher.old }
     requires watcher { IsWatcherOf board.now watcher.old }
 {

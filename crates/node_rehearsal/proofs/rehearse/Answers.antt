@@ -42,7 +42,7 @@ loop-command-preserved g c =
         ring = ap (λ (j : JournalView). j.ring) w.journal-is ∙ w.in_ok-list-in-Restart.ensures.kept.1 ∙ had.ring;
       }
       | in-Stop+in_ok-list-in-Stop+in_ok-keep-in-Stop+in_ok-queue-in-Stop w ↦ record {
-        going = subst (λ (z : JournalView). Going rules c.args.packets.now (take (i + 1) c.args.commands.now) z) (sym w.journal-is) (obeyed_more rules c.args.packets.now c.args.commands.now i Stop _ w.restart.new.journal c.loop-command-test.true w.in-Stop.is (w.in_ok-list-in-Stop.ensures.going c.args.packets.now (take i c.args.commands.now) had.going));
+        going = subst (λ (z : JournalView). Going rules c.args.packets.now (take (i + 1) c.args.commands.now) z) (sym w.journal-is) (obeyed_more rules c.args.packets.now c.args.commands.now i Stop _ w.restart-in-Stop.new.journal c.loop-command-test.true w.in-Stop.is (w.in_ok-list-in-Stop.ensures.going c.args.packets.now (take i c.args.commands.now) had.going));
         node = ap (λ (j : JournalView). j.node) w.journal-is ∙ w.in_ok-list-in-Stop.ensures.kept.0 ∙ had.node;
         ring = ap (λ (j : JournalView). j.ring) w.journal-is ∙ w.in_ok-list-in-Stop.ensures.kept.1 ∙ had.ring;
       }
