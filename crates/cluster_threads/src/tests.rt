@@ -19,6 +19,8 @@ use std::sync::atomic::{AtomicU64, Ordering};
 use std::test::Fail;
 use std::thread;
 
+mod stop;
+
 const VIP: u32 = 0xc000_0201;
 
 // The flow from a port to the service.
