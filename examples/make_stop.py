@@ -1,8 +1,8 @@
 #!/usr/bin/env python3
 """Writes the capture of a stop in full traffic: make_stop.py OUT.
 
-2,000 packets of 100 clients to 192.0.2.1, port 80, in two rounds of 1,000: before the stop and behind it. Each client sends
-ten packets a round.
+2,000 packets of 100 clients to 192.0.2.1, port 80, one each microsecond: 1,000 before the stop and 1,000 behind it, ten of
+each client.
 """
 import pathlib
 import struct
@@ -26,8 +26,7 @@ def main():
         for place in range(FRAMES):
             # Seven is prime to the number of clients, so that each comes once in a hundred.
             data = frame(client(place * 7 % CLIENTS), 80, place)
-            at = 1700000000 + place // 1000, place % 1000 * 1000
-            out.write(struct.pack("<4I", *at, len(data), len(data)) + data)
+            out.write(struct.pack("<4I", 1700000000, place, len(data), len(data)) + data)
 
 
 if __name__ == "__main__":
