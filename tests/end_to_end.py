@@ -8,6 +8,7 @@ import errno
 import os
 import pathlib
 import random
+import re
 import shlex
 import shutil
 import struct
@@ -16,6 +17,7 @@ import sys
 import tempfile
 
 import model
+import soak_run
 from harness import PROGRAM, TOP, check, run_tests
 
 
@@ -496,6 +498,9 @@ def test_simulate_faults():
     stops("no scenario and no input", None, None, "OpenScenario", None)
     stops("no input", good, None, "OpenInput", None)
     stops("a bad scenario and no input", scenario(["take"]), None, "BadStep 0", None)
+    stops("a stop and no input", scenario(["take 1", "stop 1"]), None, "BadStep 1", None)
+    stops("a step that isn't one behind a stop", scenario(["stop 0", "take"]), HEAD, "BadStep 1", None)
+    stops("two stops", scenario(["take 1", "stop 1", "stop 0"]), HEAD, "BadStep 1", None)
     words = ["explain", "s.toml", "in.pcap", "0", "1"]
     answer = with_files(good, None, lambda folder: run(words, cwd=folder))
     check("explain of no input", answer == (1, b"", b"fault: OpenInput\n"), repr(answer))
@@ -556,6 +561,19 @@ def without_sum(one):
     return one[:26] + bytes(2) + one[28:]
 
 
+def stops_in_traffic(name, text, data):
+    """Node 0 stops: of the three packets of its first life those that no worker took are lost, and nothing else is."""
+    status, out, err, made = ran(text, data)
+    found = re.search(rb"^drop LostAtRestart (\d+)$", out, re.MULTILINE)
+    lost = int(found[1]) if found else 0
+    drops = f"drop LostAtRestart {lost}\n" if lost else ""
+    expected = report(8, 8 - lost, received=8, lost=1, drops=drops) + "audit agrees\n"
+    check(name, lost <= 3 and (status, out, err) == (0, expected.encode(), b""), f"{status} {out!r} {err!r}")
+    sent = [without_sum(one) for one in records_of(made)]
+    check(f"{name}: node 0 sends y", sent[: 4 - lost] == [sent_to(1, 1000, 1)] * (4 - lost), repr(sent))
+    check(f"{name}: node 1 sends what came to it", len(sent) == 8 - lost and all(one[28:32] == bytes([10, 9, 0, 2]) for one in sent[4 - lost :]), repr(sent))
+
+
 def test_run_rows():
     """A cluster on threads. What may differ by the schedule is left open."""
     held = scenario(["install 0 1", "hold 0"], workers=2)
@@ -572,6 +590,12 @@ def test_run_rows():
         later = sorted(sent[4:])
         b_first, a_first = (sorted([sent_to(2, 1000, 1), sent_to(2, 1001, one), *[sent_to(2, 1001, 1)] * 2]) for one in (2, 1))
         check("node 1 sends y once and z three times", later in (b_first, a_first), repr(sent))
+    text = text.replace("restart 0", "stop 0")
+    for _ in range(20):
+        stops_in_traffic("two nodes with a stop", text, capture("yzyzyzyz"))
+    for number, command in enumerate([["simulate", "s.toml", "in.pcap", "out.pcap"], ["explain", "s.toml", "in.pcap", "0", "1"]]):
+        status, out, err = with_files(text, capture("y"), lambda folder: run(command, cwd=folder))
+        check(f"{command[0]}: a stop", (status, out, err) == (1, b"", b"fault: BadStep 8\n"), f"{status} {out!r} {err!r}")
     one = scenario(["install 0 1", "take 1"])
     output = WRITTEN_HEAD + SENT_RECORD
     runs("one record", one, HEAD + record(P), report(1, 1), output)
@@ -713,6 +737,11 @@ def test_verbose_of_a_scenario():
     twice = good + good[good.index("[[versions.services]]", good.index("number = 2")) :]
     says("a double service", twice, HEAD, "DoubleService", "versions[1].services[1], line 24: found a table, expected an address, protocol and port that")
     says("a step of run", scenario(["install 0 1", "hold 0"]), HEAD, "BadStep 1", 'steps[1], line 9: found "hold 0", expected ', ("run", "s.toml", "in.pcap", "out.pcap"))
+    stop = scenario(["install 0 1", "stop 0"])
+    kinds = "install N V, live [N ..], take K, lose K, again P, full N [W ..], hold N, drain N, restart N or stop N, with balancers N"
+    kinds += " and workers W that are there and none twice in a list; run knows no full, hold and drain, and it alone knows stop"
+    for words in [("simulate", "s.toml", "in.pcap", "out.pcap"), ("explain", "s.toml", "in.pcap", "0", "1")]:
+        says(f"a stop, by {words[0]}", stop, HEAD, "BadStep 1", f'steps[1], line 9: found "stop 0", expected {kinds}\n', words)
     says("explain", good.replace('"maglev"', "1"), HEAD, "BadKey", 'scheme, line 7: found 1, expected "maglev", "plain" or "round"\n', ("explain", "s.toml", "in.pcap", "0", "1"))
     simulates("verbose: no fault", good, HEAD + record(P), report(1, 1), WRITTEN_HEAD + SENT_RECORD, ["-v"])
 
@@ -864,6 +893,8 @@ def test_examples():
     data = (folder / "failover.pcap").read_bytes()
     runs = {f"{name}.toml": model.Run((folder / f"{name}.toml").read_text(), data) for name in ["failover", "larger"]}
     commands = commands_of((folder / "README.md").read_text())
+    stops = [one for one in commands if "examples/stop.toml" in one[0]]
+    commands = [one for one in commands if one not in stops]
     kinds = ["simulate"] + ["explain"] * 4 + ["run", "simulate", "explain", "explain"]
     check("the examples' commands", [words[1] for words, _ in commands] == kinds, repr(commands))
     with tempfile.TemporaryDirectory() as made:
@@ -881,6 +912,27 @@ def test_examples():
         other = pathlib.Path(made) / "in.pcap"
         subprocess.run([sys.executable, str(folder / "make_capture.py"), str(other)], check=True)
         check("the example's capture", other.read_bytes() == data)
+
+
+def test_stop():
+    """A balancer stops in full traffic: what the examples' page shows is printed, and the rest is judged by the model."""
+    folder = TOP / "examples"
+    text, data = (folder / "stop.toml").read_text(), (folder / "stop.pcap").read_bytes()
+    expected = model.Run(text, data)
+    (_, shown), (_, refused) = [one for one in commands_of((folder / "README.md").read_text()) if "examples/stop.toml" in one[0]]
+    for turn in range(10):
+        status, out, err, made = ran(text, data)
+        lines = out.decode().splitlines(True)
+        schedule = [line for line in lines if line.startswith(("forwarded", "drop LostAtRestart"))]
+        check(f"stop {turn}: the page", (status, err) == (0, b"") and "".join(line for line in lines if line not in schedule) == shown, out.decode())
+        counts = [int(line.split()[-1]) for line in schedule]
+        check(f"stop {turn}: its counts", sum(counts) == 2000 and counts[0] >= 1510, repr(schedule))
+        check(f"stop {turn}: what is sent", list(soak_run.faults_of(expected, out.decode(), made)) == [])
+    stops("simulate of a stop", text, data, refused.removeprefix("fault: ").strip(), None)
+    with tempfile.TemporaryDirectory() as made:
+        other = pathlib.Path(made) / "in.pcap"
+        subprocess.run([sys.executable, str(folder / "make_stop.py"), str(other)], check=True)
+        check("the capture of the stop", other.read_bytes() == data)
 
 
 def test_rolling():

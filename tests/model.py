@@ -161,6 +161,7 @@ class Run:
         self.held = [False] * count
         self.read = self.spread = self.lost = self.unrouted = self.skipped = 0
         self.events = []
+        self.stops = []
         self.tables = {}
         for step in self.scenario["steps"]:
             word, *numbers = step.split(" ")
@@ -217,6 +218,11 @@ class Run:
         self.refused_homes[node] = 0
         self.held[node] = False
         self.say(f"restart {node}", f"restarted {waiting}", waiting)
+
+    def step_stop(self, node):
+        """A stop, as if the workers had been done."""
+        self.step_restart(node)
+        self.stops.append(len(self.events) - 1)
 
     # deliveries
 

@@ -22,7 +22,7 @@ SECONDS = 30
 MEGABYTES = 700
 # What may stand for a word or a number of a scenario.
 WORDS = ["0", "1", "-1", "7", "65537", "4294967296", "9223372036854775807", "1e9", "nan", "true", '""', "[]", "{}", "'", '"""', "#", "\n"]
-WORDS += ["1979-05-27", "0x7", '"install 0 1"', '"again 0"', '"take 18446744073709551615"', '"lose 9"', '"live"', "[[versions]]", "\0", "é"]
+WORDS += ["1979-05-27", "0x7", '"install 0 1"', '"again 0"', '"take 18446744073709551615"', '"lose 9"', '"live"', '"stop 0"', "[[versions]]", "\0", "é"]
 
 
 def spoiled_text(source, text):

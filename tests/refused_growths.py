@@ -60,7 +60,7 @@ FLOW = "split tcp 10.0.0.1:1000>192.0.2.1:80 events {} slot 6 version 1 A@10.8.0
 TWO = REPORT.replace(" 1\n", " 2\n")
 LOST = (1, b"", b"fault: ThreadLost\n")
 # Two nodes of two workers each, of which one restarts.
-RESTARTING, EIGHT = soak_run.restarting()
+RESTARTING, EIGHT = soak_run.restarting("restart")
 RESTARTED = AUDITED.replace(" 1\n", " 8\n").replace("lost 0", "lost 1")
 CLUSTER = {"s.toml": RESTARTING.encode(), "in.pcap": EIGHT}
 

@@ -1,11 +1,12 @@
 #!/usr/bin/env python3
-"""soak_run.py [FIRST COUNT TIMES]: runs random scenarios on threads, and one scenario that restarts so many times, and judges
-what is printed and written by the model.
+"""soak_run.py [FIRST COUNT TIMES]: runs random scenarios on threads, and one scenario that restarts and one that stops so many
+times each, and judges what is printed and written by the model.
 
 Which version a packet is served under, which ring is full and how workers' packets mix is left to the schedule. What isn't
 is compared with tests/model.py: the counts of records, what came to each node, which drops a driver judges, that what a
 node sends came to it in that life and went to a backend that is up in a version that may have been used, and, where no ring
-gets full, that a worker's packets go out in the order in which they came. The last line is 'N passed, N failed'.
+gets full, that a worker's packets go out in the order in which they came. Where a life was stopped what its workers took is a
+beginning of what came to them, and the rest is LostAtRestart. The last line is 'N passed, N failed'.
 """
 import collections
 import pathlib
@@ -47,7 +48,7 @@ def random_steps(source, nodes):
         node = source.randrange(nodes)
         live = " ".join(str(one) for one in source.sample(range(nodes), source.randrange(nodes + 1)))
         kinds = [f"install {node} {source.randrange(1, 6)}", f"lose {source.randrange(3)}", f"again {source.randrange(40)}"]
-        kinds += [f"take {source.randrange(20)}"] * 4 + [f"live {live}".strip(), f"restart {node}"]
+        kinds += [f"take {source.randrange(20)}"] * 4 + [f"live {live}".strip(), f"restart {node}", f"stop {node}"]
         steps.append(source.choice(kinds))
     return steps
 
@@ -91,6 +92,12 @@ def lives_of(expected, node):
     return lives
 
 
+def stops_of(expected, node):
+    """Of each life of a node, whether it was stopped."""
+    ends = [place for place, (event, _, _) in enumerate(expected.events) if event == f"restart {node}"]
+    return [place in expected.stops for place in ends] + [False]
+
+
 def backends_of(expected, arrival):
     """The backends to which a packet may go."""
     return {up[1] for version in arrival.versions for up in expected.service(version, arrival.flow) or []}
@@ -121,7 +128,13 @@ def is_part(few, many):
     return all(any(one == other for other in rest) for one in few)
 
 
-def faults_of_life(expected, life, taken):
+def has_repeats(lives):
+    """A record came in two lives, so that a send may be of either."""
+    places = [place for life, _ in lives for place in {one.place for one in life}]
+    return len(places) != len(set(places))
+
+
+def faults_of_life(expected, life, taken, stopped):
     """What is wrong with the sends of a life in which no ring was full."""
     flows = {one.place: one.flow for one in life}
     for worker in range(expected.workers):
@@ -136,8 +149,14 @@ def faults_of_life(expected, life, taken):
             ups = expected.service(version, flows[place])
             if expected.chosen(ups, flows[place], 0)[1] != backend:
                 yield f"record {place} went to {backend}"
-        if len(taken) != sum(bool(expected.service(version, one.flow)) for one in life):
+        served = [one for one in life if expected.service(version, one.flow)]
+        if len(taken) != len(served) and not (stopped and len(taken) < len(served)):
             yield f"{len(taken)} of {len(life)} packets were sent"
+        for worker in range(expected.workers):
+            came = [one.place for one in served if expected.plain(b"w" + one.flow) % expected.workers == worker]
+            went = [place for place, _ in taken if expected.plain(b"w" + flows[place]) % expected.workers == worker]
+            if went != came[: len(went)]:
+                yield f"worker {worker} took {went}, no beginning of {came}"
 
 
 def sends_of(expected, output):
@@ -163,11 +182,18 @@ def faults_of_report(expected, printed, sent):
         yield "the audit"
     told, known = dict(lines), dict(simulated)
     served = ["forwarded", "drop NoService", "drop NoBackend", "drop RingsFull"]
+    if expected.stops:
+        served.append("drop LostAtRestart")
     for key in known.keys() | told.keys():
         if key not in served and told.get(key) != known.get(key):
             yield f"{key}: {told.get(key)}, simulated {known.get(key)}"
     if sum(int(told.get(key, 0)) for key in served) != sum(int(known.get(key, 0)) for key in served):
         yield f"what was served: {told}"
+    stopped = 0
+    for node in range(len(expected.scenario["nodes"])):
+        stopped += sum(len(life) for life, is_stopped in zip(lives_of(expected, node), stops_of(expected, node)) if is_stopped)
+    if int(told.get("drop LostAtRestart", 0)) > stopped:
+        yield f"{told['drop LostAtRestart']} lost, {stopped} came to lives that were stopped"
     if int(told["forwarded"]) != sent:
         yield f"{told['forwarded']} forwarded, {sent} written"
 
@@ -183,9 +209,13 @@ def faults_of(expected, printed, output):
         lives = by_lives(expected, node, own)
         if lives is None:
             yield f"node {node} sent what it may not: {own}"
-        elif all(len(life) <= expected.scenario["ring"] for life, _ in lives):
-            for life, taken in lives:
-                yield from faults_of_life(expected, life, taken)
+            continue
+        stops = stops_of(expected, node)
+        if any(stops) and has_repeats(lives):
+            continue
+        if all(len(life) <= expected.scenario["ring"] for life, _ in lives):
+            for (life, taken), stopped in zip(lives, stops):
+                yield from faults_of_life(expected, life, taken, stopped)
 
 
 def captured(packets):
@@ -200,10 +230,10 @@ def thrown(seed):
     return text, captured([packet(source) for _ in range(source.randrange(80))])
 
 
-def restarting():
-    """Two nodes of two workers: a packet is lost, one is repeated, a version takes a server out, and a node restarts."""
+def restarting(word):
+    """Two nodes of two workers: a packet is lost, one is repeated, a version takes a server out, and a node restarts or stops."""
     text = 'format = 1\nsize = 7\nhash = "sum"\nscheme = "maglev"\nspread = "turn"\nworkers = 2\ncapacity = 8\nring = 16\n'
-    steps = ["install 0 1", "install 1 1", "take 3", "lose 1", "again 0", "install 0 2", "install 1 2", "take 2", "restart 0", "take 2"]
+    steps = ["install 0 1", "install 1 1", "take 3", "lose 1", "again 0", "install 0 2", "install 1 2", "take 2", f"{word} 0", "take 2"]
     text += f'nodes = ["10.9.0.1", "10.9.0.2"]\nsteps = {steps}\n'
     for number, down in [(1, ""), (2, "/down")]:
         members = ["A@10.8.0.1", f"B@10.8.0.2{down}", "C@10.8.0.3"]
@@ -231,7 +261,8 @@ def judged(text, data, expected, folder):
 def main():
     first, count, times = (int(word) for word in sys.argv[1:4]) if len(sys.argv) > 3 else (0, 60, 1000)
     runs = [case(f"run {seed}", *thrown(seed)) for seed in range(first, first + count)]
-    runs += [case("the run that restarts", *restarting())] * times
+    for word in ["restart", "stop"]:
+        runs += [case(f"the run with a {word}", *restarting(word))] * times
     with tempfile.TemporaryDirectory() as folder:
         return judge_all((name, judged(*run, pathlib.Path(folder))) for name, *run in runs)
 

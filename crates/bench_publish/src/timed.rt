@@ -70,6 +70,8 @@ impl<'a, R: Clock> Gate for Timed<'a, R> {
         self.last.store(now, Ordering::SeqCst);
     }
 
+    fn stopping(&self, _node: u16) {}
+
     fn before(&self, _node: u16, _worker: u16, _nth: u64) {
         self.began.fetch_add(self.now(), Ordering::SeqCst);
     }

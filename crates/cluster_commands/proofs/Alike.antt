@@ -1,12 +1,15 @@
 -- Whichever cluster plays the steps, the drivers are told the same.
 use Rattle.std.proofs.Common.{◌≡◌, ℕ, zero, suc, ◌+◌, Bool, true, false, List, [], ◌∷◌, ◌++◌, map, length, take, Option, Some, None, refl, sym, ap, ◌∙◌, subst}
-use Rattle.std.specs.Prelude.{if◌then◌else◌, reverse, slice_get, slice_set}
+use Rattle.std.specs.Prelude.{◌==◌, if◌then◌else◌, reverse, filter, slice_get, slice_set}
 use Rattle.std.proofs.lemmas.List.{append-nil, map-append, reverse-append}
+use Rattle.std.proofs.lemmas.Simd.{map-map}
 use Rattle.cluster_node.specs.declared.packets.Packet.{Packet}
 use Rattle.cluster_node.specs.declared.events.Event.{Event}
 use Rattle.cluster_node.specs.declared.events.Event.TheVariants.{Install, Restart}
 use Rattle.cluster_node.specs.declared.events.Said.{Said}
+use Rattle.cluster_node.specs.Records.{node_of}
 use Rattle.node_records.specs.declared.command.Command.{Command}
+use Rattle.node_records.specs.Losses.{as_written}
 use Rattle.spreader.specs.Choices.{Choice}
 use Rattle.scenario_steps.specs.declared.Step.{Step}
 use Rattle.scenario_steps.specs.declared.Step.TheVariants as steps
@@ -16,8 +19,9 @@ use Rattle.course.specs.Steps.{World, world_of, placed_on, is_held, say, serve, 
 use Rattle.course.specs.Tally.{tally_of}
 use Rattle.course.specs.declared.play.Tally.{Tally}
 use Rattle.cluster_commands.specs.Noting.{noting}
-use Rattle.cluster_commands.specs.Orders.{commands_on, events_of, course_on, orders_in, plan_of, orders_of}
+use Rattle.cluster_commands.specs.Orders.{commands_on, events_of, course_on, orders_in, plan_of, ends_on, orders_on, orders_of}
 use Rattle.cluster_commands.proofs.Telling.{commands_more, no_serve}
+use Rattle.cluster_commands.proofs.Ending.{ended_written, told_written}
 
 -- what a node's driver is told of a record, which has the newest event in front
 abbrev pub told_to : ℕ → List Said → List Command
@@ -154,6 +158,7 @@ after_alike a b choice packets (steps.Drain n) c d h =
     (alike_back (release n c) (drain_from w n 0 a.workers (release n c)) (drain_alike w n 0 a.workers (release n c)))
     (alike_both (release n c) (release n d) (drain_from v n 0 b.workers (release n d)) (release_alike n c d h) (drain_alike v n 0 b.workers (release n d)))
 after_alike a b choice packets (steps.Restart n) c d h = say_alike (world_of a choice packets) (world_of b choice packets) (Restart n) (Restart n) None None (release n c) (release n d) refl (release_alike n c d h)
+after_alike a b choice packets (steps.Stop n) c d h = say_alike (world_of a choice packets) (world_of b choice packets) (Restart n) (Restart n) None None (release n c) (release n d) refl (release_alike n c d h)
 
 run_alike : (a b : Cluster) (choice : Choice) (packets : List Packet) (ss : List Step) (c d : Course) → Alike c d → Alike (run (world_of a choice packets) ss c) (run (world_of b choice packets) ss d)
 unfolding run
@@ -175,11 +180,24 @@ orders_alike nodes c d h = map_same (λ n. commands_on n (events_of c)) (λ n. c
 pub tallies_alike : (packets : ℕ) (c d : Course) → Alike c d → tally_of packets c ≡ tally_of packets d
 tallies_alike packets c d h = ap (tally_of packets) h.rest
 
+-- what a node is told, as a history has it
+pub written_on : (choice : Choice) (packets : List Packet) (ss : List Step) (nodes n : ℕ) → map as_written (orders_on choice packets ss nodes n) ≡ commands_on n (events_of (plan_of choice packets ss nodes))
+written_on choice packets ss nodes n =
+    ended_written (ends_on n ss) (commands_on n (events_of (plan_of choice packets ss nodes)))
+    ∙ told_written (filter (λ (e : Event). node_of e == n) (events_of (plan_of choice packets ss nodes)))
+
+-- what is made of each of the lists that a list of vectors has
+pub each_of : {V B : Type 0} (items : V → List Command) (f : List Command → B) (g : ℕ → List Command) (h : ℕ → B) (vs : List V) (nodes : ℕ) → map items vs ≡ map g (below nodes) → ((n : ℕ) → f (g n) ≡ h n)
+    → map (λ v. f (items v)) vs ≡ map h (below nodes)
+each_of items f g h vs nodes e is =
+    sym (map-map f items vs) ∙ ap (map f) e ∙ map-map f g (below nodes) ∙ map_same (λ n. f (g n)) h is (below nodes)
+
 -- what is read off the plan is read off the steps' course on any cluster
-pub told_anywhere : (choice : Choice) (packets : List Packet) (ss : List Step) (nodes : ℕ) (css : List (List Command)) (tally : Tally) (cluster : Cluster) → css ≡ orders_of choice packets ss nodes → tally ≡ tally_of (length packets) (plan_of choice packets ss nodes)
-    → (css ≡ orders_in nodes (events_of (course_on cluster choice packets ss nodes))) × (tally ≡ tally_of (length packets) (course_on cluster choice packets ss nodes))
-told_anywhere choice packets ss nodes css tally cluster e f =
+pub told_anywhere : {V : Type 0} (items : V → List Command) (choice : Choice) (packets : List Packet) (ss : List Step) (nodes : ℕ) (vs : List V) (tally : Tally) (cluster : Cluster) → map items vs ≡ orders_of choice packets ss nodes → tally ≡ tally_of (length packets) (plan_of choice packets ss nodes)
+    → (map (λ v. map as_written (items v)) vs ≡ orders_in nodes (events_of (course_on cluster choice packets ss nodes))) × (tally ≡ tally_of (length packets) (course_on cluster choice packets ss nodes))
+told_anywhere items choice packets ss nodes vs tally cluster e f =
     let h : Alike (course_on noting choice packets ss nodes) (course_on cluster choice packets ss nodes) = courses_alike noting cluster choice packets ss nodes in (
-      e ∙ orders_alike nodes (course_on noting choice packets ss nodes) (course_on cluster choice packets ss nodes) h,
+      each_of items (map as_written) (orders_on choice packets ss nodes) (λ n. commands_on n (events_of (plan_of choice packets ss nodes))) vs nodes e (written_on choice packets ss nodes)
+          ∙ orders_alike nodes (course_on noting choice packets ss nodes) (course_on cluster choice packets ss nodes) h,
       f ∙ tallies_alike (length packets) (course_on noting choice packets ss nodes) (course_on cluster choice packets ss nodes) h,
     )

@@ -2,3 +2,5 @@ pub mod Telling
 pub mod Alike
 pub mod Offered
 pub mod Unmarked
+pub mod Ending
+pub mod Lives

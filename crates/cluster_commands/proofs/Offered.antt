@@ -1,14 +1,17 @@
 -- Each packet that is offered is of a record that was read.
 use Rattle.std.proofs.Common.{◌≡◌, ℕ, zero, suc, Bool, true, false, List, [], ◌∷◌, map, length, Option, sym, arith, subst}
-use Rattle.std.specs.Prelude.{◌==◌, cond, All}
+use Rattle.std.specs.Prelude.{◌==◌, cond, drop, slice_index_or, All}
 use Rattle.std.proofs.lemmas.List.{length-map, get_or-map}
-use Rattle.std.proofs.lemmas.List.Elements.{All-append, All-map}
+use Rattle.std.proofs.lemmas.List.Elements.{All-append, All-map, All-cons, All-head, All-tail}
 use Rattle.cluster_node.specs.declared.packets.Packet.{Packet}
 use Rattle.cluster_node.specs.declared.events.Event.{Event}
 use Rattle.cluster_node.specs.declared.events.Event.TheVariants.{Install, Arrive, Serve, Restart}
 use Rattle.cluster_node.specs.declared.events.Said.{Said}
 use Rattle.cluster_node.specs.Records.{node_of}
 use Rattle.node_records.specs.declared.command.Command.{Command}
+use Rattle.node_records.specs.declared.command.Command.TheVariants.{Publish, Offer}
+use Rattle.node_records.specs.declared.command.Command.TheVariants as commands
+use Rattle.node_records.specs.Losses.{ending}
 use Rattle.node_records.specs.Histories.{commands_of}
 use Rattle.spreader.specs.Choices.{Choice}
 use Rattle.scenario_steps.specs.declared.Step.{Step}
@@ -17,7 +20,7 @@ use Rattle.course.specs.Steps.{world_of, below}
 use Rattle.course.proofs.Adding.{courses_add_up}
 use Rattle.course.specs.Course.{Course}
 use Rattle.cluster_commands.specs.Noting.{noting}
-use Rattle.cluster_commands.specs.Orders.{commands_on, events_of, orders_in, plan_of, orders_of, IsThere}
+use Rattle.cluster_commands.specs.Orders.{commands_on, plan_of, ended_by, orders_on, orders_of, IsThere}
 use Rattle.cluster_commands.proofs.Alike.{told_to, told_more}
 
 none_there : (read : ℕ) → All (IsThere read) []
@@ -46,8 +49,23 @@ told_there packets read n (s ∷ past) h =
     subst (λ (cs : List Command). All (IsThere read) cs) (sym (told_more n s past))
     (All-append (IsThere read) (told_to n past) (commands_on n (s.event ∷ [])) (told_there packets read n past h.1) (on_there packets read n s.event s.packet h.0))
 
-orders_there : (packets : List Packet) (read nodes : ℕ) (c : Course) → AreOfRecords packets read c.past → All (All (IsThere read)) (orders_in nodes (events_of c))
-orders_there packets read nodes c h = All-map (All (IsThere read)) (λ n. commands_on n (events_of c)) (below nodes) (λ k d lt. told_there packets read _ c.past h)
+ending_there : (read : ℕ) (d : Bool) → IsThere read (ending d)
+ending_there read true = tt
+ending_there read false = tt
+
+-- however lives end
+ended_there : (read : ℕ) (ds : List Bool) (cs : List Command) → All (IsThere read) cs → All (IsThere read) (ended_by ds cs)
+ended_there read ds [] h = none_there read
+ended_there read ds (Publish v ∷ cs) h = All-cons (IsThere read) (Publish v) (ended_by ds cs) tt (ended_there read ds cs (All-tail (IsThere read) (Publish v) cs h))
+ended_there read ds (Offer k ∷ cs) h = All-cons (IsThere read) (Offer k) (ended_by ds cs) (All-head (IsThere read) (Offer k) cs h) (ended_there read ds cs (All-tail (IsThere read) (Offer k) cs h))
+ended_there read ds (commands.Restart ∷ cs) h =
+    All-cons (IsThere read) (ending (slice_index_or ds 0 true)) (ended_by (drop 1 ds) cs) (ending_there read (slice_index_or ds 0 true)) (ended_there read (drop 1 ds) cs (All-tail (IsThere read) commands.Restart cs h))
+ended_there read ds (commands.Stop ∷ cs) h =
+    All-cons (IsThere read) (ending (slice_index_or ds 0 true)) (ended_by (drop 1 ds) cs) (ending_there read (slice_index_or ds 0 true)) (ended_there read (drop 1 ds) cs (All-tail (IsThere read) commands.Stop cs h))
+
+orders_there : (packets : List Packet) (read : ℕ) (choice : Choice) (ss : List Step) (nodes : ℕ) → AreOfRecords packets read (plan_of choice packets ss nodes).past → All (All (IsThere read)) (orders_of choice packets ss nodes)
+orders_there packets read choice ss nodes h =
+    All-map (All (IsThere read)) (orders_on choice packets ss nodes) (below nodes) (λ k d lt. ended_there read _ _ (told_there packets read _ (plan_of choice packets ss nodes).past h))
 
 -- of all that are made from some, of these
 all_of : {V : Type 0} (items : V → List Command) (P : List Command → Type 0) (vs : List V) → All P (map items vs) → All (λ v. P (items v)) vs
@@ -58,4 +76,4 @@ pub told_are_there : {V : Type 0} (items : V → List Command) (choice : Choice)
 told_are_there items choice packets ss nodes vs e =
     let c : Course = plan_of choice packets ss nodes in
     all_of items (All (IsThere c.read)) vs
-    (subst (λ (css : List (List Command)). All (All (IsThere c.read)) css) (sym e) (orders_there packets c.read nodes c (courses_add_up (world_of noting choice packets) ss nodes).1.records))
+    (subst (λ (css : List (List Command)). All (All (IsThere c.read)) css) (sym e) (orders_there packets c.read choice ss nodes (courses_add_up (world_of noting choice packets) ss nodes).1.records))

@@ -34,14 +34,14 @@ pushed_at items vs m old new c h is more =
     ∙ ap (λ (l : List Command). set (map items vs) m l) (more ∙ ap (λ (l : List Command). l ++ c ∷ []) (ap items is ∙ sym (get_or-map items vs m old [] h)))
 
 -- the numbers below one
-below_long : (n : ℕ) → length (below n) ≡ n
+pub below_long : (n : ℕ) → length (below n) ≡ n
 below_long zero = refl
 below_long (suc n) = let e : length (below n ++ n ∷ []) ≡ length (below n) + 1 = length_push (below n) n in let f : length (below n) ≡ n = below_long n in omega arith
 
 below_last : (n k : ℕ) → k < suc n → (k ≡ n → ⊥) → k < n
 below_last n k h other = omega (arith, other)
 
-below_at : (n k : ℕ) → k < n → get_or (below n) k 0 ≡ k
+pub below_at : (n k : ℕ) → k < n → get_or (below n) k 0 ≡ k
 below_at zero k h = absurd (omega arith)
 below_at (suc n) k h = go (k == n) refl (λ lt. below_at n k lt)
   where

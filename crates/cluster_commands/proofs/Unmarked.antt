@@ -17,8 +17,10 @@ use Rattle.course.specs.Cluster.{flow_of}
 use Rattle.course.specs.Course.{Course}
 use Rattle.course.specs.Steps.{World, world_of, none_marked, marks_or, marks_at, placed_on, is_held, say, serve, follow, arrival, arrive, route, deliver, take_all, repeat, next_ones, after, run, start}
 use Rattle.cluster_commands.specs.Knowing.{is_known, first_unknown_of}
-use Rattle.cluster_commands.specs.Orders.{commands_on, is_serve, event_of, KnownStepsAreTold}
-use Rattle.cluster_commands.proofs.Alike.{told_to, told_more}
+use Rattle.cluster_commands.specs.Orders.{commands_on, events_of, plan_of, ends_on, is_serve, event_of, KnownStepsAreTold}
+use Rattle.cluster_commands.specs.Noting.{noting}
+use Rattle.cluster_commands.proofs.Alike.{told_to, told_more, courses_alike}
+use Rattle.cluster_commands.proofs.Ending.{ended_events}
 
 abbrev IsUnmarked : Event → Type 0
 IsUnmarked (Install n v) = Unit {0}
@@ -84,6 +86,7 @@ after_clean w (steps.Full n m) c k h = let bad : false ≡ true = k in cc
 after_clean w (steps.Hold n) c k h = let bad : false ≡ true = k in cc
 after_clean w (steps.Drain n) c k h = let bad : false ≡ true = k in cc
 after_clean w (steps.Restart n) c k h = record { none = h.none; events = (tt, h.events) }
+after_clean w (steps.Stop n) c k h = record { none = h.none; events = (tt, h.events) }
 
 -- how many are known before the first that isn't
 abbrev known_len : List Step → ℕ
@@ -154,3 +157,5 @@ pub known_steps_are_told : KnownStepsAreTold
 known_steps_are_told cluster choice packets ss nodes n e =
     let c : Course = run (world_of cluster choice packets) ss (start nodes) in
     all_told n c.past (run_clean (world_of cluster choice packets) ss (start nodes) (none_unknown ss e) (start_clean nodes)).events
+    ∙ ap (map (event_of n)) ((courses_alike cluster noting choice packets ss nodes).told n)
+    ∙ sym (ended_events n (ends_on n ss) (commands_on n (events_of (plan_of choice packets ss nodes))))

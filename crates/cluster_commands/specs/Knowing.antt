@@ -14,6 +14,7 @@ is_known (steps.Full n m) = false
 is_known (steps.Hold n) = false
 is_known (steps.Drain n) = false
 is_known (steps.Restart n) = true
+is_known (steps.Stop n) = true
 
 -- the place of the first that isn't known
 abbrev pub first_unknown_of : List Step → Option ℕ

@@ -1,5 +1,5 @@
 -- What the steps of a scenario tell the drivers of a cluster's nodes.
-use Rattle.std.specs.Prelude.{◌≡◌, ◌<◌, ◌==◌, ℕ, Bool, true, false, not, List, None, map, reverse, filter}
+use Rattle.std.specs.Prelude.{◌≡◌, ◌<◌, ◌==◌, ℕ, Bool, true, false, not, List, [], ◌∷◌, Option, Some, None, if◌then◌else◌, map, reverse, filter, filter_map, drop, slice_index_or}
 use Rattle.cluster_node.specs.declared.packets.Packet.{Packet}
 use Rattle.cluster_node.specs.declared.events.Event.{Event}
 use Rattle.cluster_node.specs.declared.events.Event.TheVariants.{Install, Arrive, Serve, Restart}
@@ -9,6 +9,8 @@ use Rattle.node_records.specs.declared.command.Command.TheVariants.{Publish, Off
 use Rattle.node_records.specs.declared.command.Command.TheVariants as commands
 use Rattle.node_records.specs.Histories.{commands_of}
 use Rattle.scenario_steps.specs.declared.Step.{Step}
+use Rattle.scenario_steps.specs.declared.Step.TheVariants as steps
+use Rattle.node_records.specs.Losses.{ending, drained_lives}
 use Rattle.spreader.specs.Choices.{Choice}
 use Rattle.course.specs.Cluster.{Cluster}
 use Rattle.course.specs.Course.{Course}
@@ -36,14 +38,44 @@ course_on cluster choice packets steps nodes = run (world_of cluster choice pack
 abbrev pub plan_of : Choice → List Packet → List Step → ℕ → Course
 plan_of choice packets steps nodes = course_on noting choice packets steps nodes
 
+-- Whether a step ends the life of a node: if so, whether the life is drained. On threads a stop doesn't drain it.
+abbrev pub ends_by : ℕ → Step → Option Bool
+ends_by n (steps.Install m v) = None
+ends_by n (steps.Live ns) = None
+ends_by n (steps.Take k) = None
+ends_by n (steps.Lose k) = None
+ends_by n (steps.Again k) = None
+ends_by n (steps.Full m marks) = None
+ends_by n (steps.Hold m) = None
+ends_by n (steps.Drain m) = None
+ends_by n (steps.Restart m) = if m == n then Some true else None
+ends_by n (steps.Stop m) = if m == n then Some false else None
+
+-- for each life of a node that these steps end, in order, whether it is drained
+abbrev pub ends_on : ℕ → List Step → List Bool
+ends_on n ss = filter_map (ends_by n) ss
+
+-- Commands of which those that end a life end the lives so, in order. Where none is left a life is drained.
+abbrev pub ended_by : List Bool → List Command → List Command
+ended_by ds [] = []
+ended_by ds (Publish v ∷ cs) = Publish v ∷ ended_by ds cs
+ended_by ds (Offer k ∷ cs) = Offer k ∷ ended_by ds cs
+ended_by ds (commands.Restart ∷ cs) = ending (slice_index_or ds 0 true) ∷ ended_by (drop 1 ds) cs
+ended_by ds (commands.Stop ∷ cs) = ending (slice_index_or ds 0 true) ∷ ended_by (drop 1 ds) cs
+
+-- what a node's driver is told of the steps: what their course says of the node, each life ended as its step ends it
+abbrev pub orders_on : Choice → List Packet → List Step → ℕ → ℕ → List Command
+orders_on choice packets steps nodes n = ended_by (ends_on n steps) (commands_on n (events_of (plan_of choice packets steps nodes)))
+
 abbrev pub orders_of : Choice → List Packet → List Step → ℕ → List (List Command)
-orders_of choice packets steps nodes = orders_in nodes (events_of (plan_of choice packets steps nodes))
+orders_of choice packets steps nodes = map (orders_on choice packets steps nodes) (below nodes)
 
 -- a packet that is offered is one of so many
 abbrev pub IsThere : ℕ → Command → Type 0
 IsThere count (Publish v) = Unit {0}
 IsThere count (Offer k) = k < count
 IsThere count commands.Restart = Unit {0}
+IsThere count commands.Stop = Unit {0}
 
 abbrev pub is_serve : Event → Bool
 is_serve (Install n v) = false
@@ -56,8 +88,13 @@ abbrev pub event_of : ℕ → Command → Event
 event_of n (Publish v) = Install n v
 event_of n (Offer k) = Arrive n k none_marked
 event_of n commands.Restart = Restart n
+event_of n commands.Stop = Restart n
 
 -- Where all steps are known, the commands tell all: what a course has of a node is what the node's commands say, and servings.
 abbrev pub KnownStepsAreTold : Type 0
 KnownStepsAreTold = (cluster : Cluster) (choice : Choice) (packets : List Packet) (steps : List Step) (nodes n : ℕ) → first_unknown_of steps ≡ None
-    → filter (λ e. not (is_serve e)) (filter (λ e. node_of e == n) (events_of (course_on cluster choice packets steps nodes))) ≡ map (event_of n) (commands_on n (events_of (course_on cluster choice packets steps nodes)))
+    → filter (λ e. not (is_serve e)) (filter (λ e. node_of e == n) (events_of (course_on cluster choice packets steps nodes))) ≡ map (event_of n) (orders_on choice packets steps nodes n)
+
+-- The commands end as many lives of a node as the steps, in their order, and each drains as its step does.
+abbrev pub EndsAreTold : Type 0
+EndsAreTold = (choice : Choice) (packets : List Packet) (steps : List Step) (nodes n : ℕ) → drained_lives (orders_on choice packets steps nodes n) ≡ ends_on n steps

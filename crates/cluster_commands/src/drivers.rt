@@ -3,9 +3,11 @@ ghost use Rattle.std.specs.Prelude.{◌≡◌, ◌<◌, ◌^◌, [], length, map
 ghost use Rattle.course.specs.Cluster.{Cluster, WereRead};
 ghost use Rattle.course.specs.Steps.{below};
 ghost use Rattle.course.specs.Tally.{tally_of};
-ghost use Rattle.cluster_commands.specs.Orders.{events_of, course_on, orders_in, plan_of, orders_of, IsThere};
+ghost use Rattle.node_records.specs.Losses.{as_written, drained_lives};
+ghost use Rattle.cluster_commands.specs.Orders.{events_of, course_on, orders_in, plan_of, ends_on, orders_of, IsThere};
 ghost use Rattle.cluster_commands.specs.PrivateTelling.{Follows, pushed};
 
+use crate::ends::end_as;
 use crate::notes::Notes;
 use crate::told::Orders;
 use cluster_node::{Event, Packet, Said};
@@ -74,7 +76,8 @@ fn commands_by(alloc: Global, nodes: u16, history: &[Said]) -> Result<Vec<Vec<Co
 /// The spreader is asked once for each packet that is delivered, in the order of the steps. `full`, `hold` and `drain`
 /// tell nobody anything; [`first_unknown`](crate::first_unknown) finds them. Neither does what names a node that isn't
 /// there. These are the commands and the counts of the steps' course on any cluster (`anywhere`): what is left out of it
-/// are the servings, and the marks of workers that refuse.
+/// are the servings, and the marks of workers that refuse. In a course a stop is a restart; the commands have it as a stop
+/// (`ends`).
 pub fn orders<P: Spread>(
     alloc: Global,
     nodes: u16,
@@ -89,8 +92,10 @@ pub fn orders<P: Spread>(
     ensures commands { IfOk result (λ o. map (λ c. c.items) o.commands.items ≡ orders_of (P.choice spread.old) packets.now steps.now nodes) }
     ensures tally { IfOk result (λ o. o.tally ≡ tally_of (length packets.now) (plan_of (P.choice spread.old) packets.now steps.now nodes)) }
     ensures anywhere { IfOk result (λ o. (cluster : Cluster) →
-        (map (λ c. c.items) o.commands.items ≡ orders_in nodes (events_of (course_on cluster (P.choice spread.old) packets.now steps.now nodes)))
+        (map (λ c. map as_written c.items) o.commands.items ≡ orders_in nodes (events_of (course_on cluster (P.choice spread.old) packets.now steps.now nodes)))
         × (o.tally ≡ tally_of (length packets.now) (course_on cluster (P.choice spread.old) packets.now steps.now nodes))) }
+    // each life that the steps end is ended, in their order, and drained unless they stop it
+    ensures ends { IfOk result (λ o. map (λ c. drained_lives c.items) o.commands.items ≡ map (λ n. ends_on n steps.now) (below nodes)) }
     // each packet that is offered is one of a record that was read
     ensures there { IfOk result (λ o. All (λ c. All (IsThere (plan_of (P.choice spread.old) packets.now steps.now nodes).read) c.items) o.commands.items) }
     ensures live { OnOk result (P.live spread.new ≡ (plan_of (P.choice spread.old) packets.now steps.now nodes).live) }
@@ -98,8 +103,10 @@ pub fn orders<P: Spread>(
     let mut play = Play::start(alloc, nodes)?;
     let mut events = Vec::new(alloc);
     play.run(alloc, &mut Notes, &(), spread, packets, steps, &mut events)?;
+    let mut commands = commands_by(alloc, nodes, events.as_slice())?;
+    end_as(alloc, nodes, steps, &mut commands)?;
     Ok(Orders {
-        commands: commands_by(alloc, nodes, events.as_slice())?,
+        commands,
         tally: play.tally(packets.len() as u32),
     })
 }

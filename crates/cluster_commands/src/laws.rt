@@ -1,8 +1,15 @@
 //! What is true of every list of commands.
-ghost use Rattle.cluster_commands.specs.Orders.{KnownStepsAreTold};
+ghost use Rattle.cluster_commands.specs.Orders.{KnownStepsAreTold, EndsAreTold};
 
 /// Where [`first_unknown`](crate::first_unknown) finds nothing, the commands leave out the servings alone: what the steps'
-/// course has of a node is, but for these, what the node's commands say. The clause is the law; the body does nothing.
+/// course has of a node is, but for these, what the node's commands say, each stop read as the restart that it is in a course.
+/// The clause is the law; the body does nothing.
 pub fn known_steps_are_told()
     ensures { KnownStepsAreTold }
+{}
+
+/// A node's commands end as many of its lives as the steps do, in their order; a restart drains the life, and a stop doesn't.
+/// The clause is the law; the body does nothing.
+pub fn ends_are_told()
+    ensures { EndsAreTold }
 {}

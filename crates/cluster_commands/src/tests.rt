@@ -132,6 +132,45 @@ fn live_nodes(rt: HostRuntime) {
     assert_eq!(rt; told.tally, tally, "the records");
 }
 
+// A stop is told to its own node alone, in the place of its step, and a restart beside it stays one.
+#[test]
+fn stops(rt: HostRuntime) {
+    let steps = [
+        Step::Install {
+            node: 0,
+            version: 1,
+        },
+        Step::Install {
+            node: 1,
+            version: 1,
+        },
+        Step::Take(2),
+        Step::Stop(0),
+        Step::Restart(1),
+        Step::Take(1),
+        Step::Restart(0),
+        Step::Stop(1),
+        Step::Stop(0),
+    ];
+    let told = told(&rt, rt.alloc(), 2, &steps);
+    let first = [
+        Command::Publish(1),
+        Command::Offer(0),
+        Command::Stop,
+        Command::Offer(2),
+        Command::Restart,
+        Command::Stop,
+    ];
+    tells(&rt, &told, 0, &first);
+    let second = [
+        Command::Publish(1),
+        Command::Offer(1),
+        Command::Restart,
+        Command::Stop,
+    ];
+    tells(&rt, &told, 1, &second);
+}
+
 // Workers that refuse, that are held and that are drained can't be told of; all else can.
 #[test]
 fn unknown_steps(rt: HostRuntime) {
@@ -146,6 +185,7 @@ fn unknown_steps(rt: HostRuntime) {
         Step::Lose(1),
         Step::Again(0),
         Step::Restart(0),
+        Step::Stop(0),
     ];
     assert_eq!(rt; first_unknown(&known), None, "known steps");
     let held = [

@@ -30,6 +30,3 @@ pub use laws::{
 pub use reading::read_packet;
 pub use replaying::replay;
 pub use running::{Run, prepare_newer};
-
-#[cfg(test)]
-mod tests;

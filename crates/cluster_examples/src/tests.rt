@@ -1,4 +1,6 @@
 //! The worked examples as lists of events, on both tables.
+mod frames;
+
 ghost use Rattle.std.specs.Prelude.{◌≡◌, Some};
 ghost use Rattle.cluster_node.specs.Records.{WasRead};
 

@@ -1,6 +1,6 @@
 -- Each node's outcomes are what its own events come to.
-use Rattle.std.proofs.Common.{◌≡◌, ◌↔◌, ◌+◌, ◌∷◌, [], ℕ, Bool, true, List}
-use Rattle.std.specs.Prelude.{Result, Ok, Err, All, IfOk, IsTrue}
+use Rattle.std.proofs.Common.{◌≡◌, ◌+◌, ◌∷◌, [], ℕ, List}
+use Rattle.std.specs.Prelude.{All}
 use Rattle.std.proofs.lemmas.List.Elements.{All-nil, All-cons}
 use Rattle.cluster_node.specs.Rules.{Rules}
 use Rattle.cluster_node.specs.declared.packets.Packet.{Packet}

@@ -19,6 +19,8 @@ use std::sync::atomic::{AtomicU64, Ordering};
 use std::test::Fail;
 use std::thread;
 
+mod stop;
+
 const VIP: u32 = 0xc000_0201;
 
 // The flow from a port to the service.
@@ -100,6 +102,8 @@ impl Meet {
 
 impl Gate for Meet {
     fn preparing(&self, _node: u16, _version: u32) {}
+
+    fn stopping(&self, _node: u16) {}
 
     fn before(&self, node: u16, worker: u16, nth: u64) {
         let me = usize::from(node | worker);

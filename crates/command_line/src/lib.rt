@@ -40,7 +40,7 @@ Faults, and what to do:
 /// What stands below the help of `run`.
 const RUN_HELP: &str = "Example: maglev run examples/failover.toml examples/failover.pcap sent.pcap
 
-SCENARIO, INPUT and OUTPUT may be -, as for simulate. Steps are those of simulate but for full, hold and drain, which are BadStep. With --splits events are numbered, and packets ordered, as in the run's history: node by node, of each life what the node was told and then the servings, worker by worker.
+SCENARIO, INPUT and OUTPUT may be -, as for simulate. Steps are those of simulate but for full, hold and drain, which are BadStep, and with stop N, which is BadStep there: N's workers end before their next packet and begin anew, without what waits. With --splits events are numbered, and packets ordered, as in the run's history: node by node, of each life what the node was told and then the servings, worker by worker.
 
 Faults are those of simulate, and:
   ThreadLost           allow more threads, or take fewer nodes and workers

@@ -233,6 +233,8 @@ after_adds w repeats (steps.Drain n) c t e h = no_repeat w repeats t _ e (same_a
     (same_both w c (release n c) (drain_from w n 0 w.cluster.workers (release n c)) (release_same w n c) (drain_same w n 0 w.cluster.workers (release n c))) h)
 after_adds w repeats (steps.Restart n) c t e h = no_repeat w repeats t _ e (same_adds w repeats c (say w (Restart n) None (release n c))
     (same_both w c (release n c) (say w (Restart n) None (release n c)) (release_same w n c) (say_same w (Restart n) (release n c) refl tt)) h)
+after_adds w repeats (steps.Stop n) c t e h = no_repeat w repeats t _ e (same_adds w repeats c (say w (Restart n) None (release n c))
+    (same_both w c (release n c) (say w (Restart n) None (release n c)) (release_same w n c) (say_same w (Restart n) (release n c) refl tt)) h)
 
 run_adds : (w : World) (repeats : ℕ) (ss : List Step) (c : Course) → AddsUp w repeats c → AddsUp w (repeats + agains ss) (run w ss c)
 unfolding run

@@ -74,6 +74,7 @@ counted_after w n (steps.Drain m) c r =
     let k : Keeps (release m c) (drain_from w m 0 w.cluster.workers (release m c)) = drain_keeps w m 0 w.cluster.workers (release m c) in
     plain _ n c _ k.read k.nth k.unrouted k.lost k.skipped r
 counted_after w n (steps.Restart m) c r = plain _ n c _ refl refl refl refl refl r
+counted_after w n (steps.Stop m) c r = plain _ n c _ refl refl refl refl refl r
 
 pub roomy : (records steps : ℕ) (c : Course) → records < 2 ^ 32 → steps < 2 ^ 32 → Counted records steps c → Room records c
 roomy records steps c h k r = record { read = r.read; nth = omega (arith, r.nth, r.read); unrouted = omega (arith, r.unrouted, r.read); lost = omega (arith, r.lost, r.read); skipped = omega (arith, r.skipped) }
@@ -105,3 +106,4 @@ apart_keeps w (steps.Drain m) c h =
     let k : Keeps (release m c) (drain_from w m 0 w.cluster.workers (release m c)) = drain_keeps w m 0 w.cluster.workers (release m c) in
     record { read = k.read; nth = k.nth; unrouted = k.unrouted; lost = k.lost; skipped = k.skipped }
 apart_keeps w (steps.Restart m) c h = record { read = refl; nth = refl; unrouted = refl; lost = refl; skipped = refl }
+apart_keeps w (steps.Stop m) c h = record { read = refl; nth = refl; unrouted = refl; lost = refl; skipped = refl }

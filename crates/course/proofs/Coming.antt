@@ -85,6 +85,7 @@ after_grows w (steps.Full m ms) c = grows_none c.past
 after_grows w (steps.Hold m) c = grows_none c.past
 after_grows w (steps.Drain m) c = drain_grows w m 0 w.cluster.workers (release m c)
 after_grows w (steps.Restart m) c = say_grows w _ None (release m c)
+after_grows w (steps.Stop m) c = say_grows w _ None (release m c)
 
 pub run_grows : (w : World) (ss : List Step) (c : Course) → Grows c.past (run w ss c).past
 unfolding run

@@ -100,3 +100,4 @@ apart_calm w (steps.Full m ms) c h = calm_none c.past
 apart_calm w (steps.Hold m) c h = calm_none c.past
 apart_calm w (steps.Drain m) c h = drain_calm w m 0 w.cluster.workers (release m c)
 apart_calm w (steps.Restart m) c h = record { news = said w.cluster.judge c.past (Restart m) None ∷ []; is = refl; quiet = (refl, tt) }
+apart_calm w (steps.Stop m) c h = record { news = said w.cluster.judge c.past (Restart m) None ∷ []; is = refl; quiet = (refl, tt) }

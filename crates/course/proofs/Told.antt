@@ -69,6 +69,7 @@ after_told w (steps.Full m ms) c h = h
 after_told w (steps.Hold m) c h = h
 after_told w (steps.Drain m) c h = drain_told w m 0 w.cluster.workers (release m c) h
 after_told w (steps.Restart m) c h = (refl, h)
+after_told w (steps.Stop m) c h = (refl, h)
 
 pub run_told : (w : World) (ss : List Step) (c : Course) → Told w c → Told w (run w ss c)
 unfolding run

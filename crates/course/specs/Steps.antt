@@ -117,6 +117,7 @@ after w (steps.Full n m) c = record c { marks = slice_set c.marks n m }
 after w (steps.Hold n) c = record c { held = slice_set c.held n true }
 after w (steps.Drain n) c = drain_from w n 0 w.cluster.workers (release n c)
 after w (steps.Restart n) c = say w (Restart n) None (release n c)
+after w (steps.Stop n) c = say w (Restart n) None (release n c)
 
 -- a step that takes records from the capture, or names one
 abbrev pub names_records : Step → Bool
@@ -129,6 +130,7 @@ names_records (steps.Full n m) = false
 names_records (steps.Hold n) = false
 names_records (steps.Drain n) = false
 names_records (steps.Restart n) = false
+names_records (steps.Stop n) = false
 
 unfoldable pub run : World → List Step → Course → Course
 run w [] c = c

@@ -43,6 +43,7 @@ again_by (steps.Full n m) = 0
 again_by (steps.Hold n) = 0
 again_by (steps.Drain n) = 0
 again_by (steps.Restart n) = 0
+again_by (steps.Stop n) = 0
 
 abbrev pub agains : List Step → ℕ
 agains [] = 0

@@ -486,7 +486,7 @@ impl Play {
                 self.release(*node);
                 self.drain(core, setup, *node, C::workers(setup), events)
             }
-            Step::Restart(node) => {
+            Step::Restart(node) | Step::Stop(node) => {
                 self.release(*node);
                 self.say(core, setup, Event::Restart { node: *node }, None, events)?;
                 Ok(())

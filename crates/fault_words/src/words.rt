@@ -29,7 +29,7 @@ pub fn words_of(alloc: Global, text: &[u8], fault: ScenarioFault) -> Option<Stri
 
 /// What is expected of a step.
 const STEPS: &str =
-    "install N V, live [N ..], take K, lose K, again P, full N [W ..], hold N, drain N or restart N, with balancers N and workers W that are there and none twice in a list; run knows no full, hold and drain";
+    "install N V, live [N ..], take K, lose K, again P, full N [W ..], hold N, drain N, restart N or stop N, with balancers N and workers W that are there and none twice in a list; run knows no full, hold and drain, and it alone knows stop";
 
 fn bad_toml(alloc: Global, text: &[u8], error: &toml::de::Error) -> Option<String> {
     let start = error.span()?.start;

@@ -1,5 +1,5 @@
 -- What lists of outcomes come to, put together.
-use Rattle.std.proofs.Common.{◌≡◌, ℕ, ◌+◌, ◌%◌, ◌^◌, Bool, true, false, List, [], ◌∷◌, ◌++◌, map, length, Option, Some, None, refl, sym, ap, ◌∙◌, subst, arith}
+use Rattle.std.proofs.Common.{◌≡◌, ℕ, zero, suc, ◌+◌, ◌%◌, ◌^◌, Bool, true, false, List, [], ◌∷◌, ◌++◌, map, length, Option, Some, None, refl, sym, ap, ◌∙◌, subst, arith}
 use Rattle.std.specs.Prelude.{if◌then◌else◌, nat_lt, slice_get}
 use Rattle.std.proofs.lemmas.Bool.{false≢true}
 use Rattle.std.proofs.lemmas.List.{map_push, append-nil, append_assoc}
@@ -24,7 +24,7 @@ use Rattle.node_records.specs.Histories.{outcome_of}
 use Rattle.node_records.specs.Arrivals.{ArrivesAs}
 use Rattle.node_records.specs.Journals.{JournalView, with_serve, with_event, with_install}
 use Rattle.node_records.specs.Ends.{with_serves, with_all_serves, with_life_ended, left_over}
-use Rattle.node_duties.specs.Counts.{counted, plus, Counts, AreRead, with_arrival, with_came, with_drop, with_choice, CountsServed, served_from}
+use Rattle.node_duties.specs.Counts.{counted, plus, Counts, AreRead, with_arrival, with_came, with_drop, with_lost, with_choice, CountsServed, served_from}
 
 many_more : (b : Bool) (p : Outcome → Bool) (os ps : List Outcome) → how_many p (os ++ ps) ≡ how_many p os + how_many p ps → (if b then 1 + how_many p (os ++ ps) else how_many p (os ++ ps)) ≡ (if b then 1 + how_many p os else how_many p os) + how_many p ps
 many_more true p os ps h = omega (arith, h)
@@ -143,9 +143,6 @@ none_more p os r = one_pushed p os (Refused r) refl
 installed_more : (p : ℕ) (os : List Outcome) → counted p (os ++ Installed ∷ []) ≡ counted p os
 installed_more p os = one_pushed p os Installed refl
 
-restarted_more : (p : ℕ) (os : List Outcome) → counted p (os ++ Restarted 0 ∷ []) ≡ counted p os
-restarted_more p os = one_pushed p os (Restarted 0) refl
-
 arrival_more : (p : ℕ) (os : List Outcome) (o : Outcome) → is_arrival o ≡ true → counted p (os ++ o ∷ []) ≡ with_drop o (with_arrival (counted p os))
 arrival_more p os Installed e = absurd (false≢true e)
 arrival_more p os (Placed w f) e = one_pushed p os (Placed w f) refl
@@ -170,8 +167,40 @@ counts_refused lost s os r h = λ e. h e ∙ sym (none_more s.parts os r)
 pub counts_installed : (lost : Bool) (s : Counted) (os : List Outcome) → Counts lost s os → Counts lost s (os ++ Installed ∷ [])
 counts_installed lost s os h = λ e. h e ∙ sym (installed_more s.parts os)
 
-pub counts_restarted : (lost : Bool) (s : Counted) (os : List Outcome) → Counts lost s os → Counts lost s (os ++ Restarted 0 ∷ [])
-counts_restarted lost s os h = λ e. h e ∙ sym (restarted_more s.parts os)
+lost_more : (lost p r f a b c d e g h i k l m n : ℕ) (x : ℕ) → with_lost lost (made p r f (a ∷ b ∷ c ∷ d ∷ e ∷ g ∷ h ∷ i ∷ k ∷ l ∷ m ∷ n ∷ x ∷ [])) ≡ made p r f (a ∷ b ∷ c ∷ d ∷ e ∷ g ∷ h ∷ i ∷ k ∷ l ∷ m ∷ n ∷ (x + lost) ∷ [])
+lost_more zero p r f a b c d e g h i k l m n x = let z : x ≡ x + 0 = omega arith in ap (λ (y : ℕ). made p r f (a ∷ b ∷ c ∷ d ∷ e ∷ g ∷ h ∷ i ∷ k ∷ l ∷ m ∷ n ∷ y ∷ [])) z
+lost_more (suc lost) p r f a b c d e g h i k l m n x =
+    let z : x + lost + 1 ≡ x + suc lost = omega arith in
+    ap (λ (s : Counted). record s { dropped = one_more s.dropped LostAtRestart }) (lost_more lost p r f a b c d e g h i k l m n x)
+    ∙ ap (λ (y : ℕ). made p r f (a ∷ b ∷ c ∷ d ∷ e ∷ g ∷ h ∷ i ∷ k ∷ l ∷ m ∷ n ∷ y ∷ [])) z
+
+restarted_more : (p : ℕ) (os : List Outcome) (lost : ℕ) → counted p (os ++ Restarted lost ∷ []) ≡ with_lost lost (counted p os)
+restarted_more p os lost =
+    let n = many_push (λ q. drops 13 q) os (Restarted lost) in
+    let l : lost_all (os ++ Restarted lost ∷ []) ≡ lost_all os + lost_all (Restarted lost ∷ []) = lost_append os (Restarted lost ∷ []) in
+    let last : drops_all 13 (os ++ Restarted lost ∷ []) + lost_all (os ++ Restarted lost ∷ []) ≡ (drops_all 13 os + lost_all os) + lost = omega (arith, n, l) in
+    same refl (many_push (λ q. is_arrival q) os (Restarted lost)) (many_push (λ q. is_forward q) os (Restarted lost))
+    (both (many_push (λ q. drops 1 q) os (Restarted lost))
+    (both (many_push (λ q. drops 2 q) os (Restarted lost))
+    (both (many_push (λ q. drops 3 q) os (Restarted lost))
+    (both (many_push (λ q. drops 4 q) os (Restarted lost))
+    (both (many_push (λ q. drops 5 q) os (Restarted lost))
+    (both (many_push (λ q. drops 6 q) os (Restarted lost))
+    (both (many_push (λ q. drops 7 q) os (Restarted lost))
+    (both (many_push (λ q. drops 8 q) os (Restarted lost))
+    (both (many_push (λ q. drops 9 q) os (Restarted lost))
+    (both (many_push (λ q. drops 10 q) os (Restarted lost))
+    (both (many_push (λ q. drops 11 q) os (Restarted lost))
+    (both (many_push (λ q. drops 12 q) os (Restarted lost))
+    (both last refl)))))))))))))
+    ∙ sym (lost_more lost p (how_many (λ q. is_arrival q) os) (how_many (λ q. is_forward q) os) (drops_all 1 os) (drops_all 2 os) (drops_all 3 os) (drops_all 4 os) (drops_all 5 os) (drops_all 6 os) (drops_all 7 os) (drops_all 8 os) (drops_all 9 os) (drops_all 10 os) (drops_all 11 os) (drops_all 12 os) (drops_all 13 os + lost_all os))
+
+lost_parts : (lost : ℕ) (s : Counted) → (with_lost lost s).parts ≡ s.parts
+lost_parts zero s = refl
+lost_parts (suc lost) s = lost_parts lost s
+
+counts_lost : (lost : ℕ) (b : Bool) (s : Counted) (os : List Outcome) → Counts b s os → Counts b (with_lost lost s) (os ++ Restarted lost ∷ [])
+counts_lost lost b s os h = λ e. ap (λ (c : Counted). with_lost lost c) (h e) ∙ sym (restarted_more s.parts os lost) ∙ ap (λ (n : ℕ). counted n (os ++ Restarted lost ∷ [])) (sym (lost_parts lost s))
 
 -- an arrival of a packet that is there, counted in two steps
 counts_arrival : (l0 l1 l2 : Bool) (s0 s1 s2 : Counted) (os : List Outcome) (o : Outcome) → is_arrival o ≡ true →
@@ -299,15 +328,18 @@ last_is [] o = refl
 last_is (q ∷ []) o = refl
 last_is (q ∷ r ∷ os) o = last_is (r ∷ os) o
 
--- after a life ended in which nothing was lost
-pub counts_ended : (k j : JournalView) (hss : List (List Handled)) (before : List Outcome) (left : ℕ) (lost : Bool) (s : Counted) → k ≡ with_life_ended hss j → k.outcomes ≡ before ++ Restarted left ∷ [] → left ≡ 0 → Counts lost s (j.outcomes ++ served_from j.node 0 hss) → Counts lost s k.outcomes
-counts_ended k j hss before left lost s is last none h =
-    let l : ℕ = left_over j.placed hss % 2 ^ 64 in
-    let was : k.outcomes ≡ (with_all_serves 0 hss j).outcomes ++ Restarted l ∷ [] = ap (λ (v : JournalView). v.outcomes) is in
-    let zero : l ≡ 0 = sym (last_is (with_all_serves 0 hss j).outcomes (Restarted l)) ∙ ap (λ (os : List Outcome). last_lost os) (sym was ∙ last) ∙ last_is before (Restarted left) ∙ none in
-    let all : k.outcomes ≡ (j.outcomes ++ served_from j.node 0 hss) ++ Restarted 0 ∷ [] =
-    was ∙ ap (λ (n : ℕ). (with_all_serves 0 hss j).outcomes ++ Restarted n ∷ []) zero ∙ ap (λ (os : List Outcome). os ++ Restarted 0 ∷ []) (all_serves_outcomes 0 hss j) in
-    subst (λ (os : List Outcome). Counts lost s os) (sym all) (counts_restarted lost s (j.outcomes ++ served_from j.node 0 hss) h)
+-- after a life ended: what was lost is to be counted
+pub counts_ended : (k j : JournalView) (hss : List (List Handled)) (left : ℕ) (lost : Bool) (s : Counted) → k ≡ with_life_ended hss j → left ≡ left_over j.placed hss % 2 ^ 64 → Counts lost s (j.outcomes ++ served_from j.node 0 hss) → Counts lost (with_lost left s) k.outcomes
+counts_ended k j hss left lost s is many h =
+    let all : k.outcomes ≡ (j.outcomes ++ served_from j.node 0 hss) ++ Restarted left ∷ [] =
+    ap (λ (v : JournalView). v.outcomes) is ∙ ap (λ (n : ℕ). (with_all_serves 0 hss j).outcomes ++ Restarted n ∷ []) (sym many) ∙ ap (λ (os : List Outcome). os ++ Restarted left ∷ []) (all_serves_outcomes 0 hss j) in
+    subst (λ (os : List Outcome). Counts lost (with_lost left s) os) (sym all) (counts_lost left lost s (j.outcomes ++ served_from j.node 0 hss) h)
+
+-- what was lost is counted, one by one
+pub counts_told : (before after : Bool) (s t : Counted) (left : ℕ) (os : List Outcome) → (after ≡ false → (before ≡ false) × (t ≡ with_lost left s)) → Counts before (with_lost left s) os → Counts after t os
+counts_told before after s t left os told h = λ e.
+    let is = told e in
+    subst (λ (c : Counted). c ≡ counted c.parts os) (sym is.1) (h is.0)
 
 pub counts_served : (k j : JournalView) (hss : List (List Handled)) (lost : Bool) (s : Counted) → k ≡ with_all_serves 0 hss j → Counts lost s (j.outcomes ++ served_from j.node 0 hss) → Counts lost s k.outcomes
 counts_served k j hss lost s is h = subst (λ (os : List Outcome). Counts lost s os) (sym (ap (λ (v : JournalView). v.outcomes) is ∙ all_serves_outcomes 0 hss j)) h

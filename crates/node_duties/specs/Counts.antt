@@ -1,5 +1,5 @@
 -- What outcomes come to, counted as a book of counts has it.
-use Rattle.std.specs.Prelude.{◌≡◌, ℕ, ◌+◌, Bool, false, List, [], ◌∷◌, ◌++◌, map, Option, Some, None, slice_get}
+use Rattle.std.specs.Prelude.{◌≡◌, ℕ, zero, suc, ◌+◌, Bool, false, List, [], ◌∷◌, ◌++◌, map, Option, Some, None, slice_get}
 use Rattle.stats_book.specs.Counts.{Counted, one_more, sums}
 use Rattle.stats_book.specs.declared.stats.Stats.{Stats}
 use Rattle.forwarder.specs.declared.Choice.{Choice}
@@ -53,6 +53,11 @@ with_drop (outcomes.Forward n w k x b v) s = s
 with_drop (Dropped k c) s = record s { dropped = one_more s.dropped c }
 with_drop (Restarted l) s = s
 with_drop (Refused r) s = s
+
+-- so many packets were lost where a life ended
+abbrev pub with_lost : ℕ → Counted → Counted
+with_lost zero s = s
+with_lost (suc lost) s = record (with_lost lost s) { dropped = one_more (with_lost lost s).dropped causes.LostAtRestart }
 
 -- one more packet was served, with this choice
 abbrev pub with_choice : Choice → Counted → Counted

@@ -1,5 +1,5 @@
 -- A journal that has obeyed some commands, and how far a life got in them.
-use Rattle.std.specs.Prelude.{◌≡◌, ◌≤◌, ◌<◌, ◌+◌, ℕ, Bool, List, length, take, slice_index_or}
+use Rattle.std.specs.Prelude.{◌≡◌, ◌≤◌, ◌<◌, ◌+◌, ℕ, Bool, true, false, not, List, Option, Some, None, length, map, take, slice_get}
 use Rattle.stats_book.specs.Counts.{Counted}
 use Rattle.cluster_node.specs.Rules.{Rules}
 use Rattle.cluster_core.specs.Setups.{Fixed}
@@ -7,32 +7,43 @@ use Rattle.pool_versions.specs.Pool.{Pools}
 use Rattle.node_duties.specs.Counts.{AreRead, Counts}
 use Rattle.cluster_node.specs.declared.packets.Packet.{Packet}
 use Rattle.node_records.specs.declared.command.Command.{Command}
-use Rattle.node_records.specs.declared.command.Command.TheVariants.{Restart}
+use Rattle.node_records.specs.declared.command.Command.TheVariants.{Publish, Offer, Restart, Stop}
 use Rattle.node_records.specs.Histories.{commands_of, past_of, NoneWaits}
 use Rattle.node_records.specs.Journals.{JournalView, Tells, Drives}
+use Rattle.node_records.specs.Losses.{ending, as_written, drained_lives, losses, KeepDrained}
 
 pub record Going (rules : Rules) (packets : List Packet) (commands : List Command) (n places : ℕ) (j : JournalView) : Type 0 where
   pub drives : Drives rules packets j
-  pub obeyed : commands_of j.events ≡ commands
+  pub obeyed : commands_of j.events ≡ map as_written commands
+  pub kept : KeepDrained (drained_lives commands) (losses j.outcomes)
   pub own : j.node ≡ n
   pub ring : j.ring ≡ places
 
--- the commands from one place up to another were obeyed, and there a life ends: with a restart or with the list
+-- a command is there, and it is a stop
+abbrev pub stops : Option Command → Bool
+stops None = false
+stops (Some (Publish v)) = false
+stops (Some (Offer k)) = false
+stops (Some Restart) = false
+stops (Some Stop) = true
+
+-- the commands from one place up to another were obeyed, and there a life ends: with a command that ends it, or with the list
 pub record IsDriven (rules : Rules) (packets : List Packet) (commands : List Command) (n places start stop : ℕ) (j : JournalView) : Type 0 where
   pub going : Going rules packets (take stop commands) n places j
   pub onward : start ≤ stop
   pub within : stop ≤ length commands
-  pub restarts : stop < length commands → (d : Command) × (slice_index_or commands stop d ≡ Restart)
+  pub ends : stop < length commands → slice_get commands stop ≡ Some (ending (not (stops (slice_get commands stop))))
 
 -- all was obeyed, and what was placed in the last life was served
 pub record IsLast (rules : Rules) (packets : List Packet) (commands : List Command) (n places : ℕ) (j : JournalView) : Type 0 where
   pub tells : Tells rules packets j
   pub drained : NoneWaits (past_of rules packets j.node j.events)
-  pub obeyed : commands_of j.events ≡ commands
+  pub obeyed : commands_of j.events ≡ map as_written commands
+  pub kept : KeepDrained (drained_lives commands) (losses j.outcomes)
   pub own : j.node ≡ n
   pub ring : j.ring ≡ places
 
--- a life ended at a place of the commands: with the restart there, or with their end
+-- a life ended at a place of the commands: with the restart or the stop there, or with their end
 pub record IsEnded (rules : Rules) (packets : List Packet) (commands : List Command) (n places start stop : ℕ) (j : JournalView) : Type 0 where
   pub onward : start ≤ stop
   pub within : stop ≤ length commands

@@ -1,5 +1,5 @@
 //! What the driver does in one life.
-ghost use Rattle.std.specs.Prelude.{◌≡◌, ◌≤◌, ◌<◌, ◌++◌, ◌∷◌, [], ℕ, Bool, false, List, take, length, IfOk, OnOk, is_some, slice_get, slice_index_or};
+ghost use Rattle.std.specs.Prelude.{◌≡◌, ◌≤◌, ◌<◌, ◌++◌, ◌∷◌, [], ℕ, Bool, false, List, Some, take, length, IfOk, OnOk, is_some, slice_get};
 ghost use Rattle.pool_versions.specs.Pool.{version_at};
 ghost use Rattle.cluster_core.specs.Setups.{Fixed, rules_for};
 ghost use Rattle.cluster_node.specs.declared.packets.Packet.{Packet};
@@ -8,7 +8,7 @@ ghost use Rattle.node_records.specs.declared.command.Command.TheVariants.{Publis
 ghost use Rattle.node_records.specs.Journals.{JournalView};
 ghost use Rattle.stats_book.specs.Counts.{Counted};
 ghost use Rattle.node_duties.specs.Counts.{AreRead, Counts, with_came, with_drop};
-ghost use Rattle.node_duties.specs.Going.{Going, IsDriven};
+ghost use Rattle.node_duties.specs.Going.{Going, IsDriven, stops};
 
 use crate::fault::RunFault;
 use crate::gate::Gate;
@@ -136,16 +136,23 @@ fn offer<S: Scheme, H: FlowHash, G, B: Names, R: Wait>(
     }
 }
 
+/// Whether the command at a place is there and is a stop.
+pub fn stops_at(commands: &[Command], at: usize) -> bool
+    ensures { result ≡ stops (slice_get commands.now at) }
+{
+    matches!(commands.get(at), Some(Command::Stop))
+}
+
 // The command at a place.
 fn command_at(commands: &[Command], at: usize) -> Command
     requires { at < length commands.now }
-    ensures { (d : Command) → slice_index_or commands.now at d ≡ result }
+    ensures { slice_get commands.now at ≡ Some result }
 {
     commands[at]
 }
 
-/// Obeys the commands from one place on, up to a restart or the end of the list. A version is prepared when it is installed,
-/// after the newest one, and shown then.
+/// Obeys the commands from one place on, up to one that ends the life or the end of the list. A version is prepared when it
+/// is installed, after the newest one, and shown then.
 pub fn drive<S: Scheme, H: FlowHash, G: Gate, B: Names, R: Wait, W: Wait + Drop>(
     rt: &R,
     alloc: Global,
@@ -179,7 +186,7 @@ pub fn drive<S: Scheme, H: FlowHash, G: Gate, B: Names, R: Wait, W: Wait + Drop>
             Command::Offer(packet) => {
                 offer(rt, plan, &mut journal, &mut tally, inputs, packet)?;
             }
-            Command::Restart => {
+            Command::Restart | Command::Stop => {
                 return Ok(Progress {
                     journal,
                     newest,

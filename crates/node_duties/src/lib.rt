@@ -15,7 +15,7 @@ mod ring;
 mod tally;
 mod working;
 
-pub use driving::drive;
+pub use driving::{drive, stops_at};
 pub use fault::{RunFault, fault_of};
 pub use gate::{Gate, OpenGate};
 pub use live::{Current, Shared, Stage, empty_stage, prepare_after, show};

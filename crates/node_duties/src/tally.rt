@@ -1,7 +1,7 @@
 //! What one thread counts in the book of a run.
 ghost use Rattle.std.specs.Prelude.{◌≡◌, ◌+◌, ◌<◌, false, replicate};
 ghost use Rattle.stats_book.specs.Counts.{Counted, one_more};
-ghost use Rattle.node_duties.specs.Counts.{plus, with_arrival, with_choice};
+ghost use Rattle.node_duties.specs.Counts.{plus, with_arrival, with_choice, with_lost};
 
 use cluster_node::Cause;
 use forwarder::Choice;
@@ -82,6 +82,17 @@ impl<B: Names> Tally<B> {
         let mut guard = book.lock(rt);
         if !guard.dropped_one(&mut self.shares, cause) {
             self.lost = true;
+        }
+    }
+
+    /// So many packets were lost where a life ended.
+    pub fn lose<R: Wait>(&mut self, rt: &R, book: &Mutex<StatsBook<B>>, lost: u64)
+        requires { 0 < self.old.shares.parts }
+        ensures parts { self.new.shares.parts ≡ self.old.shares.parts }
+        ensures lost { self.new.lost ≡ false → (self.old.lost ≡ false) × (self.new.shares ≡ with_lost lost self.old.shares) }
+    {
+        for _ in 0..lost {
+            self.drop_one(rt, book, Cause::LostAtRestart);
         }
     }
 

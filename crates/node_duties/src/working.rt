@@ -8,7 +8,7 @@ use crate::gate::Gate;
 use crate::plan::Plan;
 use crate::post::Post;
 use crate::promise::WorkerRun;
-use crate::ring::{Idle, Message, Output, pop_waiting, push_waiting};
+use crate::ring::{Idle, Message, Output, push_waiting};
 use crate::tally::{Part, Tally};
 use cluster_node::{Item, Outcome};
 use connection_table::ConnTable;
@@ -130,7 +130,24 @@ fn begin<S: Scheme, H: FlowHash, T: ConnTable, G, B: Names>(
     })
 }
 
-// Serves what comes, up to the closing mark or until memory is refused.
+// The next packet. None where the life ends: with the closing mark, or since the workers were told to halt, which is asked
+// before each turn at the ring.
+fn next<S: Scheme, R: Wait>(rt: &R, ends: &mut Ends<'_, S>) -> Option<Item> {
+    let mut idle = Idle::new();
+    for _ in rt.forever() {
+        if ends.post.heeds() {
+            return None;
+        }
+        match ends.ring.pop() {
+            Ok(Message::Serve(item)) => return Some(item),
+            Ok(Message::Close) => return None,
+            Err(_) => idle.wait(),
+        }
+    }
+    unreachable!()
+}
+
+// Serves what comes, up to the life's end or until memory is refused.
 fn serve_all<S: Scheme, H: FlowHash, T: ConnTable, G: Gate, B: Names, R: Wait>(
     rt: &R,
     alloc: Global,
@@ -143,30 +160,28 @@ fn serve_all<S: Scheme, H: FlowHash, T: ConnTable, G: Gate, B: Names, R: Wait>(
     let mut run: WorkerRun<S, T, B> = begin(alloc, plan, part)?;
     let mut nth = 0u64;
     for _ in rt.forever() {
-        match pop_waiting(rt, &mut ends.ring) {
-            Message::Close => return Ok(run),
-            Message::Serve(item) => {
-                serve_gated(rt, plan, ends, &mut run, &item, nth)?;
-                nth = nth.wrapping_add(1);
-            }
-        }
+        let Some(item) = next(rt, ends) else {
+            return Ok(run);
+        };
+        serve_gated(rt, plan, ends, &mut run, &item, nth)?;
+        nth = nth.wrapping_add(1);
     }
     unreachable!()
 }
 
-// Takes what comes, up to the closing mark.
-fn drain<R: Wait>(rt: &R, ring: &mut Consumer<Message>) {
+// Takes what comes, up to the life's end.
+fn drain<S: Scheme, R: Wait>(rt: &R, ends: &mut Ends<'_, S>) {
     for _ in rt.forever() {
-        match pop_waiting(rt, ring) {
-            Message::Serve(_) => (),
-            Message::Close => return,
+        if next(rt, ends).is_none() {
+            return;
         }
     }
     unreachable!()
 }
 
-/// Serves what comes through the ring, up to its closing mark, and sends one. A worker that was refused memory (Memory), or
-/// that can't read the version that is shown (ThreadLost), takes the rest without serving it.
+/// Serves what comes through the ring, up to its closing mark or until the workers are told to halt, and sends a closing
+/// mark. A worker that was refused memory (Memory), or that can't read the version that is shown (ThreadLost), takes the rest
+/// without serving it.
 pub fn work<S: Scheme, H: FlowHash, T: ConnTable, G: Gate, B: Names, R: Wait>(
     rt: &R,
     alloc: Global,
@@ -190,7 +205,7 @@ pub fn work<S: Scheme, H: FlowHash, T: ConnTable, G: Gate, B: Names, R: Wait>(
     };
     let run = serve_all(rt, alloc, plan, &mut ends, part);
     if run.is_err() {
-        drain(rt, &mut ends.ring);
+        drain(rt, &mut ends);
     }
     push_waiting(rt, &mut ends.out, Output::Close);
     run

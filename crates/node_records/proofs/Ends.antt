@@ -16,6 +16,8 @@ use Rattle.node_records.specs.Histories.{past_of, commands_of, NoneWaits}
 use Rattle.node_records.specs.Journals.{JournalView, placed_on, Tells, Drives, Closes, AllFit, AllFitIn, with_serve, with_restart, IsServed}
 use Rattle.node_records.specs.Ends.{all_handled, handled_by, items_of, uses_installed, all_use_installed, ServesPlaced, AllServePlaced, LifeFits, with_serves, with_all_serves, with_life_ended, left_over}
 use Rattle.node_records.proofs.Rules.{newest_length}
+use Rattle.node_records.specs.Losses.{losses, LosesNone}
+use Rattle.node_records.proofs.Losses.{restart_more}
 use Rattle.node_records.proofs.Closes.{closes_first, close_more, closes_next, closes_restart, closes_none, left_few, served_refl, served_more, served_both, commands_restart}
 
 pub begins_short : (hs : List Handled) (is : List Item) → items_of hs ≡ take (length hs) is → length hs ≤ length is
@@ -274,5 +276,13 @@ restarted_drives rules packets j k after drained hss e f few d fits fit =
     subst (λ (v : JournalView). Drives rules packets v) (sym e)
     (life_drives rules packets j drained hss d fits fit (subst (λ (v : JournalView). length v.events < 2 ^ 64) f few))
 
-pub restarted_lost : (left : ℕ) (drained : Bool) (hss : List (List Handled)) (j : JournalView) → LifeFits drained j hss → left ≡ left_over j.placed hss % 2 ^ 64 → drained ≡ true → left ≡ 0
-restarted_lost left drained hss j fits e d = e ∙ ap (λ (n : ℕ). n % 2 ^ 64) (drained_left drained j hss fits d)
+pub restarted_lost : (left : ℕ) (drained : Bool) (hss : List (List Handled)) (j : JournalView) → LifeFits drained j hss → left ≡ left_over j.placed hss % 2 ^ 64 → LosesNone drained left
+restarted_lost left true hss j fits e = e ∙ ap (λ (n : ℕ). n % 2 ^ 64) (drained_left true j hss fits refl)
+restarted_lost left false hss j fits e = tt
+
+pub restarted_losses : (left : ℕ) (hss : List (List Handled)) (j k after : JournalView) → k ≡ with_all_serves 0 hss j → after ≡ with_restart left k → losses after.outcomes ≡ losses j.outcomes ++ left ∷ []
+restarted_losses left hss j k after f g =
+    ap (λ (v : JournalView). losses v.outcomes) g
+    ∙ restart_more k.outcomes left
+    ∙ ap (λ (v : JournalView). losses v.outcomes ++ left ∷ []) f
+    ∙ ap (λ (ls : List ℕ). ls ++ left ∷ []) (all_serves_served 0 hss j).lost

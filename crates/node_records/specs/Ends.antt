@@ -7,7 +7,7 @@ use Rattle.node_records.specs.declared.journal.closing.LifeFault.{LifeFault}
 use Rattle.node_records.specs.declared.journal.closing.LifeFault.TheVariants.{Foreign, RingLost, Memory}
 use Rattle.cluster_node.specs.declared.outcomes.Outcome.{Outcome}
 use Rattle.node_records.specs.Works.{WorkView}
-use Rattle.node_records.specs.Merges.{lives_of, AreMerges, none_lost}
+use Rattle.node_records.specs.Merges.{lives_of, AreMerges}
 use Rattle.node_records.specs.Journals.{JournalView, placed_on, with_serve, with_restart}
 
 -- what each worker handled
@@ -82,11 +82,10 @@ left_over (is ∷ iss) (hs ∷ hss) = (length is - length hs) + left_over iss hs
 abbrev pub with_life_ended : List (List Handled) → JournalView → JournalView
 with_life_ended hss j = with_restart (left_over j.placed hss % 2 ^ 64) (with_all_serves 0 hss j)
 
--- A run fits: no ring refused before it had taken as many packets as it has places, no packet was lost when a life ended,
--- and for each life what was sent is a merge of what its workers sent.
+-- A run fits: no ring refused before it had taken as many packets as it has places, and for each life what was sent is a
+-- merge of what its workers sent.
 pub record RunFits (j : JournalView) (sent : List (List Outcome)) : Type 0 where
   pub due : j.early ≡ false
-  pub kept : none_lost j.outcomes ≡ true
   pub merged : AreMerges sent (lives_of j.outcomes)
 
 -- an answer is Ok exactly where the run fits, and RingLost otherwise

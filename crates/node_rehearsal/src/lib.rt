@@ -1,13 +1,14 @@
-//! A node's run on one thread, in one of the orders that its threads might take: its records are those that threads make,
-//! and what it promises is what a run on threads promises. The tests compare it with the replay of its history, and play
-//! the worked examples step by step.
+//! A node's run on one thread, in one of the orders that its threads might take: its records are those that threads make
+//! (at a stop those of workers that served nothing in that life), and what it promises is what a run on threads promises.
+//! The tests compare it with the replay of its history, and play the worked examples step by step.
 #![tactic(auto)]
 
 ghost use Rattle.std.specs.Prelude.{◌≡◌, ◌<◌, ◌++◌, ◌∷◌, [], ℕ, List, true, length, IfOk, OnOk, IsTrue, is_some};
 ghost use Rattle.pool_versions.specs.Pool.{version_at};
 ghost use Rattle.cluster_core.specs.Setups.{Fixed, rules_for};
 ghost use Rattle.node_records.specs.declared.command.Command.{Command};
-ghost use Rattle.node_records.specs.declared.command.Command.TheVariants.{Publish, Offer, Restart};
+ghost use Rattle.node_records.specs.declared.command.Command.TheVariants.{Publish, Offer};
+ghost use Rattle.node_records.specs.Losses.{ending};
 ghost use Rattle.cluster_node.specs.declared.packets.Packet.{Packet};
 ghost use Rattle.node_records.specs.Histories.{commands_of, past_of, NoneWaits};
 ghost use Rattle.node_records.specs.Journals.{JournalView, Tells, Drives, IsServed};
@@ -216,7 +217,19 @@ fn offer<S: Scheme, H: FlowHash>(
     }
 }
 
-// A life ends, and another begins. The answer is what was sent.
+// Workers that serve nothing of what is in their queues.
+fn serve_none<S: Scheme, H: FlowHash, T: ConnTable>(
+    alloc: Global,
+    setup: &Setup<S, H>,
+) -> Result<Vec<WorkerRecord<S, T>>, AllocError> {
+    let mut workers = Vec::new(alloc);
+    for _ in 0..setup.workers() {
+        workers.push(WorkerRecord::make(alloc, setup)?)?;
+    }
+    Ok(workers)
+}
+
+// A life ends, and another begins. Where it isn't drained nothing was served in it. The answer is what was sent.
 fn restart<S: Scheme, H: FlowHash, T: ConnTable>(
     alloc: Global,
     journal: &mut Journal,
@@ -225,19 +238,24 @@ fn restart<S: Scheme, H: FlowHash, T: ConnTable>(
     newest: &Option<Arc<PreparedVersion<S>>>,
     queue: &Queues,
     node: u16,
+    drained: bool,
 ) -> Result<Vec<Outcome>, LifeFault>
     ensures going { let rules = rules_for (λ s z. S.pick s z) (λ h. H.plain h) setup.now catalogue.now in
-        (packets : List Packet) (cs : List Command) → Going rules packets cs journal.old → OnOk result (Going rules packets (cs ++ Restart ∷ []) journal.new) }
+        (packets : List Packet) (cs : List Command) → Going rules packets cs journal.old → OnOk result (Going rules packets (cs ++ ending drained ∷ []) journal.new) }
     ensures kept { OnOk result ((journal.new.node ≡ journal.old.node) × (journal.new.ring ≡ journal.old.ring)) }
 {
-    let workers: Vec<WorkerRecord<S, T>> = serve_all(alloc, setup, newest, queue)?;
+    let workers: Vec<WorkerRecord<S, T>> = if drained {
+        serve_all(alloc, setup, newest, queue)?
+    } else {
+        serve_none(alloc, setup)?
+    };
     let records = workers.as_slice();
     let sent = gather_all(alloc, node, records)?;
     if !are_of(setup, catalogue, records) {
         return Err(LifeFault::Foreign);
     }
-    match journal.end_life(records, true) {
-        Ok(()) => Ok(sent),
+    match journal.end_life(records, drained) {
+        Ok(_) => Ok(sent),
         Err(fault) => Err(fault),
     }
 }
@@ -268,7 +286,8 @@ fn end<S: Scheme, H: FlowHash, T: ConnTable>(
     }
 }
 
-/// A node's run: its commands in order, and at the end of each life all servings under the newest version.
+/// A node's run: its commands in order, and at the end of each life all servings under the newest version, or none where the
+/// life ends with a stop.
 pub fn rehearse<S: Scheme, H: FlowHash, T: ConnTable>(
     alloc: Global,
     setup: &Setup<S, H>,
@@ -303,6 +322,21 @@ pub fn rehearse<S: Scheme, H: FlowHash, T: ConnTable>(
                     &newest,
                     &queue,
                     node,
+                    true,
+                )?;
+                keep(&mut sent, list)?;
+                queue = empty_queues(alloc, count, ring)?;
+            }
+            Command::Stop => {
+                let list = restart::<S, H, T>(
+                    alloc,
+                    &mut journal,
+                    setup,
+                    catalogue,
+                    &newest,
+                    &queue,
+                    node,
+                    false,
                 )?;
                 keep(&mut sent, list)?;
                 queue = empty_queues(alloc, count, ring)?;

@@ -10,7 +10,7 @@ use connection_table::{LruTable, PlainTable};
 use five_tuple::Flow;
 use hash_laws::{AnyHash, SumHash};
 use maglev_table::{Name, TableSize, Weight};
-use node_records::{Step, join_runs, none_lost};
+use node_records::{Step, join_runs};
 use pool_versions::{Backend, Member, Service, Version};
 use selection::{Maglev, PlainHash, RoundRobin};
 use std::process::Abort;
@@ -743,6 +743,14 @@ fn two_lives() -> [Command; 12] {
     ]
 }
 
+// Whether no packet was lost where a life ended.
+fn loses_none(outcomes: &[Outcome]) -> bool {
+    outcomes.iter().all(|outcome| match outcome {
+        Outcome::Restarted { lost } => *lost == 0,
+        _ => true,
+    })
+}
+
 fn rehearses<T: ConnTable>(rt: &impl Abort, alloc: Global) {
     let setup = setup(rt, alloc, Maglev { hash: SumHash }, 2);
     let catalogue = catalogue(rt, alloc);
@@ -782,7 +790,7 @@ fn rehearses<T: ConnTable>(rt: &impl Abort, alloc: Global) {
     let both = Vec::from_array(alloc, [one, other]).expect(rt, "memory");
     let history = join_runs(alloc, both.as_slice()).expect(rt, "memory");
     assert_eq!(rt; history.events.len(), 19);
-    assert!(rt; none_lost(history.outcomes.as_slice()));
+    assert!(rt; loses_none(history.outcomes.as_slice()));
     replays(
         rt,
         alloc,
@@ -798,7 +806,42 @@ fn runs_are_their_replays(rt: HostRuntime) {
     rehearses::<LruTable>(&rt, rt.alloc());
 }
 
-// Packets that were placed and not served when a life ends are lost, and the run is none; the node's version stands.
+// A life that ends with a stop serves nothing of what was placed in it. The next one knows the version.
+#[test]
+fn a_stop_loses_what_was_placed(rt: HostRuntime) {
+    let alloc = rt.alloc();
+    let setup = setup(&rt, alloc, Maglev { hash: SumHash }, 2);
+    let catalogue = catalogue(&rt, alloc);
+    let packets = [packet(1000), packet(1001), packet(1006), fragment()];
+    assert_eq!(rt; setup.nodes().len(), 2);
+    let commands = [
+        Command::Publish(1),
+        Command::Offer(FIRST),
+        Command::Offer(SECOND),
+        Command::Offer(3),
+        Command::Stop,
+        Command::Offer(FIRST),
+    ];
+    let run = rehearse::<Maglev<SumHash>, SumHash, PlainTable>(
+        alloc, &setup, &catalogue, &packets, 0, &commands, 16,
+    ).expect(&rt, "a run");
+    // Six commands and one serving.
+    assert_eq!(rt; told_run(&run), (7, 1, 0));
+    assert_eq!(rt; run.sent.len(), 2);
+    assert_eq!(rt; (run.sent[0].len(), run.sent[1].len()), (0, 1));
+    assert_eq!(rt; run.outcomes.len(), 7);
+    assert_eq!(rt; told(&run.outcomes[4]), ("restarted", 2, 0));
+    replays(
+        &rt,
+        alloc,
+        &setup,
+        run.events.as_slice(),
+        run.outcomes.as_slice(),
+    );
+}
+
+// Packets that were placed and not served when a life ends are lost, and the node's version stands. What was sent is told
+// life by life: of the first nothing.
 #[test]
 fn a_life_that_is_not_drained(rt: HostRuntime) {
     let alloc = rt.alloc();
@@ -848,10 +891,11 @@ fn a_life_that_is_not_drained(rt: HostRuntime) {
     journal
         .end(workers.as_slice(), true)
         .expect(&rt, "records that fit");
-    assert_eq!(rt;
-        journal.finish(Vec::new(alloc)).err(),
-        Some(LifeFault::RingLost)
-    );
+    let all = gather_all(alloc, 0, workers.as_slice()).expect(&rt, "memory");
+    let mut sent = Vec::new(alloc);
+    keep(&mut sent, Vec::new(alloc)).expect(&rt, "memory");
+    keep(&mut sent, all).expect(&rt, "memory");
+    assert_eq!(rt; journal.finish(sent).err(), None);
 }
 
 // The fault of a run of one life in which two packets were sent, where these of them were gathered, in this order.

@@ -8,11 +8,11 @@ ghost use Rattle.node_records.specs.Ends.{all_handled};
 ghost use Rattle.cluster_node.specs.Rules.{Rules};
 ghost use Rattle.cluster_node.specs.declared.packets.Packet.{Packet};
 ghost use Rattle.node_records.specs.declared.command.Command.{Command};
-ghost use Rattle.node_records.specs.declared.command.Command.TheVariants.{Restart};
+ghost use Rattle.node_records.specs.Losses.{ending};
 ghost use Rattle.node_records.specs.Histories.{past_of, NoneWaits};
 ghost use Rattle.node_records.specs.Journals.{JournalView, Tells, Drives, IsServed};
 ghost use Rattle.stats_book.specs.Counts.{Counted};
-ghost use Rattle.node_duties.specs.Counts.{AreRead, Counts, IsWork, served_from};
+ghost use Rattle.node_duties.specs.Counts.{AreRead, Counts, IsWork, served_from, with_lost};
 ghost use Rattle.node_duties.specs.Going.{Going, IsDriven, IsEnded, Begins, IsLived};
 
 use crate::begun::Begun;
@@ -23,7 +23,7 @@ use hash_laws::FlowHash;
 use left_right::ReadHandle;
 use node_duties::{
     CountsOwn, Current, Desk, Gate, Inputs, Outfit, Output, Plan, Post, Progress, RunFault, Stage,
-    Tally, WorkerRun, drive, fault_of, gather, work,
+    Tally, WorkerRun, drive, fault_of, gather, stops_at, work,
 };
 use node_records::{Journal, WorkerRecord, are_of};
 use pool_versions::Catalogue;
@@ -286,20 +286,22 @@ fn compare<S: Scheme, H: FlowHash, T: ConnTable>(
     Ok(())
 }
 
-// A life ended with a restart. Its workers' versions are compared first.
+// A life ended with a restart or a stop, and another begins. Its workers' versions are compared first. The answer is how
+// many packets were lost.
 fn end_life<S: Scheme, H: FlowHash, T: ConnTable>(
     journal: &mut Journal,
     setup: &Setup<S, H>,
     catalogue: &Catalogue,
     workers: &[WorkerRecord<S, T>],
-) -> Result<(), RunFault>
+    drained: bool,
+) -> Result<u64, RunFault>
     ensures going { let rules = rules_for (λ s z. S.pick s z) (λ h. H.plain h) setup.now catalogue.now in
-        (packets : List Packet) (cs : List Command) (n : ℕ) (places : ℕ) → Going rules packets cs n places journal.old → OnOk result (Going rules packets (cs ++ Restart ∷ []) n places journal.new) }
-    ensures counts { (lost : Bool) (shares : Counted) → Counts lost shares (journal.old.outcomes ++ served_from journal.old.node 0 (all_handled workers.now)) → OnOk result (Counts lost shares journal.new.outcomes) }
+        (packets : List Packet) (cs : List Command) (n : ℕ) (places : ℕ) → Going rules packets cs n places journal.old → OnOk result (Going rules packets (cs ++ ending drained ∷ []) n places journal.new) }
+    ensures counts { (lost : Bool) (shares : Counted) → Counts lost shares (journal.old.outcomes ++ served_from journal.old.node 0 (all_handled workers.now)) → IfOk result (λ left. Counts lost (with_lost left shares) journal.new.outcomes) }
 {
     compare(setup, catalogue, workers)?;
-    match journal.end_life(workers, true) {
-        Ok(()) => Ok(()),
+    match journal.end_life(workers, drained) {
+        Ok(left) => Ok(left),
         Err(fault) => Err(fault_of(fault)),
     }
 }
@@ -324,8 +326,9 @@ fn end<S: Scheme, H: FlowHash, T: ConnTable>(
 }
 
 // A life that was driven ends as its commands say: the workers' records are compared with what was placed on them, and
-// written behind the driver's steps.
-fn end_driven<S: Scheme, H: FlowHash, T: ConnTable, G, B: Names>(
+// written behind the driver's steps. What was lost at a stop is counted.
+fn end_driven<S: Scheme, H: FlowHash, T: ConnTable, G, B: Names, R: Wait>(
+    rt: &R,
     alloc: Global,
     plan: Plan<'_, S, H, G, B>,
     from: usize,
@@ -334,6 +337,7 @@ fn end_driven<S: Scheme, H: FlowHash, T: ConnTable, G, B: Names>(
 ) -> Result<Progress<S, B>, RunFault>
     requires driven { let rules = rules_for (λ s z. S.pick s z) (λ h. H.plain h) plan.setup.now plan.catalogue.now in IsDriven rules plan.packets.now plan.commands.now plan.node plan.ring from driven.at driven.journal }
     requires of { All (λ w. IsWork w.record w.tally.lost w.tally.shares) runs.items }
+    requires some { 0 < driven.tally.shares.parts }
     requires counts { AreRead plan.packets.now → Counts driven.tally.lost driven.tally.shares driven.journal.outcomes }
     ensures ended { let rules = rules_for (λ s z. S.pick s z) (λ h. H.plain h) plan.entry.setup.now plan.entry.catalogue.now in IfOk result (λ d. IsEnded rules plan.entry.packets.now plan.entry.commands.now plan.entry.node plan.entry.ring from d.at d.journal) }
     ensures parts { IfOk result (λ d. d.tally.shares.parts ≡ driven.tally.shares.parts + length runs.items) }
@@ -350,7 +354,10 @@ fn end_driven<S: Scheme, H: FlowHash, T: ConnTable, G, B: Names>(
     let mut tally = tally;
     let workers = muster(alloc, &mut tally, runs)?;
     if at < plan.commands.len() {
-        end_life(&mut journal, plan.setup, plan.catalogue, workers.as_slice())?;
+        let drained = !stops_at(plan.commands, at);
+        let records = workers.as_slice();
+        let lost = end_life(&mut journal, plan.setup, plan.catalogue, records, drained)?;
+        tally.lose(rt, plan.book, lost);
         return Ok(Progress {
             journal,
             newest,
@@ -365,6 +372,24 @@ fn end_driven<S: Scheme, H: FlowHash, T: ConnTable, G, B: Names>(
         at,
         tally,
     })
+}
+
+// The workers get no more to serve: where the life ends with a stop they are told to halt, and else each ring gets a closing
+// mark.
+fn end_feed<S: Scheme, H: FlowHash, G: Gate, B: Names, R: Wait, W: Wait + Drop>(
+    rt: &R,
+    plan: Plan<'_, S, H, G, B>,
+    driven: &Result<Progress<S, B>, RunFault>,
+    desk: &mut Desk<'_, S, W>,
+    inputs: &mut Inputs,
+) {
+    match driven {
+        Ok(progress) if stops_at(plan.commands, progress.at) => {
+            desk.halt();
+            plan.gate.stopping(plan.node);
+        }
+        _ => inputs.close(rt),
+    }
 }
 
 // What is told where a worker did not do all: that a driver was refused memory comes first.
@@ -416,14 +441,14 @@ where
         return Err(give_up(rt, alloc, &mut inputs, handles, RunFault::ThreadLost));
     };
     let driven = drive(rt, alloc, plan, progress, &mut desk, &mut inputs);
-    inputs.close(rt);
+    end_feed(rt, plan, &driven, &mut desk, &mut inputs);
     let runs = join_all(rt, alloc, handles);
     let sent = mux.join(rt);
     let sent = sent?;
     match runs {
         Err(fault) => Err(told_first(driven, fault)),
         Ok(runs) => {
-            let progress = end_driven(alloc, plan, from, driven?, runs)?;
+            let progress = end_driven(rt, alloc, plan, from, driven?, runs)?;
             Ok(LifeRun { progress, sent })
         }
     }

@@ -14,6 +14,3 @@ pub use backend::{Backend, Member};
 pub use catalogue::{Catalogue, PoolFault};
 pub use doubles::has_double_name;
 pub use service::{Service, Version, backends_of, weights_of};
-
-#[cfg(test)]
-mod tests;

@@ -19,6 +19,7 @@ pub data PlainStep : Type 0 where
   hold : ℕ → PlainStep
   drain : ℕ → PlainStep
   restart : ℕ → PlainStep
+  stop : ℕ → PlainStep
 
 abbrev pub plain_step : Step → PlainStep
 plain_step (code.Install n v) = install n v
@@ -30,6 +31,7 @@ plain_step (code.Full n marks) = full n marks
 plain_step (code.Hold n) = hold n
 plain_step (code.Drain n) = drain n
 plain_step (code.Restart n) = restart n
+plain_step (code.Stop n) = stop n
 
 -- a number below a limit
 abbrev pub below : ℕ → List ℕ → Option ℕ
@@ -80,7 +82,8 @@ kind_of word =
     else (if bytes_eq word (codes "full") then Some kind.Full
     else (if bytes_eq word (codes "hold") then Some kind.Hold
     else (if bytes_eq word (codes "drain") then Some kind.Drain
-    else (if bytes_eq word (codes "restart") then Some kind.Restart else None))))))))
+    else (if bytes_eq word (codes "restart") then Some kind.Restart
+    else (if bytes_eq word (codes "stop") then Some kind.Stop else None)))))))))
 
 -- the step of a kind with these words behind it
 abbrev pub step_of : ℕ → ℕ → Kind → List (List ℕ) → Option PlainStep
@@ -93,6 +96,7 @@ step_of nodes workers kind.Full words = full_of nodes workers words
 step_of nodes workers kind.Hold words = option_map hold (node_of nodes words)
 step_of nodes workers kind.Drain words = option_map drain (node_of nodes words)
 step_of nodes workers kind.Restart words = option_map restart (node_of nodes words)
+step_of nodes workers kind.Stop words = option_map stop (node_of nodes words)
 
 abbrev pub step_of_words : ℕ → ℕ → List (List ℕ) → Option PlainStep
 step_of_words nodes workers [] = None

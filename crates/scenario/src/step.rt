@@ -137,6 +137,7 @@ enum Kind {
     Hold,
     Drain,
     Restart,
+    Stop,
 }
 
 fn is_word(word: &[u8], text: &str) -> bool
@@ -176,6 +177,9 @@ fn kind_of(word: &[u8]) -> Option<Kind>
     if is_word(word, "restart") {
         return Some(Kind::Restart);
     }
+    if is_word(word, "stop") {
+        return Some(Kind::Stop);
+    }
     None
 }
 
@@ -199,6 +203,7 @@ fn step_of(
         Kind::Hold => Ok(node_of(words, nodes).map(Step::Hold)),
         Kind::Drain => Ok(node_of(words, nodes).map(Step::Drain)),
         Kind::Restart => Ok(node_of(words, nodes).map(Step::Restart)),
+        Kind::Stop => Ok(node_of(words, nodes).map(Step::Stop)),
     }
 }
 

@@ -126,7 +126,7 @@ fn weights_of_members(rt: HostRuntime) {
 fn a_whole_scenario(rt: HostRuntime) {
     let alloc = rt.alloc();
     let steps =
-        "steps = [\"install 1 4294967295\", \"live\", \"live 1 0\", \"take 2\", \"lose 0\", \"again 7\", \"full 0\", \"full 1 0\", \"hold 0\", \"drain 0\", \"restart 1\"]\n";
+        "steps = [\"install 1 4294967295\", \"live\", \"live 1 0\", \"take 2\", \"lose 0\", \"again 7\", \"full 0\", \"full 1 0\", \"hold 0\", \"drain 0\", \"restart 1\", \"stop 0\"]\n";
     let whole = text(&rt, alloc, steps);
     let scenario = read(alloc, whole.as_bytes()).expect(&rt, "a scenario");
     assert_eq!(rt; scenario.size.slots(), 7);
@@ -158,7 +158,7 @@ fn a_whole_scenario(rt: HostRuntime) {
     assert_eq!(rt; ups.len(), 2);
     assert!(rt; scenario.catalogue.get(1).is_some() && scenario.catalogue.get(3).is_none());
     let steps = scenario.steps.as_slice();
-    assert_eq!(rt; steps.len(), 11);
+    assert_eq!(rt; steps.len(), 12);
     assert!(rt;
         matches!(
             &steps[0],
@@ -178,6 +178,7 @@ fn a_whole_scenario(rt: HostRuntime) {
     assert!(rt; matches!(&steps[8], Step::Hold(0)));
     assert!(rt; matches!(&steps[9], Step::Drain(0)));
     assert!(rt; matches!(&steps[10], Step::Restart(1)));
+    assert!(rt; matches!(&steps[11], Step::Stop(0)));
 }
 
 #[test]

@@ -2,3 +2,4 @@ pub mod Described
 pub mod Answers
 pub mod Kept
 pub mod Notebooks
+pub mod Knowing

@@ -23,4 +23,6 @@ pub enum Step {
     Drain(u16),
     /// `restart N`: a node restarts. Ends a hold.
     Restart(u16),
+    /// `stop N`: a node's life ends on threads as it stands, and another begins. In a course it is a restart.
+    Stop(u16),
 }

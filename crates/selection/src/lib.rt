@@ -22,6 +22,3 @@ pub use prepared::PreparedVersion;
 pub use ready::Ready;
 pub use round::RoundRobin;
 pub use scheme::{PrepareFault, Scheme};
-
-#[cfg(test)]
-mod tests;

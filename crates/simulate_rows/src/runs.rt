@@ -4,7 +4,7 @@ use crate::scenarios::{Words, plain, scenario_of};
 use crate::tests::{APART, REPORT, TWO_SENT, Written, played, sink, source};
 use maglev_cli::{CliFault, run};
 use pcap_file::{FromRead, PcapFault, ToWrite};
-use std::alloc::Global;
+use std::alloc::{AllocError, Global};
 use std::process::Abort;
 use std::sync::Wait;
 use std::thread::Threads;
@@ -75,6 +75,48 @@ fn a_cluster_with_a_restart(rt: HostRuntime) {
         for place in 0..4usize {
             assert_eq!(rt; &output[24 + 80 * place..104 + 80 * place], sent.as_slice());
         }
+    }
+}
+
+// The report of the same with a stop, where so many packets were lost at it.
+fn stopped_report(alloc: Global, lost: u32) -> Result<String, AllocError> {
+    let forwarded = 8 - lost.min(8);
+    let head = "packets 8\nlost 1\nunrouted 0\nskipped 0\nleft 0\ncut no\nreceived 8\n";
+    if lost == 0 {
+        return format!(in alloc; "{head}forwarded 8\nwaiting 0\nrefused 0\n{AUDIT}");
+    }
+    format!(in alloc;
+        "{head}forwarded {forwarded}\ndrop LostAtRestart {lost}\nwaiting 0\nrefused 0\n{AUDIT}"
+    )
+}
+
+// How many packets a report says were lost at the stop, which are at most the three that came to the node's first life.
+fn lost_in(alloc: Global, report: &[u8]) -> Option<u32> {
+    for lost in 0..4u32 {
+        let told = stopped_report(alloc, lost).ok()?;
+        if report == told.as_bytes() {
+            return Some(lost);
+        }
+    }
+    None
+}
+
+// The same with a stop in place of the restart: what no worker of node 0 had taken is lost, and nothing else.
+#[test]
+fn a_cluster_with_a_stop(rt: HostRuntime) {
+    let mut words = plain(
+        "'install 0 1', 'install 1 1', 'take 3', 'lose 1', 'again 0', 'install 0 2', 'install 1 2', 'take 2', 'stop 0', 'take 2'",
+    );
+    words.workers = "2";
+    words.keys = "ring = 16\n";
+    let capture = capture_of(rt.alloc(), "yzyzyzyz").expect(&rt, "memory");
+    for _ in 0..5u32 {
+        let written = ran(&rt, rt.alloc(), words, capture.as_slice(), false).expect(&rt, "a run");
+        let lost = lost_in(rt.alloc(), written.report.as_slice()).expect(
+            &rt,
+            "one of four reports",
+        );
+        assert_eq!(rt; written.output.len(), 24 + 80 * (8 - lost.min(8) as usize));
     }
 }
 

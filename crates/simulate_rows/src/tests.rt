@@ -461,6 +461,17 @@ fn refused_scenarios(rt: HostRuntime) {
     is_refused(&rt, rt.alloc(), step, CliFault::BadStep(2));
 }
 
+// The first stop is told, behind a step that isn't one.
+#[test]
+fn refused_stops(rt: HostRuntime) {
+    let one = plain("'install 0 1', 'restart 0', 'stop 0'");
+    is_refused(&rt, rt.alloc(), one, CliFault::BadStep(2));
+    let two = plain("'take 1', 'stop 1', 'stop 0'");
+    is_refused(&rt, rt.alloc(), two, CliFault::BadStep(1));
+    let other = plain("'stop 0', 'stop 1', 'tale 1'");
+    is_refused(&rt, rt.alloc(), other, CliFault::BadStep(2));
+}
+
 // A capture of two records, cut behind each byte from its header on: the records that are whole are sent, and a cut inside
 // of one is told.
 #[test]

@@ -60,6 +60,7 @@ names_none place (steps.Full n m) bad = refl
 names_none place (steps.Hold n) bad = refl
 names_none place (steps.Drain n) bad = refl
 names_none place (steps.Restart n) bad = refl
+names_none place (steps.Stop n) bad = refl
 
 -- another step was
 pub counted_other : (ss : List Step) (i : ℕ) (s : Step) (k : Kept) → i < length ss → s ≡ get_or ss i s → ((q : ℕ) → names q s ≡ false)

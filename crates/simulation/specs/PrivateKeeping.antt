@@ -19,6 +19,7 @@ names place (steps.Full n m) = false
 names place (steps.Hold n) = false
 names place (steps.Drain n) = false
 names place (steps.Restart n) = false
+names place (steps.Stop n) = false
 
 -- how many of these steps do
 abbrev pub times_named : ℕ → List Step → ℕ

@@ -4,8 +4,8 @@ use node_threads::Gate;
 use stats_book::Stats;
 use std::thread::yield_now;
 
-/// Round each serving, and before a version is prepared, it yields up to three times, by its seed and what is served or
-/// prepared.
+/// Round each serving, before a version is prepared and where a node stops, it yields up to three times, by its seed and
+/// what is served or prepared.
 #[derive(Drop)]
 pub struct Jitter {
     pub seed: u64,
@@ -24,6 +24,10 @@ impl Jitter {
 impl Gate for Jitter {
     fn preparing(&self, node: u16, version: u32) {
         self.pause(node, 65_535, u64::from(version));
+    }
+
+    fn stopping(&self, node: u16) {
+        self.pause(node, 65_534, 0);
     }
 
     fn before(&self, node: u16, worker: u16, nth: u64) {

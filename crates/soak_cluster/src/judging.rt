@@ -1,5 +1,5 @@
 //! What a run's record is held to, apart from the contract of the run.
-use cluster_node::{Event, Outcome};
+use cluster_node::{Cause, Event, Outcome};
 use node_records::{Command, NodeRecord};
 use stats_book::Stats;
 use std::alloc::{AllocError, Global};
@@ -11,7 +11,7 @@ fn obeys(event: &Event, command: &Command, at: usize) -> bool {
             && version == number,
         (Event::Arrive { node, packet, .. }, Command::Offer(number)) => usize::from(node) == at
             && packet == number,
-        (Event::Restart { node }, Command::Restart) => usize::from(node) == at,
+        (Event::Restart { node }, Command::Restart | Command::Stop) => usize::from(node) == at,
         _ => false,
     }
 }
@@ -88,21 +88,47 @@ fn are_merges(alloc: Global, record: &NodeRecord) -> Result<bool, AllocError> {
     Ok(true)
 }
 
-// What was placed was served, and nothing was lost.
-fn is_kept(record: &NodeRecord) -> bool {
-    let mut placed = 0u64;
-    let mut served = 0u64;
+// Whether the life of this number is one that a stop ends.
+fn is_stopped(commands: &[Command], life: usize) -> bool {
+    let mut ends = commands.iter().filter(|command| matches!(
+        **command,
+        Command::Restart | Command::Stop
+    ));
+    matches!(ends.nth(life), Some(Command::Stop))
+}
+
+// In each life what was placed was served or is told as lost at the life's end, and nothing was lost but at a stop.
+fn is_kept(record: &NodeRecord, commands: &[Command]) -> bool {
+    let mut waiting = 0u64;
+    let mut life = 0usize;
     for (event, outcome) in record.events.iter().zip(record.outcomes.iter()) {
         match *outcome {
-            Outcome::Placed { .. } => placed = placed.wrapping_add(1),
-            Outcome::Restarted { lost } if lost > 0 => return false,
+            Outcome::Placed { .. } => waiting = waiting.wrapping_add(1),
+            Outcome::Restarted { lost } => {
+                if lost != waiting || lost > 0 && !is_stopped(commands, life) {
+                    return false;
+                }
+                waiting = 0;
+                life = life.wrapping_add(1);
+            }
             _ => (),
         }
         if let Event::Serve { .. } = *event {
-            served = served.wrapping_add(1);
+            waiting = waiting.wrapping_sub(1);
         }
     }
-    placed == served
+    waiting == 0
+}
+
+// How many packets were lost where lives ended.
+fn lost_of(outcomes: &[Outcome]) -> u64 {
+    let mut all = 0u64;
+    for outcome in outcomes {
+        if let Outcome::Restarted { lost } = *outcome {
+            all = all.wrapping_add(lost);
+        }
+    }
+    all
 }
 
 /// The counts of a run are what its outcomes come to, and nothing waits.
@@ -111,27 +137,32 @@ pub fn are_counted(stats: &Stats, outcomes: &[Outcome]) -> bool {
         .iter()
         .filter(|outcome| matches!(**outcome, Outcome::Forward { .. }))
         .count() as u64;
+    let lost = lost_of(outcomes);
     let dropped = outcomes
         .iter()
         .filter(|outcome| matches!(**outcome, Outcome::Dropped { .. }))
         .count() as u64;
+    let dropped = dropped.wrapping_add(lost);
     let mut drops = 0u64;
     for count in stats.dropped {
         drops = drops.wrapping_add(count);
     }
     let received = forwarded.wrapping_add(dropped);
-    (stats.received, stats.forwarded, drops, stats.waiting) == (received, forwarded, dropped, 0)
+    let same = (stats.received, stats.forwarded, drops, stats.waiting)
+        == (received, forwarded, dropped, 0);
+    same && stats.dropped[Cause::LostAtRestart as usize] == lost
 }
 
-/// Each node did what it was told, served what was placed and sent what its workers sent.
+/// Each node did what it was told, served what was placed or lost it at a stop, and sent what its workers sent.
 pub fn are_lived(
     alloc: Global,
     records: &[NodeRecord],
     commands: &[Vec<Command>],
 ) -> Result<bool, AllocError> {
     for (node, (record, told)) in records.iter().zip(commands.iter()).enumerate() {
-        let obeyed = is_obeyed(record, told.as_slice(), node);
-        if !obeyed || !is_kept(record) || !are_merges(alloc, record)? {
+        let told = told.as_slice();
+        let kept = is_obeyed(record, told, node) && is_kept(record, told);
+        if !kept || !are_merges(alloc, record)? {
             return Ok(false);
         }
     }

@@ -123,10 +123,12 @@ pub fn packets() -> [Packet; 8]
 }
 
 // One command: mostly an offer, now and then of a packet that isn't there; else a version, which may be old or unknown;
-// and seldom a restart.
+// and seldom a restart or a stop.
 fn command(dice: &mut Dice) -> Command {
-    if dice.once_in(40) {
-        return Command::Restart;
+    match dice.below(40) {
+        0 => return Command::Restart,
+        1 => return Command::Stop,
+        _ => (),
     }
     if dice.once_in(6) {
         return Command::Publish(dice.below(VERSIONS + 3));

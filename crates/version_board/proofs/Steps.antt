@@ -1,7 +1,7 @@
 -- Each step keeps the rule of a board.
 use Rattle.std.proofs.Common.{◌≡◌, ◌≢◌, ℕ, zero, suc, ◌<◌, ◌≤◌, ◌^◌, List, [], ◌∷◌, ◌++◌, length, set, get_or, fold, true, false, true≢false, refl, sym, ap, ◌∙◌, subst, ⊎_elim, le_refl, arith}
 use Rattle.std.specs.Prelude.{All, Contains, slice_index, take}
-use Rattle.std.proofs.lemmas.List.{get_or-set_same, length-set}
+use Rattle.std.proofs.lemmas.List.{get_or-set_same, get_or-set_other, length-set}
 use Rattle.std.proofs.lemmas.List.Sums.{fold-append}
 use Rattle.std.proofs.lemmas.List.Elements.{All-nil, All-cons, All-head, All-tail, All-push, All-weaker, All-contains, Contains-append_left, Contains-push}
 use mathlib.Core.Option.{none, some, some-ne-none, some-injective}
@@ -10,7 +10,7 @@ use Rattle.atomic_table.specs.Table.{Me, keeps, step, Allows, Splits, Joins}
 use Rattle.atomic_table.proofs.Lists.{at_set, at_snoc}
 use Rattle.version_board.specs.declared.rule.View.{View}
 use Rattle.version_board.specs.Numbers.{newest, IsAscending}
-use Rattle.version_board.specs.Rule.{publisher, watcher, newcomer, Fits, IsBoard, HoldsBoard, Published, Looked, Compared}
+use Rattle.version_board.specs.Rule.{publisher, watcher, newcomer, Fits, IsBoard, HoldsBoard, Published, Looked, Kept, Compared}
 
 off : false ≡ true → ⊥
 off e = true≢false (sym e)
@@ -129,6 +129,26 @@ looks first slots id me is s h homes at small =
         h.small,
         All-weaker (λ x. Contains now x) (λ x. x ≤ found) (λ x c. subst (λ (y : ℕ). x ≤ y) (sym h.word) (All-contains (λ m. m ≤ newest now) now x (all_up_to_newest now h.ascending) c)) me.0.numbers among,
       ),
+    )
+
+-- a step on the other word
+pub keeps_view : (first slots id : ℕ) (me : Me Unit View) (f found : ℕ → ℕ)
+    → Allows (HoldsBoard first) slots id me 1 f (λ n. Kept (step slots 1 0 0 none) me (found n))
+keeps_view first slots id me f found s h homes at small =
+    let here : slice_index (set s.words 1 (f (slice_index s.words 1))) 0 ≡ slice_index s.words 0 = get_or-set_other s.words 1 0 (f (slice_index s.words 1)) 0 (λ e. omega arith) in (
+      me.0,
+      keeps,
+      tt,
+      record {
+        seat = h.seat;
+        later = h.later;
+        ascending = h.ascending;
+        two = length-set s.words 1 (f (slice_index s.words 1)) ∙ h.two;
+        word = here ∙ h.word;
+        small = subst (λ (n : ℕ). n < 2 ^ 32) (sym here) h.small;
+        fits = fits_set h.seat (first ∷ h.later) s.views id me.0 (λ j u apart e. h.fits j u e) (h.fits id me.0 at);
+      },
+      refl,
     )
 
 pub compares : (first slots id : ℕ) (me : Me Unit View) → me.0 ≡ publisher me.0.numbers me.0.given_back

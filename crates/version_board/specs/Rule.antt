@@ -42,6 +42,10 @@ Published s me stored after = after ≡ (publisher (me.0.numbers ++ stored ∷ [
 abbrev pub Looked : Step Unit → Me Unit View → ℕ → Me Unit View → Type 0
 Looked s me found after = (after ≡ (watcher (me.0.numbers ++ found ∷ []), me.1)) × (found < 2 ^ 32) × All (λ n. n ≤ found) me.0.numbers
 
+-- the view stays as it is
+abbrev pub Kept : Step Unit → Me Unit View → ℕ → Me Unit View → Type 0
+Kept s me found after = after ≡ me
+
 -- what was given back is among the publisher's numbers
 abbrev pub Compared : Step Unit → Me Unit View → ℕ → Me Unit View → Type 0
 Compared s me found after = (after ≡ me) × All (λ n. Contains me.0.numbers n) me.0.given_back

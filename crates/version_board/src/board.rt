@@ -33,6 +33,18 @@ pub trait VersionBoard {
         ensures own { publisher_of self.now seat.new }
         ensures published { MatchResult result (λ _. (newest (published seat.old) < number) × (published seat.new ≡ published seat.old ++ number ∷ [])) (λ _. (number ≤ newest (published seat.old)) × (published seat.new ≡ published seat.old)) };
 
+    /// Tells the workers to halt, in one atomic step. A board that was told so stays so.
+    fn halt(&self, seat: &mut Self::PublisherSeat)
+        requires { publisher_of self.now seat.old }
+        ensures own { publisher_of self.now seat.new }
+        ensures published { published seat.new ≡ published seat.old };
+
+    /// Whether the workers were told to halt, read in one atomic step.
+    fn heed(&self, seat: &mut Self::WorkerSeat) -> bool
+        requires { worker_of self.now seat.old }
+        ensures own { worker_of self.now seat.new }
+        ensures seen { seen seat.new ≡ seen seat.old };
+
     /// The newest number, read in one atomic step. It is never less than the seat saw before.
     fn look(&self, seat: &mut Self::WorkerSeat) -> u32
         requires { worker_of self.now seat.old }

@@ -12,8 +12,8 @@ pub struct View {
     pub given_back: LinkedList<u32>,
 }
 
-/// The publisher's numbers ascend, word 0 is the last of them, and what the workers' seats saw is among them. Of word 1
-/// nothing is said.
+/// The publisher's numbers ascend, word 0 is the last of them, and what the workers' seats saw is among them. Word 1 says
+/// whether to halt; no seat knows anything of it.
 pub struct BoardRule;
 
 impl TableRule<(), View, u32> for BoardRule {
@@ -41,6 +41,15 @@ impl Play<(), View> for Looks {
     ghost use Rattle.version_board.specs.Rule.{Looked};
 
     ghost then = { Looked };
+}
+
+/// The word that says whether to halt is stored or loaded, and the view stays as it is.
+pub struct Keeps;
+
+impl Play<(), View> for Keeps {
+    ghost use Rattle.version_board.specs.Rule.{Kept};
+
+    ghost then = { Kept };
 }
 
 /// The publisher learns that what was given back is among its numbers.

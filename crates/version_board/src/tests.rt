@@ -32,6 +32,30 @@ fn a_look_sees_what_was_published(rt: HostRuntime) -> Result<(), Fail> {
     Ok(())
 }
 
+// Once the workers are told to halt each of them heeds it, and the numbers stay.
+fn halt_beside(rt: &impl Abort, board: &WordBoard, publisher: &mut Publisher, watcher: &mut Watcher)
+    requires publisher { IsPublisherOf board.now publisher.old }
+    requires watcher { IsWatcherOf board.now watcher.old }
+{
+    assert!(rt; !board.heed(watcher));
+    assert_eq!(rt; board.publish(publisher, 3), Ok(()));
+    assert!(rt; !board.heed(watcher));
+    board.halt(publisher);
+    assert!(rt; board.heed(watcher));
+    assert_eq!(rt; board.look(watcher), 3);
+    assert_eq!(rt; board.publish(publisher, 4), Ok(()));
+    assert_eq!(rt; board.look(watcher), 4);
+    assert!(rt; board.heed(watcher));
+}
+
+#[test]
+fn a_halt_is_heeded(rt: HostRuntime) -> Result<(), Fail> {
+    let (board, mut publisher, mut watchers) = WordBoard::new(rt.alloc(), 1, 2)?;
+    let mut watcher = watchers.pop().expect(&rt, "a seat");
+    halt_beside(&rt, &board, &mut publisher, &mut watcher);
+    Ok(())
+}
+
 // A board may begin with a number, which each seat has seen.
 #[test]
 fn a_board_begins_with_its_first_number(rt: HostRuntime) -> Result<(), Fail> {

@@ -25,7 +25,7 @@ pub struct Watcher {
     ghost watches: { seat.me ≡ (watcher seat.me.0.numbers, []) },
 }
 
-/// A board of two words. The first is the newest number; the second is kept for a sign to halt, which isn't there yet.
+/// A board of two words. The first is the newest number; the second is 1 where the workers are to halt, and else 0.
 #[derive(Drop)]
 pub struct WordBoard {
     table: Table<(), View, u32, BoardRule, Global>,

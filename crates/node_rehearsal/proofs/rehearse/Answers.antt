@@ -1,20 +1,21 @@
-use Rattle.std.proofs.Common.{◌≤◌, ◌+◌, ℕ, length, take, sym, subst, ap, ◌∙◌, arith}
+use Rattle.std.proofs.Common.{◌≤◌, ◌+◌, ℕ, List, [], length, take, sym, subst, ap, ◌∙◌, arith}
 use Rattle.cluster_node.specs.Rules.{Rules}
 use Rattle.cluster_core.specs.Setups.{rules_for}
-use Rattle.node_records.specs.declared.command.Command.TheVariants.{Publish, Offer, Restart}
+use Rattle.node_records.specs.declared.command.Command.TheVariants.{Publish, Offer, Restart, Stop}
+use Rattle.node_records.specs.Losses.{drained_lives, losses, KeepDrained}
 use Rattle.node_records.specs.Histories.{commands_of}
 use Rattle.node_records.specs.Journals.{JournalView}
 use Rattle.node_rehearsal.specs.PrivateGoing.{Going}
 use Rattle.node_rehearsal.proofs.Goes.{obeyed_more, obeyed_all, same_run}
 use Rattle.node_rehearsal.proofs.rehearse.Goals as goal
-use Rattle.node_rehearsal.proofs.rehearse.Goals.{in-Publish+in_ok-publish-in-Publish, in-Offer+in_ok-offer-in-Offer, in-Restart+in_ok-list-in-Restart+in_ok-keep-in-Restart+in_ok-queue-in-Restart}
+use Rattle.node_rehearsal.proofs.rehearse.Goals.{in-Publish+in_ok-publish-in-Publish, in-Offer+in_ok-offer-in-Offer, in-Restart+in_ok-list-in-Restart+in_ok-keep-in-Restart+in_ok-queue-in-Restart, in-Stop+in_ok-list-in-Stop+in_ok-keep-in-Stop+in_ok-queue-in-Stop}
 
 pub loop-command-init : goal.loop-command-init
 loop-command-init g c =
     let rules : Rules = rules_for (λ s z. g.S.Scheme.pick s z) (λ h. g.H.FlowHash.plain h) c.args.setup.now c.args.catalogue.now in
     let fresh = c.in_ok-journal.ensures.fresh in
     record {
-      going = record { drives = c.in_ok-journal.ensures.drives rules c.args.packets.now c.requires c.workers-count.ensures.workers; obeyed = ap (λ (j : JournalView). commands_of j.events) fresh };
+      going = record { drives = c.in_ok-journal.ensures.drives rules c.args.packets.now c.requires c.workers-count.ensures.workers; obeyed = ap (λ (j : JournalView). commands_of j.events) fresh; kept = subst (λ (j : JournalView). KeepDrained [] (losses j.outcomes)) (sym fresh) tt };
       node = ap (λ (j : JournalView). j.node) fresh;
       ring = ap (λ (j : JournalView). j.ring) fresh;
     }
@@ -40,6 +41,11 @@ loop-command-preserved g c =
         node = ap (λ (j : JournalView). j.node) w.journal-is ∙ w.in_ok-list-in-Restart.ensures.kept.0 ∙ had.node;
         ring = ap (λ (j : JournalView). j.ring) w.journal-is ∙ w.in_ok-list-in-Restart.ensures.kept.1 ∙ had.ring;
       }
+      | in-Stop+in_ok-list-in-Stop+in_ok-keep-in-Stop+in_ok-queue-in-Stop w ↦ record {
+        going = subst (λ (z : JournalView). Going rules c.args.packets.now (take (i + 1) c.args.commands.now) z) (sym w.journal-is) (obeyed_more rules c.args.packets.now c.args.commands.now i Stop _ w.restart-in-Stop.new.journal c.loop-command-test.true w.in-Stop.is (w.in_ok-list-in-Stop.ensures.going c.args.packets.now (take i c.args.commands.now) had.going));
+        node = ap (λ (j : JournalView). j.node) w.journal-is ∙ w.in_ok-list-in-Stop.ensures.kept.0 ∙ had.node;
+        ring = ap (λ (j : JournalView). j.ring) w.journal-is ∙ w.in_ok-list-in-Stop.ensures.kept.1 ∙ had.ring;
+      }
     ]
 
 pub returns : goal.returns
@@ -49,6 +55,7 @@ returns g c =
     let ended = c.in_ok-list.ensures.ended c.args.packets.now had.going.drives in
     let served = c.in_ok-list.ensures.served in
     let all : length c.args.commands.now ≤ c.loop-command.command-index = omega (arith, c.loop-command-test.false) in
-    same_run rules c.args.packets.now c.end.new.journal.node c.args.node c.end.new.journal.ring c.args.ring (commands_of c.end.new.journal.events) c.args.commands.now c.finish.result
-    (served.node ∙ had.node) (served.ring ∙ had.ring) (served.commands ∙ obeyed_all rules c.args.packets.now c.args.commands.now c.loop-command.command-index c.loop-command.journal all had.going)
-    (c.finish.ensures.run rules c.args.packets.now ended.0 ended.1)
+    let obeyed = obeyed_all rules c.args.packets.now c.args.commands.now c.loop-command.command-index c.loop-command.journal all had.going in
+    same_run rules c.args.packets.now c.end.new.journal.node c.args.node c.end.new.journal.ring c.args.ring c.args.commands.now c.finish.result
+    (served.node ∙ had.node) (served.ring ∙ had.ring)
+    (c.finish.ensures.run rules c.args.packets.now c.args.commands.now ended.0 ended.1 (served.commands ∙ obeyed.obeyed) (subst (λ (ls : List ℕ). KeepDrained (drained_lives c.args.commands.now) ls) (sym served.lost) obeyed.kept))

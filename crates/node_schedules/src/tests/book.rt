@@ -20,6 +20,8 @@ struct Shown {
 impl Gate for Shown {
     fn preparing(&self, _node: u16, _version: u32) {}
 
+    fn stopping(&self, _node: u16) {}
+
     fn before(&self, _node: u16, _worker: u16, _nth: u64) {}
 
     // The counts have this serving, and none behind it.

@@ -29,6 +29,8 @@ struct Counts {
 impl Gate for Counts {
     fn preparing(&self, _node: u16, _version: u32) {}
 
+    fn stopping(&self, _node: u16) {}
+
     fn before(&self, _node: u16, _worker: u16, nth: u64) {
         if self.before.fetch_add(1, Ordering::SeqCst) != nth {
             self.missed.store(1, Ordering::SeqCst);

@@ -57,6 +57,8 @@ impl Gate for Held {
         }
     }
 
+    fn stopping(&self, _node: u16) {}
+
     fn before(&self, _node: u16, _worker: u16, _nth: u64) {}
 
     fn counted(&self, _node: u16, _worker: u16, _stats: Stats) {}

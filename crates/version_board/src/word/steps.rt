@@ -4,7 +4,7 @@ ghost use Rattle.version_board.specs.Seats.{IsPublisherOf, IsWatcherOf, publishe
 
 use super::{Publisher, Watcher, WordBoard};
 use crate::board::{NotNewer, VersionBoard};
-use crate::rule::{Compares, GivesBack, Looks, Publishes, Seats};
+use crate::rule::{Compares, GivesBack, Keeps, Looks, Publishes, Seats};
 use atomic_table::Table;
 use std::alloc::{AllocError, Global};
 
@@ -82,6 +82,14 @@ impl VersionBoard for WordBoard {
             .store::<Publishes>(&mut seat.seat, 0, u64::from(number));
         seat.last = number;
         Ok(())
+    }
+
+    fn halt(&self, seat: &mut Publisher) {
+        self.table.shared.store::<Keeps>(&mut seat.seat, 1, 1);
+    }
+
+    fn heed(&self, seat: &mut Watcher) -> bool {
+        self.table.shared.load::<Keeps>(&mut seat.seat, 1) == 1
     }
 
     fn look(&self, seat: &mut Watcher) -> u32 {

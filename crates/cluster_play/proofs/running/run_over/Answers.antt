@@ -1,13 +1,14 @@
 use Rattle.std.proofs.Common.{◌≡◌, ℕ, ◌∙◌, ◌++◌, Bool, List, length, map, ap, sym, subst}
 use Rattle.std.proofs.lemmas.List.{length-map}
 use Rattle.pcap_file.specs.Format.{packet}
-use Rattle.cluster_commands.proofs.Telling.{orders_long}
+use Rattle.cluster_commands.proofs.Telling.{below_long}
 use Rattle.cluster_node.specs.declared.outcomes.Outcome.{Outcome}
-use Rattle.cluster_commands.specs.Orders.{orders_of}
+use Rattle.cluster_commands.specs.Orders.{orders_of, orders_on}
 use Rattle.node_records.specs.declared.command.Command.{Command}
 use Rattle.node_records.specs.Runs.{AreRuns, JoinsRuns}
 use Rattle.cluster_node.specs.declared.packets.Packet.{Packet}
 use Rattle.course.specs.Cluster.{WereRead}
+use Rattle.course.specs.Steps.{below}
 use Rattle.course.specs.declared.play.Tally.{Tally}
 use Rattle.scenario_play.specs.Answers.{totals_in, is_cut}
 use Rattle.scenario_play.specs.Described.{rules_in, choice_in}
@@ -18,7 +19,8 @@ use Rattle.cluster_play.proofs.running.run_over.Goals as goal
 pub run_named-requires-clause-nodes : goal.run_named-requires-clause-nodes
 run_named-requires-clause-nodes g c κs within =
     let one : length c.as_slice-4.result.now ≡ length c.in_ok-orders.orders.commands.items = ap (λ l. length l) c.as_slice-4.ensures.value in
-    one ∙ sym (length-map c.in_ok-orders.orders.commands.items (λ l. l.items)) ∙ ap (λ l. length l) c.in_ok-orders.ensures.commands ∙ orders_long (length c.args.scenario.now.nodes.items) _
+    one ∙ sym (length-map c.in_ok-orders.orders.commands.items (λ l. l.items)) ∙ ap (λ l. length l) c.in_ok-orders.ensures.commands
+    ∙ length-map (below (length c.args.scenario.now.nodes.items)) (orders_on (choice_in c.args.scenario.now) c.as_slice-2.result.now c.args.scenario.now.steps.items (length c.args.scenario.now.nodes.items)) ∙ below_long (length c.args.scenario.now.nodes.items)
 
 pub run_report-requires : goal.run_report-requires
 run_report-requires g c = balanced _ _ _ c.in_ok-audited.audited.run.history c.outcomes-outcomes.result.now (subst (λ (l : List Packet). WereRead l) (sym c.as_slice-3.ensures.value) c.in_ok-packets.ensures.read) c.in_ok-audited.ensures.runs.1 c.outcomes-outcomes.ensures

@@ -1,4 +1,4 @@
-use Rattle.std.proofs.Common.{◌+◌, ℕ, take, ap, sym, subst, ◌∙◌}
+use Rattle.std.proofs.Common.{◌+◌, ℕ, Some, take, ap, sym, subst, ◌∙◌}
 use Rattle.cluster_node.specs.Rules.{Rules}
 use Rattle.cluster_core.specs.Setups.{rules_for}
 use Rattle.node_records.specs.declared.command.Command.TheVariants.{Publish, Offer}
@@ -16,12 +16,12 @@ loop-at-preserved g c =
     let had = c.loop-at.invariant in
     elim c.match-command_at.branch [
       | in-Publish+in_ok-publish-in-Publish w ↦ record {
-        going = subst (λ (z : JournalView). Going rules c.args.plan.packets.now (take (i + 1) c.args.plan.commands.now) c.args.plan.node c.args.plan.ring z) (sym w.journal-is) (obeyed_more rules c.args.plan.packets.now c.args.plan.commands.now c.args.plan.node c.args.plan.ring i (Publish w.in-Publish.number) (Publish 0) w.publish.new.journal c.loop-at-test.true (c.command_at.ensures (Publish 0) ∙ w.in-Publish.is) (w.in_ok-publish-in-Publish.ensures.going c.args.plan.packets.now (take i c.args.plan.commands.now) c.args.plan.node c.args.plan.ring had.going));
+        going = subst (λ (z : JournalView). Going rules c.args.plan.packets.now (take (i + 1) c.args.plan.commands.now) c.args.plan.node c.args.plan.ring z) (sym w.journal-is) (obeyed_more rules c.args.plan.packets.now c.args.plan.commands.now c.args.plan.node c.args.plan.ring i (Publish w.in-Publish.number) w.publish.new.journal c.loop-at-test.true (c.command_at.ensures ∙ ap (λ x. Some x) w.in-Publish.is) (w.in_ok-publish-in-Publish.ensures.going c.args.plan.packets.now (take i c.args.plan.commands.now) c.args.plan.node c.args.plan.ring had.going));
         parts = ap (λ t. t.shares.parts) w.tally-is ∙ had.parts;
         counts = λ read. subst (λ t. Counts t.lost t.shares c.match-command_at.journal.outcomes) (sym w.tally-is) (subst (λ (z : JournalView). Counts c.loop-at.tally.lost c.loop-at.tally.shares z.outcomes) (sym w.journal-is) (w.in_ok-publish-in-Publish.ensures.counts c.loop-at.tally.lost c.loop-at.tally.shares (had.counts read)));
       }
       | in-Offer+in_ok-offer-in-Offer w ↦ record {
-        going = subst (λ (z : JournalView). Going rules c.args.plan.packets.now (take (i + 1) c.args.plan.commands.now) c.args.plan.node c.args.plan.ring z) (sym w.journal-is) (obeyed_more rules c.args.plan.packets.now c.args.plan.commands.now c.args.plan.node c.args.plan.ring i (Offer w.in-Offer.packet) (Publish 0) w.offer.new.journal c.loop-at-test.true (c.command_at.ensures (Publish 0) ∙ w.in-Offer.is) (w.in_ok-offer-in-Offer.ensures.going (take i c.args.plan.commands.now) c.args.plan.node c.args.plan.ring had.going));
+        going = subst (λ (z : JournalView). Going rules c.args.plan.packets.now (take (i + 1) c.args.plan.commands.now) c.args.plan.node c.args.plan.ring z) (sym w.journal-is) (obeyed_more rules c.args.plan.packets.now c.args.plan.commands.now c.args.plan.node c.args.plan.ring i (Offer w.in-Offer.packet) w.offer.new.journal c.loop-at-test.true (c.command_at.ensures ∙ ap (λ x. Some x) w.in-Offer.is) (w.in_ok-offer-in-Offer.ensures.going (take i c.args.plan.commands.now) c.args.plan.node c.args.plan.ring had.going));
         parts = ap (λ t. t.shares.parts) w.tally-is ∙ w.offer.ensures.parts ∙ had.parts;
         counts = λ read. subst (λ t. Counts t.lost t.shares c.match-command_at.journal.outcomes) (sym w.tally-is) (subst (λ (z : JournalView). Counts w.offer.new.tally.lost w.offer.new.tally.shares z.outcomes) (sym w.journal-is) (w.in_ok-offer-in-Offer.ensures.counts read (had.counts read)));
       }

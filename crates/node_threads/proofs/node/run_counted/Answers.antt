@@ -1,4 +1,4 @@
-use Rattle.std.proofs.Common.{◌≡◌, List, false, refl, sym, subst, ap, ◌∙◌, arith}
+use Rattle.std.proofs.Common.{◌≡◌, List, [], false, refl, sym, subst, ap, ◌∙◌, arith}
 use Rattle.std.proofs.lemmas.Result.{IfOk-weaker}
 use Rattle.stats_book.specs.Counts.{Counted}
 use Rattle.cluster_node.specs.Rules.{Rules}
@@ -7,6 +7,7 @@ use Rattle.cluster_core.specs.Setups.{rules_for}
 use Rattle.node_records.specs.declared.nodes.NodeRecord.{NodeRecord}
 use Rattle.node_records.specs.Histories.{commands_of}
 use Rattle.node_records.specs.Journals.{JournalView}
+use Rattle.node_records.specs.Losses.{losses, KeepDrained}
 use Rattle.node_records.specs.Runs.{IsRunOf}
 use Rattle.node_duties.specs.Counts.{Counts, counted}
 use Rattle.node_duties.specs.Going.{LifeView, IsLived}
@@ -22,6 +23,7 @@ loop-sent-init g c =
       going = record {
         drives = c.in_ok-new.ensures.drives rules c.args.task.packets.now c.args.task.there c.workers.ensures.workers;
         obeyed = ap (λ (j : JournalView). commands_of j.events) fresh;
+        kept = subst (λ (j : JournalView). KeepDrained [] (losses j.outcomes)) (sym fresh) tt;
         own = ap (λ (j : JournalView). j.node) fresh;
         ring = ap (λ (j : JournalView). j.ring) fresh;
       };
@@ -46,7 +48,7 @@ returns-then-progress-commands-clause-run g c =
     let last = lived.ended.last (omega (arith, c.if-progress-commands.true)) in
     let done : NodeRecord = c.in_ok-finish.field-0 in
     let is : IsRunOf rules c.args.task.packets.now c.args.task.node c.args.task.ring c.args.task.commands.now done
-    = same_run rules c.args.task.packets.now p.journal.node c.args.task.node p.journal.ring c.args.task.ring (commands_of p.journal.events) c.args.task.commands.now done last.own last.ring last.obeyed (c.in_ok-finish.ensures.run rules c.args.task.packets.now last.tells last.drained) in
+    = same_run rules c.args.task.packets.now p.journal.node c.args.task.node p.journal.ring c.args.task.ring c.args.task.commands.now done last.own last.ring (c.in_ok-finish.ensures.run rules c.args.task.packets.now c.args.task.commands.now last.tells last.drained last.obeyed last.kept) in
     IfOk-weaker c.unless_lost.result
     (λ r. (r.record ≡ done) × (r.shares ≡ p.tally.shares) × (p.tally.lost ≡ false))
     (λ r. IsRunOf rules c.args.task.packets.now c.args.task.node c.args.task.ring c.args.task.commands.now r.record)

@@ -1,13 +1,13 @@
 ghost use Rattle.std.specs.Prelude.{◌≡◌, IfOk};
 
-use super::{
-    Maglev, MaglevTable, PlainHash, PrepareFault, PreparedVersion, PreparedVersions, RoundRobin,
-    Scheme, maglev_and_plain_hash_are_steady,
-};
 use five_tuple::Flow;
 use hash_laws::{AnyHash, Fnv, SumHash};
 use maglev_table::{Name, TableSize, Weight};
 use pool_versions::{Backend, Member, Service, Version};
+use selection::{
+    Maglev, MaglevTable, PlainHash, PrepareFault, PreparedVersion, PreparedVersions, RoundRobin,
+    Scheme, maglev_and_plain_hash_are_steady,
+};
 use std::alloc::Global;
 use std::process::Abort;
 

@@ -1,6 +1,6 @@
-use super::{Backend, Catalogue, Member, PoolFault, Service, Version};
 use five_tuple::Flow;
 use maglev_table::{Name, TableSize, Weight};
+use pool_versions::{Backend, Catalogue, Member, PoolFault, Service, Version};
 use std::alloc::Global;
 use std::process::Abort;
 

@@ -1,6 +1,6 @@
-//! Reading frames, and what a setup refuses. What events come to is tested in `cluster_examples`.
+//! Reading frames, and what a setup refuses.
 
-use super::*;
+use cluster_core::{Cause, Packet, Setup, SetupFault, read_packet};
 use five_tuple::Flow;
 use hash_laws::SumHash;
 use ip_headers::Link;

@@ -1,0 +1,5 @@
+//! Tests of captures and devices.
+#![tactic(auto)]
+
+#[cfg(test)]
+mod tests;

@@ -1,0 +1,5 @@
+//! Tests of names, sizes, permutations and population.
+#![tactic(auto)]
+
+#[cfg(test)]
+mod tests;

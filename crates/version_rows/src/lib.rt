@@ -1,0 +1,5 @@
+//! Tests of the catalogue of versions.
+#![tactic(auto)]
+
+#[cfg(test)]
+mod tests;
