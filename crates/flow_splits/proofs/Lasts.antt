@@ -7,6 +7,7 @@ use Rattle.five_tuple.specs.declared.Flow.{Flow}
 use Rattle.connection_table.specs.Touches.{same_flow}
 use Rattle.connection_table.proofs.Standing.{same_flow-true}
 use Rattle.pool_versions.specs.declared.backend.Backend.{Backend}
+use Rattle.flow_splits.specs.declared.backends.Backends.{Backends}
 use Rattle.flow_splits.specs.declared.last_sends.FlowKey.{FlowKey}
 use Rattle.flow_splits.specs.declared.last_sends.LastSend.{LastSend}
 use Rattle.flow_splits.specs.declared.last_sends.LastSends.{LastSends}
@@ -55,3 +56,32 @@ last_more sent old new l later h k at number version origin put = record { each 
         ap (λ (o : Option LastSend). option_map (λ s. told new.backends.all.items x s) o)
         (put (record { flow = x }) ∙ ap (λ (c : Bool). cond c (Some l) (get same_key old.sends (record { flow = x }))) is)
         ∙ told_yet old.backends.all.items new.backends.all.items k x (get same_key old.sends (record { flow = x })) (sent x) (h.each x)
+
+-- a map that was written its own value has the same values
+same_value : (o : Option LastSend) (p : Option LastSend) (l : LastSend) (b : Bool) → (b ≡ true → p ≡ Some l) → o ≡ cond b (Some l) p → o ≡ p
+same_value o p l true is e = e ∙ sym (is refl)
+same_value o p l false is e = e
+
+pub kept_yet : (sent : Flow → Option Sending) (old new : LastSends) (flow : Flow) (l : LastSend) → AreLast sent old → new.backends ≡ old.backends
+    → get same_key old.sends (record { flow = flow }) ≡ Some l
+    → ((q : FlowKey) → get same_key new.sends q ≡ cond (same_key (record { flow = flow }) q) (Some l) (get same_key old.sends q)) → AreLast sent new
+kept_yet sent old new flow l h same found put = record {
+  each = λ x.
+      ap (λ (bs : Backends). option_map (λ s. told bs.all.items x s) (get same_key new.sends (record { flow = x }))) same
+      ∙ ap (λ (o : Option LastSend). option_map (λ s. told old.backends.all.items x s) o)
+      (same_value (get same_key new.sends (record { flow = x })) (get same_key old.sends (record { flow = x })) l (same_flow flow x)
+      (λ e. subst (λ (y : Flow). get same_key old.sends (record { flow = y }) ≡ Some l) (same_flow-true flow x e) found) (put (record { flow = x })))
+      ∙ h.each x;
+}
+
+-- the flow's last send, where its entry has this backend
+pub first_is : (sent : Flow → Option Sending) (old : LastSends) (flow : Flow) (l : LastSend) (b : Backend) → AreLast sent old → get same_key old.sends (record { flow = flow }) ≡ Some l
+    → slice_get old.backends.all.items l.place ≡ Some b → sent flow ≡ Some (record { number = l.number; flow = flow; version = l.version; backend = b; origin = l.origin })
+first_is sent old flow l b h found at = go (sent flow) (sym (h.each flow) ∙ ap (λ (o : Option LastSend). option_map (λ s. told old.backends.all.items flow s) o) found ∙ ap (λ (o : Option Backend). Some (option_map made o)) at)
+  where
+    made : Backend → Sending
+    made b = record { number = l.number; flow = flow; version = l.version; backend = b; origin = l.origin }
+
+    go : (o : Option Sending) → option_map Some o ≡ Some (Some (made b)) → o ≡ Some (made b)
+    go None e = absurd cc
+    go (Some s) e = same_Some (Some s) (Some (made b)) e

@@ -1,5 +1,5 @@
 -- A book of each flow's last send, and of the splits so far, is that of a record.
-use Rattle.std.specs.Prelude.{◌≡◌, ℕ, Bool, List, length, Option, Some, option_map, slice_get}
+use Rattle.std.specs.Prelude.{◌≡◌, ℕ, Bool, true, false, List, length, Option, Some, option_map, slice_get, if◌then◌else◌}
 use Rattle.std.specs.HashMap.{get, hash_map_len}
 use Rattle.five_tuple.specs.declared.Flow.{Flow}
 use Rattle.connection_table.specs.Touches.{same_flow}
@@ -26,6 +26,16 @@ told backends x l = option_map (λ b. record { number = l.number; flow = x; vers
 -- each flow's entry stands for its last send, and the others have none
 pub record AreLast (sent : Flow → Option Sending) (l : LastSends) : Type 0 where
   pub each : (x : Flow) → option_map (λ s. told l.backends.all.items x s) (get same_key l.sends (record { flow = x })) ≡ option_map Some (sent x)
+
+-- these sends with one that is its flow's last
+abbrev pub with_send : (Flow → Option Sending) → Sending → Flow → Option Sending
+with_send sent later x = if same_flow later.flow x then Some later else sent x
+
+-- Where the flow's last send went to the same backend the later one has taken its place. Else nothing has changed.
+abbrev pub RenewedAs : Bool → (Flow → Option Sending) → Sending → LastSends → LastSends → Type 0
+RenewedAs true sent later old new =
+    (first : Sending) × (sent later.flow ≡ Some first) × (first.backend ≡ later.backend) × AreLast (with_send sent later) new × (hash_map_len new.sends ≡ hash_map_len old.sends)
+RenewedAs false sent later old new = AreLast sent new × (hash_map_len new.sends ≡ hash_map_len old.sends)
 
 pub record IsBookOf (past : List Said) (b : SplitBook) : Type 0 where
   pub number : b.number ≡ length past

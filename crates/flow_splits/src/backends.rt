@@ -34,8 +34,8 @@ impl Backends {
         self.all.get(place)
     }
 
-    // Whether a place is this backend's.
-    fn is_at(&self, place: usize, backend: &Backend) -> bool
+    /// Whether a place is this backend's.
+    pub(crate) fn is_at(&self, place: usize, backend: &Backend) -> bool
         ensures { result ≡ true → slice_get self.now.all.items place ≡ Some backend.now }
     {
         match self.at(place) {

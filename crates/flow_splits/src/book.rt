@@ -8,7 +8,7 @@ ghost use Rattle.cluster_node.specs.declared.packets.Packet.{Packet};
 ghost use Rattle.selection.specs.Readied.{same_backend};
 ghost use Rattle.flow_splits.specs.declared.sending.Sending.{Sending};
 ghost use Rattle.flow_splits.specs.Splits.{split_after, splits_of, flows_of, said_of};
-ghost use Rattle.flow_splits.specs.Books.{AreLast};
+ghost use Rattle.flow_splits.specs.Books.{with_send, AreLast};
 
 use crate::last_sends::LastSends;
 use crate::sending::{Sending, Split, sent_by};
@@ -70,11 +70,14 @@ impl SplitBook {
 
     // A send is its flow's last.
     fn send(&mut self, later: &Sending) -> Result<(), AllocError>
-        ensures last { (sent : Flow → Option Sending) → AreLast sent self.old.last → OnOk result (AreLast (λ x. if same_flow later.now.flow x then Some later.now else sent x) self.new.last) }
+        ensures last { (sent : Flow → Option Sending) → AreLast sent self.old.last → OnOk result (AreLast (with_send sent later.now) self.new.last) }
         ensures flows { (sent : Flow → Option Sending) → AreLast sent self.old.last → OnOk result (hash_map_len self.new.last.sends ≡ hash_map_len self.old.last.sends + (if is_some (sent later.now.flow) then 0 else 1)) }
         ensures splits { (sent : Flow → Option Sending) → AreLast sent self.old.last → OnOk result (self.new.splits.items ≡ self.old.splits.items ++ split_after (sent later.now.flow) later.now) }
         ensures number { self.new.number ≡ self.old.number }
     {
+        if self.last.renew(later) {
+            return Ok(());
+        }
         match self.last.put(later)? {
             None => Ok(()),
             Some(first) => self.compare(&first, later),

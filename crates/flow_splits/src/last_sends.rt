@@ -5,7 +5,7 @@ ghost use Rattle.five_tuple.specs.declared.Flow.{Flow};
 ghost use Rattle.five_tuple.specs.Flow.{flow_bytes};
 ghost use Rattle.connection_table.specs.Touches.{same_flow};
 ghost use Rattle.flow_splits.specs.declared.sending.Sending.{Sending};
-ghost use Rattle.flow_splits.specs.Books.{told, AreLast};
+ghost use Rattle.flow_splits.specs.Books.{told, with_send, AreLast, RenewedAs};
 
 use crate::backends::Backends;
 use crate::sending::Sending;
@@ -83,10 +83,30 @@ impl LastSends {
         })
     }
 
+    /// Takes a send as its flow's last where the one before it went to the same backend, by one look into the map. Whether it did.
+    pub(crate) fn renew(&mut self, later: &Sending) -> bool
+        ensures { (sent : Flow → Option Sending) → AreLast sent self.old → RenewedAs result sent later.now self.old self.new }
+    {
+        let Some(last) = self.sends.get_mut(&FlowKey { flow: later.flow }) else {
+            return false;
+        };
+        let place = last.place;
+        if !self.backends.is_at(place, &later.backend) {
+            return false;
+        }
+        *last = LastSend {
+            number: later.number,
+            place,
+            version: later.version,
+            origin: later.origin,
+        };
+        true
+    }
+
     /// A send is its flow's last. The answer is the one before it. Where memory is refused nothing more is known of these.
     pub(crate) fn put(&mut self, later: &Sending) -> Result<Option<Sending>, AllocError>
         ensures first { (sent : Flow → Option Sending) → AreLast sent self.old → IfOk result (λ first. first ≡ sent later.now.flow) }
-        ensures last { (sent : Flow → Option Sending) → AreLast sent self.old → OnOk result (AreLast (λ x. if same_flow later.now.flow x then Some later.now else sent x) self.new) }
+        ensures last { (sent : Flow → Option Sending) → AreLast sent self.old → OnOk result (AreLast (with_send sent later.now) self.new) }
         ensures flows { (sent : Flow → Option Sending) → AreLast sent self.old → OnOk result (hash_map_len self.new.sends ≡ hash_map_len self.old.sends + (if is_some (sent later.now.flow) then 0 else 1)) }
     {
         let key = FlowKey { flow: later.flow };
