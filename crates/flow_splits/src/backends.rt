@@ -71,20 +71,11 @@ impl Backends {
         Ok(place)
     }
 
-    /// The place of a backend, where it may be at this one: a new place where it has none.
-    pub(crate) fn place_of(
-        &mut self,
-        near: Option<usize>,
-        backend: &Backend,
-    ) -> Result<usize, AllocError>
+    /// The place of a backend: a new one where it has none.
+    pub(crate) fn place_of(&mut self, backend: &Backend) -> Result<usize, AllocError>
         ensures place { IfOk result (λ place. slice_get self.new.all.items place ≡ Some backend.now) }
         ensures others { OnOk result (Keeps self.old.all.items self.new.all.items) }
     {
-        if let Some(place) = near {
-            if self.is_at(place, backend) {
-                return Ok(place);
-            }
-        }
         match self.find(backend) {
             Some(place) => Ok(place),
             None => self.push(backend),

@@ -112,9 +112,7 @@ impl LastSends {
         let key = FlowKey { flow: later.flow };
         let last = self.sends.get(&key).copied();
         let first = last.and_then(|last| self.told(&later.flow, &last));
-        let place = self
-            .backends
-            .place_of(last.map(|last| last.place), &later.backend)?;
+        let place = self.backends.place_of(&later.backend)?;
         let send = LastSend {
             number: later.number,
             place,
