@@ -4,11 +4,10 @@ in a mixed order that is the same each time. The packets are those of examples/m
 clients, an address and a port a line, in place of those that are made up.
 """
 import pathlib
-import struct
 import sys
 
 sys.path.insert(0, str(pathlib.Path(__file__).resolve().parent.parent / "examples"))
-from make_capture import frame  # noqa: E402
+from make_capture import frame, write  # noqa: E402
 
 
 def client(number):
@@ -27,11 +26,7 @@ def main():
     packets, flows = int(sys.argv[2]), int(sys.argv[3])
     clients = clients_of(sys.argv[4]) if len(sys.argv) > 4 else map(client, range(flows))
     frames = [frame(one, 80, 0) for one in clients]
-    with open(sys.argv[1], "wb") as out:
-        out.write(struct.pack("<IHHiIII", 0xA1B2C3D4, 2, 4, 0, 0, 65535, 1))
-        for at in range(packets):
-            data = frames[at * 7919 % flows]
-            out.write(struct.pack("<IIII", 1000 + at // 1_000_000, at % 1_000_000, len(data), len(data)) + data)
+    write(sys.argv[1], ((1_000_000_000 + at, frames[at * 7919 % flows]) for at in range(packets)))
 
 
 main()

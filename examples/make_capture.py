@@ -2,7 +2,8 @@
 """Writes the capture of the example: make_capture.py OUT.
 
 Ten Ethernet frames of three clients, a tenth of a second apart. Each line of FRAMES is a client's address and port, and the
-port of 192.0.2.1 that it talks to; the n-th frame goes to the balancers by turn.
+port of 192.0.2.1 that it talks to; the n-th frame goes to the balancers by turn. The captures of the other examples are made
+and written by `frame` and `write` too.
 """
 import struct
 import sys
@@ -42,13 +43,22 @@ def frame(client, port, number):
     return bytes.fromhex("020000000009 020000000001 0800") + head + segment
 
 
-def main():
-    with open(sys.argv[1], "wb") as out:
+def write(path, frames):
+    """Writes a capture of Ethernet frames, each with its time in microseconds."""
+    with open(path, "wb") as out:
         out.write(struct.pack("<IHHIIII", 0xA1B2C3D4, 2, 4, 0, 0, 65535, 1))
-        for number, (client, port) in enumerate(FRAMES):
-            data = frame(client, port, number)
-            out.write(struct.pack("<4I", 1700000000 + number // 10, number % 10 * 100000, len(data), len(data)) + data)
+        for at, data in frames:
+            out.write(struct.pack("<4I", *divmod(at, 1_000_000), len(data), len(data)) + data)
+
+
+# When the captures begin, in microseconds.
+START = 1_700_000_000_000_000
+
+
+def frames():
+    for number, (client, port) in enumerate(FRAMES):
+        yield START + number * 100_000, frame(client, port, number)
 
 
 if __name__ == "__main__":
-    main()
+    write(sys.argv[1], frames())

@@ -5,11 +5,10 @@
 parts, and behind it. In each round the clients come in an order of their own, as they do.
 """
 import pathlib
-import struct
 import sys
 
 sys.path.insert(0, str(pathlib.Path(__file__).resolve().parent))
-from make_capture import frame
+from make_capture import START, frame, write
 
 CLIENTS = 240
 ROUNDS = 5
@@ -20,17 +19,13 @@ def client(number):
     return f"198.51.{100 + number % 4}.{1 + number * 7 % 250}", 32768 + number * 97 % 28000
 
 
-def main():
-    with open(sys.argv[1], "wb") as out:
-        out.write(struct.pack("<IHHIIII", 0xA1B2C3D4, 2, 4, 0, 0, 65535, 1))
-        for turn in range(ROUNDS):
-            for place in range(CLIENTS):
-                # Steps prime to the number of clients, so that each comes once a round.
-                number = place * (1, 7, 11, 13, 17)[turn] % CLIENTS
-                data = frame(client(number), 80, turn * CLIENTS + place)
-                at = 1700000000 + turn, place * 4000
-                out.write(struct.pack("<4I", *at, len(data), len(data)) + data)
+def frames():
+    for turn in range(ROUNDS):
+        for place in range(CLIENTS):
+            # Steps prime to the number of clients, so that each comes once a round.
+            number = place * (1, 7, 11, 13, 17)[turn] % CLIENTS
+            yield START + turn * 1_000_000 + place * 4000, frame(client(number), 80, turn * CLIENTS + place)
 
 
 if __name__ == "__main__":
-    main()
+    write(sys.argv[1], frames())

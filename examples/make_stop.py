@@ -5,11 +5,10 @@
 each client.
 """
 import pathlib
-import struct
 import sys
 
 sys.path.insert(0, str(pathlib.Path(__file__).resolve().parent))
-from make_capture import frame
+from make_capture import START, frame, write
 
 CLIENTS = 100
 FRAMES = 2000
@@ -20,14 +19,11 @@ def client(number):
     return f"203.0.113.{1 + number}", 40000 + number * 89 % 20000
 
 
-def main():
-    with open(sys.argv[1], "wb") as out:
-        out.write(struct.pack("<IHHIIII", 0xA1B2C3D4, 2, 4, 0, 0, 65535, 1))
-        for place in range(FRAMES):
-            # Seven is prime to the number of clients, so that each comes once in a hundred.
-            data = frame(client(place * 7 % CLIENTS), 80, place)
-            out.write(struct.pack("<4I", 1700000000, place, len(data), len(data)) + data)
+def frames():
+    for place in range(FRAMES):
+        # Seven is prime to the number of clients, so that each comes once in a hundred.
+        yield START + place, frame(client(place * 7 % CLIENTS), 80, place)
 
 
 if __name__ == "__main__":
-    main()
+    write(sys.argv[1], frames())

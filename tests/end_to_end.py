@@ -205,15 +205,32 @@ def scenario(steps, versions=(ALL, B_DOWN), scheme="maglev", workers=1, more="")
     return text
 
 
-def record(data):
-    """A record at 1 second and 999,999,999 nanoseconds."""
-    return struct.pack(">4I", 1, 999999999, len(data), len(data)) + data
+def record(data, seconds=1, nanoseconds=999999999):
+    """A record at a time."""
+    return struct.pack(">4I", seconds, nanoseconds, len(data), len(data)) + data
+
+
+def packet(letter):
+    """y, z and x are the flows from ports 1000, 1001 and 1006; w is one to a port that no service has."""
+    if letter == "w":
+        return P[:23] + b"\x51" + P[24:]
+    ports = {"y": 0xE8, "z": 0xE9, "x": 0xEE}
+    return P[:21] + bytes([ports[letter]]) + P[22:]
 
 
 def capture(letters):
-    """A packet for each letter: y, z and x are the flows from ports 1000, 1001 and 1006."""
-    ports = {"y": 0xE8, "z": 0xE9, "x": 0xEE}
-    return HEAD + b"".join(record(P[:21] + bytes([ports[letter]]) + P[22:]) for letter in letters)
+    """A packet for each letter."""
+    return HEAD + b"".join(record(packet(letter)) for letter in letters)
+
+
+def timed(letters, seconds):
+    """A packet for each letter, at these seconds."""
+    return HEAD + b"".join(record(packet(letter), second, 0) for letter, second in zip(letters, seconds))
+
+
+def limited(text, idle):
+    """A scenario with an idle limit in microseconds."""
+    return text.replace("format = 1", f"format = 2\nidle = {idle}")
 
 
 def report(packets, forwarded, received=None, lost=0, unrouted=0, skipped=0, left=0, cut="no", drops="", waiting=0, refused=0):
@@ -254,7 +271,12 @@ def simulates(name, text, data, expected, output=None, words=()):
 
 def lists(name, text, letters, forwards):
     """The events of `--list` whose outcome is a forward or a drop have these outcomes, by their numbers."""
-    status, out, err, _ = simulated(text, capture(letters), ["--list"])
+    lists_of(name, text, capture(letters), forwards)
+
+
+def lists_of(name, text, data, forwards):
+    """The same for a capture."""
+    status, out, err, _ = simulated(text, data, ["--list"])
     lines = [line.split(" ", 1) for line in out.decode().split("packets ")[0].splitlines()]
     found = {int(place): line.split(": ")[1] for place, line in lines if ": forward" in line or ": drop" in line}
     check(name, (status, err) == (0, b"") and found == forwards, f"{status} {found} {err!r}")
@@ -269,8 +291,13 @@ def stops(name, text, data, fault, output, words=()):
 
 def explains(name, text, letters, one, other, line):
     """`explain` prints this line."""
+    explains_of(name, text, capture(letters), one, other, line)
+
+
+def explains_of(name, text, data, one, other, line):
+    """The same for a capture."""
     words = ["explain", "s.toml", "in.pcap", str(one), str(other)]
-    status, out, err = with_files(text, capture(letters), lambda folder: run(words, cwd=folder))
+    status, out, err = with_files(text, data, lambda folder: run(words, cwd=folder))
     check(name, (status, out, err) == (0, (line + "\n").encode(), b""), f"{status} {out!r} {err!r}")
 
 
@@ -316,6 +343,48 @@ def test_simulate_rows():
     text = scenario(["install 0 1", "install 1 1", "take 3"], scheme="round")
     lists("round robin", text, "yxx", {3: a1, 5: a1, 7: "forward B@10.8.0.2 from 1"})
     explains("round robin splits", text, "yxx", 7, 5, "split slot 5 version 1 B@10.8.0.2 version 1 A@10.8.0.1")
+
+
+def test_idle():
+    """Entries that no packet touched for too long. A limit of 5 seconds, where nothing else is said."""
+    a1, a2, c2 = "forward A@10.8.0.1 from 1", "forward A@10.8.0.1 from 2", "forward C@10.8.0.3 from 2"
+    text = limited(scenario(["live 0", "install 0 1", "take 1", "install 0 2", "take 3"]), 5_000_000)
+    back = timed("xxxx", [10, 15, 21, 3])
+    lists_of("idle: at the limit, past it, and a clock that steps back", text, back, {2: a1, 5: a1, 7: c2, 9: c2})
+    explains_of("idle: why it changed", text, back, 5, 7, "split slot 5 version 1 A@10.8.0.1 version 2 C@10.8.0.3")
+    text = limited(scenario(["live 0", "install 0 1", "take 1", "install 0 2", "take 2"]), 5_000_000)
+    lists_of("idle: another flow moves the clock", text, timed("xyx", [10, 30, 12]), {2: a1, 5: a2, 7: c2})
+    lists_of("idle: a drop moves the clock", text, timed("xwx", [0, 10, 3]), {2: a1, 5: "drop NoService", 7: c2})
+    nobody = [member + "/down" for member in ALL]
+    text = limited(scenario(["live 0", "install 0 1", "take 1", "install 0 2", "take 1", "install 0 3", "take 1"], [ALL, nobody, B_DOWN]), 5_000_000)
+    for last, later in [(9, a1), (10, "forward C@10.8.0.3 from 3")]:
+        lists_of(f"idle: a drop touches an entry that stands, second {last}", text, timed("xxx", [0, 4, last]), {2: a1, 5: "drop NoBackend", 8: later})
+    steps = ["live 0", "install 0 1", "take 2", "install 0 3", "take 1", "install 0 4", "take 2"]
+    text, data = scenario(steps, [ALL, B_DOWN, nobody, B_DOWN]), timed("xyxzy", [0, 5, 6, 6, 6])
+    expected = {2: a1, 4: a1, 7: "drop NoBackend", 10: "forward A@10.8.0.1 from 4", 12: a1}
+    lists_of("idle: a past entry keeps its place", limited(text, 5_000_000), data, expected)
+    lists_of("the same without a limit", text, data, {**expected, 12: "forward A@10.8.0.1 from 4"})
+    steps = ["live 0", "install 0 1", "take 1", "restart 0", "take 1", "install 0 2", "take 1"]
+    text = limited(scenario(steps), 5_000_000)
+    lists_of("idle: a restart ends the clock", text, timed("yxx", [100, 10, 16]), {2: a1, 5: a1, 8: c2})
+    text = limited(scenario(["live 0", "install 0 1", "take 1", "install 0 2", "lose 1", "again 0"]), 5_000_000)
+    lists_of("idle: a repeat has its record's own time", text, timed("xx", [0, 100]), {2: a1, 5: a1})
+    apart = scenario(["live 0", "install 0 1", "take 1", "install 0 2", "take 1"])
+    for limit, later in [(999_999, c2), (1_000_000, a1), (4_294_967_295_000_000, a1)]:
+        lists_of(f"idle: a limit of {limit}", limited(apart, limit), timed("xx", [1, 2]), {2: a1, 5: later})
+    # From the first to the last time that a record can say.
+    for nanoseconds, later in [(999, a1), (1000, c2), (2**32 - 1, c2)]:
+        ends = HEAD + record(packet("x"), 0, 0) + record(packet("x"), 2**32 - 1, nanoseconds)
+        lists_of(f"idle: the greatest limit and {nanoseconds} ns", limited(apart, 4_294_967_295_000_000), ends, {2: a1, 5: later})
+    # Nanoseconds are cut off: one microsecond passes.
+    close = HEAD + record(packet("x"), 1, 999_999_999) + record(packet("x"), 2, 999)
+    for limit, later in [(0, c2), (1, a1)]:
+        lists_of(f"idle: a limit of {limit} and a microsecond", limited(apart, limit), close, {2: a1, 5: later})
+    for name, verb in [("simulated", simulates), ("on threads", runs)]:
+        verb(f"no time passes within a capture of one time, {name}", limited(scenario(["install 0 1", "take 4"]), 0), capture("xyxy"), report(4, 2, drops="drop NoVersion 2\n"))
+    stops("idle in format 1", apart.replace("format = 1", "format = 1\nidle = 5"), HEAD, "BadKey", None)
+    for value in ["-1", "4294967295000001", "5.0", '"5"']:
+        stops(f"idle = {value}", limited(apart, value), HEAD, "BadKey", None)
 
 
 def told(port, events, slot, one, other, cause):
@@ -590,6 +659,8 @@ def test_run_rows():
         later = sorted(sent[4:])
         b_first, a_first = (sorted([sent_to(2, 1000, 1), sent_to(2, 1001, one), *[sent_to(2, 1001, 1)] * 2]) for one in (2, 1))
         check("node 1 sends y once and z three times", later in (b_first, a_first), repr(sent))
+    for _ in range(5):
+        runs("the same with a limit of no time", limited(text, 0), capture("yzyzyzyz"), report(8, 8, lost=1))
     text = text.replace("restart 0", "stop 0")
     for _ in range(20):
         stops_in_traffic("two nodes with a stop", text, capture("yzyzyzyz"))
@@ -718,6 +789,9 @@ def test_verbose_of_a_scenario():
         ("another format", good.replace("format = 1", "format = 3"), "BadFormat", "format, line 1: found 3, expected the number 1 or 2\n"),
         ("a weight in format 1", good.replace("10.8.0.1", "10.8.0.1*2", 1), "BadMember", f'{service}.members[0], line 16: found "A@10.8.0.1*2", expected NAME@ADDRESS or'),
         ("an unknown key", "color = 1\n" + good, "BadKey", f"color, line 1: found 1, expected no key but {root}\n"),
+        ("idle in format 1", good.replace("size = 7", "size = 7\nidle = 5"), "BadKey", f"idle, line 3: found 5, expected no key but {root}\n"),
+        ("idle", limited(good, -1), "BadKey", "idle, line 2: found -1, expected a number from 0 to 4294967295000000\n"),
+        ("an unknown key in format 2", limited(good, 5).replace("idle", "idel"), "BadKey", f"idel, line 2: found 5, expected no key but {root.replace('check', 'check, idle')}\n"),
         ("a missing key", good.replace("capacity = 2\n", ""), "BadKey", "capacity is missing, expected a number from 1 to 1000000\n"),
         ("a size", good.replace("size = 7", "size = 8"), "BadKey", "size, line 2: found 8, expected 7, 13, 251, 1021, 8191 or 65537\n"),
         ("a node", good.replace("9.0.2", "9.0.02"), "BadKey", 'nodes[1], line 6: found "10.9.0.02", expected an address, as "10.9.0.1"\n'),
@@ -772,10 +846,19 @@ def test_verbose_of_files():
     says("a full disk", good, HEAD + record(P), "Write", f"/dev/full: {os.strerror(errno.ENOSPC)}", ("simulate", "s.toml", "in.pcap", "/dev/full"))
 
 
-def random_capture(source):
-    """A capture of datagrams of a few flows, some of which are spoiled."""
+def passing(source, limit):
+    """Times without end, in seconds and nanoseconds: between two of them there pass nothing, about this many microseconds, or
+    some less; at times the clock steps back."""
+    at = 1_000_000_000
+    while True:
+        at += source.choice([0, 0, limit // 2, limit // 2, limit, limit + 1, -1, -limit])
+        yield divmod(1000 * at + source.randrange(1000), 1_000_000_000)
+
+
+def random_capture(source, times=None, most=60):
+    """A capture of less than `most` datagrams of a few flows, some of which are spoiled; at these times, or all at one."""
     packets = []
-    for _ in range(source.randrange(60)):
+    for _ in range(source.randrange(most)):
         if source.random() < 0.3:
             packet = bytearray.fromhex(UDP)
         else:
@@ -783,7 +866,8 @@ def random_capture(source):
         packet[21] = source.choice([0xE8, 0xE9, 0xEC, 0xEE, 0xF0])
         if source.random() < 0.2:
             packet[source.randrange(len(packet))] ^= 1 << source.randrange(8)
-        packets.append(record(bytes(packet[: source.choice([60, 60, 60, source.randrange(61)])])))
+        frame = bytes(packet[: source.choice([60, 60, 60, source.randrange(61)])])
+        packets.append(record(frame, *next(times)) if times else record(frame))
     data = HEAD + b"".join(packets)
     return data[: len(data) - source.choice([0, 0, 1, 17])] if packets else data
 
@@ -807,14 +891,27 @@ def random_steps(source, nodes, workers):
     return steps
 
 
-def random_scenario(source, weights=("",), steps_of=random_steps):
+def steps_by_versions(source, nodes, _workers):
+    """Steps in which one version after another comes to the nodes between their packets."""
+    newest = [1] * nodes
+    steps = [f"install {node} 1" for node in range(nodes)]
+    for _ in range(60):
+        node = source.randrange(nodes)
+        kind = source.choice(["take"] * 6 + ["install"] * 4 + ["again", "restart", "hold", "drain"])
+        newest[node] += kind == "install"
+        words = {"take": source.randrange(1, 5), "again": source.randrange(100), "install": f"{node} {newest[node]}"}
+        steps.append(f"{kind} {words.get(kind, node)}")
+    return steps
+
+
+def random_scenario(source, weights=("",), steps_of=random_steps, versions=4):
     """A scenario with all that a scenario may have; of format 2 where weights are given."""
     nodes, workers = source.randrange(1, 4), source.randrange(1, 5)
     text = f'format = {1 if weights == ("",) else 2}\nsize = {source.choice([7, 13, 251])}\nhash = "{source.choice(["fnv", "sha256", "sum"])}"\n'
     text += f'scheme = "{source.choice(["maglev", "maglev", "plain", "round"])}"\nspread = "{source.choice(["hash", "turn"])}"\n'
     text += f"workers = {workers}\ncapacity = {source.randrange(1, 5)}\ncheck = {source.choice(['true', 'false'])}\n"
     text += f"nodes = {listed([f'10.9.0.{node}' for node in range(nodes)])}\nsteps = {listed(steps_of(source, nodes, workers))}\n"
-    for number in range(1, 5):
+    for number in range(1, versions + 1):
         text += f"[[versions]]\nnumber = {number}\nservices = ["
         for proto, port in [("tcp", 80), ("udp", 53)]:
             if source.random() < 0.9:
@@ -875,6 +972,22 @@ def test_weights_against_the_model():
         simulates(f"scenario {seed} in format 2", text.replace("format = 1", "format = 2"), data, whole, expected.output(), ["--list"])
 
 
+def test_idle_against_the_model():
+    """The same of scenarios with an idle limit, over captures whose clock goes on and steps back, simulated and on threads."""
+    for seed in range(90):
+        source = random.Random(3000 + seed)
+        limit = source.choice([0, 1, 500_000, 1_000_000, 3_000_000, 5_000_000])
+        steps_of = source.choice([steps_by_versions, steps_by_versions, steps_by_lives])
+        text = random_scenario(source, ("", "*2"), steps_of, 20).replace("format = 2", f"format = 2\nidle = {limit}")
+        data = random_capture(source, passing(source, limit), 120)
+        expected = model.Run(text, data)
+        whole = expected.listing() + expected.report()
+        simulates(f"idle scenario {seed} of the model", text, data, whole, expected.output(), ["--list"])
+        if steps_of is steps_by_lives:
+            split = expected.on_threads().splits() + expected.report()
+            runs(f"the splits of idle scenario {seed}, on threads", text, data, split, words=["--splits"])
+
+
 def commands_of(page):
     """The commands of a page, as words, each with the lines that it prints."""
     found = []
@@ -887,39 +1000,61 @@ def commands_of(page):
     return [(words, "".join(line + "\n" for line in lines)) for words, lines in found]
 
 
+EXAMPLES = TOP / "examples"
+
+
+def example(name, capture):
+    """An example's scenario and capture, and what the model says of them."""
+    text, data = (EXAMPLES / f"{name}.toml").read_text(), (EXAMPLES / f"{capture}.pcap").read_bytes()
+    return text, data, model.Run(text, data)
+
+
+def is_made(capture, script):
+    """An example's capture is what its script writes."""
+    with tempfile.TemporaryDirectory() as folder:
+        made = pathlib.Path(folder) / "made.pcap"
+        subprocess.run([sys.executable, str(EXAMPLES / script), str(made)], check=True)
+        check(f"{script} writes {capture}.pcap", made.read_bytes() == (EXAMPLES / f"{capture}.pcap").read_bytes())
+
+
 def test_examples():
     """Each command of the examples' page prints what stands there, which is what the model says."""
-    folder = TOP / "examples"
-    data = (folder / "failover.pcap").read_bytes()
-    runs = {f"{name}.toml": model.Run((folder / f"{name}.toml").read_text(), data) for name in ["failover", "larger"]}
-    commands = commands_of((folder / "README.md").read_text())
-    stops = [one for one in commands if "examples/stop.toml" in one[0]]
-    commands = [one for one in commands if one not in stops]
-    kinds = ["simulate"] + ["explain"] * 4 + ["run", "simulate", "explain", "explain"]
+    captures = {"failover": "failover", "larger": "failover", "idle": "idle"}
+    runs = {f"examples/{name}.toml": example(name, capture)[2] for name, capture in captures.items()}
+    commands = [one for one in commands_of((EXAMPLES / "README.md").read_text()) if runs.keys() & set(one[0]) and one[0][0] != "grep"]
+    kinds = ["simulate"] + ["explain"] * 4 + ["run", "simulate", "explain", "explain", "simulate", "explain", "explain", "simulate"]
     check("the examples' commands", [words[1] for words, _ in commands] == kinds, repr(commands))
     with tempfile.TemporaryDirectory() as made:
         for (_, command, *words), printed in commands:
             out = pathlib.Path(made) / "sent.pcap"
-            expected = next(run for name, run in runs.items() if f"examples/{name}" in words)
+            expected = next(run for name, run in runs.items() if name in words)
             prints(f"{command} of the examples", [command, *(str(out) if word == out.name else word for word in words)], printed)
             if command == "simulate":
-                check("the examples' listing and report", printed == expected.listing() + expected.report(), printed)
+                lines = expected.splits() if "--splits" in words else expected.listing()
+                check("the examples' lines and report", printed == lines + expected.report(), printed)
                 check("what the example sends", out.read_bytes() == expected.output())
             elif command == "run":
                 check("the example's report on threads", printed == expected.report() + "audit agrees\n", printed)
             else:
                 check("an example explained", printed == expected.explained(int(words[-2]), int(words[-1])), printed)
-        other = pathlib.Path(made) / "in.pcap"
-        subprocess.run([sys.executable, str(folder / "make_capture.py"), str(other)], check=True)
-        check("the example's capture", other.read_bytes() == data)
+    is_made("failover", "make_capture.py")
+    is_made("idle", "make_idle.py")
+
+
+def test_without_a_limit():
+    """What the examples' page shows of the idle connections without a limit."""
+    text, data, _ = example("idle", "idle")
+    text = "".join(line for line in text.splitlines(True) if not line.startswith("idle"))
+    expected = model.Run(text, data)
+    simulates("no limit", text, data, expected.splits() + expected.report(), expected.output(), ["--splits"])
+    ((_, shown),) = [one for one in commands_of((EXAMPLES / "README.md").read_text()) if one[0][0] == "grep"]
+    check("no limit on the page", shown == expected.splits() and shown.count("\n") == 4, shown)
 
 
 def test_stop():
     """A balancer stops in full traffic: what the examples' page shows is printed, and the rest is judged by the model."""
-    folder = TOP / "examples"
-    text, data = (folder / "stop.toml").read_text(), (folder / "stop.pcap").read_bytes()
-    expected = model.Run(text, data)
-    (_, shown), (_, refused) = [one for one in commands_of((folder / "README.md").read_text()) if "examples/stop.toml" in one[0]]
+    text, data, expected = example("stop", "stop")
+    (_, shown), (_, refused) = [one for one in commands_of((EXAMPLES / "README.md").read_text()) if "examples/stop.toml" in one[0]]
     for turn in range(10):
         status, out, err, made = ran(text, data)
         lines = out.decode().splitlines(True)
@@ -929,19 +1064,14 @@ def test_stop():
         check(f"stop {turn}: its counts", sum(counts) == 2000 and counts[0] >= 1510, repr(schedule))
         check(f"stop {turn}: what is sent", list(soak_run.faults_of(expected, out.decode(), made)) == [])
     stops("simulate of a stop", text, data, refused.removeprefix("fault: ").strip(), None)
-    with tempfile.TemporaryDirectory() as made:
-        other = pathlib.Path(made) / "in.pcap"
-        subprocess.run([sys.executable, str(folder / "make_stop.py"), str(other)], check=True)
-        check("the capture of the stop", other.read_bytes() == data)
+    is_made("stop", "make_stop.py")
 
 
 def test_rolling():
     """What the page of the rolling change shows is printed, which is what the model says; the picture is drawn of it."""
-    folder = TOP / "examples"
-    text, data = (folder / "rolling.toml").read_text(), (folder / "rolling.pcap").read_bytes()
-    expected = model.Run(text, data)
+    text, data, expected = example("rolling", "rolling")
     simulates("the rolling change", text, data, expected.splits() + expected.report(), expected.output(), ["--splits"])
-    commands = commands_of((folder / "rolling.md").read_text())
+    commands = commands_of((EXAMPLES / "rolling.md").read_text())
     names = [words[1] for words, _ in commands]
     check("the commands of the rolling change", names == ["simulate", "explain", "simulate", "compare", "simulate", "examples/moves.py"], repr(names))
     check("its last lines", "".join((expected.splits() + expected.report()).splitlines(True)[-15:]) == commands[0][1], commands[0][1])
@@ -951,16 +1081,15 @@ def test_rolling():
     lines = expected.listing().splitlines(True)
     check("its two events", lines[one] + lines[other] == commands[2][1], commands[2][1])
     with tempfile.TemporaryDirectory() as made:
-        compared, split, picture, other = (pathlib.Path(made) / name for name in ("compared", "split", "moves.svg", "in.pcap"))
+        compared, split, picture = (pathlib.Path(made) / name for name in ("compared", "split", "moves.svg"))
         words = shlex.split(" ".join(commands[3][0][2:-2]))
         status, out, _ = run(["compare", *words])
         check("compare of the rolling change", status == 0 and out.startswith(b"size 1021 old 4 new 6 "), repr(out[:60]))
         compared.write_bytes(out)
         split.write_text(expected.splits() + expected.report())
-        subprocess.run([sys.executable, str(folder / "moves.py"), compared, split, "3", "4", picture], check=True)
-        check("the picture", picture.read_bytes() == (folder / "moves.svg").read_bytes())
-        subprocess.run([sys.executable, str(folder / "make_rolling.py"), str(other)], check=True)
-        check("the capture of the rolling change", other.read_bytes() == data)
+        subprocess.run([sys.executable, str(EXAMPLES / "moves.py"), compared, split, "3", "4", picture], check=True)
+        check("the picture", picture.read_bytes() == (EXAMPLES / "moves.svg").read_bytes())
+    is_made("rolling", "make_rolling.py")
 
 
 def test_by_tshark():

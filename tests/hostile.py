@@ -18,9 +18,10 @@ HEADER = bytes.fromhex("450000280000400040060000" + "0a000001" + "c0000201")
 P = HEADER[:10] + (65535 - model.folded(HEADER)).to_bytes(2, "big") + HEADER[12:]
 P += bytes.fromhex("03e80050" + "00000001" + "00000000" + "50022000" + "00000000")
 
-# Calls a program, and prints last how many kilobytes it took. A process of its own does so, since what a caller's took counts.
+# Calls a program, and prints last how many kilobytes and how many seconds of a processor it took. A process of its own does so,
+# since what a caller's took counts.
 MEASURE = "import resource, subprocess, sys; status = subprocess.run(sys.argv[1:]).returncode; "
-MEASURE += "print(resource.getrusage(resource.RUSAGE_CHILDREN).ru_maxrss); sys.exit(status)"
+MEASURE += "took = resource.getrusage(resource.RUSAGE_CHILDREN); print(took.ru_maxrss, took.ru_utime + took.ru_stime); sys.exit(status)"
 
 
 def scenario(steps=("install 0 1", "take 1"), **more):
@@ -37,10 +38,10 @@ def head(link=101, magic=0xA1B2C3D4, version=(2, 4), order="<"):
     return struct.pack(order + "IHHiIII", magic, *version, 0, 0, 65535, link)
 
 
-def record(data, length=None, original=None):
-    """A record, whose two lengths may lie."""
+def record(data, length=None, original=None, at=1_000_000):
+    """A record, whose two lengths may lie, at a time in microseconds."""
     length = len(data) if length is None else length
-    return struct.pack("<4I", 1, 0, length, length if original is None else original) + data
+    return struct.pack("<4I", *divmod(at, 1_000_000), length, length if original is None else original) + data
 
 
 def answered(text, data, command="simulate"):
@@ -54,6 +55,19 @@ def answered(text, data, command="simulate"):
         output = folder / "out.pcap"
         made = output.read_bytes() if output.exists() else None
         return done.returncode, done.stdout.decode().splitlines(), done.stderr.decode(), made
+
+
+def measured(text, data, command="simulate"):
+    """Whether a command ended well, the lines of the report, and the kilobytes and the seconds of a processor that it took."""
+    with tempfile.TemporaryDirectory() as name:
+        folder = pathlib.Path(name)
+        (folder / "s.toml").write_text(text)
+        (folder / "in.pcap").write_bytes(data)
+        words = [sys.executable, "-c", MEASURE, PROGRAM, command, "s.toml", "in.pcap", "out.pcap"]
+        done = subprocess.run(words, cwd=folder, capture_output=True, text=True, timeout=60)
+        *lines, took = done.stdout.splitlines()
+        kilobytes, seconds = took.split()
+        return (done.returncode, done.stderr) == (0, ""), lines, int(kilobytes), float(seconds)
 
 
 def is_fault(answer, fault, output=None):
@@ -167,6 +181,9 @@ def test_scenarios():
         ("a size of 7 + 2^32", scenario(size=7 + 2**32), "BadKey"),
         ("a capacity of 0", scenario(capacity=0), "BadKey"),
         ("workers of 2^63 - 1", scenario(workers=2**63 - 1), "BadKey"),
+        ("an idle limit of 2^63 - 1", scenario(format=2, idle=2**63 - 1), "BadKey"),
+        ("an idle limit of 2^63", scenario(format=2, idle=2**63), "BadToml"),
+        ("an idle limit that is a time", scenario(format=2, idle="00:00:05"), "BadKey"),
         ("a node's address of five parts", scenario(nodes='["10.9.0.1.1"]'), "BadKey"),
         ("a node's address of Arabic digits", scenario(nodes='["10.9.0.\u0661"]'), "BadKey"),
         ("a step with a space in front", scenario([" take 1"]), "BadStep 0"),
@@ -187,10 +204,14 @@ def test_scenarios():
         check(f"a scenario {name}", reports(answer, "forwarded 1"), repr(answer)[:300])
 
 
+def from_port(port):
+    """The datagram from this port."""
+    return P[:20] + struct.pack(">H", port) + P[22:]
+
+
 def test_floods():
     """A packet of each of 60,000 flows, in tables of one entry and of 1,000, and in rings of 64 places."""
-    packets = [P[:20] + struct.pack(">H", 1000 + place) + P[22:] for place in range(60_000)]
-    data = head() + b"".join(map(record, packets))
+    data = head() + b"".join(record(from_port(1000 + place)) for place in range(60_000))
     for capacity in [1, 1000]:
         text = scenario(["install 0 1", "take 60000"], capacity=capacity, ring=64)
         for command in ["simulate", "run"]:
@@ -201,22 +222,35 @@ def test_floods():
             check(f"{command} with tables of {capacity}", holds, repr(answer[:3]))
 
 
+def test_floods_with_a_limit():
+    """60,000 packets, a microsecond apart: of flows that come once and push each other out, and of flows that all have an entry
+    when they come again. Where each entry is past its limit at the next packet, and where none is, they are sent as without a
+    limit, and take neither more memory nor twice the time."""
+    for flows, capacity in [(60_000, 1000), (30_000, 30_000), (1000, 1000)]:
+        data = head() + b"".join(record(from_port(1000 + place % flows), at=place) for place in range(60_000))
+        keys = {"steps": ["install 0 1", "take 60000"], "capacity": capacity, "ring": 65536}
+        # Threads that wait take time too.
+        for command, slack in [("simulate", 0.5), ("run", 2)]:
+            plain = measured(scenario(**keys), data, command)
+            check(f"{command} of {flows} flows", plain[0] and "forwarded 60000" in plain[1], repr(plain))
+            for limit in [0, 60_000]:
+                limited = measured(scenario(format=2, idle=limit, **keys), data, command)
+                name = f"{command} of {flows} flows with a limit of {limit}"
+                check(name, limited[:2] == plain[:2], repr(limited))
+                check(f"{name}: memory", limited[2] < plain[2] + 8192, f"{limited[2]} and {plain[2]} kB")
+                check(f"{name}: time", limited[3] < 2 * plain[3] + slack, f"{limited[3]} and {plain[3]} s")
+
+
 def test_repeats():
     """Each of 40,000 records comes again right behind it: those of 1,400 bytes take no more memory than those of 40."""
     steps = ["install 0 1"]
     for place in range(40_000):
         steps += ["take 1", f"again {place}"]
     peaks = []
-    with tempfile.TemporaryDirectory() as name:
-        folder = pathlib.Path(name)
-        (folder / "s.toml").write_text(scenario(steps))
-        for length in [40, 1400]:
-            (folder / "in.pcap").write_bytes(head() + record(P + bytes(length - 40)) * 40_000)
-            words = [sys.executable, "-c", MEASURE, PROGRAM, "simulate", "s.toml", "in.pcap", "out.pcap"]
-            done = subprocess.run(words, cwd=folder, capture_output=True, text=True)
-            *told, peak = done.stdout.splitlines()
-            peaks.append(int(peak))
-            check(f"repeats of {length} bytes", done.returncode == 0 and "forwarded 80000" in told, repr(done))
+    for length in [40, 1400]:
+        ended, lines, peak, _ = measured(scenario(steps), head() + record(P + bytes(length - 40)) * 40_000)
+        peaks.append(peak)
+        check(f"repeats of {length} bytes", ended and "forwarded 80000" in lines, repr(lines))
     # The larger records are 56,000 kilobytes.
     check("memory of repeats", peaks[1] < peaks[0] + 8192, repr(peaks))
 

@@ -3,6 +3,7 @@
 It shares nothing with the program but the documents: tables are filled turn by turn from written-out lists, connection tables
 are lists, and a capture is read whole. It reads only scenarios and captures that nothing is wrong with.
 """
+import collections
 import copy
 import hashlib
 import struct
@@ -134,13 +135,14 @@ def written(records, link=101):
     return head + b"".join(struct.pack("<4I", secs, micros, len(data), len(data)) + data for secs, micros, data in records)
 
 
-class Forwarder:
-    """One worker of one node, in one life."""
+# An entry of a connection table: a flow, its backend, the version that chose it, and the worker's clock at its last touch.
+Entry = collections.namedtuple("Entry", "flow backend origin last")
 
-    def __init__(self):
-        self.entries = []
-        self.turns = 0
-        self.queue = []
+# What a worker knows in one life: its entries, newest first, how often it asked the scheme, and its clock, which is the
+# greatest time of a packet that it served.
+Forwarder = collections.namedtuple("Forwarder", "entries turns clock")
+
+FRESH = Forwarder((), 0, 0)
 
 
 class Run:
@@ -153,7 +155,8 @@ class Run:
         self.versions = {version["number"]: version for version in self.scenario["versions"]}
         count = len(self.scenario["nodes"])
         self.workers = self.scenario["workers"]
-        self.forwarders = [[Forwarder() for _ in range(self.workers)] for _ in range(count)]
+        self.forwarders = [[FRESH] * self.workers for _ in range(count)]
+        self.queues = [[[] for _ in range(self.workers)] for _ in range(count)]
         self.refused_homes = [0] * count
         self.newest = [None] * count
         self.live = list(range(count))
@@ -209,12 +212,13 @@ class Run:
     def step_drain(self, node):
         self.held[node] = False
         for worker in range(self.workers):
-            while self.forwarders[node][worker].queue:
+            while self.queues[node][worker]:
                 self.serve(node, worker)
 
     def step_restart(self, node):
-        waiting = sum(len(forwarder.queue) for forwarder in self.forwarders[node])
-        self.forwarders[node] = [Forwarder() for _ in range(self.workers)]
+        waiting = sum(map(len, self.queues[node]))
+        self.forwarders[node] = [FRESH] * self.workers
+        self.queues[node] = [[] for _ in range(self.workers)]
         self.refused_homes[node] = 0
         self.held[node] = False
         self.say(f"restart {node}", f"restarted {waiting}", waiting)
@@ -250,7 +254,7 @@ class Run:
         worker = next((worker for worker in tries if worker not in self.full[node]), None)
         if worker is None:
             return self.say(event, "drop RingsFull")
-        self.forwarders[node][worker].queue.append((place, flow))
+        self.queues[node][worker].append((place, flow))
         self.say(event, f"placed {worker}")
         if not self.held[node]:
             self.serve(node, worker)
@@ -277,28 +281,36 @@ class Run:
             self.tables[key] = filled({name: weight for name, _, weight in ups}, self.scenario["size"], self.plain)
         return next(up[:2] for up in ups if up[0] == self.tables[key][self.slot(flow)])
 
-    def serve(self, node, worker):
-        forwarder = self.forwarders[node][worker]
-        place, flow = forwarder.queue.pop(0)
-        number = self.newest[node]
-        event = f"serve {node} {worker} {number}"
+    def answered(self, forwarder, place, flow, number):
+        """What a worker does with a record's packet under a version: what it knows then, and the entry by which the packet is
+        sent, or the cause of its drop."""
+        secs, micros, _ = self.records[place]
+        forwarder = forwarder._replace(clock=max(forwarder.clock, secs * 1_000_000 + micros))
         ups = self.service(number, flow)
         if ups is None:
-            return self.say(event, "drop NoService")
-        entry = next((entry for entry in forwarder.entries if entry[0] == flow), None)
-        if entry is not None:
-            forwarder.entries.remove(entry)
-            forwarder.entries.insert(0, entry)
-        if entry is None or entry[1] not in [up[:2] for up in ups]:
-            turn, forwarder.turns = forwarder.turns, forwarder.turns + 1
-            if not ups:
-                return self.say(event, "drop NoBackend")
-            if entry is not None:
-                forwarder.entries.remove(entry)
-            entry = (flow, self.chosen(ups, flow, turn), number)
-            forwarder.entries.insert(0, entry)
-            del forwarder.entries[self.scenario["capacity"] :]
-        _, backend, origin = entry
+            return forwarder, "NoService"
+        known = next((entry for entry in forwarder.entries if entry.flow == flow), None)
+        others = tuple(entry for entry in forwarder.entries if entry.flow != flow)
+        if known is not None and forwarder.clock - known.last <= self.scenario.get("idle", forwarder.clock):
+            known = known._replace(last=forwarder.clock)
+            forwarder = forwarder._replace(entries=(known, *others))
+            if known.backend in [up[:2] for up in ups]:
+                return forwarder, known
+        turn = forwarder.turns
+        forwarder = forwarder._replace(turns=turn + 1)
+        if not ups:
+            return forwarder, "NoBackend"
+        entry = Entry(flow, self.chosen(ups, flow, turn), number, forwarder.clock)
+        return forwarder._replace(entries=(entry, *others)[: self.scenario["capacity"]]), entry
+
+    def serve(self, node, worker):
+        place, flow = self.queues[node][worker].pop(0)
+        number = self.newest[node]
+        event = f"serve {node} {worker} {number}"
+        self.forwarders[node][worker], answer = self.answered(self.forwarders[node][worker], place, flow, number)
+        if isinstance(answer, str):
+            return self.say(event, f"drop {answer}")
+        _, backend, origin, _ = answer
         return self.say(event, f"forward {'@'.join(backend)} from {origin}", (node, place, flow, backend, origin))
 
     # what is asked

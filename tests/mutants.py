@@ -82,7 +82,8 @@ def random_scenario(source, command):
     kinds += [] if command == "run" else ["hold 0", "drain 0", "full 0 0", "full 0"]
     steps += [source.choice(kinds) for _ in range(source.randrange(8))]
     workers = source.choice([1, 2, 3])
-    return hostile.scenario(steps, workers=workers, capacity=source.choice([1, 4]), size=source.choice([7, 251]))
+    limited = source.choice([{}, {"format": 2, "idle": source.choice([0, 1, 1_000_000, 4_294_967_295_000_000])}])
+    return hostile.scenario(steps, workers=workers, capacity=source.choice([1, 4]), size=source.choice([7, 251]), **limited)
 
 
 def called(words, folder):

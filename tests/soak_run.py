@@ -3,12 +3,14 @@
 times each, and judges what is printed and written by the model.
 
 Which version a packet is served under, which ring is full and how workers' packets mix is left to the schedule. What isn't
-is compared with tests/model.py: the counts of records, what came to each node, which drops a driver judges, that what a
-node sends came to it in that life and went to a backend that is up in a version that may have been used, and, where no ring
-gets full, that a worker's packets go out in the order in which they came. Where a life was stopped what its workers took is a
-beginning of what came to them, and the rest is LostAtRestart. The last line is 'N passed, N failed'.
+is compared with tests/model.py: the counts of records, what came to each node, which drops a driver judges, and that what a
+node sends came to it in that life and went to a backend that is up in a version that may have been used. Where no ring gets
+full each worker sent exactly what the model's worker sends of what came to it, by its entries, their idle limit and its turns,
+under some versions that it may have used. Where a life was stopped what its workers took is a beginning of what came to them,
+and the rest is LostAtRestart. The last line is 'N passed, N failed'.
 """
 import collections
+import itertools
 import pathlib
 import random
 import subprocess
@@ -18,24 +20,25 @@ import tempfile
 import model
 from harness import PROGRAM, judge_all
 
-# A TCP and a UDP packet of the flow's last byte, and a TCP packet that is a fragment.
+# A TCP and a UDP packet from the address with this last byte.
 TCP = "450000280000400040066eb40a0000{:02x}c000020103e80050" + "00" * 8 + "5000" + "00" * 6
 UDP = "4500001c00000000401100000a0000{:02x}c000020103e8003500080000"
 
 Arrival = collections.namedtuple("Arrival", "place flow versions")
 
 
-def datagram(text):
-    """The datagram of these hexadecimal digits, with its header's checksum."""
+def datagram(text, number):
+    """The datagram of these hexadecimal digits, with this identification, by which it is known again, and its header's checksum."""
     data = bytearray.fromhex(text)
+    data[4:6] = number.to_bytes(2, "big")
     data[10:12] = bytes(2)
     data[10:12] = (65535 - model.folded(bytes(data[:20]))).to_bytes(2, "big")
     return data
 
 
-def packet(source):
+def packet(source, number):
     """A datagram of one of a few flows, some of them spoiled."""
-    data = datagram(source.choice([TCP, TCP, UDP]).format(source.randrange(1, 9)))
+    data = datagram(source.choice([TCP, TCP, UDP]).format(source.randrange(1, 9)), number)
     if source.random() < 0.1:
         data[source.choice([0, 6, 8, 9, 12])] ^= 1 << source.randrange(8)
     return bytes(data)
@@ -44,23 +47,25 @@ def packet(source):
 def random_steps(source, nodes):
     """Steps of all kinds that a cluster on threads knows."""
     steps = [f"install {node} 1" for node in range(nodes) if source.random() < 0.9]
-    for _ in range(source.randrange(30)):
+    for number in range(source.randrange(30)):
         node = source.randrange(nodes)
         live = " ".join(str(one) for one in source.sample(range(nodes), source.randrange(nodes + 1)))
-        kinds = [f"install {node} {source.randrange(1, 6)}", f"lose {source.randrange(3)}", f"again {source.randrange(40)}"]
+        kinds = [f"install {node} {source.choice([source.randrange(1, 12), number // 2])}"] * 2
+        kinds += [f"lose {source.randrange(3)}", f"again {source.randrange(40)}"]
         kinds += [f"take {source.randrange(20)}"] * 4 + [f"live {live}".strip(), f"restart {node}", f"stop {node}"]
         steps.append(source.choice(kinds))
     return steps
 
 
 def random_scenario(source):
-    """A scenario of any size, scheme and rings."""
-    nodes, ring = source.randrange(1, 5), source.choice([1, 2, 8, 1024])
-    text = f'format = 1\nsize = {source.choice([7, 13, 251])}\nhash = "{source.choice(["fnv", "sum"])}"\n'
+    """A scenario of any size, scheme and rings, often with an idle limit."""
+    nodes, ring = source.randrange(1, 5), source.choice([1, 2, 8, 1024, 1024, 1024])
+    text = source.choice(["format = 1\n", *(f"format = 2\nidle = {limit}\n" for limit in [0, 1, 500_000, 1_000_000, 3_000_000])])
+    text += f'size = {source.choice([7, 13, 251])}\nhash = "{source.choice(["fnv", "sum"])}"\n'
     text += f'scheme = "{source.choice(["maglev", "maglev", "plain", "round"])}"\nspread = "{source.choice(["hash", "turn"])}"\n'
-    text += f"workers = {source.randrange(1, 5)}\ncapacity = {source.randrange(1, 9)}\nring = {ring}\n"
+    text += f"workers = {source.randrange(1, 5)}\ncapacity = {source.choice([1, 2, 3, 4, 8])}\nring = {ring}\n"
     text += f"nodes = {[f'10.9.0.{node + 1}' for node in range(nodes)]}\nsteps = {random_steps(source, nodes)}\n"
-    for number in range(1, 5):
+    for number in range(1, 11):
         text += f"[[versions]]\nnumber = {number}\nservices = ["
         for proto, port in [("tcp", 80), ("udp", 53)]:
             if source.random() < 0.9:
@@ -103,71 +108,80 @@ def backends_of(expected, arrival):
     return {up[1] for version in arrival.versions for up in expected.service(version, arrival.flow) or []}
 
 
-def by_lives(expected, node, sends):
-    """The sends of a node split by its lives, as much as fits in each; None where something is left.
+def fit(expected, life, sends):
+    """How many of these sends, from the first on, are of packets that came in a life, each once, to a backend that each may go to.
 
     Of two arrivals of one record the later may go to no other backends than the earlier, so that it is taken first.
     """
-    found = []
-    for life in lives_of(expected, node):
-        waiting, taken = list(life), []
-        for place, backend in sends:
-            fits = [one for one in waiting if one.place == place and backend in backends_of(expected, one)]
-            if not fits:
-                break
-            waiting.remove(fits[-1])
-            taken.append((place, backend))
-        sends = sends[len(taken) :]
-        found.append((life, taken))
-    return None if sends else found
+    waiting = list(life)
+    for count, (place, backend) in enumerate(sends):
+        fits = [one for one in waiting if one.place == place and backend in backends_of(expected, one)]
+        if not fits:
+            return count
+        waiting.remove(fits[-1])
+    return len(sends)
 
 
-def is_part(few, many):
-    """The one list is the other with some left out."""
-    rest = iter(many)
-    return all(any(one == other for other in rest) for one in few)
+def counts_of(expected, came, sends, stopped):
+    """How many of these sends, from the first on, a worker may have done to which these packets came, each served under a
+    version that isn't older than the one before. All were served, unless the life was stopped."""
+    states, counts = {(0, 0, model.FRESH)}, set()
+    for arrival in came:
+        if stopped:
+            counts |= {count for count, _, _ in states}
+        states = {after for state in states for after in after_serving(expected, state, arrival, sends)}
+    return counts | {count for count, _, _ in states}
 
 
-def has_repeats(lives):
-    """A record came in two lives, so that a send may be of either."""
-    places = [place for life, _ in lives for place in {one.place for one in life}]
-    return len(places) != len(set(places))
+def after_serving(expected, state, arrival, sends):
+    """Behind one more packet: how many were sent, the version used last and what the worker knows; for each version that gives
+    the next of the sends, or drops the packet."""
+    count, used, knows = state
+    for version in arrival.versions:
+        if version >= used:
+            after, answer = expected.answered(knows, arrival.place, arrival.flow, version)
+            if isinstance(answer, str):
+                yield count, version, after
+            elif (arrival.place, answer.backend[1]) in sends[count : count + 1]:
+                yield count + 1, version, after
 
 
-def faults_of_life(expected, life, taken, stopped):
-    """What is wrong with the sends of a life in which no ring was full."""
+def ends_of(expected, life, sends, stopped):
+    """How many of a node's sends, from the first on, may be those of a life."""
+    if len(life) > expected.scenario["ring"]:
+        return range(fit(expected, life, sends) + 1)
     flows = {one.place: one.flow for one in life}
-    for worker in range(expected.workers):
-        came = [one.place for one in life if expected.plain(b"w" + one.flow) % expected.workers == worker]
-        went = [place for place, _ in taken if expected.plain(b"w" + flows[place]) % expected.workers == worker]
-        if not is_part(went, came):
-            yield f"the order of worker {worker}: {went} of {came}"
-    versions = {version for one in life for version in one.versions}
-    if len(versions) == 1 and expected.scenario["scheme"] != "round":
-        (version,) = versions
-        for place, backend in taken:
-            ups = expected.service(version, flows[place])
-            if expected.chosen(ups, flows[place], 0)[1] != backend:
-                yield f"record {place} went to {backend}"
-        served = [one for one in life if expected.service(version, one.flow)]
-        if len(taken) != len(served) and not (stopped and len(taken) < len(served)):
-            yield f"{len(taken)} of {len(life)} packets were sent"
-        for worker in range(expected.workers):
-            came = [one.place for one in served if expected.plain(b"w" + one.flow) % expected.workers == worker]
-            went = [place for place, _ in taken if expected.plain(b"w" + flows[place]) % expected.workers == worker]
-            if went != came[: len(went)]:
-                yield f"worker {worker} took {went}, no beginning of {came}"
+    known = list(itertools.takewhile(lambda send: send[0] in flows, sends))
+    homes = {flow: expected.plain(b"w" + flow) % expected.workers for flow in flows.values()}
+    own = [[send for send in known if homes[flows[send[0]]] == worker] for worker in range(expected.workers)]
+    came = [[one for one in life if homes[one.flow] == worker] for worker in range(expected.workers)]
+    may = [counts_of(expected, *both, stopped) for both in zip(came, own)]
+    counts, ends = [0] * expected.workers, []
+    for end in range(len(known) + 1):
+        if all(count in some for count, some in zip(counts, may)):
+            ends.append(end)
+        if end < len(known):
+            counts[homes[flows[known[end][0]]]] += 1
+    return ends
+
+
+def are_of(expected, node, sends):
+    """Whether what a node sent is, life after life, what the life's workers may have sent."""
+    starts = {0}
+    for life, stopped in zip(lives_of(expected, node), stops_of(expected, node)):
+        starts = {start + end for start in starts for end in ends_of(expected, life, sends[start:], stopped)}
+    return len(sends) in starts
 
 
 def sends_of(expected, output):
-    """What each node sent, as places of records and backends, and whether node follows node."""
+    """What each node sent, as places of records and backends; None where OUTPUT isn't such a capture, node after node."""
     _, records, cut = model.read_capture(output)
     nodes = [model.address(text) for text in expected.scenario["nodes"]]
+    places = {model.read_packet(expected.link, frame, True)[1]: place for place, (_, _, frame) in enumerate(expected.records)}
     sends, order = [[] for _ in nodes], []
-    for _, place, data in records:
-        _, datagram = model.read_packet(expected.link, expected.records[place][2], True)
-        node = nodes.index(data[12:16])
-        if data != model.wrapped(datagram, data[12:16], data[16:20]):
+    for secs, micros, data in records:
+        place, node = places.get(data[24:]), nodes.index(data[12:16])
+        if place is None or (secs, micros) != expected.records[place][:2] or data != model.wrapped(data[24:], data[12:16], data[16:20]):
             return None
         order.append(node)
         sends[node].append((place, model.dotted(data[16:20])))
@@ -206,28 +220,28 @@ def faults_of(expected, printed, output):
         return
     yield from faults_of_report(expected, printed, sum(map(len, sends)))
     for node, own in enumerate(sends):
-        lives = by_lives(expected, node, own)
-        if lives is None:
+        if not are_of(expected, node, own):
             yield f"node {node} sent what it may not: {own}"
-            continue
-        stops = stops_of(expected, node)
-        if any(stops) and has_repeats(lives):
-            continue
-        if all(len(life) <= expected.scenario["ring"] for life, _ in lives):
-            for (life, taken), stopped in zip(lives, stops):
-                yield from faults_of_life(expected, life, taken, stopped)
 
 
-def captured(packets):
-    """A capture of these packets."""
-    return model.written([(1, place, data) for place, data in enumerate(packets)])
+def passing(source):
+    """Times without end, in microseconds: a second passes or less, or none, and at times the clock steps back."""
+    at = 1_000_000_000
+    while True:
+        at += source.choice([0, 1, 500_000, 500_000, 1_000_000, -1, -700_000])
+        yield at
+
+
+def captured(packets, times=itertools.repeat(1_000_000)):
+    """A capture of these packets, at these times in microseconds, or all at one."""
+    return model.written([(*divmod(at, 1_000_000), data) for data, at in zip(packets, times)])
 
 
 def thrown(seed):
     """A random scenario and a random capture."""
     source = random.Random(seed)
     text = random_scenario(source)
-    return text, captured([packet(source) for _ in range(source.randrange(80))])
+    return text, captured([packet(source, number) for number in range(source.randrange(160))], passing(source))
 
 
 def restarting(word):
@@ -238,8 +252,8 @@ def restarting(word):
     for number, down in [(1, ""), (2, "/down")]:
         members = ["A@10.8.0.1", f"B@10.8.0.2{down}", "C@10.8.0.3"]
         text += f'[[versions]]\nnumber = {number}\n[[versions.services]]\nvip = "192.0.2.1"\nproto = "tcp"\nport = 80\nmembers = {members}\n'
-    even, odd = (bytes(datagram(TCP.format(1).replace("03e8", port))) for port in ["03e8", "03e9"])
-    return text, captured([even, odd] * 4)
+    ports = ["03e8", "03e9"] * 4
+    return text, captured([bytes(datagram(TCP.format(1).replace("03e8", port), number)) for number, port in enumerate(ports)])
 
 
 def case(name, text, data):

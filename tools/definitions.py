@@ -120,10 +120,11 @@ def named_by_contracts(definitions):
     """The definitions that a contract of a public function, a trait or a type names."""
     found = set()
     for path in sorted(TOP.glob("crates/*/src/**/*.rt")):
-        if "tests" in path.name or "tests" in path.parts:
+        _, crate, *inside = path.relative_to(TOP).parts
+        if "tests" in path.name or "tests" in inside:
             continue
         lines = path.read_text().splitlines()
-        imports = imports_of(path.parts[path.parts.index("crates") + 1], [line.strip().replace("ghost use", "use") for line in lines])
+        imports = imports_of(crate, [line.strip().replace("ghost use", "use") for line in lines])
         is_public, of_trait = True, False
         for line in lines:
             text = line.strip()

@@ -103,6 +103,7 @@ fn packet_of(number: u32, services: u32) -> Packet
             proto: 6,
         },
         len: 40,
+        at: 0,
     }
 }
 
@@ -203,7 +204,7 @@ fn bench(alloc: Global, load: Load) -> Result<u64, AllocError> {
     let mut nodes = Vec::new(alloc);
     nodes.push(0x0a09_0001)?;
     nodes.push(0x0a09_0002)?;
-    match Setup::new(Fnv, Maglev { hash: Fnv }, size, nodes, 1, 65536) {
+    match Setup::new(Fnv, Maglev { hash: Fnv }, size, nodes, 1, 65536, None) {
         Ok(setup) => forwarded(alloc, &setup, &catalogue, load),
         Err(_) => Ok(0),
     }

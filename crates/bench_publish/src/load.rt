@@ -107,6 +107,7 @@ fn packet_of(number: u32, services: u32) -> Packet
             proto: 6,
         },
         len: 40,
+        at: 0,
     }
 }
 

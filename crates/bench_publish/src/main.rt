@@ -37,7 +37,7 @@ fn setup(
     ensures { IfOk result (λ s. (s.size ≡ size) × (length s.nodes ≡ 1)) }
 {
     let nodes = Vec::from_slice(alloc, &[0x0a09_0001])?;
-    match Setup::new(Fnv, Maglev { hash: Fnv }, size, nodes, workers, 65536) {
+    match Setup::new(Fnv, Maglev { hash: Fnv }, size, nodes, workers, 65536, None) {
         Ok(setup) => Ok(setup),
         Err(_) => Err(AllocError),
     }

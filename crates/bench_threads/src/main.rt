@@ -74,7 +74,7 @@ fn setup(alloc: Global, size: TableSize, workers: u16) -> Result<Cluster, AllocE
     ensures { IfOk result (λ s. (s.size ≡ size) × (length s.nodes ≡ 1)) }
 {
     let nodes = Vec::from_slice(alloc, &[0x0a09_0001])?;
-    match Setup::new(Fnv, Maglev { hash: Fnv }, size, nodes, workers, 65536) {
+    match Setup::new(Fnv, Maglev { hash: Fnv }, size, nodes, workers, 65536, None) {
         Ok(setup) => Ok(setup),
         Err(_) => Err(AllocError),
     }
@@ -93,6 +93,7 @@ fn packet_of(number: u32) -> Packet
             proto: 6,
         },
         len: 40,
+        at: 0,
     }
 }
 

@@ -20,7 +20,11 @@ fn told(rt: &impl Abort, alloc: Global, nodes: u16, steps: &[Step]) -> Orders
         dport: 80,
         proto: 6,
     };
-    let packets = [Packet::Good { flow, len: 40 }; 8];
+    let packets = [Packet::Good {
+        flow,
+        len: 40,
+        at: 0,
+    }; 8];
     let mut spread = TurnSpread::new(all_live(alloc, nodes).expect(rt, "memory"));
     orders(alloc, nodes, &mut spread, &packets, steps).expect(rt, "memory")
 }

@@ -61,11 +61,11 @@ settled_greatest items (s ∷ earlier) = ap (λ (n : ℕ). max s.version n) (set
 -- In a record with all packets placed before all servings, the next serving of a worker that popped the first packets
 -- in order comes to what its forwarder answers after its own servings, whatever stood between them.
 pub taken_apart : (rules : Rules) (items : List Item) (done : List Served) (i : Item) (v : ℕ) (r : Bool) → Popped items done → slice_get items (length done) ≡ Some i
-    → taken rules (settled items done) v r ≡ (if nat_lt v i.floor || nat_lt v (greatest done) then Behind else Done i (told_after rules.pick rules.capacity (told rules.pick rules.capacity (map (serving rules) done)) (serving_under (rules.ups v) v i.flow r)).choice)
+    → taken rules (settled items done) v r ≡ (if nat_lt v i.floor || nat_lt v (greatest done) then Behind else Done i (told_after rules.pick rules.capacity rules.idle (told rules.pick rules.capacity rules.idle (map (serving rules) done)) (serving_under (rules.ups v) v i r)).choice)
 taken_apart rules items done i v r h e =
     ap (λ (o : Option Item). taken_of rules (settled items done) o v r) (settled_next items done ∙ e)
-    ∙ ap (λ (n : ℕ). if nat_lt v i.floor || nat_lt v n then Behind else Done i (told_after rules.pick rules.capacity (told rules.pick rules.capacity (servings rules (settled items done))) (serving_under (rules.ups v) v i.flow r)).choice) (settled_greatest items done)
-    ∙ ap (λ (ss : List Serving). if nat_lt v i.floor || nat_lt v (greatest done) then Behind else Done i (told_after rules.pick rules.capacity (told rules.pick rules.capacity ss) (serving_under (rules.ups v) v i.flow r)).choice) (settled_servings rules items done h)
+    ∙ ap (λ (n : ℕ). if nat_lt v i.floor || nat_lt v n then Behind else Done i (told_after rules.pick rules.capacity rules.idle (told rules.pick rules.capacity rules.idle (servings rules (settled items done))) (serving_under (rules.ups v) v i r)).choice) (settled_greatest items done)
+    ∙ ap (λ (ss : List Serving). if nat_lt v i.floor || nat_lt v (greatest done) then Behind else Done i (told_after rules.pick rules.capacity rules.idle (told rules.pick rules.capacity rules.idle ss) (serving_under (rules.ups v) v i r)).choice) (settled_servings rules items done h)
 
 -- a serving's verdict depends on the worker's lines and the installed versions alone
 pub serve_alike : (rules : Rules) (a b : List Said) (n w v : ℕ) (r : Bool) → lines_of w a ≡ lines_of w b → installed_of a ≡ installed_of b → serve_verdict rules a n w v r ≡ serve_verdict rules b n w v r

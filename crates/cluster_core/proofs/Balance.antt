@@ -89,7 +89,7 @@ module _ (before after s p : ℕ) (h : before + s ≡ p) where
   arrive_moves : (rules : Rules) (newest cursor n k : ℕ) (marks : List Bool) (x : Option Packet) → WasRead x → after + served_by (Arrive n k marks) (arrive_verdict rules newest cursor k marks x) s ≡ placed_by (Arrive n k marks) (arrive_verdict rules newest cursor k marks x) p → Moves before after (arrive_verdict rules newest cursor k marks x)
   arrive_moves rules newest cursor n k marks None r e = omega arith
   arrive_moves rules newest cursor n k marks (Some (Bad c)) r e = omega (arith, reading_not_serving c r)
-  arrive_moves rules newest cursor n k marks (Some (Good x l)) r e = go (newest == 0) e
+  arrive_moves rules newest cursor n k marks (Some (Good x l t)) r e = go (newest == 0) e
     where
       go : (b : Bool) → after + s ≡ placed_by (Arrive n k marks) (if b then Dropped k NoVersion else steered newest k (place_for marks rules.workers (home_of rules.plain rules.workers x) cursor)) p → Moves before after (if b then Dropped k NoVersion else steered newest k (place_for marks rules.workers (home_of rules.plain rules.workers x) cursor))
       go true d = omega arith

@@ -113,22 +113,22 @@ all_below rules (s ∷ past) j n = go (node_of s.event == n) (all_below rules pa
     go false h = h
 
 -- how the lines of a worker grow
-placed_taken : (w k : ℕ) (x : Flow) (o : Outcome) (ls : List Line) → taken_count (placed_line w k x o ls) ≡ taken_count ls
-placed_taken w k x (Placed u f) ls = go (u == w)
+placed_taken : (w k : ℕ) (x : Flow) (t : ℕ) (o : Outcome) (ls : List Line) → taken_count (placed_line w k x t o ls) ≡ taken_count ls
+placed_taken w k x t (Placed u f) ls = go (u == w)
   where
-    go : (b : Bool) → taken_count (if b then put (record { packet = k; flow = x; floor = f }) ∷ ls else ls) ≡ taken_count ls
+    go : (b : Bool) → taken_count (if b then put (record { packet = k; flow = x; at = t; floor = f }) ∷ ls else ls) ≡ taken_count ls
     go true = refl
     go false = refl
-placed_taken w k x Installed ls = refl
-placed_taken w k x (Forward n u j y b o) ls = refl
-placed_taken w k x (Dropped j c) ls = refl
-placed_taken w k x (Restarted l) ls = refl
-placed_taken w k x (Refused r) ls = refl
+placed_taken w k x t Installed ls = refl
+placed_taken w k x t (Forward n u j y b o) ls = refl
+placed_taken w k x t (Dropped j c) ls = refl
+placed_taken w k x t (Restarted l) ls = refl
+placed_taken w k x t (Refused r) ls = refl
 
 arrived_taken : (w k : ℕ) (p : Option Packet) (o : Outcome) (ls : List Line) → taken_count (arrived_line w k p o ls) ≡ taken_count ls
 arrived_taken w k None o ls = refl
 arrived_taken w k (Some (Bad c)) o ls = refl
-arrived_taken w k (Some (Good x l)) o ls = placed_taken w k x o ls
+arrived_taken w k (Some (Good x l t)) o ls = placed_taken w k x t o ls
 
 -- as many servings in the lines of all workers as the node's record counts
 served_step : (workers : ℕ) (e : Event) (x : Option Packet) (o : Outcome) (ls : ℕ → List Line) → ServesBelow workers e o → served_by e o (sum_below workers (λ w. taken_count (ls w))) ≡ sum_below workers (λ w. taken_count (line_by w e x o (ls w)))
@@ -166,19 +166,19 @@ served_sum workers [] h = sym (sum_none workers)
 served_sum workers (s ∷ had) h = ap (λ (n : ℕ). served_by s.event s.outcome n) (served_sum workers had h.1) ∙ served_step workers s.event s.packet s.outcome (λ w. lines_of w had) h.0
 
 -- no more packets in the lines of all workers than the node's record counts
-put_length : (ls : List Line) (w k : ℕ) (x : Flow) (u f : ℕ) (b : Bool) → length (placed (if b then put (record { packet = k; flow = x; floor = f }) ∷ ls else ls)) ≡ (if b then length (placed ls) + 1 else length (placed ls))
-put_length ls w k x u f true = length-append (placed ls) (record { packet = k; flow = x; floor = f } ∷ [])
-put_length ls w k x u f false = refl
+put_length : (ls : List Line) (w k : ℕ) (x : Flow) (t u f : ℕ) (b : Bool) → length (placed (if b then put (record { packet = k; flow = x; at = t; floor = f }) ∷ ls else ls)) ≡ (if b then length (placed ls) + 1 else length (placed ls))
+put_length ls w k x t u f true = length-append (placed ls) (record { packet = k; flow = x; at = t; floor = f } ∷ [])
+put_length ls w k x t u f false = refl
 
-placed_more : (workers k c : ℕ) (x : Flow) (o : Outcome) (ls : ℕ → List Line) → sum_below workers (λ w. length (placed (ls w))) ≤ c → sum_below workers (λ w. length (placed (placed_line w k x o (ls w)))) ≤ more_placed o c
-placed_more workers k c x (Placed u f) ls h =
-    let b : sum_below workers (λ w. length (placed (if u == w then put (record { packet = k; flow = x; floor = f }) ∷ ls w else ls w))) ≤ sum_below workers (λ w. length (placed (ls w))) + 1 = sum_bump workers u (λ w. length (placed (ls w))) (λ w. length (placed (if u == w then put (record { packet = k; flow = x; floor = f }) ∷ ls w else ls w))) (λ w. put_length (ls w) w k x u f (u == w)) in
+placed_more : (workers k c : ℕ) (x : Flow) (t : ℕ) (o : Outcome) (ls : ℕ → List Line) → sum_below workers (λ w. length (placed (ls w))) ≤ c → sum_below workers (λ w. length (placed (placed_line w k x t o (ls w)))) ≤ more_placed o c
+placed_more workers k c x t (Placed u f) ls h =
+    let b : sum_below workers (λ w. length (placed (if u == w then put (record { packet = k; flow = x; at = t; floor = f }) ∷ ls w else ls w))) ≤ sum_below workers (λ w. length (placed (ls w))) + 1 = sum_bump workers u (λ w. length (placed (ls w))) (λ w. length (placed (if u == w then put (record { packet = k; flow = x; at = t; floor = f }) ∷ ls w else ls w))) (λ w. put_length (ls w) w k x t u f (u == w)) in
     omega arith
-placed_more workers k c x Installed ls h = h
-placed_more workers k c x (Forward n u j y b o) ls h = h
-placed_more workers k c x (Dropped j e) ls h = h
-placed_more workers k c x (Restarted l) ls h = h
-placed_more workers k c x (Refused r) ls h = h
+placed_more workers k c x t Installed ls h = h
+placed_more workers k c x t (Forward n u j y b o) ls h = h
+placed_more workers k c x t (Dropped j e) ls h = h
+placed_more workers k c x t (Restarted l) ls h = h
+placed_more workers k c x t (Refused r) ls h = h
 
 more_or_same : (o : Outcome) (c : ℕ) → c ≤ more_placed o c
 more_or_same Installed c = omega arith
@@ -191,7 +191,7 @@ more_or_same (Refused r) c = omega arith
 arrived_more : (workers k c : ℕ) (p : Option Packet) (o : Outcome) (ls : ℕ → List Line) → sum_below workers (λ w. length (placed (ls w))) ≤ c → sum_below workers (λ w. length (placed (arrived_line w k p o (ls w)))) ≤ more_placed o c
 arrived_more workers k c None o ls h = let m : c ≤ more_placed o c = more_or_same o c in omega arith
 arrived_more workers k c (Some (Bad e)) o ls h = let m : c ≤ more_placed o c = more_or_same o c in omega arith
-arrived_more workers k c (Some (Good x l)) o ls h = placed_more workers k c x o ls h
+arrived_more workers k c (Some (Good x l t)) o ls h = placed_more workers k c x t o ls h
 
 placed_step : (workers c : ℕ) (e : Event) (x : Option Packet) (o : Outcome) (ls : ℕ → List Line) → sum_below workers (λ w. length (placed (ls w))) ≤ c → sum_below workers (λ w. length (placed (line_by w e x o (ls w)))) ≤ placed_by e o c
 placed_step workers c (Install n v) x o ls h = h

@@ -21,25 +21,25 @@ fault_read faults.Fragment = refl
 fault_read faults.NotTcpUdp = refl
 fault_read faults.BadTransport = refl
 
-sized_read : (x : Flow) (total : ℕ) → WasRead (Some (sized x total))
-sized_read x total = go (nat_lt 65511 total)
+sized_read : (x : Flow) (total at : ℕ) → WasRead (Some (sized x total at))
+sized_read x total at = go (nat_lt 65511 total)
   where
-    go : (b : Bool) → WasRead (Some (if b then Bad TooLarge else Good x total))
+    go : (b : Bool) → WasRead (Some (if b then Bad TooLarge else Good x total at))
     go true = refl
     go false = tt
 
-flow_read : (total : ℕ) (r : Result Flow IpFault) → WasRead (Some (of_flow total r))
-flow_read total (Err fault) = fault_read fault
-flow_read total (Ok x) = sized_read x total
+flow_read : (total at : ℕ) (r : Result Flow IpFault) → WasRead (Some (of_flow total at r))
+flow_read total at (Err fault) = fault_read fault
+flow_read total at (Ok x) = sized_read x total at
 
-pub datagram_read : (r : Result Datagram IpFault) → WasRead (Some (of_datagram r))
-datagram_read (Err fault) = fault_read fault
-datagram_read (Ok d) = flow_read d.total (flow_answer d)
+pub datagram_read : (at : ℕ) (r : Result Datagram IpFault) → WasRead (Some (of_datagram at r))
+datagram_read at (Err fault) = fault_read fault
+datagram_read at (Ok d) = flow_read d.total at (flow_answer d)
 
-frame_read : (check : Bool) (r : Result (List ℕ) IpFault) → WasRead (Some (of_frame check r))
-frame_read check (Err fault) = fault_read fault
-frame_read check (Ok bytes) = datagram_read (ipv4_answer check bytes)
+frame_read : (check : Bool) (at : ℕ) (r : Result (List ℕ) IpFault) → WasRead (Some (of_frame check at r))
+frame_read check at (Err fault) = fault_read fault
+frame_read check at (Ok bytes) = datagram_read at (ipv4_answer check bytes)
 
-pub was_read : (link : Link) (check : Bool) (frame : List ℕ) → WasRead (Some (packet_read link check frame))
+pub was_read : (link : Link) (frame : List ℕ) (at : ℕ) (check : Bool) → WasRead (Some (packet_read link frame at check))
 unfolding packet_read
-was_read link check frame = frame_read check (frame_answer link frame)
+was_read link frame at check = frame_read check at (frame_answer link frame)

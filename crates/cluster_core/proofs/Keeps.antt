@@ -1,13 +1,12 @@
 -- A forwarder keeps a flow's backend while its entry stands and the backend is up.
-use Rattle.std.proofs.Common.{◌≡◌, ℕ, ◌%◌, ◌^◌, Bool, true, false, List, [], ◌∷◌, Option, Some, None, sym, ap, ◌∙◌}
+use Rattle.std.proofs.Common.{◌≡◌, ℕ, ◌%◌, ◌^◌, max, Bool, true, false, List, [], ◌∷◌, Option, Some, None, sym, ap, ◌∙◌}
 use Rattle.std.specs.Prelude.{◌==◌, ◌||◌, nat_lt, if◌then◌else◌}
 use Rattle.std.specs.List.{list_any}
 use Rattle.std.proofs.lemmas.Bool.{false≢true}
 use Rattle.connection_table.specs.declared.table.Entry.{Entry}
-use Rattle.connection_table.specs.Touches.{standing}
 use Rattle.forwarder.specs.declared.Choice.TheVariants as choices
 use Rattle.selection.specs.Candidates.{Candidates}
-use Rattle.forwarder.specs.Serving.{Pick, Serving, is_up, serve_as, told_by, told_under, touches, asked_count, told}
+use Rattle.forwarder.specs.Serving.{Pick, Serving, Told, is_up, serve_as, told_by, told_under, asked_count, clock_of, told}
 use Rattle.cluster_node.specs.declared.serving.Item.{Item}
 use Rattle.cluster_node.specs.declared.serving.Taken.TheVariants as takings
 use Rattle.cluster_node.specs.Book.{Line, next_item, servings, serving_under, greatest_used, taken, taken_of, told_next}
@@ -21,31 +20,38 @@ use Rattle.cluster_node.specs.declared.events.Said.{Said}
 use Rattle.cluster_node.specs.Record.{accepted, lines_of, of_taken, of_choice, serve_verdict, installed_of, by_queue}
 use Rattle.cluster_core.specs.Runs.{verdict, packet_of, say, verdicts}
 use Rattle.cluster_node.specs.Records.{lines_at, of_node}
-use Rattle.cluster_core.specs.Headline.{entry_at, UpUnder, Keeps, Keeping}
+use Rattle.cluster_core.specs.Headline.{entry_at, stands_next, UpUnder, Keeps, Keeping}
 
 -- a serving of a flow whose entry stands with its backend up
-kept_choice : (pick : Pick) (s : Serving) (e : Entry) (ups : Candidates) (turn : ℕ) → s.ups ≡ Some ups → is_up e.backend ups ≡ true → (serve_as pick s (Some e) turn).choice ≡ choices.Forward e.backend e.version
-kept_choice pick s e ups turn u h =
-    ap (λ (o : Option (Candidates)). (told_under pick s o (Some e) turn).choice) u
-    ∙ ap (λ (b : Bool). (told_by pick s ups (Some e) (if b then Some e else None) turn).choice) h
+kept_choice : (pick : Pick) (clock : ℕ) (s : Serving) (e : Entry) (ups : Candidates) (turn : ℕ) → s.ups ≡ Some ups → is_up e.backend ups ≡ true → (serve_as pick clock s (Some e) turn).choice ≡ choices.Forward e.backend e.version
+kept_choice pick clock s e ups turn u h =
+    ap (λ (o : Option (Candidates)). (told_under pick clock s o (Some e) turn).choice) u
+    ∙ ap (λ (b : Bool). (told_by pick clock s ups (Some e) (if b then Some e else None) turn).choice) h
 
 module _ (rules : Rules) (past : List Said) (n w v : ℕ) (r : Bool) (i : Item) (e : Entry) (up : UpUnder rules v i.flow e.backend) where
   abbrev pub Lines : List Line
   Lines = lines_of w past
 
   abbrev pub Stood : Option Entry
-  Stood = standing rules.capacity i.flow (touches (told rules.pick rules.capacity (servings rules Lines)))
+  Stood = stands_next rules Lines (next_item Lines) i.flow
 
-  done_keeps : Stood ≡ Some e → (b : Bool) → accepted (of_taken n w (if b then takings.Behind else takings.Done i (told_next rules Lines i v r).choice)) ≡ true → of_taken n w (if b then takings.Behind else takings.Done i (told_next rules Lines i v r).choice) ≡ Forward n w i.packet i.flow e.backend e.version
+  abbrev pub Past : List Told
+  Past = told rules.pick rules.capacity rules.idle (servings rules Lines)
+
+  abbrev pub Clock : ℕ
+  Clock = max (clock_of Past) i.at
+
+  done_keeps : stands_next rules Lines (Some i) i.flow ≡ Some e → (b : Bool) → accepted (of_taken n w (if b then takings.Behind else takings.Done i (told_next rules Lines i v r).choice)) ≡ true → of_taken n w (if b then takings.Behind else takings.Done i (told_next rules Lines i v r).choice) ≡ Forward n w i.packet i.flow e.backend e.version
   done_keeps st true a = absurd (false≢true a)
   done_keeps st false a = ap (of_choice n w i)
-      (ap (λ (o : Option Entry). (serve_as rules.pick (serving_under (rules.ups v) v i.flow r) o (asked_count (told rules.pick rules.capacity (servings rules Lines)) % 2 ^ 64)).choice) st
-      ∙ kept_choice rules.pick (serving_under (rules.ups v) v i.flow r) e up.ups (asked_count (told rules.pick rules.capacity (servings rules Lines)) % 2 ^ 64) up.known up.up)
+      (ap (λ (o : Option Entry). (serve_as rules.pick Clock (serving_under (rules.ups v) v i r) o (asked_count Past % 2 ^ 64)).choice) st
+      ∙ kept_choice rules.pick Clock (serving_under (rules.ups v) v i r) e up.ups (asked_count Past % 2 ^ 64) up.known up.up)
 
   taken_keeps : next_item Lines ≡ Some i → Stood ≡ Some e → accepted (of_taken n w (taken rules Lines v r)) ≡ true → of_taken n w (taken rules Lines v r) ≡ Forward n w i.packet i.flow e.backend e.version
   taken_keeps h st a =
       let f : of_taken n w (taken_of rules Lines (next_item Lines) v r) ≡ of_taken n w (taken_of rules Lines (Some i) v r) = ap (λ (o : Option Item). of_taken n w (taken_of rules Lines o v r)) h in
-      f ∙ done_keeps st (nat_lt v i.floor || nat_lt v (greatest_used Lines)) (ap accepted (sym f) ∙ a)
+      let now : stands_next rules Lines (Some i) i.flow ≡ Some e = ap (λ (o : Option Item). stands_next rules Lines o i.flow) (sym h) ∙ st in
+      f ∙ done_keeps now (nat_lt v i.floor || nat_lt v (greatest_used Lines)) (ap accepted (sym f) ∙ a)
 
   known_keeps : next_item Lines ≡ Some i → Stood ≡ Some e → (b : Bool) → accepted (if b then of_taken n w (taken rules Lines v r) else Refused UnknownVersion) ≡ true → (if b then of_taken n w (taken rules Lines v r) else Refused UnknownVersion) ≡ Forward n w i.packet i.flow e.backend e.version
   known_keeps h st true a = taken_keeps h st a

@@ -135,21 +135,21 @@ length_replicate zero f = refl
 length_replicate (suc n) f = ap suc (length_replicate n f)
 
 -- a new run stands for the empty record
-fresh_waits : (n capacity : ℕ) → waits (replicate n (fresh capacity)) ≡ 0
-fresh_waits zero capacity = refl
-fresh_waits (suc n) capacity = ap (λ (k : ℕ). 0 + k) (fresh_waits n capacity)
+fresh_waits : (n capacity : ℕ) (idle : Option ℕ) → waits (replicate n (fresh capacity idle)) ≡ 0
+fresh_waits zero capacity idle = refl
+fresh_waits (suc n) capacity idle = ap (λ (k : ℕ). 0 + k) (fresh_waits n capacity idle)
 
 fresh_all : (n : ℕ) (m : NodeView) → waits m.workers ≡ 0 → waiting_in (replicate n m) ≡ 0
 fresh_all zero m h = refl
 fresh_all (suc n) m h = let i : waiting_in (replicate n m) ≡ 0 = fresh_all n m h in omega arith
 
-pub run_none : {S : Type 0} (pick_of : S → ℕ → Pick) (rules : Rules) → 0 < rules.workers → RunStands {S = S} pick_of rules [] (record { failed = false; nodes = replicate rules.nodes (record { newest = 0; installed = []; cursor = 0; workers = replicate rules.workers (fresh rules.capacity) }); versions = [] })
+pub run_none : {S : Type 0} (pick_of : S → ℕ → Pick) (rules : Rules) → 0 < rules.workers → RunStands {S = S} pick_of rules [] (record { failed = false; nodes = replicate rules.nodes (record { newest = 0; installed = []; cursor = 0; workers = replicate rules.workers (fresh rules.capacity rules.idle) }); versions = [] })
 run_none pick_of rules some = record {
   working = refl;
   count = length_replicate rules.nodes _;
   good = λ v h. absurd (false≢true h);
   prepared = λ n v h. absurd (false≢true h);
-  balance = ap (λ (k : ℕ). k + 0) (fresh_all rules.nodes (record { newest = 0; installed = []; cursor = 0; workers = replicate rules.workers (fresh rules.capacity) }) (fresh_waits rules.workers rules.capacity));
+  balance = ap (λ (k : ℕ). k + 0) (fresh_all rules.nodes (record { newest = 0; installed = []; cursor = 0; workers = replicate rules.workers (fresh rules.capacity rules.idle) }) (fresh_waits rules.workers rules.capacity rules.idle));
   each = λ n m h. subst (λ (z : NodeView). NodeStands rules [] z) (sym (get_replicate rules.nodes _ n m h)) (stands_none rules some);
 }
 

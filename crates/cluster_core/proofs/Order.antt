@@ -38,22 +38,22 @@ sound_put ls i h = omega (arith, length-append (placed ls) (i ∷ []))
 sound_took : (ls : List Line) (v : ℕ) (r : Bool) (i : Item) → next_item ls ≡ Some i → Sound (took v r ∷ ls)
 sound_took ls v r i h = (drop_at (placed ls) (taken_count ls) i h).1
 
-sound_placed : (w k : ℕ) (x : Flow) (o : Outcome) (ls : List Line) → Sound ls → Sound (placed_line w k x o ls)
-sound_placed w k x (Placed u f) ls h = go (u == w)
+sound_placed : (w k : ℕ) (x : Flow) (t : ℕ) (o : Outcome) (ls : List Line) → Sound ls → Sound (placed_line w k x t o ls)
+sound_placed w k x t (Placed u f) ls h = go (u == w)
   where
-    go : (b : Bool) → Sound (if b then put (record { packet = k; flow = x; floor = f }) ∷ ls else ls)
-    go true = sound_put ls (record { packet = k; flow = x; floor = f }) h
+    go : (b : Bool) → Sound (if b then put (record { packet = k; flow = x; at = t; floor = f }) ∷ ls else ls)
+    go true = sound_put ls (record { packet = k; flow = x; at = t; floor = f }) h
     go false = h
-sound_placed w k x Installed ls h = h
-sound_placed w k x (Forward n u j y b o) ls h = h
-sound_placed w k x (Dropped j c) ls h = h
-sound_placed w k x (Restarted l) ls h = h
-sound_placed w k x (Refused r) ls h = h
+sound_placed w k x t Installed ls h = h
+sound_placed w k x t (Forward n u j y b o) ls h = h
+sound_placed w k x t (Dropped j c) ls h = h
+sound_placed w k x t (Restarted l) ls h = h
+sound_placed w k x t (Refused r) ls h = h
 
 sound_arrived : (w k : ℕ) (p : Option Packet) (o : Outcome) (ls : List Line) → Sound ls → Sound (arrived_line w k p o ls)
 sound_arrived w k None o ls h = h
 sound_arrived w k (Some (Bad c)) o ls h = h
-sound_arrived w k (Some (Good x l)) o ls h = sound_placed w k x o ls h
+sound_arrived w k (Some (Good x l t)) o ls h = sound_placed w k x t o ls h
 
 -- a serving that is accepted takes a packet that waits
 queue_accepted : (rules : Rules) (installed : List ℕ) (ls : List Line) (n w v : ℕ) (r : Bool) (o : Option Item) → accepted (by_queue rules installed ls o n w v r) ≡ true → (i : Item) × (o ≡ Some i)
@@ -162,7 +162,7 @@ module _ (m u place : ℕ) (x : Flow) (b : Backend) (o : ℕ) where
   arrive_sends : (rules : Rules) (newest cursor k : ℕ) (marks : List Bool) (p : Option Packet) → Sends (arrive_verdict rules newest cursor k marks p) → ⊥
   arrive_sends rules newest cursor k marks None h = absurd (cc)
   arrive_sends rules newest cursor k marks (Some (Bad c)) h = absurd (cc)
-  arrive_sends rules newest cursor k marks (Some (Good y l)) h =
+  arrive_sends rules newest cursor k marks (Some (Good y l t)) h =
       not_if (newest == 0) (Dropped k NoVersion) (steered newest k (place_for marks rules.workers (home_of rules.plain rules.workers y) cursor)) (λ z. absurd (cc)) (steered_sends newest k (place_for marks rules.workers (home_of rules.plain rules.workers y) cursor)) h
 
   abbrev pub Takes : Rules → List Said → Event → Type 0

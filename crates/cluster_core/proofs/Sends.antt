@@ -69,7 +69,7 @@ module _ (rules : Rules) where
       go : (b : Bool) → GoesToPick (of_taken n w (if b then takings.Behind else takings.Done i (told_next rules ls i v r).choice))
       go true = tt
       go false = of_choice_goes n w i (told_next rules ls i v r).choice
-          (choice_ok rules.pick Ups rules.capacity (servings rules ls) (serving_under (rules.ups v) v i.flow r) (coherent ls) refl)
+          (choice_ok rules.pick Ups rules.capacity rules.idle (servings rules ls) (serving_under (rules.ups v) v i r) (coherent ls) refl)
 
   queue_goes : (past : List Said) (n w v : ℕ) (r : Bool) (o : Option Item) → GoesToPick (by_queue rules (installed_of past) (lines_of w past) o n w v r)
   queue_goes past n w v r None = tt
@@ -82,7 +82,7 @@ module _ (rules : Rules) where
   arrive_pick : (newest cursor k : ℕ) (marks : List Bool) (p : Option Packet) → GoesToPick (arrive_verdict rules newest cursor k marks p)
   arrive_pick newest cursor k marks None = tt
   arrive_pick newest cursor k marks (Some (Bad c)) = tt
-  arrive_pick newest cursor k marks (Some (Good x l)) = if_goes (newest == 0) (Dropped k NoVersion) (steered newest k (place_for marks rules.workers (home_of rules.plain rules.workers x) cursor)) tt (steered_goes newest k (place_for marks rules.workers (home_of rules.plain rules.workers x) cursor))
+  arrive_pick newest cursor k marks (Some (Good x l t)) = if_goes (newest == 0) (Dropped k NoVersion) (steered newest k (place_for marks rules.workers (home_of rules.plain rules.workers x) cursor)) tt (steered_goes newest k (place_for marks rules.workers (home_of rules.plain rules.workers x) cursor))
 
   install_pick : (known : Bool) (newest v : ℕ) → GoesToPick (install_verdict known newest v)
   install_pick false newest v = tt

@@ -17,7 +17,7 @@ Popped items [] = Unit {0}
 Popped items (s ∷ earlier) = (slice_get items (length earlier) ≡ Some s.item) × Popped items earlier
 
 abbrev pub serving : Rules → Served → Serving
-serving rules s = serving_under (rules.ups s.version) s.version s.item.flow s.refused
+serving rules s = serving_under (rules.ups s.version) s.version s.item s.refused
 
 abbrev pub greatest : List Served → ℕ
 greatest [] = 0

@@ -1,13 +1,13 @@
 -- The promises over any list of events, in terms of the packets that were sent.
-use Rattle.std.specs.Prelude.{◌≡◌, ℕ, true, List, [], ◌∷◌, Option, Some, None, slice_get}
+use Rattle.std.specs.Prelude.{◌≡◌, ℕ, true, List, [], ◌∷◌, Option, Some, None, max, slice_get}
 use Rattle.five_tuple.specs.declared.Flow.{Flow}
 use Rattle.pool_versions.specs.declared.backend.Backend.{Backend}
 use Rattle.connection_table.specs.declared.table.Entry.{Entry}
 use Rattle.connection_table.specs.Touches.{standing}
 use Rattle.selection.specs.Candidates.{Candidates}
-use Rattle.forwarder.specs.Serving.{Pick, is_up, touches, told}
+use Rattle.forwarder.specs.Serving.{Pick, Told, clock_of, is_up, touches, told}
 use Rattle.cluster_node.specs.declared.serving.Item.{Item}
-use Rattle.cluster_node.specs.Book.{next_item, servings}
+use Rattle.cluster_node.specs.Book.{Line, next_item, servings}
 use Rattle.cluster_node.specs.declared.packets.Packet.{Packet}
 use Rattle.cluster_node.specs.declared.events.Event.{Event}
 use Rattle.cluster_node.specs.declared.events.Event.TheVariants.{Install, Arrive, Serve, Restart}
@@ -42,10 +42,22 @@ abbrev pub Agreement : Rules → List Outcome → Type 0
 Agreement rules outs = (x : Flow) (b₁ b₂ : Backend) (v₁ v₂ : ℕ) → Sent outs x b₁ v₁ → Sent outs x b₂ v₂ → (b₁ ≡ b₂ → ⊥) →
     (pick_under rules v₁ x ≡ Some b₁) × (pick_under rules v₂ x ≡ Some b₂) × (pick_under rules v₁ x ≡ pick_under rules v₂ x → ⊥) × (v₁ ≡ v₂ → ⊥)
 
--- the entry that stands for a flow on a forwarder: its last touch there, while fewer than the capacity of other flows
--- were touched after it
+-- the clock of a forwarder while it serves its next packet
+abbrev pub clock_at : List Told → Option Item → ℕ
+clock_at ts None = clock_of ts
+clock_at ts (Some i) = max (clock_of ts) i.at
+
+-- what stands for a flow then, for a worker with these lines
+abbrev pub stands_next : Rules → List Line → Option Item → Flow → Option Entry
+stands_next rules ls o x =
+    let ts = told rules.pick rules.capacity rules.idle (servings rules ls) in
+    standing rules.capacity rules.idle (clock_at ts o) x (touches ts)
+
+-- the entry that stands for a flow on a forwarder as it serves its next packet: the flow's last touch there, while fewer than
+-- the capacity of other flows were touched after it and, where a limit is set, the clock less the clock at that touch is at
+-- most the limit
 abbrev pub entry_at : Rules → List Said → ℕ → ℕ → Flow → Option Entry
-entry_at rules past n w x = standing rules.capacity x (touches (told rules.pick rules.capacity (servings rules (lines_at past n w))))
+entry_at rules past n w x = stands_next rules (lines_at past n w) (next_item (lines_at past n w)) x
 
 -- a backend is up for a flow under a version
 pub record UpUnder (rules : Rules) (v : ℕ) (x : Flow) (b : Backend) : Type 0 where

@@ -53,4 +53,4 @@ BlocksLeaveArrivals = (rules : Rules) (n w : ℕ) (past : List Said) (asks : Lis
 -- to what its forwarder answers after its own servings
 abbrev pub ServesFollowPackets : Type 0
 ServesFollowPackets = (rules : Rules) (items : List Item) (done : List Served) (i : Item) (v : ℕ) (r : Bool) → Popped items done → slice_get items (length done) ≡ Some i →
-    taken rules (settled items done) v r ≡ (if nat_lt v i.floor || nat_lt v (greatest done) then Behind else Done i (told_after rules.pick rules.capacity (told rules.pick rules.capacity (map (serving rules) done)) (serving_under (rules.ups v) v i.flow r)).choice)
+    taken rules (settled items done) v r ≡ (if nat_lt v i.floor || nat_lt v (greatest done) then Behind else Done i (told_after rules.pick rules.capacity rules.idle (told rules.pick rules.capacity rules.idle (map (serving rules) done)) (serving_under (rules.ups v) v i r)).choice)

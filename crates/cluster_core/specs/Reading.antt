@@ -1,4 +1,4 @@
--- A frame as a packet: its flow and length, or why it can't be balanced.
+-- A frame as a packet: its flow, length and time, or why it can't be balanced.
 use Rattle.std.specs.Prelude.{ℕ, Bool, List, Result, Ok, Err, nat_lt, if◌then◌else◌}
 use Rattle.ip_headers.specs.Ipv4.{Datagram, frame_answer, ipv4_answer}
 use Rattle.ip_headers.specs.declared.Link.{Link}
@@ -21,21 +21,21 @@ cause_of faults.NotTcpUdp = NotTcpUdp
 cause_of faults.BadTransport = BadTransport
 
 -- a datagram of more than 65511 bytes can't be wrapped
-abbrev pub sized : Flow → ℕ → Packet
-sized x total = if nat_lt 65511 total then Bad TooLarge else Good x total
+abbrev pub sized : Flow → ℕ → ℕ → Packet
+sized x total at = if nat_lt 65511 total then Bad TooLarge else Good x total at
 
-abbrev pub of_flow : ℕ → Result Flow IpFault → Packet
-of_flow total (Err fault) = Bad (cause_of fault)
-of_flow total (Ok x) = sized x total
+abbrev pub of_flow : ℕ → ℕ → Result Flow IpFault → Packet
+of_flow total at (Err fault) = Bad (cause_of fault)
+of_flow total at (Ok x) = sized x total at
 
-abbrev pub of_datagram : Result Datagram IpFault → Packet
-of_datagram (Err fault) = Bad (cause_of fault)
-of_datagram (Ok d) = of_flow d.total (flow_answer d)
+abbrev pub of_datagram : ℕ → Result Datagram IpFault → Packet
+of_datagram at (Err fault) = Bad (cause_of fault)
+of_datagram at (Ok d) = of_flow d.total at (flow_answer d)
 
-abbrev pub of_frame : Bool → Result (List ℕ) IpFault → Packet
-of_frame check (Err fault) = Bad (cause_of fault)
-of_frame check (Ok bytes) = of_datagram (ipv4_answer check bytes)
+abbrev pub of_frame : Bool → ℕ → Result (List ℕ) IpFault → Packet
+of_frame check at (Err fault) = Bad (cause_of fault)
+of_frame check at (Ok bytes) = of_datagram at (ipv4_answer check bytes)
 
--- a frame of a link, with the test of the header's checksum or without
-unfoldable pub packet_read : Link → Bool → List ℕ → Packet
-packet_read link check frame = of_frame check (frame_answer link frame)
+-- a frame of a link that came at a time, with the test of the header's checksum or without
+unfoldable pub packet_read : Link → List ℕ → ℕ → Bool → Packet
+packet_read link frame at check = of_frame check at (frame_answer link frame)

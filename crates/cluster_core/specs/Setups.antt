@@ -17,6 +17,8 @@ pub record Fixed (S H : Type 0) : Type 0 where
   pub nodes : List ℕ
   pub workers : ℕ
   pub capacity : ℕ
+  -- how long an entry stands after its last touch, in microseconds; None: no limit
+  pub idle : Option ℕ
 
 -- the first fault of a setup
 abbrev pub setup_fault : ℕ → ℕ → ℕ → Option SetupFault
@@ -36,4 +38,5 @@ rules_for pick_of plain_of setup pools = record {
   nodes = length setup.nodes;
   workers = setup.workers;
   capacity = setup.capacity;
+  idle = setup.idle;
 }

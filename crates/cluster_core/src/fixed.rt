@@ -20,7 +20,7 @@ pub enum SetupFault {
 }
 
 /// What is fixed for a cluster: its hash, scheme and table size, the IPv4 addresses of its nodes, how many workers a node
-/// has, and how many entries a worker's connection table keeps.
+/// has, how many entries a worker's connection table keeps, and how long an entry stands after its last touch.
 #[derive(Drop)]
 pub struct Setup<S: Scheme, H: FlowHash> {
     hash: H,
@@ -29,6 +29,7 @@ pub struct Setup<S: Scheme, H: FlowHash> {
     nodes: Vec<u32>,
     workers: u16,
     capacity: u32,
+    idle: Option<u64>,
     key: TableKey,
 }
 
@@ -38,7 +39,7 @@ impl<S: Scheme, H: FlowHash> Model for Setup<S, H> {
 
     ghost Value = { Fixed S H };
 
-    ghost view = { λ s. record { hash = s.hash; scheme = s.scheme; size = s.size; nodes = s.nodes.items; workers = s.workers; capacity = s.capacity } };
+    ghost view = { λ s. record { hash = s.hash; scheme = s.scheme; size = s.size; nodes = s.nodes.items; workers = s.workers; capacity = s.capacity; idle = s.idle } };
 
     ghost invariant = { λ s. (0 < length s.nodes.items) × (length s.nodes.items ≤ 64) × (0 < s.workers) × (s.workers ≤ 16) × (0 < s.capacity) × (s.capacity ≤ 1000000) };
 }
@@ -60,7 +61,8 @@ fn fault_of(nodes: usize, workers: u16, capacity: u32) -> Option<SetupFault>
 }
 
 impl<S: Scheme, H: FlowHash> Setup<S, H> {
-    /// A setup, or the first fault in the order of `SetupFault`. No memory is taken.
+    /// A setup, or the first fault in the order of `SetupFault`. Where `idle` is a number of microseconds, an entry stands only
+    /// while no more than that have passed since its last touch. No memory is taken.
     #[tactic(auto, using(crate::proofs::Limits::no_fault))]
     pub fn new(
         hash: H,
@@ -69,9 +71,10 @@ impl<S: Scheme, H: FlowHash> Setup<S, H> {
         nodes: Vec<u32>,
         workers: u16,
         capacity: u32,
+        idle: Option<u64>,
     ) -> Result<Self, SetupFault>
         ensures { MatchResult result
-            (λ s. (setup_fault (length nodes.items) workers capacity ≡ None) × (s ≡ record { hash = hash; scheme = scheme; size = size; nodes = nodes.items; workers = workers; capacity = capacity }))
+            (λ s. (setup_fault (length nodes.items) workers capacity ≡ None) × (s ≡ record { hash = hash; scheme = scheme; size = size; nodes = nodes.items; workers = workers; capacity = capacity; idle = idle }))
             (λ fault. setup_fault (length nodes.items) workers capacity ≡ Some fault) }
     {
         match fault_of(nodes.len(), workers, capacity) {
@@ -83,6 +86,7 @@ impl<S: Scheme, H: FlowHash> Setup<S, H> {
                 nodes,
                 workers,
                 capacity,
+                idle,
                 key: TableKey::fixed(),
             }),
         }
@@ -99,6 +103,7 @@ impl<S: Scheme, H: FlowHash> Setup<S, H> {
             nodes: self.nodes,
             workers: self.workers,
             capacity: self.capacity,
+            idle: self.idle,
             key,
         }
     }
@@ -154,5 +159,12 @@ impl<S: Scheme, H: FlowHash> Setup<S, H> {
         ensures limit { result ≤ 1000000 }
     {
         self.capacity
+    }
+
+    /// How many microseconds an entry stands after its last touch, if there is a limit.
+    pub fn idle(&self) -> Option<u64>
+        ensures { result ≡ self.now.idle }
+    {
+        self.idle
     }
 }

@@ -26,8 +26,8 @@ fn cause_of(fault: IpFault) -> Cause
     }
 }
 
-fn of_view(datagram: &Ipv4View<'_>) -> Packet
-    ensures { result ≡ of_flow (view datagram.now).total (flow_answer (view datagram.now)) }
+fn of_view(datagram: &Ipv4View<'_>, at: u64) -> Packet
+    ensures { result ≡ of_flow (view datagram.now).total at (flow_answer (view datagram.now)) }
 {
     match flow_of(datagram) {
         Err(fault) => Packet::Bad(cause_of(fault)),
@@ -38,31 +38,32 @@ fn of_view(datagram: &Ipv4View<'_>) -> Packet
                 Packet::Good {
                     flow,
                     len: datagram.total,
+                    at,
                 }
             }
         }
     }
 }
 
-fn of_datagram(bytes: &[u8], check: bool) -> Packet
-    ensures { result ≡ of_datagram (ipv4_answer check bytes.now) }
+fn of_datagram(bytes: &[u8], at: u64, check: bool) -> Packet
+    ensures { result ≡ of_datagram at (ipv4_answer check bytes.now) }
 {
     match read_ipv4(bytes, check) {
         Err(fault) => Packet::Bad(cause_of(fault)),
-        Ok(datagram) => of_view(&datagram),
+        Ok(datagram) => of_view(&datagram, at),
     }
 }
 
-/// A frame of a link as a packet: the flow and the total length of its datagram, or the first cause for which it can't be
-/// balanced (RFC 791, 793, 768). A datagram of more than 65511 bytes is too large to be wrapped. With `check` the
+/// A frame of a link, which came at a time in microseconds, as a packet: the flow and the total length of its datagram and that
+/// time, or the first cause for which it can't be balanced (RFC 791, 793, 768). A datagram of more than 65511 bytes is too large to be wrapped. With `check` the
 /// header's checksum is tested. No memory is taken.
 #[tactic(auto, unfolding(crate::specs::Reading::packet_read), using(crate::proofs::Frames::was_read))]
-pub fn read_packet(link: Link, frame: &[u8], check: bool) -> Packet
-    ensures packet { result ≡ packet_read link check frame.now }
+pub fn read_packet(link: Link, frame: &[u8], at: u64, check: bool) -> Packet
+    ensures packet { result ≡ packet_read link frame.now at check }
     ensures cause { WasRead (Some result) }
 {
     match read_frame(link, frame) {
         Err(fault) => Packet::Bad(cause_of(fault)),
-        Ok(bytes) => of_datagram(bytes, check),
+        Ok(bytes) => of_datagram(bytes, at, check),
     }
 }

@@ -135,14 +135,14 @@ fn prepare_for<S: Scheme>(
 impl<S: Scheme, T: ConnTable> Run<S, T> {
     /// A cluster in which nothing has happened. It stands for the empty record.
     pub fn make<H: FlowHash>(alloc: Global, setup: &Setup<S, H>) -> Result<Self, AllocError>
-        ensures fresh { IfOk result (λ r. r ≡ record { failed = false; nodes = replicate (length setup.now.nodes) (record { newest = 0; installed = []; cursor = 0; workers = replicate setup.now.workers (fresh setup.now.capacity) }); versions = [] }) }
+        ensures fresh { IfOk result (λ r. r ≡ record { failed = false; nodes = replicate (length setup.now.nodes) (record { newest = 0; installed = []; cursor = 0; workers = replicate setup.now.workers (fresh setup.now.capacity setup.now.idle) }); versions = [] }) }
         ensures stands { (pools : Pools) → IfOk result (λ r. RunStands (λ s z. S.pick s z) (rules_for (λ s z. S.pick s z) (λ h. H.plain h) setup.now pools) [] r) }
     {
         Self::make_fresh(alloc, setup)
     }
 
     fn make_fresh<H: FlowHash>(alloc: Global, setup: &Setup<S, H>) -> Result<Self, AllocError>
-        ensures fresh { IfOk result (λ r. r ≡ record { failed = false; nodes = replicate (length setup.now.nodes) (record { newest = 0; installed = []; cursor = 0; workers = replicate setup.now.workers (fresh setup.now.capacity) }); versions = [] }) }
+        ensures fresh { IfOk result (λ r. r ≡ record { failed = false; nodes = replicate (length setup.now.nodes) (record { newest = 0; installed = []; cursor = 0; workers = replicate setup.now.workers (fresh setup.now.capacity setup.now.idle) }); versions = [] }) }
         ensures workers { 0 < setup.now.workers }
     {
         let workers = setup.workers();
@@ -154,6 +154,7 @@ impl<S: Scheme, T: ConnTable> Run<S, T> {
                 setup.capacity(),
                 setup.key(),
                 workers,
+                setup.idle(),
             )?)?;
         }
         Ok(Run {

@@ -1,7 +1,8 @@
 //! The worked examples as lists of events, on both tables.
 mod frames;
+mod idle;
 
-ghost use Rattle.std.specs.Prelude.{◌≡◌, Some};
+ghost use Rattle.std.specs.Prelude.{◌≡◌, ℕ, Some, slice_get};
 ghost use Rattle.cluster_node.specs.Records.{WasRead};
 
 use cluster_core::{
@@ -61,40 +62,73 @@ fn version(rt: &impl Abort, alloc: Global, number: u32, a: u8, up: [bool; 3]) ->
     Version { number, services }
 }
 
-// The versions 1 all up; 2 without B; 3 all up, A at another address; 4 without A; 5 all up.
-fn catalogue(rt: &impl Abort, alloc: Global) -> Catalogue
+// Versions by number, the last byte of A's address, and which of A, B and C are up.
+fn catalogue_of(rt: &impl Abort, alloc: Global, versions: &[(u32, u8, [bool; 3])]) -> Catalogue
     ensures { result.size ≡ 7 }
 {
     let mut all = Catalogue::new(alloc, seven(rt));
-    for (number, a, up) in [
-        (1, 1, [true, true, true]),
-        (2, 1, [true, false, true]),
-        (3, 9, [true, true, true]),
-        (4, 1, [false, true, true]),
-        (5, 1, [true, true, true]),
-    ] {
-        all.add(version(rt, alloc, number, a, up))
+    for (number, a, up) in versions {
+        all.add(version(rt, alloc, *number, *a, *up))
             .expect(rt, "a version");
     }
     assert!(rt; all.size().slots() == 7);
     all
 }
 
-fn setup<S: Scheme>(rt: &impl Abort, alloc: Global, scheme: S, workers: u16) -> Setup<S, SumHash>
+// The versions 1 all up; 2 without B; 3 all up, A at another address; 4 without A; 5 all up.
+fn catalogue(rt: &impl Abort, alloc: Global) -> Catalogue
+    ensures { result.size ≡ 7 }
+{
+    catalogue_of(
+        rt,
+        alloc,
+        &[
+            (1, 1, [true, true, true]),
+            (2, 1, [true, false, true]),
+            (3, 9, [true, true, true]),
+            (4, 1, [false, true, true]),
+            (5, 1, [true, true, true]),
+        ],
+    )
+}
+
+// With an idle limit in microseconds, if there is one.
+fn limited<S: Scheme>(
+    rt: &impl Abort,
+    alloc: Global,
+    scheme: S,
+    workers: u16,
+    idle: Option<u64>,
+) -> Setup<S, SumHash>
     ensures size { result.size ≡ 7 }
     ensures scheme { result.scheme ≡ scheme }
 {
     let nodes = Vec::from_slice(alloc, &[0x0a090001, 0x0a090002]).expect(rt, "memory");
-    Setup::new(SumHash, scheme, seven(rt), nodes, workers, 2).expect(rt, "a setup")
+    Setup::new(SumHash, scheme, seven(rt), nodes, workers, 2, idle).expect(rt, "a setup")
 }
 
-fn packet(sport: u16) -> Packet
+fn setup<S: Scheme>(rt: &impl Abort, alloc: Global, scheme: S, workers: u16) -> Setup<S, SumHash>
+    ensures size { result.size ≡ 7 }
+    ensures scheme { result.scheme ≡ scheme }
+{
+    limited(rt, alloc, scheme, workers, None)
+}
+
+// A packet from a port, at a time in seconds.
+fn packet_at(sport: u16, second: u32) -> Packet
     ensures { WasRead (Some result) }
 {
     Packet::Good {
         flow: flow(sport),
         len: 40,
+        at: u64::from(second) * 1_000_000,
     }
+}
+
+fn packet(sport: u16) -> Packet
+    ensures { WasRead (Some result) }
+{
+    packet_at(sport, 0)
 }
 
 fn install(node: u16, version: u32) -> Event {
@@ -132,6 +166,7 @@ fn told(outcome: &Outcome) -> (&'static str, u32, u32) {
             match cause {
                 Cause::NoVersion => "no version",
                 Cause::RingsFull => "rings full",
+                Cause::NoBackend => "no backend",
                 _ => "dropped",
             },
             *packet,
@@ -154,38 +189,53 @@ fn told(outcome: &Outcome) -> (&'static str, u32, u32) {
     }
 }
 
-// The packets are of source ports 1000, 1001 and 1006, in this order.
-fn judged<S: Scheme, T: ConnTable>(
-    rt: &impl Abort,
-    alloc: Global,
-    setup: &Setup<S, SumHash>,
-    events: &[Event],
-) -> Vec<Outcome>
-    requires { setup.now.size ≡ 7 }
-{
-    let packets = [packet(1000), packet(1001), packet(1006)];
-    replay::<S, SumHash, T>(alloc, setup, &catalogue(rt, alloc), &packets, events).expect(
-        rt, "memory",
-    )
-}
+// An event, and what it comes to.
+type Step = (Event, (&'static str, u32, u32));
 
-fn shows<S: Scheme, T: ConnTable>(
-    rt: &impl Abort,
-    alloc: Global,
-    setup: &Setup<S, SumHash>,
-    steps: &[(Event, (&'static str, u32, u32))],
-)
-    requires { setup.now.size ≡ 7 }
-{
+fn events_of(rt: &impl Abort, alloc: Global, steps: &[Step]) -> Vec<Event> {
     let mut events = Vec::new(alloc);
     for (event, _) in steps {
         events.push(*event).expect(rt, "memory");
     }
-    let outcomes = judged::<S, T>(rt, alloc, setup, events.as_slice());
+    events
+}
+
+fn shows_of<S: Scheme, T: ConnTable>(
+    rt: &impl Abort,
+    alloc: Global,
+    setup: &Setup<S, SumHash>,
+    catalogue: &Catalogue,
+    packets: &[Packet],
+    steps: &[Step],
+)
+    requires size { catalogue.now.size ≡ setup.now.size }
+    requires read { (k : ℕ) (p : Packet) → slice_get packets.now k ≡ Some p → WasRead (Some p) }
+{
+    let events = events_of(rt, alloc, steps);
+    let outcomes = replay::<S, SumHash, T>(
+        alloc,
+        setup,
+        catalogue,
+        packets,
+        events.as_slice(),
+    ).expect(rt, "memory");
     assert_eq!(rt; outcomes.len(), steps.len());
     for (at, (outcome, step)) in outcomes.iter().zip(steps.iter()).enumerate() {
         assert_eq!(rt; told(outcome), step.1, "event {at}");
     }
+}
+
+// The packets are of source ports 1000, 1001 and 1006, in this order.
+fn shows<S: Scheme, T: ConnTable>(
+    rt: &impl Abort,
+    alloc: Global,
+    setup: &Setup<S, SumHash>,
+    steps: &[Step],
+)
+    requires { setup.now.size ≡ 7 }
+{
+    let packets = [packet(1000), packet(1001), packet(1006)];
+    shows_of::<S, T>(rt, alloc, setup, &catalogue(rt, alloc), &packets, steps);
 }
 
 const FIRST: u32 = 0;
@@ -527,6 +577,26 @@ fn in_turns() -> [Event; 8] {
     ]
 }
 
+fn explained_of<S: Scheme, T: ConnTable>(
+    rt: &impl Abort,
+    alloc: Global,
+    setup: &Setup<S, SumHash>,
+    catalogue: &Catalogue,
+    packets: &[Packet],
+    events: &[Event],
+    places: (usize, usize),
+) -> (&'static str, [u32; 5])
+    requires size { catalogue.now.size ≡ setup.now.size }
+    requires read { (k : ℕ) (p : Packet) → slice_get packets.now k ≡ Some p → WasRead (Some p) }
+{
+    let outcomes = replay::<S, SumHash, T>(alloc, setup, catalogue, packets, events).expect(
+        rt, "memory",
+    );
+    let one = outcomes.get(places.0).expect(rt, "an outcome");
+    let other = outcomes.get(places.1).expect(rt, "an outcome");
+    told_of(explain(setup, catalogue, one, other))
+}
+
 fn explained<S: Scheme, T: ConnTable>(
     rt: &impl Abort,
     alloc: Global,
@@ -536,14 +606,16 @@ fn explained<S: Scheme, T: ConnTable>(
 ) -> (&'static str, [u32; 5])
     requires { setup.now.size ≡ 7 }
 {
-    let catalogue = catalogue(rt, alloc);
     let packets = [packet(1000), packet(1001), packet(1006)];
-    let outcomes = replay::<S, SumHash, T>(alloc, setup, &catalogue, &packets, events).expect(
-        rt, "memory",
-    );
-    let one = outcomes.get(places.0).expect(rt, "an outcome");
-    let other = outcomes.get(places.1).expect(rt, "an outcome");
-    told_of(explain(setup, &catalogue, one, other))
+    explained_of::<S, T>(
+        rt,
+        alloc,
+        setup,
+        &catalogue(rt, alloc),
+        &packets,
+        events,
+        places,
+    )
 }
 
 // Two nodes with two versions split the third flow, and not the first; an entry that was evicted splits the third flow

@@ -3,16 +3,16 @@ use Rattle.std.proofs.Common.{◌≡◌, ℕ, ◌+◌, ◌≤◌, Bool, true, fa
 use Rattle.std.specs.Prelude.{slice_get, ◌||◌, nat_lt, if◌then◌else◌}
 use Rattle.std.proofs.lemmas.Bool.{ltb-false, or_parts}
 use Rattle.five_tuple.specs.declared.Flow.{Flow}
-use Rattle.connection_table.specs.Touches.{last_touch}
 use Rattle.forwarder.specs.Forwarding.{Forwarding}
 use Rattle.selection.specs.Candidates.{Candidates}
-use Rattle.forwarder.specs.Serving.{Pick, Serving, Told, serve_as, forwarding_of}
+use Rattle.forwarder.specs.Serving.{Pick, Serving, Told, told_in, forwarding_of}
 use Rattle.forwarder.proofs.History.{told-table, history-step, history-none}
 use Rattle.cluster_node.specs.declared.serving.Item.{Item}
 use Rattle.cluster_node.specs.declared.serving.Taken.{Taken}
 use Rattle.cluster_node.specs.declared.serving.Taken.TheVariants.{Idle, Behind, Done}
 use Rattle.cluster_node.specs.WorkerView.{WorkerView}
 use Rattle.cluster_node.specs.Book.{Line, put, placed, taken_count, next_item, serving_under, serving_at, servings, greatest_used, told_next, taken_of, taken, lines_after, worker_of, Stands, Step, step_told, step_by, step_of}
+use Rattle.cluster_node.specs.Record.{fresh}
 use Rattle.cluster_node.specs.Rules.{Rules}
 
 none≢some : {i : Item} → ◌≡◌ {A = Option Item} None (Some i) → ⊥
@@ -42,10 +42,10 @@ drop_past (x ∷ xs) zero h = absurd (none≢some (sym h))
 drop_past (x ∷ xs) (suc n) h = drop_past xs n h
 
 -- a worker that is new
-pub stands_new : (rules : Rules) → Stands rules [] (record { queue = []; used = 0; forwarding = record { capacity = rules.capacity; entries = []; turn = 0 } })
+pub stands_new : (rules : Rules) → Stands rules [] (fresh rules.capacity rules.idle)
 stands_new rules = record {
   sound = omega arith;
-  is = ap (λ (f : Forwarding). let w : WorkerView = record { queue = []; used = 0; forwarding = f } in w) (history-none rules.pick rules.capacity);
+  is = ap (λ (f : Forwarding). let w : WorkerView = record { queue = []; used = 0; forwarding = f } in w) (history-none rules.pick rules.capacity rules.idle);
 }
 
 -- a packet at the end
@@ -53,7 +53,7 @@ pub stands_put : (rules : Rules) (ls : List Line) (w : WorkerView) (i : Item) �
 stands_put rules ls w i s = record {
   sound = omega (arith, s.sound, length-append (placed ls) (i ∷ []));
   is = ap (λ (v : WorkerView). let u : WorkerView = record { queue = v.queue ++ i ∷ []; used = v.used; forwarding = v.forwarding } in u) s.is
-      ∙ ap (λ (q : List Item). let u : WorkerView = record { queue = q; used = greatest_used ls; forwarding = forwarding_of rules.pick rules.capacity (servings rules ls) } in u) (sym (drop_push (taken_count ls) (placed ls) i s.sound));
+      ∙ ap (λ (q : List Item). let u : WorkerView = record { queue = q; used = greatest_used ls; forwarding = forwarding_of rules.pick rules.capacity rules.idle (servings rules ls) } in u) (sym (drop_push (taken_count ls) (placed ls) i s.sound));
 }
 
 abbrev pub Goes : Rules → List Line → ℕ → Bool → Taken → Step → Type 0
@@ -63,18 +63,18 @@ module _ (rules : Rules) (ls : List Line) (v : ℕ) (r : Bool) (sound : taken_co
   as_was : Stands rules ls (worker_of rules ls)
   as_was = record { sound = sound; is = refl }
 
-  done : (i : Item) → next_item ls ≡ Some i → (drop (taken_count ls) (placed ls) ≡ i ∷ drop (taken_count ls + 1) (placed ls)) × (taken_count ls + 1 ≤ length (placed ls)) → greatest_used ls ≤ v → Goes rules ls v r (Done i (told_next rules ls i v r).choice) (step_told (worker_of rules ls) i (drop (taken_count ls + 1) (placed ls)) v (serve_as rules.pick (serving_under (rules.ups v) v i.flow r) (last_touch i.flow (forwarding_of rules.pick rules.capacity (servings rules ls)).entries) (forwarding_of rules.pick rules.capacity (servings rules ls)).turn))
+  done : (i : Item) → next_item ls ≡ Some i → (drop (taken_count ls) (placed ls) ≡ i ∷ drop (taken_count ls + 1) (placed ls)) × (taken_count ls + 1 ≤ length (placed ls)) → greatest_used ls ≤ v → Goes rules ls v r (Done i (told_next rules ls i v r).choice) (step_told (worker_of rules ls) i (drop (taken_count ls + 1) (placed ls)) v (told_in rules.pick (forwarding_of rules.pick rules.capacity rules.idle (servings rules ls)) (serving_under (rules.ups v) v i r)))
   done i h d le = (
-    ap (λ (t : Told). Done i t.choice) (told-table rules.pick rules.capacity (servings rules ls) (serving_under (rules.ups v) v i.flow r)),
+    ap (λ (t : Told). Done i t.choice) (told-table rules.pick rules.capacity rules.idle (servings rules ls) (serving_under (rules.ups v) v i r)),
     record {
       sound = omega (arith, d.1);
-      is = ap (λ (f : Forwarding). let u : WorkerView = record { queue = drop (taken_count ls + 1) (placed ls); used = v; forwarding = f } in u) (sym (history-step rules.pick rules.capacity (servings rules ls) (serving_under (rules.ups v) v i.flow r)))
-          ∙ ap (λ (o : Option Item). let u : WorkerView = record { queue = drop (taken_count ls + 1) (placed ls); used = v; forwarding = forwarding_of rules.pick rules.capacity (serving_at rules o v r (servings rules ls)) } in u) (sym h)
-          ∙ ap (λ (n : ℕ). let u : WorkerView = record { queue = drop (taken_count ls + 1) (placed ls); used = n; forwarding = forwarding_of rules.pick rules.capacity (serving_at rules (next_item ls) v r (servings rules ls)) } in u) (let e : v ≡ max v (greatest_used ls) = omega arith in e);
+      is = ap (λ (f : Forwarding). let u : WorkerView = record { queue = drop (taken_count ls + 1) (placed ls); used = v; forwarding = f } in u) (sym (history-step rules.pick rules.capacity rules.idle (servings rules ls) (serving_under (rules.ups v) v i r)))
+          ∙ ap (λ (o : Option Item). let u : WorkerView = record { queue = drop (taken_count ls + 1) (placed ls); used = v; forwarding = forwarding_of rules.pick rules.capacity rules.idle (serving_at rules o v r (servings rules ls)) } in u) (sym h)
+          ∙ ap (λ (n : ℕ). let u : WorkerView = record { queue = drop (taken_count ls + 1) (placed ls); used = n; forwarding = forwarding_of rules.pick rules.capacity rules.idle (serving_at rules (next_item ls) v r (servings rules ls)) } in u) (let e : v ≡ max v (greatest_used ls) = omega arith in e);
     },
   )
 
-  tested : (i : Item) (b : Bool) → (b ≡ false → greatest_used ls ≤ v) → next_item ls ≡ Some i → (drop (taken_count ls) (placed ls) ≡ i ∷ drop (taken_count ls + 1) (placed ls)) × (taken_count ls + 1 ≤ length (placed ls)) → Goes rules ls v r (if b then Behind else Done i (told_next rules ls i v r).choice) (if b then record { taken = Behind; after = worker_of rules ls } else step_told (worker_of rules ls) i (drop (taken_count ls + 1) (placed ls)) v (serve_as rules.pick (serving_under (rules.ups v) v i.flow r) (last_touch i.flow (forwarding_of rules.pick rules.capacity (servings rules ls)).entries) (forwarding_of rules.pick rules.capacity (servings rules ls)).turn))
+  tested : (i : Item) (b : Bool) → (b ≡ false → greatest_used ls ≤ v) → next_item ls ≡ Some i → (drop (taken_count ls) (placed ls) ≡ i ∷ drop (taken_count ls + 1) (placed ls)) × (taken_count ls + 1 ≤ length (placed ls)) → Goes rules ls v r (if b then Behind else Done i (told_next rules ls i v r).choice) (if b then record { taken = Behind; after = worker_of rules ls } else step_told (worker_of rules ls) i (drop (taken_count ls + 1) (placed ls)) v (told_in rules.pick (forwarding_of rules.pick rules.capacity rules.idle (servings rules ls)) (serving_under (rules.ups v) v i r)))
   tested i true le h d = (refl, as_was)
   tested i false le h d = done i h d (le refl)
 
@@ -89,7 +89,7 @@ module _ (rules : Rules) (ls : List Line) (v : ℕ) (r : Bool) (sound : taken_co
 step_alike : (pick : Pick) (here there : Flow → Option Candidates) → ((x : Flow) → here x ≡ there x) → (w : WorkerView) (q : List Item) (v : ℕ) (r : Bool) → step_by pick there w q v r ≡ step_by pick here w q v r
 step_alike pick here there alike w [] v r = refl
 step_alike pick here there alike w (i ∷ rest) v r =
-    ap (λ (o : Option Candidates). let s : Serving = record { flow = i.flow; version = v; ups = o; refused = r } in let t : Step = (if nat_lt v i.floor || nat_lt v w.used then record { taken = Behind; after = w } else step_told w i rest v (serve_as pick s (last_touch i.flow w.forwarding.entries) w.forwarding.turn)) in t) (sym (alike i.flow))
+    ap (λ (o : Option Candidates). let s : Serving = record { flow = i.flow; at = i.at; version = v; ups = o; refused = r } in let t : Step = (if nat_lt v i.floor || nat_lt v w.used then record { taken = Behind; after = w } else step_told w i rest v (told_in pick w.forwarding s)) in t) (sym (alike i.flow))
 
 -- one turn of a worker is what its lines say
 pub stands_taken : (rules : Rules) (ls : List Line) (w : WorkerView) (pick : Pick) (here : Flow → Option Candidates) (v : ℕ) (r : Bool) → pick ≡ rules.pick → ((x : Flow) → here x ≡ rules.ups v x) → Stands rules ls w → Goes rules ls v r (taken rules ls v r) (step_of pick here w v r)

@@ -9,14 +9,13 @@ use Rattle.five_tuple.specs.declared.Flow.{Flow}
 use Rattle.forwarder.specs.declared.Choice.{Choice}
 use Rattle.forwarder.specs.declared.Choice.TheVariants as choices
 use Rattle.selection.specs.Candidates.{Candidates}
-use Rattle.forwarder.specs.Serving.{Pick, Told, serve_as, ups_in}
+use Rattle.forwarder.specs.Serving.{Pick, Told, told_in, ups_in}
 use Rattle.selection.specs.Readied.{Readied}
 use Rattle.cluster_node.specs.declared.serving.Item.{Item}
 use Rattle.cluster_node.specs.declared.serving.Taken.{Taken}
 use Rattle.cluster_node.specs.declared.serving.Taken.TheVariants as takings
 use Rattle.cluster_node.specs.WorkerView.{WorkerView}
 use Rattle.cluster_node.specs.Book.{Line, put, took, placed, taken_count, next_item, taken, lines_after, serving_under, Stands, Step, step_of, step_by, step_told}
-use Rattle.connection_table.specs.Touches.{last_touch}
 use Rattle.cluster_node.proofs.Books.{Goes, stands_taken, stands_put, stands_new, drop_at, drop_past}
 use Rattle.cluster_node.specs.NodeView.{NodeView}
 use Rattle.cluster_node.specs.declared.packets.Packet.{Packet}
@@ -144,10 +143,10 @@ shrink_queue : (pick : Pick) (here : Flow → Option Candidates) (n w : ℕ) (u 
 shrink_queue pick here n w u v r [] e = ap length (sym e)
 shrink_queue pick here n w u v r (i ∷ rest) e = go (nat_lt v i.floor || nat_lt v u.used)
   where
-    go : (b : Bool) → let s : Step = (if b then record { taken = takings.Behind; after = u } else step_told u i rest v (serve_as pick (serving_under here v i.flow r) (last_touch i.flow u.forwarding.entries) u.forwarding.turn)) in Shrinks (length (i ∷ rest)) (of_step n w s)
+    go : (b : Bool) → let s : Step = (if b then record { taken = takings.Behind; after = u } else step_told u i rest v (told_in pick u.forwarding (serving_under here v i r))) in Shrinks (length (i ∷ rest)) (of_step n w s)
     go true = ap length (sym e)
     go false =
-        let t : Told = serve_as pick (serving_under here v i.flow r) (last_touch i.flow u.forwarding.entries) u.forwarding.turn in
+        let t : Told = told_in pick u.forwarding (serving_under here v i r) in
         let f : length (i ∷ rest) ≡ length rest + 1 = omega arith in
         f ∙ ap (λ (b : Bool). if b then length rest + 1 else length rest) (sym (choice_accepted n w i t.choice))
 
@@ -249,7 +248,7 @@ cursor_step false workers c = refl
 abbrev pub view_of : NodeView → ℕ → ℕ → NodeView
 view_of m newest cursor = record { newest = newest; installed = m.installed; cursor = cursor; workers = m.workers }
 
-module _ (rules : Rules) (past : List Said) (m : NodeView) (n k : ℕ) (marks : List Bool) (x : Flow) (l : ℕ) (st : NodeStands rules past m) where
+module _ (rules : Rules) (past : List Said) (m : NodeView) (n k : ℕ) (marks : List Bool) (x : Flow) (l t : ℕ) (st : NodeStands rules past m) where
   abbrev pub Home : ℕ
   Home = home_of rules.plain rules.workers x
 
@@ -259,12 +258,12 @@ module _ (rules : Rules) (past : List Said) (m : NodeView) (n k : ℕ) (marks : 
   abbrev pub Turned : ℕ
   Turned = cursor_after (refuses marks Home) rules.workers (refusals_of rules past % rules.workers)
 
-  turned : (newest_of past == 0) ≡ false → Turned ≡ (refused_home rules (newest_of past) marks (Some (Good x l)) (refusals_of rules past)) % rules.workers
+  turned : (newest_of past == 0) ≡ false → Turned ≡ (refused_home rules (newest_of past) marks (Some (Good x l t)) (refusals_of rules past)) % rules.workers
   turned h = cursor_step (refuses marks Home) rules.workers (refusals_of rules past)
       ∙ ap (λ (b : Bool). (if b then refusals_of rules past else if refuses marks Home then refusals_of rules past + 1 else refusals_of rules past) % rules.workers) (sym h)
 
-  placed_on : (newest_of past == 0) ≡ false → (w : ℕ) → w < rules.workers → (o : Option WorkerView) → slice_get m.workers w ≡ o → StepGoes rules past (Arrive n k marks) (Some (Good x l)) (Placed w (newest_of past))
-      (let s : NodeStep = record { outcome = Placed w (newest_of past); after = record { newest = newest_of past; installed = m.installed; cursor = Turned; workers = put_at o m.workers w (record { packet = k; flow = x; floor = newest_of past }) } } in s)
+  placed_on : (newest_of past == 0) ≡ false → (w : ℕ) → w < rules.workers → (o : Option WorkerView) → slice_get m.workers w ≡ o → StepGoes rules past (Arrive n k marks) (Some (Good x l t)) (Placed w (newest_of past))
+      (let s : NodeStep = record { outcome = Placed w (newest_of past); after = record { newest = newest_of past; installed = m.installed; cursor = Turned; workers = put_at o m.workers w (record { packet = k; flow = x; at = t; floor = newest_of past }) } } in s)
   placed_on h w lt None e = absurd (let f : length m.workers ≤ w = get_past m.workers w e in let g : length m.workers ≡ rules.workers = st.count in omega arith)
   placed_on h w lt (Some u) e = (
     refl,
@@ -275,22 +274,22 @@ module _ (rules : Rules) (past : List Said) (m : NodeView) (n k : ℕ) (marks : 
       cursor = turned h;
       count = length_set m.workers w _ ∙ st.count;
       waiting =
-          (let i : Item = record { packet = k; flow = x; floor = newest_of past } in
+          (let i : Item = record { packet = k; flow = x; at = t; floor = newest_of past } in
           let a : waits (slice_set m.workers w (record { queue = u.queue ++ i ∷ []; used = u.used; forwarding = u.forwarding })) + length u.queue ≡ waits m.workers + length (u.queue ++ i ∷ []) = waits_set m.workers w u (record { queue = u.queue ++ i ∷ []; used = u.used; forwarding = u.forwarding }) e in
           let b : length (u.queue ++ i ∷ []) ≡ length u.queue + 1 = length-append u.queue (i ∷ []) in
           let c : waits m.workers + served_count past ≡ placed_count past = st.waiting in
           let d : waits (slice_set m.workers w (record { queue = u.queue ++ i ∷ []; used = u.used; forwarding = u.forwarding })) + served_count past ≡ placed_count past + 1 = omega arith in d);
-      each = placed_each rules past m w (record { packet = k; flow = x; floor = newest_of past }) st u e;
+      each = placed_each rules past m w (record { packet = k; flow = x; at = t; floor = newest_of past }) st u e;
     },
   )
 
-  placed_for : (newest_of past == 0) ≡ false → (o : Placing) → place_for marks rules.workers Home (refusals_of rules past % rules.workers) ≡ o → StepGoes rules past (Arrive n k marks) (Some (Good x l)) (steered (newest_of past) k o) (place_step View k x Turned o)
+  placed_for : (newest_of past == 0) ≡ false → (o : Placing) → place_for marks rules.workers Home (refusals_of rules past % rules.workers) ≡ o → StepGoes rules past (Arrive n k marks) (Some (Good x l t)) (steered (newest_of past) k o) (place_step View k x t Turned o)
   placed_for h placings.RingsFull e = (refl, record { some = st.some; newest = refl; installed = st.installed; cursor = turned h; count = st.count; waiting = st.waiting; each = st.each })
   placed_for h (placings.Worker w) e = placed_on h w (place_below marks rules.workers Home (refusals_of rules past % rules.workers) w st.some (home_below rules.plain rules.workers x st.some) e) (slice_get m.workers w) refl
 
-  good_at : (b : Bool) → (newest_of past == 0) ≡ b → StepGoes rules past (Arrive n k marks) (Some (Good x l))
+  good_at : (b : Bool) → (newest_of past == 0) ≡ b → StepGoes rules past (Arrive n k marks) (Some (Good x l t))
       (if b then Dropped k NoVersion else steered (newest_of past) k (place_for marks rules.workers Home (refusals_of rules past % rules.workers)))
-      (if b then refuse (Dropped k NoVersion) View else place_step View k x Turned (place_for marks rules.workers Home (refusals_of rules past % rules.workers)))
+      (if b then refuse (Dropped k NoVersion) View else place_step View k x t Turned (place_for marks rules.workers Home (refusals_of rules past % rules.workers)))
   good_at true h = (
     refl,
     record {
@@ -305,18 +304,18 @@ module _ (rules : Rules) (past : List Said) (m : NodeView) (n k : ℕ) (marks : 
   )
   good_at false h = placed_for h (place_for marks rules.workers Home (refusals_of rules past % rules.workers)) refl
 
-  pub good_goes : StepGoes rules past (Arrive n k marks) (Some (Good x l)) (arrive_verdict rules (newest_of past) (refusals_of rules past % rules.workers) k marks (Some (Good x l))) (arrive_on rules.plain (length m.workers) m k marks x)
+  pub good_goes : StepGoes rules past (Arrive n k marks) (Some (Good x l t)) (arrive_verdict rules (newest_of past) (refusals_of rules past % rules.workers) k marks (Some (Good x l t))) (arrive_on rules.plain (length m.workers) m k marks x t)
   good_goes =
-      subst (λ (workers : ℕ). StepGoes rules past (Arrive n k marks) (Some (Good x l)) (arrive_verdict rules (newest_of past) (refusals_of rules past % rules.workers) k marks (Some (Good x l))) (arrive_on rules.plain workers m k marks x)) (sym st.count)
-      (subst (λ (c : ℕ). StepGoes rules past (Arrive n k marks) (Some (Good x l)) (arrive_verdict rules (newest_of past) (refusals_of rules past % rules.workers) k marks (Some (Good x l))) (arrive_on rules.plain rules.workers (view_of m m.newest c) k marks x)) (sym st.cursor)
-      (subst (λ (v : ℕ). StepGoes rules past (Arrive n k marks) (Some (Good x l)) (arrive_verdict rules (newest_of past) (refusals_of rules past % rules.workers) k marks (Some (Good x l))) (arrive_on rules.plain rules.workers (view_of m v (refusals_of rules past % rules.workers)) k marks x)) (sym st.newest)
+      subst (λ (workers : ℕ). StepGoes rules past (Arrive n k marks) (Some (Good x l t)) (arrive_verdict rules (newest_of past) (refusals_of rules past % rules.workers) k marks (Some (Good x l t))) (arrive_on rules.plain workers m k marks x t)) (sym st.count)
+      (subst (λ (c : ℕ). StepGoes rules past (Arrive n k marks) (Some (Good x l t)) (arrive_verdict rules (newest_of past) (refusals_of rules past % rules.workers) k marks (Some (Good x l t))) (arrive_on rules.plain rules.workers (view_of m m.newest c) k marks x t)) (sym st.cursor)
+      (subst (λ (v : ℕ). StepGoes rules past (Arrive n k marks) (Some (Good x l t)) (arrive_verdict rules (newest_of past) (refusals_of rules past % rules.workers) k marks (Some (Good x l t))) (arrive_on rules.plain rules.workers (view_of m v (refusals_of rules past % rules.workers)) k marks x t)) (sym st.newest)
       (good_at (newest_of past == 0) refl)))
 
 -- an arrival
 pub arrive_goes : (rules : Rules) (past : List Said) (m : NodeView) (n k : ℕ) (marks : List Bool) (x : Option Packet) → NodeStands rules past m → StepGoes rules past (Arrive n k marks) x (arrive_verdict rules (newest_of past) (refusals_of rules past % rules.workers) k marks x) (arrive_step rules.plain m k marks x)
 arrive_goes rules past m n k marks None st = (refl, record { some = st.some; newest = st.newest; installed = st.installed; cursor = st.cursor; count = st.count; waiting = st.waiting; each = st.each })
 arrive_goes rules past m n k marks (Some (Bad c)) st = (refl, record { some = st.some; newest = st.newest; installed = st.installed; cursor = st.cursor; count = st.count; waiting = st.waiting; each = st.each })
-arrive_goes rules past m n k marks (Some (Good x l)) st = good_goes rules past m n k marks x l st
+arrive_goes rules past m n k marks (Some (Good x l t)) st = good_goes rules past m n k marks x l t st
 
 -- the packets placed in a life are no more than the events
 placed_le : (past : List Said) → placed_count past ≤ length past
@@ -412,18 +411,18 @@ length_replicate : (n : ℕ) (f : WorkerView) → length (replicate n f) ≡ n
 length_replicate zero f = refl
 length_replicate (suc n) f = ap suc (length_replicate n f)
 
-fresh_waits : (n capacity : ℕ) → waits (replicate n (fresh capacity)) ≡ 0
-fresh_waits zero capacity = refl
-fresh_waits (suc n) capacity = ap (λ (k : ℕ). 0 + k) (fresh_waits n capacity)
+fresh_waits : (n capacity : ℕ) (idle : Option ℕ) → waits (replicate n (fresh capacity idle)) ≡ 0
+fresh_waits zero capacity idle = refl
+fresh_waits (suc n) capacity idle = ap (λ (k : ℕ). 0 + k) (fresh_waits n capacity idle)
 
 -- a new node stands for the empty record
-pub stands_none : (rules : Rules) → 0 < rules.workers → NodeStands rules [] (record { newest = 0; installed = []; cursor = 0; workers = replicate rules.workers (fresh rules.capacity) })
+pub stands_none : (rules : Rules) → 0 < rules.workers → NodeStands rules [] (record { newest = 0; installed = []; cursor = 0; workers = replicate rules.workers (fresh rules.capacity rules.idle) })
 stands_none rules some = record {
   some = some;
   newest = refl;
   installed = refl;
   cursor = (let z : 0 ≡ 0 % rules.workers = omega arith in z);
-  count = length_replicate rules.workers (fresh rules.capacity);
-  waiting = ap (λ (k : ℕ). k + 0) (fresh_waits rules.workers rules.capacity);
-  each = λ w u h. subst (λ (z : WorkerView). Stands rules [] z) (sym (get_replicate rules.workers (fresh rules.capacity) w u h)) (stands_new rules);
+  count = length_replicate rules.workers (fresh rules.capacity rules.idle);
+  waiting = ap (λ (k : ℕ). k + 0) (fresh_waits rules.workers rules.capacity rules.idle);
+  each = λ w u h. subst (λ (z : WorkerView). Stands rules [] z) (sym (get_replicate rules.workers (fresh rules.capacity rules.idle) w u h)) (stands_new rules);
 }

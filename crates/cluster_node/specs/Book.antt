@@ -1,9 +1,8 @@
 -- What a worker owes in one life, read off the list of what was placed on it and what it served, newest first.
 use Rattle.std.specs.Prelude.{◌≡◌, ℕ, ◌+◌, ◌≤◌, ◌||◌, Bool, List, [], ◌∷◌, ◌++◌, length, drop, Option, Some, None, if◌then◌else◌, nat_lt, slice_get, max}
 use Rattle.five_tuple.specs.declared.Flow.{Flow}
-use Rattle.connection_table.specs.Touches.{last_touch}
 use Rattle.selection.specs.Candidates.{Candidates}
-use Rattle.forwarder.specs.Serving.{Pick, Serving, Told, serve_as, told_after, told, after_told, forwarding_of}
+use Rattle.forwarder.specs.Serving.{Pick, Serving, Told, told_in, told_after, told, after_told, forwarding_of}
 use Rattle.cluster_node.specs.declared.serving.Item.{Item}
 use Rattle.cluster_node.specs.declared.serving.Taken.{Taken}
 use Rattle.cluster_node.specs.declared.serving.Taken.TheVariants.{Idle, Behind, Done}
@@ -31,13 +30,13 @@ taken_count (took v r ∷ ls) = taken_count ls + 1
 abbrev pub next_item : List Line → Option Item
 next_item ls = slice_get (placed ls) (taken_count ls)
 
--- a flow's serving under a version, where these are the version's candidates
-abbrev pub serving_under : (Flow → Option Candidates) → ℕ → Flow → Bool → Serving
-serving_under here v x r = record { flow = x; version = v; ups = here x; refused = r }
+-- a packet's serving under a version, where these are the version's candidates
+abbrev pub serving_under : (Flow → Option Candidates) → ℕ → Item → Bool → Serving
+serving_under here v i r = record { flow = i.flow; at = i.at; version = v; ups = here i.flow; refused = r }
 
 abbrev pub serving_at : Rules → Option Item → ℕ → Bool → List Serving → List Serving
 serving_at rules None v r ss = ss
-serving_at rules (Some i) v r ss = serving_under (rules.ups v) v i.flow r ∷ ss
+serving_at rules (Some i) v r ss = serving_under (rules.ups v) v i r ∷ ss
 
 -- the servings, newest first
 abbrev pub servings : Rules → List Line → List Serving
@@ -53,7 +52,7 @@ greatest_used (took v r ∷ ls) = max v (greatest_used ls)
 
 -- what is told of a serving of this packet
 abbrev pub told_next : Rules → List Line → Item → ℕ → Bool → Told
-told_next rules ls i v r = told_after rules.pick rules.capacity (told rules.pick rules.capacity (servings rules ls)) (serving_under (rules.ups v) v i.flow r)
+told_next rules ls i v r = told_after rules.pick rules.capacity rules.idle (told rules.pick rules.capacity rules.idle (servings rules ls)) (serving_under (rules.ups v) v i r)
 
 abbrev pub taken_of : Rules → List Line → Option Item → ℕ → Bool → Taken
 taken_of rules ls None v r = Idle
@@ -76,7 +75,7 @@ abbrev pub worker_of : Rules → List Line → WorkerView
 worker_of rules ls = record {
   queue = drop (taken_count ls) (placed ls);
   used = greatest_used ls;
-  forwarding = forwarding_of rules.pick rules.capacity (servings rules ls);
+  forwarding = forwarding_of rules.pick rules.capacity rules.idle (servings rules ls);
 }
 
 -- a worker stands for its lines
@@ -96,7 +95,7 @@ abbrev pub step_by : Pick → (Flow → Option Candidates) → WorkerView → Li
 step_by pick here w [] v r = record { taken = Idle; after = w }
 step_by pick here w (i ∷ rest) v r =
     if nat_lt v i.floor || nat_lt v w.used then record { taken = Behind; after = w }
-    else step_told w i rest v (serve_as pick (serving_under here v i.flow r) (last_touch i.flow w.forwarding.entries) w.forwarding.turn)
+    else step_told w i rest v (told_in pick w.forwarding (serving_under here v i r))
 
 abbrev pub step_of : Pick → (Flow → Option Candidates) → WorkerView → ℕ → Bool → Step
 step_of pick here w v r = step_by pick here w w.queue v r

@@ -37,27 +37,27 @@ abbrev pub put_at : Option WorkerView → List WorkerView → ℕ → Item → L
 put_at None ws w i = ws
 put_at (Some u) ws w i = slice_set ws w (record { queue = u.queue ++ i ∷ []; used = u.used; forwarding = u.forwarding })
 
-abbrev pub place_step : NodeView → ℕ → Flow → ℕ → Placing → NodeStep
-place_step n k x c placings.RingsFull = record {
+abbrev pub place_step : NodeView → ℕ → Flow → ℕ → ℕ → Placing → NodeStep
+place_step n k x t c placings.RingsFull = record {
   outcome = Dropped k RingsFull;
   after = record { newest = n.newest; installed = n.installed; cursor = c; workers = n.workers };
 }
-place_step n k x c (placings.Worker w) = record {
+place_step n k x t c (placings.Worker w) = record {
   outcome = Placed w n.newest;
-  after = record { newest = n.newest; installed = n.installed; cursor = c; workers = put_at (slice_get n.workers w) n.workers w (record { packet = k; flow = x; floor = n.newest }) };
+  after = record { newest = n.newest; installed = n.installed; cursor = c; workers = put_at (slice_get n.workers w) n.workers w (record { packet = k; flow = x; at = t; floor = n.newest }) };
 }
 
-abbrev pub arrive_on : (List ℕ → ℕ) → ℕ → NodeView → ℕ → List Bool → Flow → NodeStep
-arrive_on plain workers n k marks x =
+abbrev pub arrive_on : (List ℕ → ℕ) → ℕ → NodeView → ℕ → List Bool → Flow → ℕ → NodeStep
+arrive_on plain workers n k marks x t =
     if n.newest == 0 then refuse (Dropped k NoVersion) n
-    else place_step n k x
+    else place_step n k x t
     (cursor_after (refuses marks (home_of plain workers x)) workers n.cursor)
     (place_for marks workers (home_of plain workers x) n.cursor)
 
 abbrev pub arrive_step : (List ℕ → ℕ) → NodeView → ℕ → List Bool → Option Packet → NodeStep
 arrive_step plain n k marks None = refuse (Refused NoPacket) n
 arrive_step plain n k marks (Some (Bad c)) = refuse (Dropped k c) n
-arrive_step plain n k marks (Some (Good x l)) = arrive_on plain (length n.workers) n k marks x
+arrive_step plain n k marks (Some (Good x l t)) = arrive_on plain (length n.workers) n k marks x t
 
 -- a worker's part of a serving
 pub record OneStep : Type 0 where

@@ -4,6 +4,7 @@ use Rattle.std.specs.List.{list_any}
 use Rattle.five_tuple.specs.declared.Flow.{Flow}
 use Rattle.forwarder.specs.declared.Choice.{Choice}
 use Rattle.forwarder.specs.declared.Choice.TheVariants as choices
+use Rattle.forwarder.specs.Forwarding.{unused}
 use Rattle.forwarder.specs.Serving.{Pick, ups_in}
 use Rattle.selection.specs.Readied.{Readied}
 use Rattle.cluster_node.specs.declared.serving.Item.{Item}
@@ -60,7 +61,7 @@ newest_of (s ∷ past) = newest_by s.event s.outcome (newest_of past)
 abbrev pub refused_home : Rules → ℕ → List Bool → Option Packet → ℕ → ℕ
 refused_home rules newest marks None c = c
 refused_home rules newest marks (Some (Bad e)) c = c
-refused_home rules newest marks (Some (Good x l)) c =
+refused_home rules newest marks (Some (Good x l t)) c =
     if newest == 0 then c else if refuses marks (home_of rules.plain rules.workers x) then c + 1 else c
 
 abbrev pub refusals_by : Rules → ℕ → Event → Option Packet → Outcome → ℕ → ℕ
@@ -74,18 +75,18 @@ refusals_of rules [] = 0
 refusals_of rules (s ∷ past) = refusals_by rules (newest_of past) s.event s.packet s.outcome (refusals_of rules past)
 
 -- a worker's lines in this life
-abbrev pub placed_line : ℕ → ℕ → Flow → Outcome → List Line → List Line
-placed_line w k x (Placed u f) ls = if u == w then put (record { packet = k; flow = x; floor = f }) ∷ ls else ls
-placed_line w k x Installed ls = ls
-placed_line w k x (Forward n u j y b o) ls = ls
-placed_line w k x (Dropped j c) ls = ls
-placed_line w k x (Restarted l) ls = ls
-placed_line w k x (Refused r) ls = ls
+abbrev pub placed_line : ℕ → ℕ → Flow → ℕ → Outcome → List Line → List Line
+placed_line w k x t (Placed u f) ls = if u == w then put (record { packet = k; flow = x; at = t; floor = f }) ∷ ls else ls
+placed_line w k x t Installed ls = ls
+placed_line w k x t (Forward n u j y b o) ls = ls
+placed_line w k x t (Dropped j c) ls = ls
+placed_line w k x t (Restarted l) ls = ls
+placed_line w k x t (Refused r) ls = ls
 
 abbrev pub arrived_line : ℕ → ℕ → Option Packet → Outcome → List Line → List Line
 arrived_line w k None o ls = ls
 arrived_line w k (Some (Bad c)) o ls = ls
-arrived_line w k (Some (Good x l)) o ls = placed_line w k x o ls
+arrived_line w k (Some (Good x l t)) o ls = placed_line w k x t o ls
 
 abbrev pub line_by : ℕ → Event → Option Packet → Outcome → List Line → List Line
 line_by w (Install n v) x o ls = ls
@@ -149,7 +150,7 @@ steered newest k (placings.Worker w) = Placed w newest
 abbrev pub arrive_verdict : Rules → ℕ → ℕ → ℕ → List Bool → Option Packet → Outcome
 arrive_verdict rules newest cursor k marks None = Refused NoPacket
 arrive_verdict rules newest cursor k marks (Some (Bad c)) = Dropped k c
-arrive_verdict rules newest cursor k marks (Some (Good x l)) =
+arrive_verdict rules newest cursor k marks (Some (Good x l t)) =
     if newest == 0 then Dropped k NoVersion
     else steered newest k (place_for marks rules.workers (home_of rules.plain rules.workers x) cursor)
 
@@ -224,12 +225,12 @@ abbrev pub NodeGoes : Rules → List Said → Event → Option Packet → Outcom
 NodeGoes rules past e x o n = (o ≡ node_verdict rules past e x) × NodeStands rules (node_say rules past e x ∷ past) n
 
 -- a worker that has done nothing
-abbrev pub fresh : ℕ → WorkerView
-fresh capacity = record { queue = []; used = 0; forwarding = record { capacity = capacity; entries = []; turn = 0 } }
+abbrev pub fresh : ℕ → Option ℕ → WorkerView
+fresh capacity idle = record { queue = []; used = 0; forwarding = unused capacity idle }
 
 -- a worker that forgot all
 abbrev pub cleared : WorkerView → WorkerView
-cleared u = fresh u.forwarding.capacity
+cleared u = fresh u.forwarding.capacity u.forwarding.idle
 
 abbrev pub fresh_node : Rules → List WorkerView → NodeView
 fresh_node rules us = record { newest = 0; installed = []; cursor = 0; workers = us }

@@ -55,5 +55,5 @@ of_reading LostAtRestart = false
 -- a packet is one that reading gives: a bad one has a cause of reading
 abbrev pub WasRead : Option Packet → Type 0
 WasRead None = Unit {0}
-WasRead (Some (Good x l)) = Unit {0}
+WasRead (Some (Good x l t)) = Unit {0}
 WasRead (Some (Bad c)) = of_reading c ≡ true

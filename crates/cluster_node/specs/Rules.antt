@@ -14,5 +14,6 @@ pub record Rules : Type 0 where
   pub ups : ℕ → Flow → Option Candidates
   pub nodes : ℕ
   pub workers : ℕ
-  -- the entries of a connection table
+  -- the entries of a connection table, and how long one stands after its last touch (None: no limit)
   pub capacity : ℕ
+  pub idle : Option ℕ

@@ -3,6 +3,7 @@ ghost use Rattle.std.specs.Prelude.{◌≡◌, ◌≤◌, ◌<◌, ◌∷◌, �
 ghost use Rattle.forwarder.specs.Serving.{ups_in};
 ghost use Rattle.cluster_node.specs.WorkerView.{WorkerView};
 ghost use Rattle.cluster_node.specs.Book.{step_of};
+ghost use Rattle.cluster_node.specs.Record.{cleared, fresh};
 
 use connection_table::{ConnTable, TableKey};
 use five_tuple::Flow;
@@ -17,6 +18,8 @@ use std::marker::Model;
 pub struct Item {
     pub packet: u32,
     pub flow: Flow,
+    /// When it came, in microseconds.
+    pub at: u64,
     pub floor: u32,
 }
 
@@ -54,15 +57,16 @@ impl<S: Scheme, T: ConnTable> Worker<S, T> {
         scheme: S,
         capacity: u32,
         key: TableKey,
+        idle: Option<u64>,
     ) -> Result<Self, AllocError>
         requires some { 0 < capacity }
         requires limit { capacity ≤ 1000000 }
-        ensures { IfOk result (λ w. w ≡ record { queue = []; used = 0; forwarding = record { capacity = capacity; entries = []; turn = 0 } }) }
+        ensures { IfOk result (λ w. w ≡ fresh capacity idle) }
     {
         Ok(Worker {
             queue: VecDeque::new(alloc),
             used: 0,
-            forwarder: Forwarder::keyed(alloc, scheme, capacity, key)?,
+            forwarder: Forwarder::keyed(alloc, scheme, capacity, key, idle)?,
         })
     }
 
@@ -107,7 +111,7 @@ impl<S: Scheme, T: ConnTable> Worker<S, T> {
             return Ok(Taken::Behind);
         }
         let _ = self.queue.pop_front();
-        let served = self.forwarder.serve(version, &item.flow, refused);
+        let served = self.forwarder.serve(version, &item.flow, item.at, refused);
         self.used = number;
         if served.unstored && !refused {
             return Err(AllocError);
@@ -121,7 +125,7 @@ impl<S: Scheme, T: ConnTable> Worker<S, T> {
     // Begins a new life: forgets all, and says how many packets waited.
     pub(crate) fn restart(&mut self) -> usize
         ensures lost { result ≡ length self.old.queue }
-        ensures after { self.new ≡ record { queue = []; used = 0; forwarding = record { capacity = self.old.forwarding.capacity; entries = []; turn = 0 } } }
+        ensures after { self.new ≡ cleared self.old }
     {
         let lost = self.queue.len();
         self.queue.clear();

@@ -1,9 +1,9 @@
 //! One node: its versions, its steerer and its workers.
-ghost use Rattle.std.specs.Prelude.{◌≡◌, ◌≤◌, ◌<◌, ◌%◌, ◌^◌, ◌==◌, ◌∷◌, [], ℕ, Bool, List, length, map, Option, Some, None, IfOk, OnOk, OnErr, slice_get, slice_set, replicate, nat_eq};
+ghost use Rattle.std.specs.Prelude.{◌≡◌, ◌≤◌, ◌<◌, ◌%◌, ◌^◌, ◌==◌, ◌∷◌, [], ℕ, Bool, List, length, map, Option, Some, None, IfOk, OnOk, OnErr, slice_get, slice_set, replicate, nat_eq, vec_len};
 ghost use Rattle.std.specs.List.{list_any};
 ghost use Rattle.cluster_node.specs.Rules.{Rules};
 ghost use Rattle.cluster_node.specs.NodeView.{NodeView};
-ghost use Rattle.cluster_node.specs.PrivateSteps.{install_step, arrive_step, one_if, serve_step, restarted};
+ghost use Rattle.cluster_node.specs.PrivateSteps.{install_step, arrive_on, arrive_step, one_if, put_at, serve_step, restarted};
 ghost use Rattle.cluster_node.specs.Record.{of_taken, of_choice, node_verdict, ArePrepared, IsKnown, installed_of, waits, waiting_at, fresh, cleared, NodeStands, NodeGoes};
 ghost use Rattle.cluster_node.specs.declared.events.Said.{Said};
 
@@ -12,6 +12,7 @@ use crate::outcomes::{Cause, Outcome, Reason};
 use crate::packets::Packet;
 use crate::serving::{Item, Taken, Worker};
 use connection_table::{ConnTable, TableKey};
+use five_tuple::Flow;
 use forwarder::Choice;
 use hash_laws::FlowHash;
 use selection::{PreparedVersions, Scheme};
@@ -103,6 +104,19 @@ fn serve_one<S: Scheme, T: ConnTable>(
     Ok(outcome_of(node, worker, taken))
 }
 
+// A packet waits at a worker.
+fn put_on<S: Scheme, T: ConnTable>(
+    workers: &mut Vec<Worker<S, T>>,
+    worker: usize,
+    item: Item,
+) -> Result<(), AllocError>
+    requires { worker < vec_len workers.old }
+    ensures ok { OnOk result (workers.new.items ≡ put_at (slice_get workers.old.items worker) workers.old.items worker item) }
+    ensures many { length workers.new.items ≡ length workers.old.items }
+{
+    workers[worker].put(item)
+}
+
 // Empties every worker, and counts the packets that waited.
 fn clear_all<S: Scheme, T: ConnTable>(workers: &mut Vec<Worker<S, T>>) -> u64
     ensures lost { result ≡ waits workers.old.items % 2 ^ 64 }
@@ -118,23 +132,24 @@ fn clear_all<S: Scheme, T: ConnTable>(workers: &mut Vec<Worker<S, T>>) -> u64
 
 impl<S: Scheme, T: ConnTable> Node<S, T> {
     /// A node of 1 to 16 workers on which nothing has happened. Each worker has a connection table of so many entries, whose
-    /// hash begins with the key.
+    /// hash begins with the key; where a limit is set, an entry stands for so many microseconds after its last touch.
     pub fn make(
         alloc: Global,
         scheme: S,
         capacity: u32,
         key: TableKey,
         workers: u16,
+        idle: Option<u64>,
     ) -> Result<Self, AllocError>
         requires capacity { 0 < capacity }
         requires entries { capacity ≤ 1000000 }
         requires workers { 0 < workers }
         requires limit { workers ≤ 16 }
-        ensures { IfOk result (λ n. n ≡ record { newest = 0; installed = []; cursor = 0; workers = replicate workers (fresh capacity) }) }
+        ensures { IfOk result (λ n. n ≡ record { newest = 0; installed = []; cursor = 0; workers = replicate workers (fresh capacity idle) }) }
     {
         let mut all = Vec::new(alloc);
         for _ in 0..workers {
-            all.push(Worker::make(alloc, scheme, capacity, key)?)?;
+            all.push(Worker::make(alloc, scheme, capacity, key, idle)?)?;
         }
         Ok(Node {
             newest: 0,
@@ -191,11 +206,25 @@ impl<S: Scheme, T: ConnTable> Node<S, T> {
         ensures after { OnOk result (self.new ≡ (arrive_step (H.plain hash.now) self.old packet refused.now body).after) }
         ensures kept { OnErr result ((self.new.newest ≡ self.old.newest) × (self.new.installed ≡ self.old.installed)) }
     {
-        let flow = match body {
-            None => return Ok(Outcome::Refused(Reason::NoPacket)),
-            Some(Packet::Bad(cause)) => return Ok(Outcome::Dropped { packet, cause }),
-            Some(Packet::Good { flow, .. }) => flow,
-        };
+        match body {
+            None => Ok(Outcome::Refused(Reason::NoPacket)),
+            Some(Packet::Bad(cause)) => Ok(Outcome::Dropped { packet, cause }),
+            Some(Packet::Good { flow, at, .. }) => self.steer(hash, packet, refused, flow, at),
+        }
+    }
+
+    fn steer<H: FlowHash>(
+        &mut self,
+        hash: &H,
+        packet: u32,
+        refused: &[bool; 16],
+        flow: Flow,
+        at: u64,
+    ) -> Result<Outcome, AllocError>
+        ensures outcome { IfOk result (λ o. o ≡ (arrive_on (H.plain hash.now) (length self.old.workers) self.old packet refused.now flow at).outcome) }
+        ensures after { OnOk result (self.new ≡ (arrive_on (H.plain hash.now) (length self.old.workers) self.old packet refused.now flow at).after) }
+        ensures kept { OnErr result ((self.new.newest ≡ self.old.newest) × (self.new.installed ≡ self.old.installed)) }
+    {
         let floor = self.newest;
         if floor == 0 {
             return Ok(Outcome::Dropped {
@@ -209,15 +238,16 @@ impl<S: Scheme, T: ConnTable> Node<S, T> {
                 cause: Cause::RingsFull,
             }),
             Placed::Worker(worker) => {
-                let one = &mut self.workers[worker as usize];
-                match one.put(Item {
+                let item = Item {
                     packet,
                     flow,
+                    at,
                     floor,
-                }) {
-                    Ok(()) => Ok(Outcome::Placed { worker, floor }),
-                    Err(refusal) => Err(refusal),
-                }
+                };
+                let Ok(()) = put_on(&mut self.workers, worker as usize, item) else {
+                    return Err(AllocError);
+                };
+                Ok(Outcome::Placed { worker, floor })
             }
         }
     }

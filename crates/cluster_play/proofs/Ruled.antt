@@ -29,7 +29,7 @@ use Rattle.cluster_play.specs.Runs.{packets_in}
 use Rattle.cluster_play.specs.Kept.{KeepsPromises}
 
 abbrev pub fixed_of : {S : Type 0} → S → Scenario → Fixed S AnyHash
-fixed_of scheme s = record { hash = s.hash; scheme = scheme; size = s.size; nodes = s.nodes.items; workers = s.workers; capacity = s.capacity }
+fixed_of scheme s = record { hash = s.hash; scheme = scheme; size = s.size; nodes = s.nodes.items; workers = s.workers; capacity = s.capacity; idle = s.idle }
 
 pub same_rules : {S : Type 0} (pick_of : S → ℕ → Pick) (scheme : S) (s : Scenario) (setup : Fixed S AnyHash) → pick_of scheme s.size ≡ pick_by s.scheme (plain_of s.hash) s.size → setup ≡ fixed_of scheme s
     → rules_for pick_of plain_of setup s.catalogue ≡ rules_in s
@@ -43,10 +43,11 @@ same_rules {S} pick_of scheme s setup e f =
       nodes = length s.nodes.items;
       workers = s.workers;
       capacity = s.capacity;
+      idle = s.idle;
     }) e
 
-pub same_fixed : {S : Type 0} (scheme : S) (s : Scenario) (nodes : List ℕ) → nodes ≡ s.nodes.items → record { hash = s.hash; scheme = scheme; size = s.size; nodes = nodes; workers = s.workers; capacity = s.capacity } ≡ fixed_of scheme s
-same_fixed {S} scheme s nodes e = ap (λ (l : List ℕ). record { hash = s.hash; scheme = scheme; size = s.size; nodes = l; workers = s.workers; capacity = s.capacity }) e
+pub same_fixed : {S : Type 0} (scheme : S) (s : Scenario) (nodes : List ℕ) → nodes ≡ s.nodes.items → record { hash = s.hash; scheme = scheme; size = s.size; nodes = nodes; workers = s.workers; capacity = s.capacity; idle = s.idle } ≡ fixed_of scheme s
+same_fixed {S} scheme s nodes e = ap (λ (l : List ℕ). record { hash = s.hash; scheme = scheme; size = s.size; nodes = l; workers = s.workers; capacity = s.capacity; idle = s.idle }) e
 
 -- Maglev's pick doesn't look at the turn
 maglev_steady : (s : Scenario) → s.scheme ≡ Maglev → IsSteady (rules_in s)

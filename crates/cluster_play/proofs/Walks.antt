@@ -13,7 +13,7 @@ use Rattle.cluster_node.specs.Records.{WasRead}
 use Rattle.cluster_core.proofs.Frames.{was_read}
 use Rattle.course.specs.Cluster.{WereRead}
 use Rattle.simulation.specs.declared.fault.SimulationFault.{SimulationFault}
-use Rattle.simulation.specs.Sent.{Sending, Wrote, WroteUntil, packet_in, packets_of}
+use Rattle.simulation.specs.Sent.{Sending, Wrote, WroteUntil, packet_in, packets_of, time_of}
 use Rattle.simulation.proofs.Sends.{wrote_both, until_more, until_behind}
 
 module _ {X : Type 0} (f : X → List Sending) (xs : List X) (i : ℕ) (x : X) (lt : i < length xs) (is : x ≡ get_or xs i x) where
@@ -46,5 +46,5 @@ packets_more link check fs i x lt is =
 
 pub all_read : (link : Link) (check : Bool) (rs : List Record) → WereRead (packets_of link check rs)
 all_read link check [] k p e = absurd (none-some p e)
-all_read link check (r ∷ rs) zero p e = subst (λ (o : Option Packet). WasRead o) e (was_read link check r.bytes)
+all_read link check (r ∷ rs) zero p e = subst (λ (o : Option Packet). WasRead o) e (was_read link r.bytes (time_of r) check)
 all_read link check (r ∷ rs) (suc k) p e = all_read link check rs k p e

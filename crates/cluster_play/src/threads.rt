@@ -57,6 +57,7 @@ where
         nodes,
         scenario.workers,
         scenario.capacity,
+        scenario.idle,
     ) else {
         unreachable!()
     };

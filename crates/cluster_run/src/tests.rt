@@ -77,7 +77,7 @@ impl Notes for Counts {
 fn setup(rt: &impl Abort, alloc: Global) -> Setup<Sums, SumHash> {
     let nodes = Vec::from_slice(alloc, &[0x0a09_0001, 0x0a09_0002]).expect(rt, "memory");
     let size = TableSize::new(7).expect(rt, "a size");
-    Setup::new(SumHash, Maglev { hash: SumHash }, size, nodes, 1, 2).expect(rt, "a setup")
+    Setup::new(SumHash, Maglev { hash: SumHash }, size, nodes, 1, 2, None).expect(rt, "a setup")
 }
 
 fn rules(rt: &impl Abort, alloc: Global) -> Rules<Sums, SumHash> {
@@ -105,7 +105,11 @@ fn played_by<C: Core>(
         dport: 80,
         proto: 6,
     };
-    let packets = [Packet::Good { flow, len: 40 }; 3];
+    let packets = [Packet::Good {
+        flow,
+        len: 40,
+        at: 0,
+    }; 3];
     let mut spread = TurnSpread::new(all_live(alloc, 2).expect(rt, "memory"));
     let mut play = Play::start(alloc, 2).expect(rt, "memory");
     play.run(alloc, core, setup, &mut spread, &packets, steps, events)

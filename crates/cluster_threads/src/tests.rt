@@ -81,7 +81,16 @@ fn cluster(
 {
     let nodes = Vec::from_slice(alloc, nodes).expect(rt, "memory");
     let size = TableSize::new(7).expect(rt, "a size");
-    Setup::new(SumHash, Maglev { hash: SumHash }, size, nodes, workers, 2).expect(rt, "a setup")
+    Setup::new(
+        SumHash,
+        Maglev { hash: SumHash },
+        size,
+        nodes,
+        workers,
+        2,
+        None,
+    )
+    .expect(rt, "a setup")
 }
 
 // Of two workers, of one node or of two, each waits in its first call for the other.
@@ -173,6 +182,7 @@ fn two_nodes_serve_at_once(rt: HostRuntime) -> Result<(), Fail> {
     let packets = [Packet::Good {
         flow: flow(1000),
         len: 40,
+        at: 0,
     }];
     let gate = Meet::new();
     let commands = [Command::Publish(1), Command::Offer(0)];
@@ -219,10 +229,12 @@ fn two_workers_serve_at_once(rt: HostRuntime) -> Result<(), Fail> {
         Packet::Good {
             flow: flow(1000),
             len: 40,
+            at: 0,
         },
         Packet::Good {
             flow: flow(1001),
             len: 40,
+            at: 0,
         },
     ];
     let gate = Meet::new();

@@ -2,11 +2,11 @@
 use Rattle.std.proofs.Common.{◌≡◌, ℕ, ◌-◌, ◌<◌, Bool, true, false, cond, List, [], ◌∷◌, take, zero, suc, Option, Some, None, refl, sym, ap, ◌∙◌, subst, arith}
 use Rattle.std.specs.Prelude.{if◌then◌else◌}
 use Rattle.std.specs.Option.{option_map_or, option_map}
-use Rattle.std.specs.Map.{lookup, lookup_entry, remove_entry}
+use Rattle.std.specs.Map.{lookup, lookup_entry, remove_entry, set_value}
 use Rattle.five_tuple.specs.declared.Flow.{Flow}
 use Rattle.connection_table.specs.declared.table.Entry.{Entry}
 use Rattle.connection_table.specs.Touches.{same_flow, Touch, last_touch, without}
-use Rattle.connection_table.specs.Recency.{moved, renewed, put_over, stored}
+use Rattle.connection_table.specs.Recency.{at_clock, moved, put_over, retouched, stored}
 use Rattle.connection_table.proofs.Standing.{same_flow-true, same_flow-refl}
 
 pub same_sym : (x y : Flow) → same_flow x y ≡ same_flow y x
@@ -43,15 +43,18 @@ entry_is x (t ∷ ts) = ap (λ (b : Bool). cond b (Some t) (lookup_entry (same_f
     go true h k = ap (λ (y : Flow). Some (y, t.1)) (same_flow-true t.0 x h)
     go false h k = k
 
-pub renewed_is : (x : Flow) (ts : List Touch) → option_map_or (λ e. e ∷ remove_entry (same_flow x) ts) (lookup_entry (same_flow x) ts) ts ≡ renewed x ts
-renewed_is x ts =
-    ap (λ (o : Option Touch). option_map_or (λ e. e ∷ remove_entry (same_flow x) ts) o ts) (entry_is x ts)
-    ∙ ap (λ (l : List Touch). option_map_or (λ e. e ∷ l) (option_map (λ e. (x, e)) (last_touch x ts)) ts) (removed_is x ts)
-    ∙ go (last_touch x ts)
-  where
-    go : (o : Option Entry) → option_map_or (λ e. e ∷ without x ts) (option_map (λ e. (x, e)) o) ts ≡ moved x o ts
-    go None = refl
-    go (Some e) = refl
+-- the pair that is found goes first, and a value is written to it
+pub written_is : (x : Flow) (clock : ℕ) (e : Entry) (ts : List Touch) → Some e ≡ lookup (same_flow x) ts → set_value (same_flow x) (option_map_or (λ (t : Touch). t ∷ remove_entry (same_flow x) ts) (lookup_entry (same_flow x) ts) ts) (at_clock clock e) ≡ retouched clock x ts
+written_is x clock e ts h =
+    let k : last_touch x ts ≡ Some e = sym (h ∙ lookup_is x ts) in
+    ap (λ (o : Option Touch). set_value (same_flow x) (option_map_or (λ (t : Touch). t ∷ remove_entry (same_flow x) ts) o ts) (at_clock clock e)) (entry_is x ts ∙ ap (λ (o : Option Entry). option_map (λ e. (x, e)) o) k)
+    ∙ ap (λ (l : List Touch). set_value (same_flow x) ((x, e) ∷ l) (at_clock clock e)) (removed_is x ts)
+    ∙ ap (λ (b : Bool). cond b ((x, at_clock clock e) ∷ without x ts) ((x, e) ∷ set_value (same_flow x) (without x ts) (at_clock clock e))) (same_flow-refl x)
+    ∙ sym (ap (λ (o : Option Entry). moved clock x o ts) k)
+
+-- nothing is found, and nothing changes
+pub untouched_is : (x : Flow) (clock : ℕ) (ts : List Touch) → None ≡ lookup (same_flow x) ts → ts ≡ retouched clock x ts
+untouched_is x clock ts h = sym (ap (λ (o : Option Entry). moved clock x o ts) (sym (h ∙ lookup_is x ts)))
 
 pub stored_is : (x : Flow) (n : Entry) (capacity : ℕ) (ts : List Touch) → 0 < capacity → option_map_or (λ (e : Touch). (e.0, n) ∷ remove_entry (same_flow x) ts) (lookup_entry (same_flow x) ts) ((x, n) ∷ take (capacity - 1) ts) ≡ stored capacity x n ts
 stored_is x n zero ts h = absurd (omega arith)

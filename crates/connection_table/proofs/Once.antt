@@ -1,11 +1,11 @@
 -- A table has each flow once, and no more than it may keep.
-use Rattle.std.proofs.Common.{◌≡◌, ℕ, ◌<◌, ◌≤◌, Bool, true, false, List, [], ◌∷◌, length, take, zero, suc, Option, Some, None, refl, sym, ap, ◌∙◌, subst, arith}
+use Rattle.std.proofs.Common.{◌≡◌, ℕ, ◌≤◌, Bool, true, false, List, [], ◌∷◌, length, take, zero, suc, Option, Some, None, refl, sym, ap, ◌∙◌, subst, arith}
 use Rattle.std.specs.Prelude.{if◌then◌else◌}
 use Rattle.five_tuple.specs.declared.Flow.{Flow}
 use Rattle.connection_table.specs.declared.table.Entry.{Entry}
-use Rattle.connection_table.specs.Recency.{moved, renewed, put_over, stored}
+use Rattle.connection_table.specs.Recency.{at_clock, moved, put_over}
 use Rattle.connection_table.specs.Touches.{same_flow, Touch, last_touch, without}
-use Rattle.connection_table.specs.Tables.{EachFlowOnce, IsTable, EmptyIsTable, LookingKeepsTables, StoringKeepsTables}
+use Rattle.connection_table.specs.Tables.{EachFlowOnce, IsTable, EmptyIsTable, StoringKeepsTables, TouchingKeepsTables}
 use Rattle.connection_table.proofs.Standing.{same_flow-true}
 
 some_none : (e : Entry) → Some e ≡ None → ⊥
@@ -76,12 +76,12 @@ take_few (suc n) (t ∷ ts) = let h : length (take n ts) ≤ n = take_few n ts i
 pub empty_is_table : EmptyIsTable
 empty_is_table capacity = record { once = tt; few = omega arith }
 
-pub looking_keeps : LookingKeepsTables
-looking_keeps capacity x ts h = go (last_touch x ts) refl
+pub touching_keeps : TouchingKeepsTables
+touching_keeps capacity clock x ts h = go (last_touch x ts) refl
   where
-    go : (o : Option Entry) → last_touch x ts ≡ o → IsTable capacity (moved x o ts)
+    go : (o : Option Entry) → last_touch x ts ≡ o → IsTable capacity (moved clock x o ts)
     go None e = h
-    go (Some entry) e = record { once = in_front x entry ts h.once; few = subst (λ (n : ℕ). n ≤ capacity) (sym (length_without x ts entry e)) h.few }
+    go (Some entry) e = record { once = in_front x (at_clock clock entry) ts h.once; few = subst (λ (n : ℕ). n ≤ capacity) (sym (length_without x ts entry e)) h.few }
 
 pub storing_keeps : StoringKeepsTables
 storing_keeps capacity x entry ts some h = go (last_touch x ts) refl

@@ -6,8 +6,7 @@ use Rattle.std.proofs.lemmas.Bool.Decides.{nat_tests}
 use Rattle.five_tuple.specs.declared.Flow.{Flow}
 use Rattle.connection_table.specs.declared.table.Entry.{Entry}
 use Rattle.connection_table.specs.Touches.{same_flow}
-use Rattle.connection_table.proofs.Standing.{same_flow-true}
-use Rattle.connection_table.specs.Recency.{moved, renewed, put_over, stored}
+use Rattle.connection_table.specs.Recency.{put_over, stored}
 use Rattle.connection_table.specs.Touches.{Touch, last_touch, without}
 
 -- the first place of the flow, or the length
@@ -57,16 +56,11 @@ found x ts i d h = let e : (i ≡ place x ts) × (i < length ts) = at-place x ts
 pub missing : (x : Flow) (ts : List Touch) → None ≡ position (λ t. same_flow t.0 x) ts → (last_touch x ts ≡ None) × (without x ts ≡ ts)
 missing x ts h = missing-at x ts (no-place x ts h)
 
--- the pair that was taken out
-pub taken : (x : Flow) (ts : List Touch) (i : ℕ) (r : Touch) → Some i ≡ position (λ t. same_flow t.0 x) ts → r ≡ get_or ts i r → (Some r.1 ≡ last_touch x ts) × (without x ts ≡ remove ts i) × (r.0 ≡ x)
-taken x ts i r h e =
+-- the entry at the flow's place
+pub entry_at : (x : Flow) (ts : List Touch) (i : ℕ) (r : Touch) → Some i ≡ position (λ t. same_flow t.0 x) ts → r ≡ get_or ts i r → Some r.1 ≡ last_touch x ts
+entry_at x ts i r h e =
     let f : FoundAt x r ts (last_touch x ts) (without x ts) i = found x ts i r h in
-    (ap (λ (t : Touch). Some t.1) e ∙ sym f.0, f.1, ap (λ (t : Touch). t.0) e ∙ same_flow-true _ _ f.2)
-
-pub renewed_at : (x : Flow) (ts : List Touch) (i : ℕ) (r : Touch) → Some i ≡ position (λ t. same_flow t.0 x) ts → r ≡ get_or ts i r → r ∷ remove ts i ≡ renewed x ts
-renewed_at x ts i r h e =
-    let f : (Some r.1 ≡ last_touch x ts) × (without x ts ≡ remove ts i) × (r.0 ≡ x) = taken x ts i r h e in
-    ap (λ (y : Flow). (y, r.1) ∷ remove ts i) f.2 ∙ ap (λ (l : List Touch). (x, r.1) ∷ l) (sym f.1) ∙ ap (λ (o : Option Entry). moved x o ts) f.0
+    ap (λ (t : Touch). Some t.1) e ∙ sym f.0
 
 pub take_all : (n : ℕ) (ts : List Touch) → length ts ≤ n → take n ts ≡ ts
 take_all zero [] h = refl

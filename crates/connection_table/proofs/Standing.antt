@@ -4,7 +4,7 @@ use Rattle.std.specs.Prelude.{if◌then◌else◌, nat_lt}
 use Rattle.std.proofs.lemmas.Bool.Decides.{nat_tests}
 use Rattle.five_tuple.specs.declared.Flow.{Flow}
 use Rattle.connection_table.specs.declared.table.Entry.{Entry}
-use Rattle.connection_table.specs.Touches.{same_flow, Touch, last_touch, since, without, newest_each, distinct_flows, standing}
+use Rattle.connection_table.specs.Touches.{same_flow, Touch, last_touch, since, without, newest_each, distinct_flows, in_time, remembered, standing}
 
 pub same_flow-true : (a b : Flow) → same_flow a b ≡ true → a ≡ b
 same_flow-true a b h =
@@ -60,11 +60,15 @@ take-without (suc n) x (t ∷ ts) = take-without_cases n x t ts (same_flow t.0 x
     take-without_cases n x t ts true h k = k
     take-without_cases n x t ts false h k = ap (λ (l : List Touch). t ∷ l) h
 
--- what stands is what the first entries of the newest touches have
-pub standing-table : (capacity : ℕ) (x : Flow) (ts : List Touch) → last_touch x (take capacity (newest_each ts)) ≡ standing capacity x ts
-standing-table capacity x ts = lookup-take capacity x (newest_each ts)
+-- what is remembered is what the first entries of the newest touches have
+remembered-table : (capacity : ℕ) (x : Flow) (ts : List Touch) → last_touch x (take capacity (newest_each ts)) ≡ remembered capacity x ts
+remembered-table capacity x ts = lookup-take capacity x (newest_each ts)
     ∙ ap (λ (l : List Touch). if nat_lt (length l) capacity then last_touch x (newest_each ts) else None) (since-newest x ts)
     ∙ ap (λ (o : Option Entry). if nat_lt (distinct_flows (since x ts)) capacity then o else None) (lookup-newest x ts)
+
+-- what stands is what of it is in time
+pub standing-table : (capacity : ℕ) (idle : Option ℕ) (clock : ℕ) (x : Flow) (ts : List Touch) → in_time idle clock (last_touch x (take capacity (newest_each ts))) ≡ standing capacity idle clock x ts
+standing-table capacity idle clock x ts = ap (λ (o : Option Entry). in_time idle clock o) (remembered-table capacity x ts)
 
 -- a touch puts its pair in front, takes an older one of that flow out, and drops what is past the capacity
 pub touched-table : (capacity : ℕ) (t : Touch) (ts : List Touch) → take capacity (newest_each (t ∷ ts)) ≡ take capacity (t ∷ without t.0 (take capacity (newest_each ts)))

@@ -9,14 +9,27 @@ pub record Recency : Type 0 where
   pub limit : ℕ
   pub pairs : List Touch
 
--- an entry that was found moves to the front
-abbrev pub moved : Flow → Option Entry → List Touch → List Touch
-moved x None ts = ts
-moved x (Some e) ts = (x, e) ∷ without x ts
+-- an entry that was found moves to the front, as it is
+abbrev pub in_front : Flow → Option Entry → List Touch → List Touch
+in_front x None ts = ts
+in_front x (Some e) ts = (x, e) ∷ without x ts
 
 -- the list after the flow was looked up
-abbrev pub renewed : Flow → List Touch → List Touch
-renewed x ts = moved x (last_touch x ts) ts
+abbrev pub looked : Flow → List Touch → List Touch
+looked x ts = in_front x (last_touch x ts) ts
+
+-- an entry that is touched at a clock
+abbrev pub at_clock : ℕ → Entry → Entry
+at_clock clock e = record e { last = clock }
+
+-- an entry that was found moves to the front, touched at the clock
+abbrev pub moved : ℕ → Flow → Option Entry → List Touch → List Touch
+moved clock x None ts = ts
+moved clock x (Some e) ts = (x, at_clock clock e) ∷ without x ts
+
+-- the list after the flow was touched at the clock
+abbrev pub retouched : ℕ → Flow → List Touch → List Touch
+retouched clock x ts = moved clock x (last_touch x ts) ts
 
 -- an older pair of the flow goes, or in a full list the last pair
 abbrev pub put_over : Option Entry → ℕ → Flow → Entry → List Touch → List Touch

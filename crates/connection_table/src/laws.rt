@@ -1,10 +1,10 @@
 //! What every table is.
-ghost use Rattle.connection_table.specs.Tables.{EmptyIsTable, LookingKeepsTables, StoringKeepsTables};
+ghost use Rattle.connection_table.specs.Tables.{EmptyIsTable, StoringKeepsTables, TouchingKeepsTables};
 
-/// From an empty table on, whatever is looked up or stored, each flow is in it once, and it has no more entries than it may
+/// From an empty table on, whatever is touched or stored, each flow is in it once, and it has no more entries than it may
 /// keep. The clauses are the law; the body does nothing.
 pub fn tables_stay_tables()
     ensures empty { EmptyIsTable }
-    ensures look { LookingKeepsTables }
+    ensures touch { TouchingKeepsTables }
     ensures store { StoringKeepsTables }
 {}

@@ -9,7 +9,7 @@ use std::alloc::{AllocError, Global};
 use std::marker::Model;
 use std::num::NonZeroUsize;
 
-/// A table over a cache by least recent use. A look and a store take constant time.
+/// A table over a cache by least recent use. A peek, a store and a touch take constant time.
 #[derive(Drop)]
 pub struct LruTable {
     cache: LruCache<Flow, Entry, TableKey>,
@@ -39,8 +39,8 @@ impl ConnTable for LruTable {
         Ok(LruTable { cache })
     }
 
-    fn look(&mut self, flow: &Flow) -> Option<Entry> {
-        self.cache.get(flow).copied()
+    fn peek(&self, flow: &Flow) -> Option<Entry> {
+        self.cache.peek(flow).copied()
     }
 
     fn store(&mut self, flow: Flow, entry: Entry) -> Result<(), AllocError> {
@@ -48,6 +48,15 @@ impl ConnTable for LruTable {
             return Err(AllocError);
         };
         Ok(())
+    }
+
+    fn touch(&mut self, flow: &Flow, clock: u64) -> Option<Entry> {
+        let Some(entry) = self.cache.get_mut(flow) else {
+            return None;
+        };
+        let found = *entry;
+        entry.last = clock;
+        Some(found)
     }
 
     fn clear(&mut self) {

@@ -1,7 +1,7 @@
 //! A table that keeps its entries in a vector.
 ghost use Rattle.std.specs.Prelude.{◌≡◌, ◌≤◌, ◌<◌, [], ℕ, length, position, OnOk, OnErr, IfOk, IsOk, IsSome, vec_len, vec_capacity};
 ghost use Rattle.connection_table.specs.Touches.{same_flow, last_touch};
-ghost use Rattle.connection_table.specs.Recency.{Recency, renewed, stored};
+ghost use Rattle.connection_table.specs.Recency.{Recency, stored};
 
 use crate::key::TableKey;
 use crate::table::{ConnTable, Entry};
@@ -34,21 +34,12 @@ fn place_of(pairs: &[(Flow, Entry)], flow: &Flow) -> Option<usize>
     pairs.iter().position(|pair| pair.0 == *flow)
 }
 
-// Moves the flow's pair to the front.
-fn renew(pairs: &mut Vec<(Flow, Entry)>, flow: &Flow) -> Option<Entry>
-    requires { vec_len pairs.old ≤ vec_capacity pairs.old }
-    ensures found { result ≡ last_touch flow.now pairs.old.items }
-    ensures renewed { pairs.new.items ≡ renewed flow.now pairs.old.items }
-    ensures len { vec_len pairs.new ≡ vec_len pairs.old }
-    ensures room { vec_len pairs.new ≤ vec_capacity pairs.new }
+// The flow's entry.
+fn entry_of(pairs: &[(Flow, Entry)], flow: &Flow) -> Option<Entry>
+    ensures { result ≡ last_touch flow.now pairs.now }
 {
     match place_of(pairs, flow) {
-        Some(i) => {
-            let pair = pairs.remove(i);
-            let entry = pair.1;
-            let _ = pairs.insert(0, pair);
-            Some(entry)
-        }
+        Some(at) => Some(pairs[at].1),
         None => None,
     }
 }
@@ -101,8 +92,8 @@ impl ConnTable for PlainTable {
         })
     }
 
-    fn look(&mut self, flow: &Flow) -> Option<Entry> {
-        renew(&mut self.pairs, flow)
+    fn peek(&self, flow: &Flow) -> Option<Entry> {
+        entry_of(&self.pairs, flow)
     }
 
     fn store(&mut self, flow: Flow, entry: Entry) -> Result<(), AllocError> {

@@ -1,6 +1,6 @@
 //! What a table of connections is.
 ghost use Rattle.std.specs.Prelude.{◌≡◌, ◌≤◌, ◌<◌, ℕ, List, [], length, IfOk, OnOk, OnErr, IsSome, IsOk};
-ghost use Rattle.connection_table.specs.Recency.{renewed, stored};
+ghost use Rattle.connection_table.specs.Recency.{looked, retouched, stored};
 ghost use Rattle.connection_table.specs.Touches.{Touch, last_touch};
 
 use crate::key::TableKey;
@@ -8,11 +8,12 @@ use five_tuple::Flow;
 use pool_versions::Backend;
 use std::alloc::{AllocError, Global};
 
-/// Where a flow goes, and the number of the version under which that was chosen.
+/// Where a flow goes, the number of the version under which that was chosen, and the clock when the flow was last touched.
 #[derive(Clone, Copy, PartialEq, Eq)]
 pub struct Entry {
     pub backend: Backend,
     pub version: u32,
+    pub last: u64,
 }
 
 /// A bounded table of flows with their entries. Each flow is in it once; the most recently used is in front.
@@ -41,11 +42,9 @@ pub trait ConnTable: Drop + Sized {
         Self::keyed(alloc, limit, TableKey::fixed())
     }
 
-    /// The flow's entry, which is in front from now on. Where there is none nothing changes.
-    fn look(&mut self, flow: &Flow) -> Option<Entry>
-        ensures found { result ≡ last_touch flow.now (entries self.old) }
-        ensures renewed { entries self.new ≡ renewed flow.now (entries self.old) }
-        ensures capacity { capacity self.new ≡ capacity self.old };
+    /// The flow's entry. Nothing changes.
+    fn peek(&self, flow: &Flow) -> Option<Entry>
+        ensures { result ≡ last_touch flow.now (entries self.now) };
 
     /// Puts the flow's entry in front. An older one of that flow goes, or in a full table the last one. Memory is never
     /// refused for a flow that is there, and where it is refused nothing changes.
@@ -54,6 +53,35 @@ pub trait ConnTable: Drop + Sized {
         ensures err { OnErr result (entries self.new ≡ entries self.old) }
         ensures there { IsSome (last_touch flow (entries self.old)) → IsOk result }
         ensures capacity { capacity self.new ≡ capacity self.old };
+
+    /// Touches a flow: its entry as it stood is the answer, and from now on it is in front and was last touched at this clock.
+    /// Where there is none nothing changes.
+    fn touch(&mut self, flow: &Flow, clock: u64) -> Option<Entry>
+        ensures found { result ≡ last_touch flow.now (entries self.old) }
+        ensures touched { entries self.new ≡ retouched clock flow.now (entries self.old) }
+        ensures capacity { capacity self.new ≡ capacity self.old }
+    {
+        let entry = self.peek(flow)?;
+        let _ = self.store(
+            *flow,
+            Entry {
+                last: clock,
+                ..entry
+            },
+        );
+        Some(entry)
+    }
+
+    /// Looks a flow up: its entry is the answer and is in front from now on, last touched when it was. Where there is none
+    /// nothing changes.
+    fn look(&mut self, flow: &Flow) -> Option<Entry>
+        ensures found { result ≡ last_touch flow.now (entries self.old) }
+        ensures moved { entries self.new ≡ looked flow.now (entries self.old) }
+        ensures capacity { capacity self.new ≡ capacity self.old }
+    {
+        let entry = self.peek(flow)?;
+        self.touch(flow, entry.last)
+    }
 
     /// Empties it.
     fn clear(&mut self)

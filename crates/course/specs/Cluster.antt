@@ -35,7 +35,7 @@ unfoldable pub waiting_on : Cluster → ℕ → ℕ → List Said → ℕ
 waiting_on k n w past = if nat_lt n k.nodes && nat_lt w k.workers then left_of (lines_at past n w) else 0
 
 abbrev pub flow_of : Packet → Option Flow
-flow_of (Good x n) = Some x
+flow_of (Good x n t) = Some x
 flow_of (Bad c) = None
 
 -- all of a list are packets that reading gives

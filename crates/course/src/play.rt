@@ -31,7 +31,7 @@ fn choose<P: Spread>(spread: &P, packet: &Packet, nth: u64) -> Option<u16>
     ensures { result ≡ P.choice spread.now (P.live spread.now) (flow_of packet.now) nth }
 {
     match packet {
-        Packet::Good { flow, len: _ } => spread.node(Some(flow), nth),
+        Packet::Good { flow, .. } => spread.node(Some(flow), nth),
         Packet::Bad(_) => spread.node(None, nth),
     }
 }

@@ -7,7 +7,7 @@ use Rattle.toml.specs.declared.value.Value.{Value}
 use Rattle.pool_versions.specs.declared.backend.Member.{Member}
 use Rattle.maglev_texts.specs.Parsing.{address_of}
 use Rattle.hash_laws.specs.Any.{hash_of_word}
-use Rattle.scenario.specs.Lookups.{number_at, number_or, flag_or, text_at, items_at, all_items, given_or, has_only}
+use Rattle.scenario.specs.Lookups.{number_at, number_or, number_if, flag_or, text_at, items_at, all_items, given_or, has_only}
 use Rattle.scenario.specs.Words.{size_of, scheme_of_word, spread_of_word, protocol_of_word, choices_of, limits_of}
 use Rattle.scenario.specs.Plain.{PlainService, PlainVersion}
 use Rattle.scenario.specs.Drafts.{service_keys, version_keys, member_in, word_of, service_draft, service_in, version_draft, version_in}
@@ -213,32 +213,32 @@ some_four f (Some x) None c d = refl
 some_four f (Some x) (Some y) None d = refl
 some_four f (Some x) (Some y) (Some z) d = some_map (f x y z) d
 
-choices_law : (ms : Members) → is_some (choices_of ms) ≡ (holds key.Size ms && (holds key.Hash ms && (holds key.Scheme ms && holds key.Spread ms)))
-unfolding choices_of
-choices_law ms = some_four _ (option_and_then size_of (number_at 0 65537 (codes "size") ms)) (option_and_then hash_of_word (text_at (codes "hash") ms)) (option_and_then scheme_of_word (text_at (codes "scheme") ms)) (option_and_then spread_of_word (text_at (codes "spread") ms))
-
-limits_law : (ms : Members) → is_some (limits_of ms) ≡ (holds key.Workers ms && (holds key.Capacity ms && (holds key.Ring ms && holds key.Check ms)))
-unfolding limits_of
-limits_law ms = some_four _ (number_at 1 16 (codes "workers") ms) (number_at 1 1000000 (codes "capacity") ms) (number_or 1024 1 65536 (codes "ring") ms) (flag_or true (codes "check") ms)
-
-eight : (a b c d e f g h : Bool) → (a && (b && (c && (d && (e && (f && (g && (h && true)))))))) ≡ ((a && (b && (c && d))) && (e && (f && (g && h))))
-eight a b c d e f g h =
-    ap (λ x. a && (b && (c && (d && (e && (f && (g && x))))))) (and_true h)
-    ∙ sym (ap (λ x. a && (b && x)) (and_assoc c d (e && (f && (g && h)))))
-    ∙ sym (ap (λ x. a && x) (and_assoc b (c && d) (e && (f && (g && h)))))
-    ∙ sym (and_assoc a (b && (c && d)) (e && (f && (g && h))))
-
-setup_law : (ms : Members) → is_none (first_bad setup ms) ≡ (is_some (choices_of ms) && is_some (limits_of ms))
-setup_law ms =
-    bad_law setup ms
-    ∙ eight (holds key.Size ms) (holds key.Hash ms) (holds key.Scheme ms) (holds key.Spread ms) (holds key.Workers ms) (holds key.Capacity ms) (holds key.Ring ms) (holds key.Check ms)
-    ∙ sym (and_both _ _ _ _ (choices_law ms) (limits_law ms))
-
--- the whole
 some_five : {A B C D E F : Type 0} (f : A → B → C → D → E → F) (a : Option A) (b : Option B) (c : Option C) (d : Option D) (e : Option E) → is_some (option_and_then (λ x. option_and_then (λ y. option_and_then (λ z. option_and_then (λ w. option_map (f x y z w) e) d) c) b) a) ≡ (is_some a && (is_some b && (is_some c && (is_some d && is_some e))))
 some_five f None b c d e = refl
 some_five f (Some x) b c d e = some_four (f x) b c d e
 
+choices_law : (ms : Members) → is_some (choices_of ms) ≡ (holds key.Size ms && (holds key.Hash ms && (holds key.Scheme ms && holds key.Spread ms)))
+unfolding choices_of
+choices_law ms = some_four _ (option_and_then size_of (number_at 0 65537 (codes "size") ms)) (option_and_then hash_of_word (text_at (codes "hash") ms)) (option_and_then scheme_of_word (text_at (codes "scheme") ms)) (option_and_then spread_of_word (text_at (codes "spread") ms))
+
+limits_law : (ms : Members) → is_some (limits_of ms) ≡ (holds key.Workers ms && (holds key.Capacity ms && (holds key.Ring ms && (holds key.Check ms && holds key.Idle ms))))
+unfolding limits_of
+limits_law ms = some_five _ (number_at 1 16 (codes "workers") ms) (number_at 1 1000000 (codes "capacity") ms) (number_or 1024 1 65536 (codes "ring") ms) (flag_or true (codes "check") ms) (number_if 0 4294967295000000 (codes "idle") ms)
+
+nine : (a b c d e f g h i : Bool) → (a && (b && (c && (d && (e && (f && (g && (h && (i && true))))))))) ≡ ((a && (b && (c && d))) && (e && (f && (g && (h && i)))))
+nine a b c d e f g h i =
+    ap (λ x. a && (b && (c && (d && (e && (f && (g && (h && x)))))))) (and_true i)
+    ∙ sym (ap (λ x. a && (b && x)) (and_assoc c d (e && (f && (g && (h && i))))))
+    ∙ sym (ap (λ x. a && x) (and_assoc b (c && d) (e && (f && (g && (h && i))))))
+    ∙ sym (and_assoc a (b && (c && d)) (e && (f && (g && (h && i)))))
+
+setup_law : (ms : Members) → is_none (first_bad setup ms) ≡ (is_some (choices_of ms) && is_some (limits_of ms))
+setup_law ms =
+    bad_law setup ms
+    ∙ nine (holds key.Size ms) (holds key.Hash ms) (holds key.Scheme ms) (holds key.Spread ms) (holds key.Workers ms) (holds key.Capacity ms) (holds key.Ring ms) (holds key.Check ms) (holds key.Idle ms)
+    ∙ sym (and_both _ _ _ _ (choices_law ms) (limits_law ms))
+
+-- the whole
 draft_of_law : (format : Format) (ms : Members) → is_some (draft_of format ms) ≡ (is_some (choices_of ms) && (is_some (limits_of ms) && (is_some (nodes_of ms) && (is_some (versions_in format ms) && is_some (steps_in ms)))))
 unfolding draft_of
 draft_of_law format ms = some_five _ (choices_of ms) (limits_of ms) (nodes_of ms) (versions_in format ms) (steps_in ms)
@@ -251,4 +251,4 @@ root_law format ms =
     ∙ sym (draft_of_law format ms)
 
 pub one_place_or_a_draft : OnePlaceOrADraft
-one_place_or_a_draft format ms = if_law (has_only root_keys ms) _ (place.Root flaw.Unknown) (draft_of format ms) (root_law format ms)
+one_place_or_a_draft format ms = if_law (has_only (root_keys format) ms) _ (place.Root flaw.Unknown) (draft_of format ms) (root_law format ms)

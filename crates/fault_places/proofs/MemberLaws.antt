@@ -127,4 +127,4 @@ draft_of_law format ms = five_parts _ (λ d. is_none (member_place_in format ms)
     (choices_of ms) (limits_of ms) (nodes_of ms) (versions_in format ms) (steps_in ms) (versions_in_law format (items_at (codes "versions") ms))
 
 pub one_word_or_all_members : OneWordOrAllMembers
-one_word_or_all_members format ms = only_law (has_only root_keys ms) (draft_of format ms) _ (draft_of_law format ms)
+one_word_or_all_members format ms = only_law (has_only (root_keys format) ms) (draft_of format ms) _ (draft_of_law format ms)

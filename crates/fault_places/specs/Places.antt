@@ -4,7 +4,7 @@ use Rattle.std.specs.Option.{option_or}
 use Rattle.hash_laws.specs.Any.{hash_of_word}
 use Rattle.maglev_texts.specs.Parsing.{address_of}
 use Rattle.toml.specs.Data.{Data, Items, no_items, item, Members, as_str, as_table}
-use Rattle.scenario.specs.Lookups.{number_at, number_or, flag_or, text_at, items_at, given_or, has_only}
+use Rattle.scenario.specs.Lookups.{number_at, number_or, number_if, flag_or, text_at, items_at, given_or, has_only}
 use Rattle.scenario.specs.Words.{size_of, scheme_of_word, spread_of_word, protocol_of_word}
 use Rattle.scenario.specs.Drafts.{service_keys, version_keys}
 use Rattle.scenario.specs.declared.formats.Format.{Format}
@@ -25,6 +25,7 @@ key_name key.Workers = codes "workers"
 key_name key.Capacity = codes "capacity"
 key_name key.Ring = codes "ring"
 key_name key.Check = codes "check"
+key_name key.Idle = codes "idle"
 key_name key.Nodes = codes "nodes"
 key_name key.Versions = codes "versions"
 key_name key.Steps = codes "steps"
@@ -45,6 +46,7 @@ holds key.Workers ms = is_some (number_at 1 16 (codes "workers") ms)
 holds key.Capacity ms = is_some (number_at 1 1000000 (codes "capacity") ms)
 holds key.Ring ms = is_some (number_or 1024 1 65536 (codes "ring") ms)
 holds key.Check ms = is_some (flag_or true (codes "check") ms)
+holds key.Idle ms = is_some (number_if 0 4294967295000000 (codes "idle") ms)
 holds key.Number ms = is_some (number_at 0 4294967295 (codes "number") ms)
 holds key.Vip ms = is_some (option_and_then address_of (text_at (codes "vip") ms))
 holds key.Proto ms = is_some (option_and_then protocol_of_word (text_at (codes "proto") ms))
@@ -61,7 +63,7 @@ first_bad [] ms = None
 first_bad (k ∷ ks) ms = if holds k ms then first_bad ks ms else Some k
 
 abbrev pub setup : List Key
-setup = key.Size ∷ key.Hash ∷ key.Scheme ∷ key.Spread ∷ key.Workers ∷ key.Capacity ∷ key.Ring ∷ key.Check ∷ []
+setup = key.Size ∷ key.Hash ∷ key.Scheme ∷ key.Spread ∷ key.Workers ∷ key.Capacity ∷ key.Ring ∷ key.Check ∷ key.Idle ∷ []
 
 -- the number of the first item that fails a test, the first being n
 abbrev pub item_from : (Data → Bool) → ℕ → Items → Option ℕ
@@ -135,13 +137,13 @@ steps_flaw ms = given_or (flaw.Value key.Steps) steps_of (items_at (codes "steps
 abbrev pub arrays_flaw : Members → Option Place
 arrays_flaw ms = option_or (option_map (λ f. place.Root f) (nodes_flaw ms)) (option_or (versions_flaw ms) (option_map (λ f. place.Root f) (steps_flaw ms)))
 
--- the first place in a document
-abbrev pub place_of : Members → Option Place
-place_of ms =
-    if has_only root_keys ms then
+-- the first place in a document of a format
+abbrev pub place_of : Format → Members → Option Place
+place_of format ms =
+    if has_only (root_keys format) ms then
     option_or (option_map (λ k. place.Root (flaw.Value k)) (first_bad setup ms)) (arrays_flaw ms)
     else Some (place.Root flaw.Unknown)
 
--- a document, of whatever format, has a place, or is a scenario's but for words that may be none
+-- a document of a format has a place, or is a scenario's but for words that may be none
 abbrev pub OnePlaceOrADraft : Type 0
-OnePlaceOrADraft = (format : Format) (ms : Members) → is_none (place_of ms) ≡ is_some (draft_in format ms)
+OnePlaceOrADraft = (format : Format) (ms : Members) → is_none (place_of format ms) ≡ is_some (draft_in format ms)

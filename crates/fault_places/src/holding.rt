@@ -3,7 +3,7 @@ ghost use Rattle.std.specs.Prelude.{◌≡◌, true, is_some, option_and_then, c
 ghost use Rattle.toml.specs.View.{table_view};
 ghost use Rattle.hash_laws.specs.Any.{hash_of_word};
 ghost use Rattle.maglev_texts.specs.Parsing.{address_of};
-ghost use Rattle.scenario.specs.Lookups.{number_at, number_or, flag_or, text_at};
+ghost use Rattle.scenario.specs.Lookups.{number_at, number_or, number_if, flag_or, text_at};
 ghost use Rattle.scenario.specs.Words.{size_of, scheme_of_word, spread_of_word, protocol_of_word};
 ghost use Rattle.fault_places.specs.Places.{holds};
 
@@ -61,6 +61,15 @@ fn has_ring(table: &Table) -> bool
     }
 }
 
+fn has_idle(table: &Table) -> bool
+    ensures { result ≡ is_some (number_if 0 4294967295000000 (codes "idle") (table_view table.now)) }
+{
+    match value_at(table, "idle") {
+        Some(value) => natural(value, 0, 4_294_967_295_000_000).is_some(),
+        None => true,
+    }
+}
+
 fn has_check(table: &Table) -> bool
     ensures { result ≡ is_some (flag_or true (codes "check") (table_view table.now)) }
 {
@@ -102,6 +111,7 @@ pub(crate) fn holds(alloc: Global, table: &Table, key: Key) -> Result<bool, Allo
         Key::Capacity => Ok(number_at(table, "capacity", 1, 1_000_000).is_some()),
         Key::Ring => Ok(has_ring(table)),
         Key::Check => Ok(has_check(table)),
+        Key::Idle => Ok(has_idle(table)),
         Key::Number => Ok(number_at(table, "number", 0, 4_294_967_295).is_some()),
         Key::Vip => has_vip(alloc, table),
         Key::Proto => Ok(has_protocol(table)),

@@ -21,6 +21,8 @@ pub enum Key {
     Ring,
     /// Whether header checksums are tested.
     Check,
+    /// How long an entry stands without a packet.
+    Idle,
     /// The nodes' addresses.
     Nodes,
     /// The versions of the pools.
@@ -55,6 +57,7 @@ impl Key {
             Key::Capacity => "capacity",
             Key::Ring => "ring",
             Key::Check => "check",
+            Key::Idle => "idle",
             Key::Nodes => "nodes",
             Key::Versions => "versions",
             Key::Steps => "steps",

@@ -2,13 +2,13 @@
 ghost use Rattle.std.specs.Prelude.{◌≡◌, ◌&&◌, nat_le, IfOk};
 ghost use Rattle.toml.specs.View.{table_view, view, items_view};
 ghost use Rattle.scenario.specs.Lookups.{has_only};
-ghost use Rattle.scenario.specs.Meaning.{root_keys};
 ghost use Rattle.fault_places.specs.Places.{first_bad, setup, count, item_from, is_text, is_address, service_flaw, service_table_flaw, members_flaw, services_from, services_flaw, version_flaw, version_table_flaw, versions_from, versions_flaw, nodes_flaw, steps_flaw, arrays_flaw, place_of, OnePlaceOrADraft};
 
 use crate::holding::holds;
 use crate::key::Key;
 use crate::lookup::{has_only, items_at};
 use maglev_texts::address;
+use scenario::{Format, has_root_keys};
 use std::alloc::{AllocError, Global};
 use toml::{Table, Value};
 
@@ -248,18 +248,6 @@ fn arrays_flaw(alloc: Global, table: &Table) -> Result<Option<Place>, AllocError
     Ok(steps_flaw(table).map(Place::Root))
 }
 
-fn has_root_keys(table: &Table) -> bool
-    ensures { result ≡ has_only root_keys (table_view table.now) }
-{
-    has_only(
-        table,
-        &[
-            "format", "size", "hash", "scheme", "spread", "workers", "capacity", "ring", "check",
-            "nodes", "steps", "versions",
-        ],
-    )
-}
-
 // The first key of the setup that doesn't hold.
 fn bad_setup(alloc: Global, table: &Table) -> Result<Option<Key>, AllocError>
     ensures { IfOk result (λ o. o ≡ first_bad setup (table_view table.now)) }
@@ -273,15 +261,16 @@ fn bad_setup(alloc: Global, table: &Table) -> Result<Option<Key>, AllocError>
         Key::Capacity,
         Key::Ring,
         Key::Check,
+        Key::Idle,
     ];
     first_bad(alloc, table, &keys)
 }
 
-/// The first place at which a document isn't a scenario's, None where all its keys are as they should be.
-pub fn key_place(alloc: Global, table: &Table) -> Result<Option<Place>, AllocError>
-    ensures { IfOk result (λ o. o ≡ place_of (table_view table.now)) }
+/// The first place at which a document of a format isn't a scenario's, None where all its keys are as they should be.
+pub fn key_place(alloc: Global, format: Format, table: &Table) -> Result<Option<Place>, AllocError>
+    ensures { IfOk result (λ o. o ≡ place_of format (table_view table.now)) }
 {
-    if !has_root_keys(table) {
+    if !has_root_keys(format, table) {
         return Ok(Some(Place::Root(Flaw::Unknown)));
     }
     match bad_setup(alloc, table)? {
@@ -290,7 +279,7 @@ pub fn key_place(alloc: Global, table: &Table) -> Result<Option<Place>, AllocErr
     }
 }
 
-/// A law: a document, of whatever format, either has a place, and is refused as BadKey, or is a scenario's, whose members and steps may
+/// A law: a document of a format either has a place, and is refused as BadKey, or is a scenario's, whose members and steps may
 /// be none.
 pub fn one_place_or_a_draft()
     ensures { OnePlaceOrADraft }

@@ -28,7 +28,8 @@ members = ['A@10.8.0.1', 'B@10.8.0.2/down']
 fn place_with(rt: &impl Abort, alloc: Global, old: &str, new: &str) -> Option<Place> {
     let text = GOOD.replacen(alloc, old, new, 1).expect(rt, "memory");
     let table = toml::table_from_str(alloc, text.as_str()).expect(rt, "a document");
-    let place = key_place(alloc, &table).expect(rt, "memory");
+    let format = format_of(&table).expect(rt, "a format");
+    let place = key_place(alloc, format, &table).expect(rt, "memory");
     let fault = scenario::read(alloc, text.as_bytes()).err();
     assert_eq!(rt; fault == Some(ScenarioFault::BadKey), place.is_some());
     place
@@ -53,6 +54,25 @@ fn places_of_the_setup(rt: HostRuntime) {
         ("['install 0 1', 'take 1']", "1", Key::Steps),
     ] {
         assert_eq!(rt; place(old, new), Some(Place::Root(Flaw::Value(key))));
+    }
+    for (limit, place_of_it) in [
+        ("format = 1\nidle = 5", Some(Place::Root(Flaw::Unknown))),
+        ("format = 2\nidle = 0", None),
+        ("format = 2\nidle = 4294967295000000", None),
+        (
+            "format = 2\nidle = 4294967295000001",
+            Some(Place::Root(Flaw::Value(Key::Idle))),
+        ),
+        (
+            "format = 2\nidle = -1",
+            Some(Place::Root(Flaw::Value(Key::Idle))),
+        ),
+        (
+            "format = 2\nidle = '5'",
+            Some(Place::Root(Flaw::Value(Key::Idle))),
+        ),
+    ] {
+        assert_eq!(rt; place("format = 1", limit), place_of_it);
     }
     let node = Place::Root(Flaw::Item(Key::Nodes, 1));
     assert_eq!(rt; place("10.9.0.2", "10.9.0.02"), Some(node));

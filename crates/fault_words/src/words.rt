@@ -83,7 +83,7 @@ fn path_of(alloc: Global, table: String, flaw: Flaw) -> Option<String> {
 }
 
 fn bad_key(alloc: Global, text: &str, document: &Table) -> Option<String> {
-    let place = key_place(alloc, document).ok()??;
+    let place = key_place(alloc, format_of(document)?, document).ok()??;
     let (table, flaw) = table_of(alloc, place)?;
     let path = path_of(alloc, table, flaw)?;
     let path = path.as_str();
@@ -110,13 +110,22 @@ fn unknown_key(alloc: Global, text: &str, path: &str, table: &Table, keys: &str)
     None
 }
 
+// The keys of a document of a format.
+fn root_keys(format: Format) -> &'static str {
+    match format {
+        Format::One => {
+            "format, size, hash, scheme, spread, workers, capacity, ring, check, nodes, steps, versions"
+        }
+        Format::Two => {
+            "format, size, hash, scheme, spread, workers, capacity, ring, check, idle, nodes, steps, versions"
+        }
+    }
+}
+
 // The table of a place, and the keys that it may have.
 fn keys_at(table: &Table, place: Place) -> Option<(&Table, &'static str)> {
     match place {
-        Place::Root(_) => Some((
-            table,
-            "format, size, hash, scheme, spread, workers, capacity, ring, check, nodes, steps, versions",
-        )),
+        Place::Root(_) => Some((table, root_keys(format_of(table)?))),
         Place::Version(version, _) => Some((nth(table, "versions", version)?, "number, services")),
         Place::Service(version, service, _) => {
             let version = nth(table, "versions", version)?;
@@ -152,6 +161,7 @@ fn expected(key: Key) -> &'static str {
         Key::Capacity => "a number from 1 to 1000000",
         Key::Ring => "a number from 1 to 65536",
         Key::Check => "true or false",
+        Key::Idle => "a number from 0 to 4294967295000000",
         Key::Nodes => "an array of 1 to 64 addresses",
         Key::Versions | Key::Services => "an array of tables",
         Key::Steps => "an array of at most 100000 texts",

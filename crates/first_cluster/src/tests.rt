@@ -50,7 +50,7 @@ fn catalogue(rt: &impl Abort, alloc: Global) -> Catalogue
 
 fn sends<T: ConnTable>(rt: &impl Abort, alloc: Global) {
     let nodes = Vec::from_slice(alloc, &[1, 2]).expect(rt, "memory");
-    let setup = Setup::new(SumHash, First, seven(rt), nodes, 1, 4).expect(rt, "a setup");
+    let setup = Setup::new(SumHash, First, seven(rt), nodes, 1, 4, None).expect(rt, "a setup");
     let packets = [Packet::Good {
         flow: Flow {
             src: 5,
@@ -60,6 +60,7 @@ fn sends<T: ConnTable>(rt: &impl Abort, alloc: Global) {
             proto: 17,
         },
         len: 28,
+        at: 0,
     }];
     let mut events = Vec::new(alloc);
     for node in [0u16, 1] {

@@ -65,7 +65,7 @@ fn setup(alloc: Global, size: TableSize) -> Result<Setup<Sums, SumHash>, AllocEr
     ensures { IfOk result (λ s. 0 < length s.nodes) }
 {
     let nodes = Vec::from_slice(alloc, &[0x0a09_0001])?;
-    match Setup::new(SumHash, Maglev { hash: SumHash }, size, nodes, 2, 2) {
+    match Setup::new(SumHash, Maglev { hash: SumHash }, size, nodes, 2, 2, None) {
         Ok(setup) => Ok(setup),
         Err(_) => Err(AllocError),
     }
@@ -80,7 +80,11 @@ fn packet(sport: u16) -> Packet {
         dport: 80,
         proto: 6,
     };
-    Packet::Good { flow, len: 40 }
+    Packet::Good {
+        flow,
+        len: 40,
+        at: 0,
+    }
 }
 
 /// Two flows under the version 1, and in the next life both under the version 2.

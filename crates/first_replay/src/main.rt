@@ -72,7 +72,11 @@ fn packet(sport: u16) -> Packet
         dport: 80,
         proto: 6,
     };
-    Packet::Good { flow, len: 40 }
+    Packet::Good {
+        flow,
+        len: 40,
+        at: 0,
+    }
 }
 
 /// A packet arrives and is served under a version.
@@ -117,7 +121,7 @@ fn setup(alloc: Global, size: TableSize) -> Result<Setup<Maglev<SumHash>, SumHas
     let mut nodes = Vec::new(alloc);
     nodes.push(0x0a09_0001)?;
     nodes.push(0x0a09_0002)?;
-    match Setup::new(SumHash, Maglev { hash: SumHash }, size, nodes, 1, 2) {
+    match Setup::new(SumHash, Maglev { hash: SumHash }, size, nodes, 1, 2, None) {
         Ok(setup) => Ok(setup),
         Err(_) => Err(AllocError),
     }

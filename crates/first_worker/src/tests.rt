@@ -20,7 +20,11 @@ fn played(rt: &impl Abort, alloc: Global, steps: &[Step], events: &mut Vec<Said>
         dport: 80,
         proto: 6,
     };
-    let packets = [Packet::Good { flow, len: 40 }; 4];
+    let packets = [Packet::Good {
+        flow,
+        len: 40,
+        at: 0,
+    }; 4];
     let mut spread = TurnSpread::new(all_live(alloc, 2).expect(rt, "memory"));
     let mut play = Play::start(alloc, 2).expect(rt, "memory");
     play.run(

@@ -1,13 +1,11 @@
 -- A table that was looked in, and then stored to.
-use Rattle.std.proofs.Common.{◌≡◌, ℕ, ◌+◌, ◌<◌, ◌≤◌, Bool, true, false, cond, List, [], ◌∷◌, length, take, zero, suc, Option, Some, None, refl, sym, ap, ◌∙◌, subst, arith}
-use Rattle.std.specs.Prelude.{if◌then◌else◌}
-use Rattle.std.proofs.lemmas.Bool.Decides.{nat_tests}
+use Rattle.std.proofs.Common.{◌≡◌, ℕ, ◌-◌, ◌≤◌, Bool, true, false, List, [], ◌∷◌, length, take, zero, suc, Option, Some, None, refl, sym, ap, ◌∙◌, arith}
+use Rattle.std.specs.Prelude.{if◌then◌else◌, nat_lt}
 use Rattle.five_tuple.specs.declared.Flow.{Flow}
 use Rattle.connection_table.specs.declared.table.Entry.{Entry}
-use Rattle.connection_table.specs.Touches.{same_flow}
-use Rattle.connection_table.specs.Touches.{Touch, last_touch, without, newest_each}
+use Rattle.connection_table.specs.Touches.{Touch, in_time, last_touch, newest_each, same_flow, without}
 use Rattle.connection_table.proofs.Standing.{same_flow-refl, touched-table}
-use Rattle.connection_table.specs.Recency.{moved, renewed, put_over, stored}
+use Rattle.connection_table.specs.Recency.{at_clock, moved, put_over, stored}
 
 -- a pair in front is found
 pub last_touch-front : (x : Flow) (e : Entry) (ts : List Touch) → last_touch x ((x, e) ∷ ts) ≡ Some e
@@ -16,22 +14,34 @@ last_touch-front x e ts = ap (λ (b : Bool). if b then Some e else last_touch x 
 pub without-front : (x : Flow) (e : Entry) (ts : List Touch) → without x ((x, e) ∷ ts) ≡ ts
 without-front x e ts = ap (λ (b : Bool). if b then ts else (x, e) ∷ without x ts) (same_flow-refl x)
 
-pub last_touch_renewed : (x : Flow) (ts : List Touch) → last_touch x (renewed x ts) ≡ last_touch x ts
-last_touch_renewed x ts = cases (last_touch x ts) refl
+-- what stands is the entry that is there
+pub stood_is : (idle : Option ℕ) (clock : ℕ) (o : Option Entry) (e : Entry) → in_time idle clock o ≡ Some e → o ≡ Some e
+stood_is idle clock None e h = h
+stood_is None clock (Some d) e h = h
+stood_is (Some limit) clock (Some d) e h = go (nat_lt limit (clock - d.last)) h
   where
-    cases : (o : Option Entry) → last_touch x ts ≡ o → last_touch x (moved x o ts) ≡ o
-    cases None h = h
-    cases (Some e) h = last_touch-front x e (without x ts)
+    go : (b : Bool) → (if b then None else Some d) ≡ Some e → Some d ≡ Some e
+    go true k = absurd (cc)
+    go false k = k
 
-pub stored_renewed : (capacity : ℕ) (x : Flow) (e : Entry) (ts : List Touch) → stored capacity x e (renewed x ts) ≡ stored capacity x e ts
-stored_renewed capacity x e ts = cases (last_touch x ts) refl
+-- what stood is still there once it was touched
+pub touched_is : (clock : ℕ) (x : Flow) (e : Entry) (ts : List Touch) → last_touch x (moved clock x (Some e) ts) ≡ Some (at_clock clock e)
+touched_is clock x e ts = last_touch-front x (at_clock clock e) (without x ts)
+
+-- a touch of what stands is a store of it at the clock
+pub touch_stores : (capacity : ℕ) (idle : Option ℕ) (clock : ℕ) (x : Flow) (e : Entry) (ts : List Touch) → in_time idle clock (last_touch x ts) ≡ Some e → stored capacity x (at_clock clock e) ts ≡ moved clock x (Some e) ts
+touch_stores capacity idle clock x e ts h = ap (λ (o : Option Entry). put_over o capacity x (at_clock clock e) ts) (stood_is idle clock (last_touch x ts) e h)
+
+-- a store over a touched entry is a store
+pub store_over : (capacity : ℕ) (idle : Option ℕ) (clock : ℕ) (x : Flow) (e : Entry) (ts : List Touch) → stored capacity x e (moved clock x (in_time idle clock (last_touch x ts)) ts) ≡ stored capacity x e ts
+store_over capacity idle clock x e ts = cases (in_time idle clock (last_touch x ts)) refl
   where
-    cases : (o : Option Entry) → last_touch x ts ≡ o → stored capacity x e (moved x o ts) ≡ put_over o capacity x e ts
-    cases None h = ap (λ (o : Option Entry). put_over o capacity x e ts) h
-    cases (Some d) h = ap (λ (o : Option Entry). put_over o capacity x e ((x, d) ∷ without x ts)) (last_touch-front x d (without x ts)) ∙ ap (λ (l : List Touch). (x, e) ∷ l) (without-front x d (without x ts))
-
-pub stored-again : (capacity : ℕ) (x : Flow) (e : Entry) (ts : List Touch) → last_touch x ts ≡ Some e → stored capacity x e ts ≡ renewed x ts
-stored-again capacity x e ts h = ap (λ (o : Option Entry). put_over o capacity x e ts) h ∙ sym (ap (λ (o : Option Entry). moved x o ts) h)
+    cases : (o : Option Entry) → in_time idle clock (last_touch x ts) ≡ o → stored capacity x e (moved clock x o ts) ≡ stored capacity x e ts
+    cases None h = refl
+    cases (Some d) h =
+        ap (λ (o : Option Entry). put_over o capacity x e ((x, at_clock clock d) ∷ without x ts)) (touched_is clock x d ts)
+        ∙ ap (λ (l : List Touch). (x, e) ∷ l) (without-front x (at_clock clock d) (without x ts))
+        ∙ sym (ap (λ (o : Option Entry). put_over o capacity x e ts) (stood_is idle clock (last_touch x ts) d h))
 
 pub without-missing : (x : Flow) (ts : List Touch) → last_touch x ts ≡ None → without x ts ≡ ts
 without-missing x [] h = refl

@@ -4,13 +4,13 @@
 //! stands and its backend is up, the flow's packets go to that backend, whatever the pools' newer versions say.
 #![tactic(auto)]
 
-ghost use Rattle.std.specs.Prelude.{◌≡◌, ◌≤◌, ◌<◌, ◌∷◌, [], ℕ, List, length, Option, Some, None, IsTrue, IfOk, IfSome, IsNone, MatchBool, is_some};
-ghost use Rattle.connection_table.specs.Recency.{stored};
-ghost use Rattle.connection_table.specs.Touches.{Touch, last_touch};
+ghost use Rattle.std.specs.Prelude.{◌≡◌, ◌≤◌, ◌<◌, ◌∷◌, [], ℕ, List, length, Option, Some, None, IsTrue, IfOk, IfSome, IsNone, IsSome, IsFalse, MatchBool};
+ghost use Rattle.connection_table.specs.Recency.{moved, stored};
+ghost use Rattle.connection_table.specs.Touches.{Touch, in_time, last_touch};
 ghost use Rattle.selection.specs.Readied.{ReadiedService};
 ghost use Rattle.forwarder.specs.declared.Choice.TheVariants.{Forward};
-ghost use Rattle.forwarder.specs.Forwarding.{Forwarding};
-ghost use Rattle.forwarder.specs.Serving.{Serving, kept, told_after, serve_as, after_told, forwarding_of, serving_of, told, IsForward};
+ghost use Rattle.forwarder.specs.Forwarding.{Forwarding, unused};
+ghost use Rattle.forwarder.specs.Serving.{Serving, kept, told_after, told_in, stands_in, after_told, forwarding_of, serving_of, told, IsForward};
 
 use connection_table::{ConnTable, Entry, TableKey};
 use five_tuple::Flow;
@@ -46,7 +46,9 @@ pub struct Served {
 pub struct Forwarder<S: Scheme, T: ConnTable> {
     scheme: S,
     table: T,
+    idle: Option<u64>,
     turn: u64,
+    clock: u64,
 }
 
 impl<S: Scheme, T: ConnTable> Model for Forwarder<S, T> {
@@ -55,7 +57,7 @@ impl<S: Scheme, T: ConnTable> Model for Forwarder<S, T> {
 
     ghost Value = { Forwarding };
 
-    ghost view = { λ f. record { capacity = T.capacity f.table; entries = T.entries f.table; turn = f.turn } };
+    ghost view = { λ f. record { capacity = T.capacity f.table; idle = f.idle; entries = T.entries f.table; turn = f.turn; clock = f.clock } };
 }
 
 // The entry where its backend is up.
@@ -84,15 +86,32 @@ fn sent(entry: &Entry) -> Choice
     }
 }
 
-// Stores an entry, and says whether that was due and did not happen.
-fn keep<T: ConnTable>(table: &mut T, held: bool, flow: Flow, entry: Entry, refused: bool) -> bool
-    requires { held ≡ is_some (last_touch flow (T.entries table.old)) }
-    ensures kept { MatchBool result (T.entries table.new ≡ T.entries table.old) (T.entries table.new ≡ stored (T.capacity table.old) flow entry (T.entries table.old)) }
-    ensures due { IsTrue result → IsNone (last_touch flow (T.entries table.old)) }
-    ensures refused { IsTrue refused → IsNone (last_touch flow (T.entries table.old)) → IsTrue result }
+// The flow's entry as it stood, which is touched. Where it is past the limit it is as none, and keeps its place.
+fn stand<T: ConnTable>(table: &mut T, idle: Option<u64>, flow: &Flow, clock: u64) -> Option<Entry>
+    ensures stood { result ≡ in_time idle clock (last_touch flow.now (T.entries table.old)) }
+    ensures touched { T.entries table.new ≡ moved clock flow.now (in_time idle clock (last_touch flow.now (T.entries table.old))) (T.entries table.old) }
     ensures capacity { T.capacity table.new ≡ T.capacity table.old }
 {
-    if refused && !held {
+    let Some(limit) = idle else {
+        return table.touch(flow, clock);
+    };
+    let held = table.peek(flow)?;
+    if limit < clock.saturating_sub(held.last) {
+        return None;
+    }
+    table.touch(flow, clock)
+}
+
+// Stores an entry, and says whether that was due and did not happen.
+fn keep<T: ConnTable>(table: &mut T, stood: bool, flow: Flow, entry: Entry, refused: bool) -> bool
+    requires { IsTrue stood → IsSome (last_touch flow (T.entries table.old)) }
+    ensures kept { MatchBool result (T.entries table.new ≡ T.entries table.old) (T.entries table.new ≡ stored (T.capacity table.old) flow entry (T.entries table.old)) }
+    ensures due { IsTrue result → IsFalse stood }
+    ensures refused { IsTrue refused → IsFalse stood → IsTrue result }
+    ensures there { IsTrue result → IsFalse refused → IsNone (last_touch flow (T.entries table.old)) }
+    ensures capacity { T.capacity table.new ≡ T.capacity table.old }
+{
+    if refused && !stood {
         return true;
     }
     match table.store(flow, entry) {
@@ -103,34 +122,49 @@ fn keep<T: ConnTable>(table: &mut T, held: bool, flow: Flow, entry: Entry, refus
 
 impl<S: Scheme, T: ConnTable> Forwarder<S, T> {
     /// A forwarder that has served nothing, for 1 to 1,000,000 entries. Packets are served by the scheme of the
-    /// version that they come under.
-    pub fn make(alloc: Global, scheme: S, capacity: u32) -> Result<Self, AllocError>
+    /// version that they come under. Where a limit is set, an entry stands only while no more microseconds than that have
+    /// passed since its last touch.
+    pub fn make(
+        alloc: Global,
+        scheme: S,
+        capacity: u32,
+        idle: Option<u64>,
+    ) -> Result<Self, AllocError>
         requires some { 0 < capacity }
         requires limit { capacity ≤ 1000000 }
-        ensures { IfOk result (λ f. f ≡ record { capacity = capacity; entries = []; turn = 0 }) }
+        ensures { IfOk result (λ f. f ≡ unused capacity idle) }
     {
-        Forwarder::keyed(alloc, scheme, capacity, TableKey::fixed())
+        Forwarder::keyed(alloc, scheme, capacity, TableKey::fixed(), idle)
     }
 
     /// The same, with a key for the hash of its table.
-    pub fn keyed(alloc: Global, scheme: S, capacity: u32, key: TableKey) -> Result<Self, AllocError>
+    pub fn keyed(
+        alloc: Global,
+        scheme: S,
+        capacity: u32,
+        key: TableKey,
+        idle: Option<u64>,
+    ) -> Result<Self, AllocError>
         requires some { 0 < capacity }
         requires limit { capacity ≤ 1000000 }
-        ensures { IfOk result (λ f. f ≡ record { capacity = capacity; entries = []; turn = 0 }) }
+        ensures { IfOk result (λ f. f ≡ unused capacity idle) }
     {
         Ok(Forwarder {
             scheme,
             table: T::keyed(alloc, capacity, key)?,
+            idle,
             turn: 0,
+            clock: 0,
         })
     }
 
     /// Begins a new life: forgets all that it served.
     pub fn restart(&mut self)
-        ensures { self.new ≡ record { capacity = self.old.capacity; entries = []; turn = 0 } }
+        ensures { self.new ≡ unused self.old.capacity self.old.idle }
     {
         self.table.clear();
         self.turn = 0;
+        self.clock = 0;
     }
 
     /// How many entries there are.
@@ -140,47 +174,65 @@ impl<S: Scheme, T: ConnTable> Forwarder<S, T> {
         self.table.len()
     }
 
-    /// Serves a packet of a flow under a prepared version. With `refused` no new entry is made, as where memory for
-    /// one is refused; the packet is forwarded all the same.
+    /// Serves a packet of a flow, which came at a time in microseconds, under a prepared version. With `refused` no new entry
+    /// is made, as where memory for one is refused; the packet is forwarded all the same.
     ///
-    /// A flow with an entry whose backend is up goes there, with the entry's origin. Otherwise the scheme is asked. By
-    /// the clause `history` the answer is a function of all that this forwarder served before.
-    pub fn serve(&mut self, version: &PreparedVersion<S>, flow: &Flow, refused: bool) -> Served
-        // what is told, by the entry that is in the table and the turn
-        ensures choice { let s = serving_of version.now flow.now refused in
-            result.choice ≡ (serve_as (S.pick version.now.scheme version.now.size) s (last_touch flow.now self.old.entries) self.old.turn).choice }
-        ensures after { let s = serving_of version.now flow.now result.unstored in
-            self.new ≡ after_told (serve_as (S.pick version.now.scheme version.now.size) s (last_touch flow.now self.old.entries) self.old.turn) self.old }
-        // unstored only where a new entry was due, and always where it was due and refused
-        ensures due { IsTrue result.unstored → IsNone (last_touch flow.now self.old.entries) × IsForward result.choice }
-        ensures refused { IsTrue refused → IsNone (last_touch flow.now self.old.entries) → IsForward result.choice → IsTrue result.unstored }
+    /// The clock is the greatest time of the packets that were served since the forwarder was made or restarted, this one
+    /// included. A flow with an entry that stands and whose backend is up goes there, with the entry's origin. Otherwise the
+    /// scheme is asked. By the clause `history` the answer is a function of all that this forwarder served before.
+    pub fn serve(
+        &mut self,
+        version: &PreparedVersion<S>,
+        flow: &Flow,
+        at: u64,
+        refused: bool,
+    ) -> Served
+        // what is told, by the entry that is in the table, the turn and the clock
+        ensures choice { let s = serving_of version.now flow.now at refused in
+            result.choice ≡ (told_in (S.pick version.now.scheme version.now.size) self.old s).choice }
+        ensures after { let s = serving_of version.now flow.now at result.unstored in
+            self.new ≡ after_told (told_in (S.pick version.now.scheme version.now.size) self.old s) self.old }
+        // unstored only where a new entry was due, and always where it was due and refused; want of memory is no reason where
+        // the flow has a place in the table
+        ensures due { IsTrue result.unstored → IsNone (stands_in self.old flow.now at) × IsForward result.choice }
+        ensures refused { IsTrue refused → IsNone (stands_in self.old flow.now at) → IsForward result.choice → IsTrue result.unstored }
+        ensures there { IsTrue result.unstored → IsFalse refused → IsNone (last_touch flow.now self.old.entries) }
         // the same, by every list of servings for which the forwarder stands; and it stands for one more
         ensures history { let pick = S.pick version.now.scheme version.now.size in
-            (past : List Serving) → self.old ≡ forwarding_of pick self.old.capacity past →
-            (result.choice ≡ (told_after pick self.old.capacity (told pick self.old.capacity past) (serving_of version.now flow.now refused)).choice)
-            × (self.new ≡ forwarding_of pick self.old.capacity (serving_of version.now flow.now result.unstored ∷ past)) }
+            (past : List Serving) → self.old ≡ forwarding_of pick self.old.capacity self.old.idle past →
+            (result.choice ≡ (told_after pick self.old.capacity self.old.idle (told pick self.old.capacity self.old.idle past) (serving_of version.now flow.now at refused)).choice)
+            × (self.new ≡ forwarding_of pick self.old.capacity self.old.idle (serving_of version.now flow.now at result.unstored ∷ past)) }
     {
-        self.serve_once(version, flow, refused)
+        self.serve_once(version, flow, at, refused)
     }
 
     // Serves one packet.
-    #[tactic(auto, using(crate::proofs::Tables::stored_renewed, crate::proofs::Tables::last_touch_renewed))]
-    fn serve_once(&mut self, version: &PreparedVersion<S>, flow: &Flow, refused: bool) -> Served
-        ensures choice { let s = serving_of version.now flow.now refused in
-            result.choice ≡ (serve_as (S.pick version.now.scheme version.now.size) s (last_touch flow.now self.old.entries) self.old.turn).choice }
-        ensures after { let s = serving_of version.now flow.now result.unstored in
-            self.new ≡ after_told (serve_as (S.pick version.now.scheme version.now.size) s (last_touch flow.now self.old.entries) self.old.turn) self.old }
-        ensures due { IsTrue result.unstored → IsNone (last_touch flow.now self.old.entries) × IsForward result.choice }
-        ensures refused { IsTrue refused → IsNone (last_touch flow.now self.old.entries) → IsForward result.choice → IsTrue result.unstored }
+    #[tactic(auto, using(crate::proofs::Tables::store_over, crate::proofs::Tables::touch_stores, crate::proofs::Tables::touched_is))]
+    fn serve_once(
+        &mut self,
+        version: &PreparedVersion<S>,
+        flow: &Flow,
+        at: u64,
+        refused: bool,
+    ) -> Served
+        ensures choice { let s = serving_of version.now flow.now at refused in
+            result.choice ≡ (told_in (S.pick version.now.scheme version.now.size) self.old s).choice }
+        ensures after { let s = serving_of version.now flow.now at result.unstored in
+            self.new ≡ after_told (told_in (S.pick version.now.scheme version.now.size) self.old s) self.old }
+        ensures due { IsTrue result.unstored → IsNone (stands_in self.old flow.now at) × IsForward result.choice }
+        ensures refused { IsTrue refused → IsNone (stands_in self.old flow.now at) → IsForward result.choice → IsTrue result.unstored }
+        ensures there { IsTrue result.unstored → IsFalse refused → IsNone (last_touch flow.now self.old.entries) }
     {
+        let clock = self.clock.max(at);
+        self.clock = clock;
         let Some(ready) = version.ready(flow) else {
             return Served {
                 choice: Choice::NoService,
                 unstored: false,
             };
         };
-        let held = self.table.look(flow);
-        if let Some(entry) = if_up(held, ready) {
+        let stood = stand(&mut self.table, self.idle, flow, clock);
+        if let Some(entry) = if_up(stood, ready) {
             return Served {
                 choice: sent(&entry),
                 unstored: false,
@@ -197,10 +249,11 @@ impl<S: Scheme, T: ConnTable> Forwarder<S, T> {
                 let entry = Entry {
                     backend,
                     version: version.number(),
+                    last: clock,
                 };
                 Served {
                     choice: sent(&entry),
-                    unstored: keep(&mut self.table, held.is_some(), *flow, entry, refused),
+                    unstored: keep(&mut self.table, stood.is_some(), *flow, entry, refused),
                 }
             }
         }

@@ -97,14 +97,14 @@ fn shows<T: ConnTable>(
     requires limit { capacity ≤ 1000000 }
 {
     let versions = versions(rt, alloc);
-    let mut forwarder: Forwarder<Sums, T> = Forwarder::make(alloc, SUMS, capacity).expect(
+    let mut forwarder: Forwarder<Sums, T> = Forwarder::make(alloc, SUMS, capacity, None).expect(
         rt, "room",
     );
     for (at, (port, version, backend, origin)) in steps.iter().enumerate() {
         let prepared = versions
             .get(version.wrapping_sub(1))
             .expect(rt, "a version");
-        let served = forwarder.serve(prepared, &flow(*port, 80), false);
+        let served = forwarder.serve(prepared, &flow(*port, 80), 0, false);
         assert_eq!(rt; told(served.choice), (*backend, *origin), "step {at}");
         assert!(rt; !served.unstored, "stored at step {at}");
     }
@@ -171,6 +171,100 @@ fn shows_all<T: ConnTable>(rt: &impl Abort, alloc: Global) {
     );
 }
 
+// A step of a forwarder with a limit of five seconds: the second, a source port, the version, the last byte of the
+// backend's address and the origin that are wanted.
+fn ages<T: ConnTable>(rt: &impl Abort, alloc: Global, steps: &[(u64, u16, usize, u32, u32)]) {
+    let versions = versions(rt, alloc);
+    let limit = Some(5_000_000);
+    let mut forwarder: Forwarder<Sums, T> = Forwarder::make(alloc, SUMS, 2, limit).expect(
+        rt, "room",
+    );
+    for (index, (second, port, version, backend, origin)) in steps.iter().enumerate() {
+        let prepared = versions
+            .get(version.wrapping_sub(1))
+            .expect(rt, "a version");
+        let at = second.wrapping_mul(1_000_000);
+        let served = forwarder.serve(prepared, &flow(*port, 80), at, false);
+        assert_eq!(rt; told(served.choice), (*backend, *origin), "step {index}");
+        assert!(rt; !served.unstored, "stored at step {index}");
+    }
+}
+
+fn ages_all<T: ConnTable>(rt: &impl Abort, alloc: Global) {
+    // Five seconds are within the limit, six aren't, and a clock that steps back is no time.
+    ages::<T>(
+        rt,
+        alloc,
+        &[
+            (10, 1006, 1, 1, 1),
+            (15, 1006, 2, 1, 1),
+            (21, 1006, 2, 3, 2),
+            (3, 1006, 2, 3, 2),
+        ],
+    );
+    // The clock is that of the forwarder, not of the packet.
+    ages::<T>(
+        rt,
+        alloc,
+        &[
+            (10, 1006, 1, 1, 1),
+            (30, 1000, 2, 1, 2),
+            (12, 1006, 2, 3, 2),
+        ],
+    );
+    // An entry past the limit isn't touched where nobody is up, and so is the one that is pushed out.
+    ages::<T>(
+        rt,
+        alloc,
+        &[
+            (0, 1006, 1, 1, 1),
+            (5, 1000, 1, 1, 1),
+            (6, 1006, 6, 0, 0),
+            (6, 1001, 2, 1, 2),
+            (6, 1000, 2, 1, 1),
+        ],
+    );
+}
+
+#[test]
+fn entries_age_in_a_plain_table(rt: HostRuntime) {
+    ages_all::<PlainTable>(&rt, rt.alloc());
+}
+
+#[test]
+fn entries_age_in_a_table_over_links(rt: HostRuntime) {
+    ages_all::<LruTable>(&rt, rt.alloc());
+}
+
+// A packet without a service moves the clock, replacing an entry past the limit may be refused, and a restart sets the clock
+// back.
+#[test]
+fn the_clock_of_a_life(rt: HostRuntime) {
+    let alloc = rt.alloc();
+    let first = version(&rt, alloc, 1, 1, [true, true, true]);
+    let second = version(&rt, alloc, 2, 1, [true, false, true]);
+    let mut forwarder: Forwarder<Sums, LruTable> = Forwarder::make(alloc, SUMS, 2, Some(5)).expect(
+        &rt, "room",
+    );
+    let served = forwarder.serve(&first, &flow(1006, 80), 10, false);
+    assert_eq!(rt; told(served.choice), (1, 1));
+    let served = forwarder.serve(&first, &flow(1006, 81), 16, false);
+    assert_eq!(rt; told(served.choice), (255, 0));
+    let served = forwarder.serve(&second, &flow(1006, 80), 10, true);
+    assert_eq!(rt; told(served.choice), (3, 2));
+    assert!(rt; served.unstored);
+    assert_eq!(rt; forwarder.len(), 1);
+    let served = forwarder.serve(&second, &flow(1006, 80), 10, false);
+    assert_eq!(rt; told(served.choice), (3, 2));
+    assert!(rt; !served.unstored);
+    assert_eq!(rt; forwarder.len(), 1);
+    forwarder.restart();
+    let served = forwarder.serve(&first, &flow(1006, 80), 0, false);
+    assert_eq!(rt; told(served.choice), (1, 1));
+    let served = forwarder.serve(&second, &flow(1006, 80), 6, false);
+    assert_eq!(rt; told(served.choice), (3, 2));
+}
+
 #[test]
 fn the_examples_with_a_plain_table(rt: HostRuntime) {
     shows_all::<PlainTable>(&rt, rt.alloc());
@@ -186,19 +280,19 @@ fn the_examples_with_a_table_over_links(rt: HostRuntime) {
 fn refusals_and_restart(rt: HostRuntime) {
     let alloc = rt.alloc();
     let prepared = version(&rt, alloc, 1, 1, [true, true, true]);
-    let mut forwarder: Forwarder<Sums, LruTable> = Forwarder::make(alloc, SUMS, 2).expect(
+    let mut forwarder: Forwarder<Sums, LruTable> = Forwarder::make(alloc, SUMS, 2, None).expect(
         &rt, "room",
     );
-    let served = forwarder.serve(&prepared, &flow(1000, 81), true);
+    let served = forwarder.serve(&prepared, &flow(1000, 81), 0, true);
     assert_eq!(rt; told(served.choice), (255, 0));
     assert!(rt; !served.unstored);
-    let served = forwarder.serve(&prepared, &flow(1000, 80), true);
+    let served = forwarder.serve(&prepared, &flow(1000, 80), 0, true);
     assert_eq!(rt; told(served.choice), (1, 1));
     assert!(rt; served.unstored);
     assert_eq!(rt; forwarder.len(), 0);
-    let served = forwarder.serve(&prepared, &flow(1000, 80), false);
+    let served = forwarder.serve(&prepared, &flow(1000, 80), 0, false);
     assert!(rt; !served.unstored);
-    let served = forwarder.serve(&prepared, &flow(1000, 80), true);
+    let served = forwarder.serve(&prepared, &flow(1000, 80), 0, true);
     assert!(rt; !served.unstored);
     assert_eq!(rt; forwarder.len(), 1);
     forwarder.restart();
@@ -210,17 +304,17 @@ fn refusals_and_restart(rt: HostRuntime) {
 fn a_flood_keeps_to_the_capacity(rt: HostRuntime) {
     let alloc = rt.alloc();
     let prepared = version(&rt, alloc, 1, 1, [true, true, true]);
-    let mut forwarder: Forwarder<Sums, LruTable> = Forwarder::make(alloc, SUMS, 1000).expect(
+    let mut forwarder: Forwarder<Sums, LruTable> = Forwarder::make(alloc, SUMS, 1000, None).expect(
         &rt, "room",
     );
     for _ in 0..100000u32 {
-        let (_, origin) = told(forwarder.serve(&prepared, &flow(1006, 80), false).choice);
+        let (_, origin) = told(forwarder.serve(&prepared, &flow(1006, 80), 0, false).choice);
         assert_eq!(rt; origin, 1);
     }
     assert_eq!(rt; forwarder.len(), 1);
     for i in 0..100000u32 {
         let port = 1000 + (i % 60000) as u16;
-        let (_, origin) = told(forwarder.serve(&prepared, &flow(port, 80), false).choice);
+        let (_, origin) = told(forwarder.serve(&prepared, &flow(port, 80), 0, false).choice);
         assert_eq!(rt; origin, 1);
     }
     assert_eq!(rt; forwarder.len(), 1000);

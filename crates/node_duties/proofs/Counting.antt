@@ -250,7 +250,7 @@ counts_offer x l0 l1 l2 s0 s1 s2 os qs o read is first second all h = subst (λ 
         let had : s0 ≡ counted s0.parts (os ++ o ∷ []) = h a.0 ∙ sym (none_more s0.parts os NoPacket) ∙ ap (λ (q : Outcome). counted s0.parts (os ++ q ∷ [])) (sym i) in
         same ∙ had ∙ ap (λ (s : Counted). counted s.parts (os ++ o ∷ [])) (sym same)
     go (Some (Bad c)) r i f = counts_arrival l0 l1 l2 s0 s1 s2 os o (ap (λ (q : Outcome). is_arrival q) i.1 ∙ reads_as_arrival i.0 c r) f second h
-    go (Some (Good y n)) r i f = counts_arrival l0 l1 l2 s0 s1 s2 os o i f second h
+    go (Some (Good y n at)) r i f = counts_arrival l0 l1 l2 s0 s1 s2 os o i f second h
 
 -- an installation
 pub counts_install : (known : Bool) (v : ℕ) (j : JournalView) (lost : Bool) (s : Counted) → Counts lost s j.outcomes → Counts lost s (with_install known v j).outcomes

@@ -57,7 +57,7 @@ arrives_alone (Refused r) e = refl
 arrival_alone : (p : Option Packet) (o : Outcome) → ArrivesAs p o → losses (o ∷ []) ≡ []
 arrival_alone None o is = ap (λ (x : Outcome). losses (x ∷ [])) is
 arrival_alone (Some (Bad c)) o is = ap (λ (x : Outcome). losses (x ∷ [])) is.1
-arrival_alone (Some (Good x l)) o is = arrives_alone o is
+arrival_alone (Some (Good x l t)) o is = arrives_alone o is
 
 arrival_loses_none : (p : Option Packet) (os ps : List Outcome) (o : Outcome) → ArrivesAs p o → ps ≡ os ++ o ∷ [] → losses ps ≡ losses os
 arrival_loses_none p os ps o is e = ap losses e ∙ none_more os o (arrival_alone p o is)

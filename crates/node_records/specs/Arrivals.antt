@@ -11,4 +11,4 @@ use Rattle.cluster_node.specs.declared.outcomes.Reason.TheVariants.{NoPacket}
 abbrev pub ArrivesAs : Option Packet → Outcome → Type 0
 ArrivesAs None o = o ≡ Refused NoPacket
 ArrivesAs (Some (Bad c)) o = (k : ℕ) × (o ≡ Dropped k c)
-ArrivesAs (Some (Good x l)) o = is_arrival o ≡ true
+ArrivesAs (Some (Good x l t)) o = is_arrival o ≡ true

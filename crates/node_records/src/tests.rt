@@ -26,7 +26,11 @@ fn packets() -> [Packet; 1]
         dport: 4,
         proto: 6,
     };
-    [Packet::Good { flow, len: 40 }]
+    [Packet::Good {
+        flow,
+        len: 40,
+        at: 0,
+    }]
 }
 
 // A cluster of one node, without versions, audits two events that came to these outcomes: a version that isn't there is
@@ -34,7 +38,7 @@ fn packets() -> [Packet; 1]
 fn audits(rt: &impl Abort, alloc: Global, outcomes: &[Outcome]) -> (bool, bool) {
     let size = TableSize::new(7).expect(rt, "a size");
     let nodes = Vec::from_slice(alloc, &[9]).expect(rt, "memory");
-    let setup = Setup::new(SumHash, RoundRobin, size, nodes, 1, 2).expect(rt, "a setup");
+    let setup = Setup::new(SumHash, RoundRobin, size, nodes, 1, 2, None).expect(rt, "a setup");
     let catalogue = Catalogue::new(alloc, size);
     let install = Event::Install {
         node: 0,

@@ -27,6 +27,7 @@ fn packet(sport: u16) -> Packet
             proto: 6,
         },
         len: 40,
+        at: 0,
     }
 }
 
@@ -94,7 +95,7 @@ fn setup<S: Scheme>(rt: &impl Abort, alloc: Global, scheme: S, workers: u16) -> 
     ensures { result.size ≡ 7 }
 {
     let nodes = Vec::from_slice(alloc, &[0x0a090001, 0x0a090002]).expect(rt, "memory");
-    Setup::new(SumHash, scheme, seven(rt), nodes, workers, 2).expect(rt, "a setup")
+    Setup::new(SumHash, scheme, seven(rt), nodes, workers, 2, None).expect(rt, "a setup")
 }
 
 // What a node does next.
@@ -601,9 +602,10 @@ fn fault_after(
 
 fn item(rt: &impl Abort, packets: &[Packet], number: u32) -> Item {
     match packets.get(number as usize) {
-        Some(Packet::Good { flow, .. }) => Item {
+        Some(Packet::Good { flow, at, .. }) => Item {
             packet: number,
             flow: *flow,
+            at: *at,
             floor: 1,
         },
         _ => panic!(rt; "no flow"),
@@ -665,7 +667,9 @@ fn is_own(
     let sums = Maglev { hash: AnyHash::Sum };
     let own = setup(rt, alloc, sums, 1);
     let nodes = Vec::from_slice(alloc, &[0x0a090001]).expect(rt, "memory");
-    let cluster = Setup::new(SumHash, sums, seven(rt), nodes, 1, capacity).expect(rt, "a setup");
+    let cluster = Setup::new(SumHash, sums, seven(rt), nodes, 1, capacity, None).expect(
+        rt, "a setup",
+    );
     let prepared = PreparedVersion::make(alloc, &Maglev { hash }, size, version).expect(
         rt, "memory",
     );

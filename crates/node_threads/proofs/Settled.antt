@@ -99,7 +99,7 @@ if_none false o q h k = k
 arrive_none : (rules : Rules) (newest cursor k : ℕ) (marks : List Bool) (x : Option Packet) → WasRead x → went (arrive_verdict rules newest cursor k marks x) ≡ 0
 arrive_none rules newest cursor k marks None r = refl
 arrive_none rules newest cursor k marks (Some (Bad c)) r = reading_not_serving c r
-arrive_none rules newest cursor k marks (Some (Good x l)) r = if_none (newest == 0) (Dropped k NoVersion) (steered newest k (place_for marks rules.workers (home_of rules.plain rules.workers x) cursor)) refl (steered_none newest k (place_for marks rules.workers (home_of rules.plain rules.workers x) cursor))
+arrive_none rules newest cursor k marks (Some (Good x l t)) r = if_none (newest == 0) (Dropped k NoVersion) (steered newest k (place_for marks rules.workers (home_of rules.plain rules.workers x) cursor)) refl (steered_none newest k (place_for marks rules.workers (home_of rules.plain rules.workers x) cursor))
 
 install_none : (known : Bool) (newest v : ℕ) → (went (install_verdict known newest v) ≡ 0) × (came (install_verdict known newest v) ≡ 0)
 install_none false newest v = (refl, refl)

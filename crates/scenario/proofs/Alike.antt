@@ -1,7 +1,10 @@
 -- A document of format 1 means the same in format 2.
-use Rattle.std.proofs.Common.{◌≡◌, ℕ, Bool, true, false, List, [], ◌∷◌, codes, Option, Some, None, Result, Ok, Err, option_map, option_and_then, refl, sym, ap, ◌∙◌}
-use Rattle.std.specs.Prelude.{if◌then◌else◌}
-use Rattle.toml.specs.Data.{Data, Items, no_items, item, Members, as_str, as_table, get_member}
+use Rattle.std.proofs.Common.{◌≡◌, ℕ, Bool, true, false, List, ◌∷◌, codes, Option, Some, None, Ok, option_map, option_and_then, refl, sym, ap, ◌∙◌}
+use Rattle.std.specs.Prelude.{if◌then◌else◌, nat_eq}
+use Rattle.std.specs.List.{list_any}
+use Rattle.std.specs.Cmp.Lexicographic.{pointwise}
+use Rattle.std.proofs.lemmas.Bool.{and_parts, and_from, or_right}
+use Rattle.toml.specs.Data.{Data, Items, no_items, item, Members, no_members, member, as_str, as_table}
 use Rattle.pool_versions.specs.declared.backend.Member.{Member}
 use Rattle.maglev_texts.specs.Parsing.{address_of, member_of, weighed_member_of}
 use Rattle.maglev_texts.proofs.WeighedTexts.{words_mean_the_same}
@@ -9,14 +12,11 @@ use Rattle.scenario.specs.Lookups.{number_at, text_at, items_at, all_items, all_
 use Rattle.scenario.specs.Words.{protocol_of_word, choices_of, limits_of}
 use Rattle.scenario.specs.Plain.{PlainService, PlainVersion}
 use Rattle.scenario.specs.Drafts.{service_keys, version_keys, word_of, service_draft, service_in, version_draft, version_in}
-use Rattle.scenario.specs.Steps.{PlainStep}
-use Rattle.scenario.specs.Meaning.{PlainDraft, Plan, root_keys, nodes_of, versions_in, steps_in, draft_of, draft_in, service_of, version_of, with_versions, with_draft, with_format, format_of, plan_of_draft, plan_of}
+use Rattle.scenario.specs.Meaning.{PlainDraft, Plan, common_keys, root_keys, nodes_of, versions_in, steps_in, draft_of, draft_in, service_of, version_of, with_versions, with_draft, with_format, plan_of_draft, plan_of}
 use Rattle.scenario.specs.Alike.{AreAlike, FormatsMeanTheSame}
-use Rattle.scenario.specs.declared.formats.Format.{Format}
 use Rattle.scenario.specs.declared.formats.Format.TheVariants.{One, Two}
 use Rattle.scenario.specs.declared.setup.Choices.{Choices}
 use Rattle.scenario.specs.declared.setup.Limits.{Limits}
-use Rattle.scenario.specs.declared.fault.ScenarioFault.{ScenarioFault}
 
 -- a first one and the others
 parts : {B : Type 0} (o : Option B) (r : Option (List B)) (xs : List B) → option_and_then (λ b. option_map (λ rest. b ∷ rest) r) o ≡ Some xs → (b : B) × (rest : List B) × (o ≡ Some b) × (r ≡ Some rest) × (xs ≡ b ∷ rest)
@@ -125,6 +125,18 @@ draft_versions (Some c) (Some l) (Some n) None s d h = absurd cc
 draft_versions (Some c) (Some l) (Some n) (Some v) None d h = absurd cc
 draft_versions (Some c) (Some l) (Some n) (Some v) (Some s) d h = ap (option_map (λ (e : PlainDraft). e.versions)) h
 
+-- with one key more there are no more other keys
+one_key_more : (k : List ℕ) (keys : List (List ℕ)) (ms : Members) → has_only keys ms ≡ true → has_only (k ∷ keys) ms ≡ true
+one_key_more k keys no_members h = refl
+one_key_more k keys (member l d ms) h =
+    let p = and_parts (list_any (pointwise nat_eq l) keys) (has_only keys ms) h in
+    and_from (list_any (pointwise nat_eq l) (k ∷ keys)) (has_only (k ∷ keys) ms)
+    (or_right (pointwise nat_eq l k) (list_any (pointwise nat_eq l) keys) p.0) (one_key_more k keys ms p.1)
+
+when_both : {A : Type 0} (b c : Bool) (o o' : Option A) (a : A) → (b ≡ true → c ≡ true) → (o ≡ Some a → o' ≡ Some a) → (if b then o else None) ≡ Some a → (if c then o' else None) ≡ Some a
+when_both false c o o' a more same h = absurd cc
+when_both true c o o' a more same h = ap (λ (x : Bool). if x then o' else None) (more refl) ∙ same h
+
 module _ (ms ns : Members) (a : AreAlike ms ns) where
   choices_same : choices_of ns ≡ choices_of ms
   unfolding choices_of
@@ -132,7 +144,7 @@ module _ (ms ns : Members) (a : AreAlike ms ns) where
 
   limits_same : limits_of ns ≡ limits_of ms
   unfolding limits_of
-  limits_same = rw (a.others (codes "workers") refl, a.others (codes "capacity") refl, a.others (codes "ring") refl, a.others (codes "check") refl) refl
+  limits_same = rw (a.others (codes "workers") refl, a.others (codes "capacity") refl, a.others (codes "ring") refl, a.others (codes "check") refl, a.others (codes "idle") refl) refl
 
   nodes_same : nodes_of ns ≡ nodes_of ms
   nodes_same = rw (a.others (codes "nodes") refl) refl
@@ -157,8 +169,8 @@ module _ (ms ns : Members) (a : AreAlike ms ns) where
 
   draft_same : (d : PlainDraft) (vs : List (PlainVersion Member)) → draft_in One ms ≡ Some d → all_of version_of d.versions ≡ Some vs → draft_in Two ns ≡ Some d
   draft_same d vs h k =
-      ap (λ (b : Bool). if b then draft_of Two ns else None) a.keys
-      ∙ when_only (has_only root_keys ms) (draft_of One ms) (draft_of Two ns) d (λ g. draft_of_same d vs g k) h
+      when_both (has_only (root_keys One) ms) (has_only (root_keys Two) ns) (draft_of One ms) (draft_of Two ns) d
+      (λ e. one_key_more (codes "idle") common_keys ns (a.keys ∙ e)) (λ g. draft_of_same d vs g k) h
 
   with_same : (p : Plan) (o : Option PlainDraft) → draft_in One ms ≡ o → with_draft o ≡ Ok p → with_draft (draft_in Two ns) ≡ Ok p
   unfolding plan_of_draft

@@ -1,5 +1,5 @@
 -- A draft's fault is its document's.
-use Rattle.std.proofs.Common.{◌≡◌, ℕ, false, List, Option, Some, None, Result, Ok, Err, IfErr, codes, is_none, sym, ◌∙◌, ap, subst}
+use Rattle.std.proofs.Common.{◌≡◌, ℕ, List, Option, Some, None, Result, Ok, Err, IfErr, ◌∙◌, ap, subst}
 use Rattle.scenario.specs.Plain.{PlainVersion}
 use Rattle.scenario.specs.Steps.{PlainStep}
 use Rattle.scenario.specs.Meaning.{PlainDraft, Plan, with_steps, with_pools, with_versions, with_draft, with_format, plan_of_draft, plan_of, format_of, draft_in, IsDocument, IsRefused, IsDraftRefused}

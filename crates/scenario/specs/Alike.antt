@@ -3,14 +3,14 @@ use Rattle.std.specs.Prelude.{◌≡◌, false, nat_eq, List, ℕ, codes, Some, 
 use Rattle.std.specs.Cmp.Lexicographic.{pointwise}
 use Rattle.toml.specs.Data.{Members, get_member}
 use Rattle.scenario.specs.Lookups.{has_only}
-use Rattle.scenario.specs.Meaning.{Plan, root_keys, format_of, plan_of}
+use Rattle.scenario.specs.Meaning.{Plan, common_keys, format_of, plan_of}
 use Rattle.scenario.specs.declared.formats.Format.TheVariants.{One, Two}
 
--- two documents, of format 1 and 2, that say the same at every other key
+-- two documents, of format 1 and 2, that say the same at every other key; either has the keys of format 1, or both don't
 pub record AreAlike (ms ns : Members) : Type 0 where
   pub one : format_of ms ≡ Some One
   pub two : format_of ns ≡ Some Two
-  pub keys : has_only root_keys ns ≡ has_only root_keys ms
+  pub keys : has_only common_keys ns ≡ has_only common_keys ms
   pub others : (key : List ℕ) → pointwise nat_eq key (codes "format") ≡ false → get_member key ns ≡ get_member key ms
 
 -- a scenario that the first one means, the second one means too

@@ -25,6 +25,10 @@ given_or other f (Some b) = f b
 abbrev pub number_or : ℕ → ℕ → ℕ → List ℕ → Members → Option ℕ
 number_or other low high key ms = given_or other (natural_of low high) (get_member key ms)
 
+-- the number in a range at a key, none where the key is missing
+abbrev pub number_if : ℕ → ℕ → List ℕ → Members → Option (Option ℕ)
+number_if low high key ms = given_or None (λ d. option_map (λ n. Some n) (natural_of low high d)) (get_member key ms)
+
 -- the flag at a key, another one where the key is missing
 abbrev pub flag_or : Bool → List ℕ → Members → Option Bool
 flag_or other key ms = given_or other as_bool (get_member key ms)

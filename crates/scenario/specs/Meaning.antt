@@ -44,14 +44,19 @@ pub record Plan : Type 0 where
 abbrev pub plan_view : Scenario → Plan
 plan_view s = record {
   choices = record { size = s.size; hash = s.hash; scheme = s.scheme; spread = s.spread };
-  limits = record { workers = s.workers; capacity = s.capacity; ring = s.ring; check = s.check };
+  limits = record { workers = s.workers; capacity = s.capacity; ring = s.ring; check = s.check; idle = s.idle };
   nodes = s.nodes.items;
   versions = map plain_version s.catalogue.versions;
   steps = map plain_step s.steps.items;
 }
 
-abbrev pub root_keys : List (List ℕ)
-root_keys = codes "format" ∷ codes "size" ∷ codes "hash" ∷ codes "scheme" ∷ codes "spread" ∷ codes "workers" ∷ codes "capacity" ∷ codes "ring" ∷ codes "check" ∷ codes "nodes" ∷ codes "steps" ∷ codes "versions" ∷ []
+abbrev pub common_keys : List (List ℕ)
+common_keys = codes "format" ∷ codes "size" ∷ codes "hash" ∷ codes "scheme" ∷ codes "spread" ∷ codes "workers" ∷ codes "capacity" ∷ codes "ring" ∷ codes "check" ∷ codes "nodes" ∷ codes "steps" ∷ codes "versions" ∷ []
+
+-- the keys of a document: an idle limit is one in format 2 alone
+abbrev pub root_keys : Format → List (List ℕ)
+root_keys One = common_keys
+root_keys Two = codes "idle" ∷ common_keys
 
 abbrev pub address_in : Data → Option ℕ
 address_in d = option_and_then address_of (as_str d)
@@ -81,7 +86,7 @@ draft_of f ms =
     (steps_in ms)) (versions_in f ms)) (nodes_of ms)) (limits_of ms)) (choices_of ms)
 
 abbrev pub draft_in : Format → Members → Option PlainDraft
-draft_in f ms = if has_only root_keys ms then draft_of f ms else None
+draft_in f ms = if has_only (root_keys f) ms then draft_of f ms else None
 
 -- a service and a version, where each of their words is a member
 abbrev pub service_of : PlainService (Option Member) → Option (PlainService Member)

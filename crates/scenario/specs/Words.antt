@@ -4,7 +4,7 @@ use Rattle.std.specs.Str.{bytes_eq}
 use Rattle.hash_laws.specs.Any.{hash_of_word}
 use Rattle.maglev_table.specs.Sizes.{is_table_size}
 use Rattle.toml.specs.Data.{Members}
-use Rattle.scenario.specs.Lookups.{number_at, number_or, flag_or, text_at}
+use Rattle.scenario.specs.Lookups.{number_at, number_or, number_if, flag_or, text_at}
 use Rattle.scenario.specs.declared.words.SchemeKind.{SchemeKind}
 use Rattle.scenario.specs.declared.words.SchemeKind.TheVariants.{Maglev, Plain, Round}
 use Rattle.scenario.specs.declared.words.SpreadKind.{SpreadKind}
@@ -43,11 +43,13 @@ choices_of ms =
     (option_and_then hash_of_word (text_at (codes "hash") ms)))
     (option_and_then size_of (number_at 0 65537 (codes "size") ms))
 
--- the workers, the capacity, the places a ring (1024 where missing) and the checksum test (on where missing)
+-- the workers, the capacity, the places a ring (1024 where missing), the checksum test (on where missing) and the idle limit in
+-- microseconds (none where missing)
 unfoldable pub limits_of : Members → Option Limits
 limits_of ms =
-    option_and_then (λ workers. option_and_then (λ capacity. option_and_then (λ ring. option_map (λ check.
-    record { workers = workers; capacity = capacity; ring = ring; check = check })
+    option_and_then (λ workers. option_and_then (λ capacity. option_and_then (λ ring. option_and_then (λ check. option_map (λ idle.
+    record { workers = workers; capacity = capacity; ring = ring; check = check; idle = idle })
+    (number_if 0 4294967295000000 (codes "idle") ms))
     (flag_or true (codes "check") ms))
     (number_or 1024 1 65536 (codes "ring") ms))
     (number_at 1 1000000 (codes "capacity") ms))

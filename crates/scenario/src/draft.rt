@@ -104,16 +104,26 @@ fn steps_at(alloc: Global, table: &Table) -> Result<Option<Vec<String>>, AllocEr
     Ok(Some(steps))
 }
 
-fn has_root_keys(table: &Table) -> bool
-    ensures { result ≡ has_only root_keys (table_view table.now) }
+/// Whether each key of a document is one that a scenario of the format may have.
+pub fn has_root_keys(format: Format, table: &Table) -> bool
+    ensures { result ≡ has_only (root_keys format) (table_view table.now) }
 {
-    has_only(
-        table,
-        &[
-            "format", "size", "hash", "scheme", "spread", "workers", "capacity", "ring", "check",
-            "nodes", "steps", "versions",
-        ],
-    )
+    match format {
+        Format::One => has_only(
+            table,
+            &[
+                "format", "size", "hash", "scheme", "spread", "workers", "capacity", "ring",
+                "check", "nodes", "steps", "versions",
+            ],
+        ),
+        Format::Two => has_only(
+            table,
+            &[
+                "idle", "format", "size", "hash", "scheme", "spread", "workers", "capacity",
+                "ring", "check", "nodes", "steps", "versions",
+            ],
+        ),
+    }
 }
 
 #[tactic(auto, unfolding(crate::specs::Meaning::draft_of))]
@@ -154,7 +164,7 @@ pub(crate) fn draft_in(
     ensures value { IfOk result (λ o. option_map plain_draft o ≡ draft_in format (table_view table.now)) }
     ensures limits { IfOk result (λ o. IfSome o IsLimited) }
 {
-    if has_root_keys(table) {
+    if has_root_keys(format, table) {
         read_draft(alloc, format, table)
     } else {
         Ok(None)

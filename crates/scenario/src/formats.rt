@@ -10,7 +10,8 @@ use pool_versions::Member;
 use std::alloc::{AllocError, Global};
 use toml::Table;
 
-/// The format of a scenario. In format 2 member words may bear weights; else both are the same.
+/// The format of a scenario. In format 2 member words may bear weights, and there may be an idle limit; else both are the
+/// same.
 #[derive(Clone, Copy, Debug, PartialEq, Eq)]
 pub enum Format {
     One,

@@ -17,6 +17,7 @@ mod step;
 mod versions;
 mod words;
 
+pub use draft::has_root_keys;
 pub use fault::ScenarioFault;
 pub use formats::{Format, format_of, member_in};
 pub use laws::formats_mean_the_same;

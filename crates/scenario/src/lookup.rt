@@ -5,7 +5,7 @@ ghost use Rattle.std.specs.BTreeMap.{keys};
 ghost use Rattle.std.specs.Cmp.Lexicographic.{pointwise};
 ghost use Rattle.toml.specs.Data.{get_member};
 ghost use Rattle.toml.specs.View.{table_view, view, items_view};
-ghost use Rattle.scenario.specs.Lookups.{natural_of, number_at, number_or, flag_or, text_at, items_at};
+ghost use Rattle.scenario.specs.Lookups.{natural_of, number_at, number_or, number_if, flag_or, text_at, items_at};
 
 use toml::{Table, Value};
 
@@ -50,6 +50,16 @@ pub(crate) fn number_or(table: &Table, key: &str, other: u64, low: u64, high: u6
     match value_at(table, key) {
         None => Some(other),
         Some(value) => natural_of(value, low, high),
+    }
+}
+
+/// The integer in a range at a key, none where the key is missing.
+pub(crate) fn number_if(table: &Table, key: &str, low: u64, high: u64) -> Option<Option<u64>>
+    ensures { result ≡ number_if low high key.now (table_view table.now) }
+{
+    match value_at(table, key) {
+        None => Some(None),
+        Some(value) => Some(Some(natural_of(value, low, high)?)),
     }
 }
 

@@ -41,6 +41,9 @@ pub struct Scenario {
     pub ring: u32,
     /// Whether IP header checksums are tested.
     pub check: bool,
+    /// How long an entry of a connection table stands without a packet, in microseconds: 0 to 4,294,967,295,000,000. None: as
+    /// long as the table has room.
+    pub idle: Option<u64>,
     /// The nodes' IPv4 addresses, most significant byte first: 1 to 64 of them.
     pub nodes: Vec<u32>,
     /// The versions of the pools.
@@ -129,6 +132,7 @@ fn scenario_of(alloc: Global, draft: Draft) -> Result<Scenario, ScenarioFault>
         capacity: limits.capacity,
         ring: limits.ring,
         check: limits.check,
+        idle: limits.idle,
         nodes,
         catalogue,
         steps,

@@ -4,7 +4,7 @@ ghost use Rattle.toml.specs.View.{table_view};
 ghost use Rattle.scenario.specs.Lookups.{number_at, text_at};
 ghost use Rattle.scenario.specs.Words.{size_of, choices_of, limits_of};
 
-use crate::lookup::{flag_or, number_at, number_or, text_at};
+use crate::lookup::{flag_or, number_at, number_if, number_or, text_at};
 use crate::words::{SchemeKind, SpreadKind};
 use hash_laws::AnyHash;
 use maglev_table::TableSize;
@@ -19,14 +19,18 @@ pub(crate) struct Choices {
     pub(crate) spread: SpreadKind,
 }
 
-/// How much a cluster has, and whether it tests checksums.
+/// How much a cluster has, whether it tests checksums, and how long an entry stands without a packet.
 #[derive(Clone, Copy)]
 pub(crate) struct Limits {
     pub(crate) workers: u16,
     pub(crate) capacity: u32,
     pub(crate) ring: u32,
     pub(crate) check: bool,
+    pub(crate) idle: Option<u64>,
 }
+
+// The longest idle limit: as many microseconds as there are in the seconds of a record's time.
+const LONGEST_IDLE: u64 = 4_294_967_295_000_000;
 
 fn size_at(table: &Table) -> Option<TableSize>
     ensures { result ≡ option_and_then size_of (number_at 0 65537 (codes "size") (table_view table.now)) }
@@ -62,10 +66,12 @@ pub(crate) fn limits_at(table: &Table) -> Option<Limits>
     let capacity = number_at(table, "capacity", 1, 1_000_000)?;
     let ring = number_or(table, "ring", 1024, 1, 65536)?;
     let check = flag_or(table, "check", true)?;
+    let idle = number_if(table, "idle", 0, LONGEST_IDLE)?;
     Some(Limits {
         workers: workers as u16,
         capacity: capacity as u32,
         ring: ring as u32,
         check,
+        idle,
     })
 }

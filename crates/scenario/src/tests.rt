@@ -73,6 +73,35 @@ fn fault(
 
 const NOTHING: (&str, &str) = ("", "");
 
+// The idle limit of the scenario with these lines in place of its format.
+fn idle_with(rt: &impl Abort, alloc: Global, lines: &str) -> Result<Option<u64>, ScenarioFault> {
+    let first = ("format = 1", lines);
+    let scenario = read_changed(rt, alloc, "steps = []\n", first, NOTHING)?;
+    Ok(scenario.idle)
+}
+
+#[test]
+fn idle_limits(rt: HostRuntime) {
+    let alloc = rt.alloc();
+    for (lines, limit) in [
+        ("format = 1", Ok(None)),
+        ("format = 2", Ok(None)),
+        ("format = 1\nidle = 5", Err(BadKey)),
+        ("format = 2\nidle = 0", Ok(Some(0))),
+        ("format = 2\nidle = 5_000_000", Ok(Some(5_000_000))),
+        (
+            "format = 2\nidle = 4294967295000000",
+            Ok(Some(4_294_967_295_000_000)),
+        ),
+        ("format = 2\nidle = 4294967295000001", Err(BadKey)),
+        ("format = 2\nidle = -1", Err(BadKey)),
+        ("format = 2\nidle = 5.0", Err(BadKey)),
+        ("format = 2\nidle = true", Err(BadKey)),
+    ] {
+        assert_eq!(rt; idle_with(&rt, alloc, lines), limit);
+    }
+}
+
 // The weights of the first version's members, where the scenario is accepted, with its first format and its first member
 // replaced.
 fn weights_with(

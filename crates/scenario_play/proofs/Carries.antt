@@ -21,7 +21,7 @@ use Rattle.scenario_play.specs.Described.{pick_by, rules_in, cluster_in, choice_
 use Rattle.scenario_play.specs.Answers.{Answers}
 
 abbrev pub fixed_of : {S : Type 0} → S → Scenario → Fixed S AnyHash
-fixed_of scheme s = record { hash = s.hash; scheme = scheme; size = s.size; nodes = s.nodes.items; workers = s.workers; capacity = s.capacity }
+fixed_of scheme s = record { hash = s.hash; scheme = scheme; size = s.size; nodes = s.nodes.items; workers = s.workers; capacity = s.capacity; idle = s.idle }
 
 abbrev pub ruling_of : {S : Type 0} → S → Scenario → Ruling S AnyHash
 ruling_of scheme s = record { setup = fixed_of scheme s; catalogue = s.catalogue }
@@ -38,6 +38,7 @@ described pick_of scheme s e = ap (λ (p : Pick). record {
   nodes = length s.nodes.items;
   workers = s.workers;
   capacity = s.capacity;
+  idle = s.idle;
 }) e
 
 pub answers : {S : Type 0} (pick_of : S → ℕ → Pick) (scheme : S) (s : Scenario) (r : Ruling S AnyHash) (plan : Planned) (asked : Asked) (i i' o o' : Tape) (text : List ℕ)

@@ -32,6 +32,7 @@ rules_in s = record {
   nodes = length s.nodes.items;
   workers = s.workers;
   capacity = s.capacity;
+  idle = s.idle;
 }
 
 abbrev pub cluster_in : Scenario → Cluster

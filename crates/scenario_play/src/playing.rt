@@ -113,11 +113,12 @@ fn play_by<S: Scheme, I: Source, O: Sink>(
         capacity,
         ring: _,
         check,
+        idle,
         nodes,
         catalogue,
         steps,
     } = scenario;
-    let Ok(setup) = Setup::new(hash, scheme, size, nodes, workers, capacity) else {
+    let Ok(setup) = Setup::new(hash, scheme, size, nodes, workers, capacity, idle) else {
         unreachable!()
     };
     let Some(rules) = Rules::new(setup.keyed(key), catalogue) else {

@@ -24,27 +24,52 @@ pub(crate) const WRITTEN_RECORD: [u8; 40] = [
     0x40, 0x2f, 0x26, 0x7d, 10, 9, 0, 1, 10, 8, 0, 1, 0, 0, 8, 0,
 ];
 
-/// A record of these bytes at 1 second and 999,999,999 nanoseconds.
-pub(crate) fn push_record(capture: &mut Vec<u8>, bytes: &[u8]) -> Result<(), AllocError> {
+fn push_record_at(
+    capture: &mut Vec<u8>,
+    seconds: u32,
+    nanoseconds: u32,
+    bytes: &[u8],
+) -> Result<(), AllocError> {
     let length = u32::try_from(bytes.len()).unwrap_or(u32::MAX).to_be_bytes();
-    capture.extend_from_slice(&[0, 0, 0, 1, 0x3b, 0x9a, 0xc9, 0xff])?;
+    capture.extend_from_slice(&seconds.to_be_bytes())?;
+    capture.extend_from_slice(&nanoseconds.to_be_bytes())?;
     capture.extend_from_slice(&length)?;
     capture.extend_from_slice(&length)?;
     capture.extend_from_slice(bytes)
 }
 
-/// The capture of one packet for each letter: `y`, `z` and `x` are the flows from ports 1000, 1001 and 1006.
+/// A record of these bytes at 1 second and 999,999,999 nanoseconds.
+pub(crate) fn push_record(capture: &mut Vec<u8>, bytes: &[u8]) -> Result<(), AllocError> {
+    push_record_at(capture, 1, 999_999_999, bytes)
+}
+
+// A letter's packet: `y`, `z` and `x` are the flows from ports 1000, 1001 and 1006.
+fn packet_of(letter: u8) -> [u8; 40] {
+    let mut packet = DATAGRAM;
+    packet[21] = match letter {
+        b'x' => 0xee,
+        b'z' => 0xe9,
+        _ => 0xe8,
+    };
+    packet
+}
+
+/// The capture of one packet for each letter.
 pub(crate) fn capture_of(alloc: Global, letters: &str) -> Result<Vec<u8>, AllocError> {
     let mut capture = Vec::new(alloc);
     capture.extend_from_slice(&HEAD)?;
     for letter in letters.as_bytes() {
-        let mut packet = DATAGRAM;
-        packet[21] = match *letter {
-            b'x' => 0xee,
-            b'z' => 0xe9,
-            _ => 0xe8,
-        };
-        push_record(&mut capture, &packet)?;
+        push_record(&mut capture, &packet_of(*letter))?;
+    }
+    Ok(capture)
+}
+
+/// The capture of one packet for each letter, at a time in seconds.
+pub(crate) fn timed(alloc: Global, packets: &[(u8, u32)]) -> Result<Vec<u8>, AllocError> {
+    let mut capture = Vec::new(alloc);
+    capture.extend_from_slice(&HEAD)?;
+    for (letter, second) in packets {
+        push_record_at(&mut capture, *second, 0, &packet_of(*letter))?;
     }
     Ok(capture)
 }

@@ -6,6 +6,8 @@ mod captures;
 #[cfg(test)]
 mod devices;
 #[cfg(test)]
+mod idle;
+#[cfg(test)]
 mod limits;
 #[cfg(test)]
 mod run_splits;

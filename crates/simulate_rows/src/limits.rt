@@ -66,19 +66,12 @@ fn is_too_long(rt: &impl Abort, alloc: Global, words: Words<'_>) {
     let mut capture = capture_with(alloc, &DATAGRAM).expect(rt, "memory");
     let head = [0, 0, 0, 1, 0, 0, 0, 0, 0, 4, 0, 1, 0, 4, 0, 1];
     capture.extend_from_slice(&head).expect(rt, "memory");
-    let text = scenario_of(alloc, words).expect(rt, "memory");
+    let scenario = scenario_of(alloc, words).expect(rt, "memory");
     let mut input = FromRead::new(capture.as_slice());
     let mut output = ToWrite::new(Vec::new(alloc));
     let mut report = ToWrite::new(Vec::new(alloc));
-    let scenario = text.as_bytes();
-    let done = simulate(
-        alloc,
-        scenario,
-        &mut input,
-        &mut output,
-        &mut report,
-        LISTED,
-    );
+    let text = scenario.as_bytes();
+    let done = simulate(alloc, text, &mut input, &mut output, &mut report, LISTED);
     assert_eq!(rt; done, Err(CliFault::Capture(PcapFault::TooLong)));
     assert_eq!(rt; output.into_inner().len(), 104);
     assert_eq!(rt; report.into_inner().len(), 0);

@@ -19,15 +19,15 @@ pub(crate) fn ran<T: Threads + Wait + Sync>(
     capture: &[u8],
     splits: bool,
 ) -> Result<Written, CliFault> {
-    let text = scenario_of(alloc, words)?;
+    let scenario = scenario_of(alloc, words)?;
     let mut input = FromRead::new(capture);
     let mut output = ToWrite::new(Vec::new(alloc));
     let mut report = ToWrite::new(Vec::new(alloc));
-    let scenario = text.as_bytes();
+    let text = scenario.as_bytes();
     match run(
         rt,
         alloc,
-        scenario,
+        text,
         &mut input,
         &mut output,
         &mut report,
@@ -49,26 +49,19 @@ fn reports(rt: &impl Abort, written: &Written, text: &str) {
     assert_eq!(rt; &report[kept..], AUDIT.as_bytes());
 }
 
-// Two nodes of two workers: versions change, a record is lost, one comes again, and a node restarts.
-#[test]
-fn a_cluster_with_a_restart(rt: HostRuntime) {
-    let mut words = plain(
-        "'install 0 1', 'install 1 1', 'take 3', 'lose 1', 'again 0', 'install 0 2', 'install 1 2', 'take 2', 'restart 0', 'take 2'",
-    );
-    words.workers = "2";
-    words.keys = "ring = 16\n";
-    let capture = capture_of(rt.alloc(), "yzyzyzyz").expect(&rt, "memory");
+// Eight packets are sent, of which node 0 sends y four times, in two lives.
+fn restarts<T: Threads + Wait + Sync + Abort>(rt: &T, alloc: Global, words: Words<'_>) {
+    let capture = capture_of(alloc, "yzyzyzyz").expect(rt, "memory");
     for _ in 0..5u32 {
-        let written = ran(&rt, rt.alloc(), words, capture.as_slice(), false).expect(&rt, "a run");
+        let written = ran(rt, alloc, words, capture.as_slice(), false).expect(rt, "a run");
         reports(
-            &rt,
+            rt,
             &written,
             "packets 8\nlost 1\nunrouted 0\nskipped 0\nleft 0\ncut no\nreceived 8\nforwarded 8\nwaiting 0\nrefused 0\n",
         );
         let output = written.output.as_slice();
         assert_eq!(rt; output.len(), 24 + 8 * 80);
         assert!(rt; output.starts_with(&WRITTEN_HEAD));
-        // Node 0 sends y four times, in two lives.
         let mut sent = [0u8; 80];
         sent[..40].copy_from_slice(&WRITTEN_RECORD);
         sent[40..].copy_from_slice(&DATAGRAM);
@@ -76,6 +69,21 @@ fn a_cluster_with_a_restart(rt: HostRuntime) {
             assert_eq!(rt; &output[24 + 80 * place..104 + 80 * place], sent.as_slice());
         }
     }
+}
+
+// Two nodes of two workers: versions change, a record is lost, one comes again, and a node restarts. An idle limit of no time
+// changes nothing, since within a capture of one time none passes.
+#[test]
+fn a_cluster_with_a_restart(rt: HostRuntime) {
+    let mut words = plain(
+        "'install 0 1', 'install 1 1', 'take 3', 'lose 1', 'again 0', 'install 0 2', 'install 1 2', 'take 2', 'restart 0', 'take 2'",
+    );
+    words.workers = "2";
+    words.keys = "ring = 16\n";
+    restarts(&rt, rt.alloc(), words);
+    words.format = "2";
+    words.keys = "ring = 16\nidle = 0\n";
+    restarts(&rt, rt.alloc(), words);
 }
 
 // The report of the same with a stop, where so many packets were lost at it.
@@ -149,20 +157,12 @@ fn as_simulated(rt: HostRuntime) {
 
 // Steps that no cluster on threads knows: no device is called.
 fn is_unknown<T: Threads + Wait + Sync + Abort>(rt: &T, alloc: Global, steps: &str, step: u32) {
-    let text = scenario_of(alloc, plain(steps)).expect(rt, "memory");
+    let scenario = scenario_of(alloc, plain(steps)).expect(rt, "memory");
     let mut input = source(&WRITTEN_HEAD, 0);
     let mut output = sink(alloc, 0);
     let mut report = sink(alloc, 0);
-    let scenario = text.as_bytes();
-    let done = run(
-        rt,
-        alloc,
-        scenario,
-        &mut input,
-        &mut output,
-        &mut report,
-        true,
-    );
+    let text = scenario.as_bytes();
+    let done = run(rt, alloc, text, &mut input, &mut output, &mut report, true);
     assert_eq!(rt; done, Err(CliFault::BadStep(step)));
     assert_eq!(rt;
         (input.counts.calls, output.counts.calls, report.counts.calls),
@@ -183,8 +183,8 @@ fn unknown_steps(rt: HostRuntime) {
 #[test]
 fn a_failing_input_of_threads(rt: HostRuntime) {
     let capture = capture_of(rt.alloc(), "xy").expect(&rt, "memory");
-    let text = scenario_of(rt.alloc(), plain(APART)).expect(&rt, "memory");
-    let scenario = text.as_bytes();
+    let scenario = scenario_of(rt.alloc(), plain(APART)).expect(&rt, "memory");
+    let text = scenario.as_bytes();
     for fails_at in 0..12u64 {
         let mut input = source(capture.as_slice(), fails_at);
         let mut output = sink(rt.alloc(), u64::MAX);
@@ -192,7 +192,7 @@ fn a_failing_input_of_threads(rt: HostRuntime) {
         let done = run(
             &rt,
             rt.alloc(),
-            scenario,
+            text,
             &mut input,
             &mut output,
             &mut report,
@@ -216,8 +216,8 @@ fn a_failing_input_of_threads(rt: HostRuntime) {
 #[test]
 fn a_failing_output_of_threads(rt: HostRuntime) {
     let capture = capture_of(rt.alloc(), "xy").expect(&rt, "memory");
-    let text = scenario_of(rt.alloc(), plain(APART)).expect(&rt, "memory");
-    let scenario = text.as_bytes();
+    let scenario = scenario_of(rt.alloc(), plain(APART)).expect(&rt, "memory");
+    let text = scenario.as_bytes();
     let whole = ran(&rt, rt.alloc(), plain(APART), capture.as_slice(), false).expect(&rt, "a run");
     reports(&rt, &whole, TWO_SENT);
     for fails_at in 0..16u64 {
@@ -234,7 +234,7 @@ fn a_failing_output_of_threads(rt: HostRuntime) {
         let done = run(
             &rt,
             rt.alloc(),
-            scenario,
+            text,
             &mut input,
             &mut output,
             &mut report,

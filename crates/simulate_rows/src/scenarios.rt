@@ -9,11 +9,14 @@ pub(crate) const A_DOWN: &str = "'A@10.8.0.1/down', 'B@10.8.0.2', 'C@10.8.0.3'";
 
 pub(crate) const A_MOVED: &str = "'A@10.8.0.9', 'B@10.8.0.2', 'C@10.8.0.3'";
 
+pub(crate) const NOBODY_UP: &str = "'A@10.8.0.1/down', 'B@10.8.0.2/down', 'C@10.8.0.3/down'";
+
 const SERVICE: &str = "vip = '192.0.2.1', proto = 'tcp', port = 80";
 
 /// The words that scenarios differ in.
 #[derive(Clone, Copy)]
 pub(crate) struct Words<'a> {
+    pub(crate) format: &'a str,
     pub(crate) scheme: &'a str,
     pub(crate) workers: &'a str,
     /// Further keys, each with a newline behind.
@@ -27,6 +30,7 @@ pub(crate) struct Words<'a> {
 /// These versions and these steps, and in all else what is plain.
 pub(crate) fn of_versions<'a>(versions: &'a [&'a str], steps: &'a str) -> Words<'a> {
     Words {
+        format: "1",
         scheme: "maglev",
         workers: "1",
         keys: "",
@@ -51,8 +55,10 @@ fn push_version(text: &mut String, number: usize, members: &str) -> Result<(), A
 /// The scenario's text: a table of 7 slots, two nodes, spreading by turn, connection tables of two entries.
 pub(crate) fn scenario_of(alloc: Global, words: Words<'_>) -> Result<String, AllocError> {
     let mut text = String::new(alloc);
+    text.push_str("format = ")?;
+    text.push_str(words.format)?;
     text.push_str(
-        "format = 1\nsize = 7\nhash = 'sum'\nspread = 'turn'\ncapacity = 2\nnodes = ['10.9.0.1', '10.9.0.2']\nscheme = '",
+        "\nsize = 7\nhash = 'sum'\nspread = 'turn'\ncapacity = 2\nnodes = ['10.9.0.1', '10.9.0.2']\nscheme = '",
     )?;
     text.push_str(words.scheme)?;
     text.push_str("'\nworkers = ")?;

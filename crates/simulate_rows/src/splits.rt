@@ -1,6 +1,6 @@
 // Which flows are split, and why.
 use crate::captures::capture_of;
-use crate::scenarios::{A_DOWN, A_MOVED, ALL, B_DOWN, Words, of_versions, plain};
+use crate::scenarios::{A_DOWN, A_MOVED, ALL, B_DOWN, NOBODY_UP, Words, of_versions, plain};
 use crate::tests::{APART, TWO_SENT, played};
 use maglev_cli::Wanted;
 use std::alloc::Global;
@@ -10,8 +10,6 @@ const SPLITS: Wanted = Wanted {
     list: false,
     splits: true,
 };
-
-const NOBODY_UP: &str = "'A@10.8.0.1/down', 'B@10.8.0.2/down', 'C@10.8.0.3/down'";
 
 const SPLIT_X: &str =
     "split tcp 10.0.0.1:1006>192.0.2.1:80 events 3 5 slot 5 version 1 A@10.8.0.1 version 2 C@10.8.0.3 moved

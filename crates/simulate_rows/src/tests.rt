@@ -40,19 +40,12 @@ pub(crate) fn played(
     capture: &[u8],
     wanted: Wanted,
 ) -> Result<Written, CliFault> {
-    let text = scenario_of(alloc, words)?;
+    let scenario = scenario_of(alloc, words)?;
     let mut input = FromRead::new(capture);
     let mut output = ToWrite::new(Vec::new(alloc));
     let mut report = ToWrite::new(Vec::new(alloc));
-    let scenario = text.as_bytes();
-    match simulate(
-        alloc,
-        scenario,
-        &mut input,
-        &mut output,
-        &mut report,
-        wanted,
-    ) {
+    let text = scenario.as_bytes();
+    match simulate(alloc, text, &mut input, &mut output, &mut report, wanted) {
         Ok(()) => Ok(Written {
             output: output.into_inner(),
             report: report.into_inner(),
@@ -68,12 +61,39 @@ fn reports(rt: &impl Abort, alloc: Global, words: Words<'_>, letters: &str, text
 }
 
 // The listing, up to the report's first words.
-fn lists(rt: &impl Abort, alloc: Global, words: Words<'_>, letters: &str, text: &str) {
-    let capture = capture_of(alloc, letters).expect(rt, "memory");
-    let written = played(alloc, words, capture.as_slice(), LISTED).expect(rt, "a run");
+pub(crate) fn lists_of(
+    rt: &impl Abort,
+    alloc: Global,
+    words: Words<'_>,
+    capture: &[u8],
+    text: &str,
+) {
+    let written = played(alloc, words, capture, LISTED).expect(rt, "a run");
     let kept = text.len().min(written.report.len());
     assert_eq!(rt; &written.report[..kept], text.as_bytes());
     assert!(rt; written.report[kept..].starts_with(b"packets "));
+}
+
+fn lists(rt: &impl Abort, alloc: Global, words: Words<'_>, letters: &str, text: &str) {
+    let capture = capture_of(alloc, letters).expect(rt, "memory");
+    lists_of(rt, alloc, words, capture.as_slice(), text);
+}
+
+pub(crate) fn explains_of(
+    rt: &impl Abort,
+    alloc: Global,
+    words: Words<'_>,
+    capture: &[u8],
+    one: u64,
+    other: u64,
+    line: &str,
+) {
+    let text = scenario_of(alloc, words).expect(rt, "memory");
+    let mut input = FromRead::new(capture);
+    let mut report = ToWrite::new(Vec::new(alloc));
+    let done = explain_run(alloc, text.as_bytes(), &mut input, one, other, &mut report);
+    assert_eq!(rt; done, Ok(()));
+    assert_eq!(rt; report.into_inner().as_slice(), line.as_bytes());
 }
 
 fn explains(
@@ -86,12 +106,7 @@ fn explains(
     line: &str,
 ) {
     let capture = capture_of(alloc, letters).expect(rt, "memory");
-    let text = scenario_of(alloc, words).expect(rt, "memory");
-    let mut input = FromRead::new(capture.as_slice());
-    let mut report = ToWrite::new(Vec::new(alloc));
-    let done = explain_run(alloc, text.as_bytes(), &mut input, one, other, &mut report);
-    assert_eq!(rt; done, Ok(()));
-    assert_eq!(rt; report.into_inner().as_slice(), line.as_bytes());
+    explains_of(rt, alloc, words, capture.as_slice(), one, other, line);
 }
 
 // Two nodes whose newest versions differ.
@@ -99,13 +114,9 @@ fn explains(
 fn two_nodes(rt: HostRuntime) {
     let words = plain(APART);
     reports(&rt, rt.alloc(), words, "xx", TWO_SENT);
-    lists(
-        &rt,
-        rt.alloc(),
-        words,
-        "xx",
-        "0 install 0 1: installed\n1 install 1 2: installed\n2 arrive 0 0: placed 0\n3 serve 0 0 1: forward A@10.8.0.1 from 1\n4 arrive 1 1: placed 0\n5 serve 1 0 2: forward C@10.8.0.3 from 2\n",
-    );
+    let listing =
+        "0 install 0 1: installed\n1 install 1 2: installed\n2 arrive 0 0: placed 0\n3 serve 0 0 1: forward A@10.8.0.1 from 1\n4 arrive 1 1: placed 0\n5 serve 1 0 2: forward C@10.8.0.3 from 2\n";
+    lists(&rt, rt.alloc(), words, "xx", listing);
     let split = "split slot 5 version 1 A@10.8.0.1 version 2 C@10.8.0.3\n";
     explains(&rt, rt.alloc(), words, "xx", 3, 5, split);
     let turned = "split slot 5 version 2 C@10.8.0.3 version 1 A@10.8.0.1\n";
@@ -134,13 +145,9 @@ fn a_listing(rt: HostRuntime) {
 #[test]
 fn an_entry_is_dropped(rt: HostRuntime) {
     let words = plain("'live 0', 'install 0 1', 'take 1', 'install 0 2', 'take 6'");
-    lists(
-        &rt,
-        rt.alloc(),
-        words,
-        "xyyxyzx",
-        "0 install 0 1: installed\n1 arrive 0 0: placed 0\n2 serve 0 0 1: forward A@10.8.0.1 from 1\n3 install 0 2: installed\n4 arrive 0 1: placed 0\n5 serve 0 0 2: forward A@10.8.0.1 from 2\n6 arrive 0 2: placed 0\n7 serve 0 0 2: forward A@10.8.0.1 from 2\n8 arrive 0 3: placed 0\n9 serve 0 0 2: forward A@10.8.0.1 from 1\n10 arrive 0 4: placed 0\n11 serve 0 0 2: forward A@10.8.0.1 from 2\n12 arrive 0 5: placed 0\n13 serve 0 0 2: forward A@10.8.0.1 from 2\n14 arrive 0 6: placed 0\n15 serve 0 0 2: forward C@10.8.0.3 from 2\n",
-    );
+    let listing =
+        "0 install 0 1: installed\n1 arrive 0 0: placed 0\n2 serve 0 0 1: forward A@10.8.0.1 from 1\n3 install 0 2: installed\n4 arrive 0 1: placed 0\n5 serve 0 0 2: forward A@10.8.0.1 from 2\n6 arrive 0 2: placed 0\n7 serve 0 0 2: forward A@10.8.0.1 from 2\n8 arrive 0 3: placed 0\n9 serve 0 0 2: forward A@10.8.0.1 from 1\n10 arrive 0 4: placed 0\n11 serve 0 0 2: forward A@10.8.0.1 from 2\n12 arrive 0 5: placed 0\n13 serve 0 0 2: forward A@10.8.0.1 from 2\n14 arrive 0 6: placed 0\n15 serve 0 0 2: forward C@10.8.0.3 from 2\n";
+    lists(&rt, rt.alloc(), words, "xyyxyzx", listing);
     let split = "split slot 5 version 1 A@10.8.0.1 version 2 C@10.8.0.3\n";
     explains(&rt, rt.alloc(), words, "xyyxyzx", 9, 15, split);
 }
@@ -152,13 +159,9 @@ fn full_rings(rt: HostRuntime) {
         "'live 0', 'install 0 1', 'full 0 1', 'take 4', 'full 0 0 1 2', 'take 1'",
     );
     words.workers = "3";
-    lists(
-        &rt,
-        rt.alloc(),
-        words,
-        "yyyyy",
-        "0 install 0 1: installed\n1 arrive 0 0: placed 0\n2 serve 0 0 1: forward A@10.8.0.1 from 1\n3 arrive 0 1: placed 2\n4 serve 0 2 1: forward A@10.8.0.1 from 1\n5 arrive 0 2: placed 2\n6 serve 0 2 1: forward A@10.8.0.1 from 1\n7 arrive 0 3: placed 0\n8 serve 0 0 1: forward A@10.8.0.1 from 1\n9 arrive 0 4: drop RingsFull\n",
-    );
+    let listing =
+        "0 install 0 1: installed\n1 arrive 0 0: placed 0\n2 serve 0 0 1: forward A@10.8.0.1 from 1\n3 arrive 0 1: placed 2\n4 serve 0 2 1: forward A@10.8.0.1 from 1\n5 arrive 0 2: placed 2\n6 serve 0 2 1: forward A@10.8.0.1 from 1\n7 arrive 0 3: placed 0\n8 serve 0 0 1: forward A@10.8.0.1 from 1\n9 arrive 0 4: drop RingsFull\n";
+    lists(&rt, rt.alloc(), words, "yyyyy", listing);
 }
 
 // A backend's address changes; and a backend that was down comes back.
@@ -166,32 +169,20 @@ fn full_rings(rt: HostRuntime) {
 fn changed_backends(rt: HostRuntime) {
     let steps = "'live 0', 'install 0 1', 'take 1', 'install 0 3', 'take 1'";
     let words = of_versions(&[ALL, B_DOWN, A_MOVED], steps);
-    lists(
-        &rt,
-        rt.alloc(),
-        words,
-        "yy",
-        "0 install 0 1: installed\n1 arrive 0 0: placed 0\n2 serve 0 0 1: forward A@10.8.0.1 from 1\n3 install 0 3: installed\n4 arrive 0 1: placed 0\n5 serve 0 0 3: forward A@10.8.0.9 from 3\n",
-    );
+    let listing =
+        "0 install 0 1: installed\n1 arrive 0 0: placed 0\n2 serve 0 0 1: forward A@10.8.0.1 from 1\n3 install 0 3: installed\n4 arrive 0 1: placed 0\n5 serve 0 0 3: forward A@10.8.0.9 from 3\n";
+    lists(&rt, rt.alloc(), words, "yy", listing);
     let steps = "'live 0', 'install 0 1', 'take 1', 'install 0 2', 'install 0 3', 'take 1'";
     let words = of_versions(&[ALL, A_DOWN, ALL], steps);
-    lists(
-        &rt,
-        rt.alloc(),
-        words,
-        "yy",
-        "0 install 0 1: installed\n1 arrive 0 0: placed 0\n2 serve 0 0 1: forward A@10.8.0.1 from 1\n3 install 0 2: installed\n4 install 0 3: installed\n5 arrive 0 1: placed 0\n6 serve 0 0 3: forward A@10.8.0.1 from 1\n",
-    );
+    let listing =
+        "0 install 0 1: installed\n1 arrive 0 0: placed 0\n2 serve 0 0 1: forward A@10.8.0.1 from 1\n3 install 0 2: installed\n4 install 0 3: installed\n5 arrive 0 1: placed 0\n6 serve 0 0 3: forward A@10.8.0.1 from 1\n";
+    lists(&rt, rt.alloc(), words, "yy", listing);
     let steps =
         "'live 0', 'install 0 1', 'take 1', 'install 0 2', 'take 1', 'install 0 3', 'take 1'";
     let words = of_versions(&[ALL, A_DOWN, ALL], steps);
-    lists(
-        &rt,
-        rt.alloc(),
-        words,
-        "yyy",
-        "0 install 0 1: installed\n1 arrive 0 0: placed 0\n2 serve 0 0 1: forward A@10.8.0.1 from 1\n3 install 0 2: installed\n4 arrive 0 1: placed 0\n5 serve 0 0 2: forward B@10.8.0.2 from 2\n6 install 0 3: installed\n7 arrive 0 2: placed 0\n8 serve 0 0 3: forward B@10.8.0.2 from 2\n",
-    );
+    let listing =
+        "0 install 0 1: installed\n1 arrive 0 0: placed 0\n2 serve 0 0 1: forward A@10.8.0.1 from 1\n3 install 0 2: installed\n4 arrive 0 1: placed 0\n5 serve 0 0 2: forward B@10.8.0.2 from 2\n6 install 0 3: installed\n7 arrive 0 2: placed 0\n8 serve 0 0 3: forward B@10.8.0.2 from 2\n";
+    lists(&rt, rt.alloc(), words, "yyy", listing);
 }
 
 // Plain hashing agrees here, and round robin needn't agree under one version.
@@ -199,23 +190,15 @@ fn changed_backends(rt: HostRuntime) {
 fn other_schemes(rt: HostRuntime) {
     let mut words = plain(APART);
     words.scheme = "plain";
-    lists(
-        &rt,
-        rt.alloc(),
-        words,
-        "yy",
-        "0 install 0 1: installed\n1 install 1 2: installed\n2 arrive 0 0: placed 0\n3 serve 0 0 1: forward C@10.8.0.3 from 1\n4 arrive 1 1: placed 0\n5 serve 1 0 2: forward C@10.8.0.3 from 2\n",
-    );
+    let listing =
+        "0 install 0 1: installed\n1 install 1 2: installed\n2 arrive 0 0: placed 0\n3 serve 0 0 1: forward C@10.8.0.3 from 1\n4 arrive 1 1: placed 0\n5 serve 1 0 2: forward C@10.8.0.3 from 2\n";
+    lists(&rt, rt.alloc(), words, "yy", listing);
     explains(&rt, rt.alloc(), words, "yy", 3, 5, "same\n");
     words.scheme = "round";
     words.steps = "'install 0 1', 'install 1 1', 'take 3'";
-    lists(
-        &rt,
-        rt.alloc(),
-        words,
-        "yxx",
-        "0 install 0 1: installed\n1 install 1 1: installed\n2 arrive 0 0: placed 0\n3 serve 0 0 1: forward A@10.8.0.1 from 1\n4 arrive 1 1: placed 0\n5 serve 1 0 1: forward A@10.8.0.1 from 1\n6 arrive 0 2: placed 0\n7 serve 0 0 1: forward B@10.8.0.2 from 1\n",
-    );
+    let listing =
+        "0 install 0 1: installed\n1 install 1 1: installed\n2 arrive 0 0: placed 0\n3 serve 0 0 1: forward A@10.8.0.1 from 1\n4 arrive 1 1: placed 0\n5 serve 1 0 1: forward A@10.8.0.1 from 1\n6 arrive 0 2: placed 0\n7 serve 0 0 1: forward B@10.8.0.2 from 1\n";
+    lists(&rt, rt.alloc(), words, "yxx", listing);
     let split = "split slot 5 version 1 B@10.8.0.2 version 1 A@10.8.0.1\n";
     explains(&rt, rt.alloc(), words, "yxx", 7, 5, split);
 }
@@ -256,8 +239,9 @@ fn nothing_sent(
 }
 
 // A capture that drops its one record for this cause.
-fn is_dropped(rt: &impl Abort, alloc: Global, words: Words<'_>, capture: &[u8], line: &str) {
-    let text = nothing_sent(alloc, 1, "no", line).expect(rt, "memory");
+fn is_dropped(rt: &impl Abort, alloc: Global, words: Words<'_>, capture: &[u8], cause: &str) {
+    let line = format!(in alloc; "drop {cause} 1\n").expect(rt, "memory");
+    let text = nothing_sent(alloc, 1, "no", line.as_str()).expect(rt, "memory");
     is_not_sent(rt, alloc, words, capture, text.as_str());
 }
 
@@ -279,23 +263,11 @@ fn frames(rt: HostRuntime) {
     fragment[6] = 0x20;
     fragment[10] = 0x8e;
     let capture = capture_with(rt.alloc(), &fragment).expect(&rt, "memory");
-    is_dropped(
-        &rt,
-        rt.alloc(),
-        words,
-        capture.as_slice(),
-        "drop Fragment 1\n",
-    );
+    is_dropped(&rt, rt.alloc(), words, capture.as_slice(), "Fragment");
     let mut changed = DATAGRAM;
     changed[11] = 0xce;
     let capture = capture_with(rt.alloc(), &changed).expect(&rt, "memory");
-    is_dropped(
-        &rt,
-        rt.alloc(),
-        words,
-        capture.as_slice(),
-        "drop BadChecksum 1\n",
-    );
+    is_dropped(&rt, rt.alloc(), words, capture.as_slice(), "BadChecksum");
     let mut unchecked = words;
     unchecked.keys = "check = false\n";
     is_sent(&rt, rt.alloc(), unchecked, capture.as_slice(), &changed);
@@ -311,23 +283,11 @@ fn endings(rt: HostRuntime) {
     let text = nothing_sent(rt.alloc(), 0, "no", "").expect(&rt, "memory");
     is_not_sent(&rt, rt.alloc(), words, &HEAD, text.as_str());
     let capture = capture_with(rt.alloc(), &DATAGRAM[..28]).expect(&rt, "memory");
-    is_dropped(
-        &rt,
-        rt.alloc(),
-        words,
-        capture.as_slice(),
-        "drop Truncated 1\n",
-    );
+    is_dropped(&rt, rt.alloc(), words, capture.as_slice(), "Truncated");
     let mut segment = DATAGRAM;
     segment[3] = 0;
     let capture = capture_with(rt.alloc(), &segment).expect(&rt, "memory");
-    is_dropped(
-        &rt,
-        rt.alloc(),
-        words,
-        capture.as_slice(),
-        "drop BadHeader 1\n",
-    );
+    is_dropped(&rt, rt.alloc(), words, capture.as_slice(), "BadHeader");
 }
 
 // A restart loses what waits; a packet with no live node, a repeat of one that wasn't read, and one that is left.
@@ -365,23 +325,16 @@ fn repeats(rt: HostRuntime) {
 
 // The capture is refused: nothing stands in the report.
 fn is_no_capture(rt: &impl Abort, alloc: Global, capture: &[u8], fault: PcapFault, kept: usize) {
-    let text = scenario_of(alloc, plain(ONE)).expect(rt, "memory");
+    let scenario = scenario_of(alloc, plain(ONE)).expect(rt, "memory");
     let mut input = FromRead::new(capture);
     let mut output = ToWrite::new(Vec::new(alloc));
     let mut report = ToWrite::new(Vec::new(alloc));
-    let scenario = text.as_bytes();
-    let done = simulate(
-        alloc,
-        scenario,
-        &mut input,
-        &mut output,
-        &mut report,
-        REPORT,
-    );
+    let text = scenario.as_bytes();
+    let done = simulate(alloc, text, &mut input, &mut output, &mut report, REPORT);
     assert_eq!(rt; done, Err(CliFault::Capture(fault)));
     assert_eq!(rt; output.into_inner().len(), kept);
     let mut input = FromRead::new(capture);
-    let done = explain_run(alloc, scenario, &mut input, 1, 2, &mut report);
+    let done = explain_run(alloc, text, &mut input, 1, 2, &mut report);
     assert_eq!(rt; done, Err(CliFault::Capture(fault)));
     assert_eq!(rt; report.into_inner().len(), 0);
 }
@@ -508,23 +461,17 @@ fn is_between(length: usize) -> bool {
 // The input fails at its k-th call, of eleven: Read, and the output is a beginning of the whole one, cut between records.
 #[test]
 fn a_failing_input(rt: HostRuntime) {
-    let capture = capture_of(rt.alloc(), "xy").expect(&rt, "memory");
-    let text = scenario_of(rt.alloc(), plain(APART)).expect(&rt, "memory");
-    let whole = played(rt.alloc(), plain(APART), capture.as_slice(), REPORT).expect(&rt, "a run");
+    let alloc = rt.alloc();
+    let capture = capture_of(alloc, "xy").expect(&rt, "memory");
+    let scenario = scenario_of(alloc, plain(APART)).expect(&rt, "memory");
+    let whole = played(alloc, plain(APART), capture.as_slice(), REPORT).expect(&rt, "a run");
     assert_eq!(rt; whole.output.len(), 184);
     for fails_at in 0..12u64 {
         let mut input = source(capture.as_slice(), fails_at);
-        let mut output = sink(rt.alloc(), u64::MAX);
-        let mut report = sink(rt.alloc(), u64::MAX);
-        let scenario = text.as_bytes();
-        let done = simulate(
-            rt.alloc(),
-            scenario,
-            &mut input,
-            &mut output,
-            &mut report,
-            REPORT,
-        );
+        let mut output = sink(alloc, u64::MAX);
+        let mut report = sink(alloc, u64::MAX);
+        let text = scenario.as_bytes();
+        let done = simulate(alloc, text, &mut input, &mut output, &mut report, REPORT);
         let written = output.bytes.as_slice();
         assert!(rt; whole.output.starts_with(written), "at call {fails_at}");
         if fails_at < 11 {
@@ -546,22 +493,16 @@ fn a_failing_input(rt: HostRuntime) {
 // The output fails at its k-th call, of twelve, and so does the report: Write, and what stands is a beginning.
 #[test]
 fn a_failing_output(rt: HostRuntime) {
-    let capture = capture_of(rt.alloc(), "xy").expect(&rt, "memory");
-    let text = scenario_of(rt.alloc(), plain(APART)).expect(&rt, "memory");
-    let whole = played(rt.alloc(), plain(APART), capture.as_slice(), REPORT).expect(&rt, "a run");
-    let scenario = text.as_bytes();
+    let alloc = rt.alloc();
+    let capture = capture_of(alloc, "xy").expect(&rt, "memory");
+    let scenario = scenario_of(alloc, plain(APART)).expect(&rt, "memory");
+    let whole = played(alloc, plain(APART), capture.as_slice(), REPORT).expect(&rt, "a run");
+    let text = scenario.as_bytes();
     for fails_at in 0..13u64 {
         let mut input = source(capture.as_slice(), u64::MAX);
-        let mut output = sink(rt.alloc(), fails_at);
-        let mut report = sink(rt.alloc(), u64::MAX);
-        let done = simulate(
-            rt.alloc(),
-            scenario,
-            &mut input,
-            &mut output,
-            &mut report,
-            REPORT,
-        );
+        let mut output = sink(alloc, fails_at);
+        let mut report = sink(alloc, u64::MAX);
+        let done = simulate(alloc, text, &mut input, &mut output, &mut report, REPORT);
         let written = output.bytes.as_slice();
         assert!(rt; whole.output.starts_with(written), "at call {fails_at}");
         if fails_at < 12 {
@@ -573,16 +514,9 @@ fn a_failing_output(rt: HostRuntime) {
     }
     for fails_at in 0..3u64 {
         let mut input = source(capture.as_slice(), u64::MAX);
-        let mut output = sink(rt.alloc(), u64::MAX);
-        let mut report = sink(rt.alloc(), fails_at);
-        let done = simulate(
-            rt.alloc(),
-            scenario,
-            &mut input,
-            &mut output,
-            &mut report,
-            REPORT,
-        );
+        let mut output = sink(alloc, u64::MAX);
+        let mut report = sink(alloc, fails_at);
+        let done = simulate(alloc, text, &mut input, &mut output, &mut report, REPORT);
         assert_eq!(rt; done, Err(CliFault::Write), "at call {fails_at}");
         assert_eq!(rt; output.bytes.as_slice(), whole.output.as_slice());
         assert!(rt; whole.report.starts_with(report.bytes.as_slice()));

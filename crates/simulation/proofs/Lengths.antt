@@ -14,31 +14,31 @@ use Rattle.simulation.specs.Sent.{cut_to}
 use Rattle.cluster_core.specs.Reading.{sized, of_flow, of_datagram, of_frame, packet_read}
 
 abbrev pub Short : Packet → Type 0
-Short (Good x len) = len ≤ 65511
+Short (Good x len at) = len ≤ 65511
 Short (Bad c) = Unit {0}
 
-sized_short : (x : Flow) (total : ℕ) → Short (sized x total)
-sized_short x total = go (nat_lt 65511 total) refl
+sized_short : (x : Flow) (total at : ℕ) → Short (sized x total at)
+sized_short x total at = go (nat_lt 65511 total) refl
   where
-    go : (b : Bool) → nat_lt 65511 total ≡ b → Short (if b then Bad TooLarge else Good x total)
+    go : (b : Bool) → nat_lt 65511 total ≡ b → Short (if b then Bad TooLarge else Good x total at)
     go true e = tt
     go false e = ltb-false 65511 total e
 
-flow_short : (total : ℕ) (r : Result Flow IpFault) → Short (of_flow total r)
-flow_short total (Err fault) = tt
-flow_short total (Ok x) = sized_short x total
+flow_short : (total at : ℕ) (r : Result Flow IpFault) → Short (of_flow total at r)
+flow_short total at (Err fault) = tt
+flow_short total at (Ok x) = sized_short x total at
 
-datagram_short : (r : Result Datagram IpFault) → Short (of_datagram r)
-datagram_short (Err fault) = tt
-datagram_short (Ok d) = flow_short d.total (flow_answer d)
+datagram_short : (at : ℕ) (r : Result Datagram IpFault) → Short (of_datagram at r)
+datagram_short at (Err fault) = tt
+datagram_short at (Ok d) = flow_short d.total at (flow_answer d)
 
-frame_short : (check : Bool) (r : Result (List ℕ) IpFault) → Short (of_frame check r)
-frame_short check (Err fault) = tt
-frame_short check (Ok bytes) = datagram_short (ipv4_answer check bytes)
+frame_short : (check : Bool) (at : ℕ) (r : Result (List ℕ) IpFault) → Short (of_frame check at r)
+frame_short check at (Err fault) = tt
+frame_short check at (Ok bytes) = datagram_short at (ipv4_answer check bytes)
 
-pub read_short : (link : Link) (check : Bool) (frame : List ℕ) → Short (packet_read link check frame)
+pub read_short : (link : Link) (frame : List ℕ) (at : ℕ) (check : Bool) → Short (packet_read link frame at check)
 unfolding packet_read
-read_short link check frame = frame_short check (frame_answer link frame)
+read_short link frame at check = frame_short check at (frame_answer link frame)
 
 take_most : (k : ℕ) (l : List ℕ) → length (take k l) ≤ k
 take_most zero l = omega arith
@@ -48,12 +48,12 @@ take_most (suc k) (x ∷ l) = omega (arith, take_most k l)
 cut_short : (p : Packet) (r : Result (List ℕ) IpFault) → Short p → IfSome (cut_to p r) (λ d. length d ≤ 65511)
 cut_short p (Err fault) h = tt
 cut_short (Bad c) (Ok bytes) h = tt
-cut_short (Good x len) (Ok bytes) h = omega (arith, take_most len bytes, h)
+cut_short (Good x len at) (Ok bytes) h = omega (arith, take_most len bytes, h)
 
 given_short : (inner : Option (Bor (List ℕ))) (d : Option (List ℕ)) → option_map (λ b. b.now) inner ≡ d → IfSome d (λ l. length l ≤ 65511) → IfSome inner (λ b. length b.now ≤ 65511)
 given_short None d e h = tt
 given_short (Some b) d e h = subst (λ (o : Option (List ℕ)). IfSome o (λ l. length l ≤ 65511)) (sym e) h
 
-pub inner_short : (link : Link) (check : Bool) (bytes : List ℕ) (p : Packet) (inner : Option (Bor (List ℕ))) → p ≡ packet_read link check bytes → option_map (λ b. b.now) inner ≡ cut_to p (frame_answer link bytes) → IfSome inner (λ b. length b.now ≤ 65511)
-inner_short link check bytes p inner e h =
-    given_short inner (cut_to p (frame_answer link bytes)) h (cut_short p (frame_answer link bytes) (subst Short (sym e) (read_short link check bytes)))
+pub inner_short : (link : Link) (check : Bool) (bytes : List ℕ) (at : ℕ) (p : Packet) (inner : Option (Bor (List ℕ))) → p ≡ packet_read link bytes at check → option_map (λ b. b.now) inner ≡ cut_to p (frame_answer link bytes) → IfSome inner (λ b. length b.now ≤ 65511)
+inner_short link check bytes at p inner e h =
+    given_short inner (cut_to p (frame_answer link bytes)) h (cut_short p (frame_answer link bytes) (subst Short (sym e) (read_short link bytes at check)))

@@ -1,5 +1,5 @@
 -- What is sent of the packets of a capture.
-use Rattle.std.specs.Prelude.{◌≡◌, ℕ, Bool, List, [], ◌∷◌, ◌++◌, take, map, Option, Some, None, Result, Ok, Err, slice_get}
+use Rattle.std.specs.Prelude.{◌≡◌, ℕ, ◌+◌, ◌*◌, Bool, List, [], ◌∷◌, ◌++◌, take, map, Option, Some, None, Result, Ok, Err, slice_get}
 use Rattle.std.specs.Io.KnownBytes.{Appends}
 use Rattle.ip_headers.specs.declared.Link.{Link}
 use Rattle.ip_headers.specs.declared.IpFault.{IpFault}
@@ -18,9 +18,13 @@ use Rattle.cluster_core.specs.Reading.{packet_read}
 use Rattle.simulation.specs.declared.fault.SimulationFault.{SimulationFault}
 use Rattle.simulation.specs.declared.fault.SimulationFault.TheVariants.{Capture, Write, Memory}
 
--- the packets that the records of a capture are
+-- a record's time in microseconds
+abbrev pub time_of : Record → ℕ
+time_of r = r.secs * 1000000 + r.micros
+
+-- the packets that the records of a capture are, each with its record's time
 abbrev pub packet_in : Link → Bool → Record → Packet
-packet_in link check r = packet_read link check r.bytes
+packet_in link check r = packet_read link r.bytes (time_of r) check
 
 abbrev pub packets_of : Link → Bool → List Record → List Packet
 packets_of link check rs = map (packet_in link check) rs
@@ -29,7 +33,7 @@ packets_of link check rs = map (packet_in link check) rs
 abbrev pub cut_to : Packet → Result (List ℕ) IpFault → Option (List ℕ)
 cut_to p (Err fault) = None
 cut_to (Bad c) (Ok bytes) = None
-cut_to (Good x len) (Ok bytes) = Some (take len bytes)
+cut_to (Good x len at) (Ok bytes) = Some (take len bytes)
 
 unfoldable pub datagram_in : Link → Bool → Record → Option (List ℕ)
 datagram_in link check r = cut_to (packet_in link check r) (frame_answer link r.bytes)

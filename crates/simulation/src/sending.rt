@@ -3,7 +3,7 @@ ghost use Rattle.std.specs.Prelude.{◌≡◌, ◌≤◌, ◌∷◌, option_map,
 ghost use Rattle.ip_headers.specs.Ipv4.{frame_answer};
 ghost use Rattle.pcap_file.specs.Format.{packet};
 ghost use Rattle.gre_tunnel.specs.Gre.{wrapped};
-ghost use Rattle.simulation.specs.Sent.{packet_in, cut_to, datagram_in, wrapped_as, sent_at, Wrote, WroteUntil};
+ghost use Rattle.simulation.specs.Sent.{packet_in, time_of, cut_to, datagram_in, wrapped_as, sent_at, Wrote, WroteUntil};
 ghost use Rattle.simulation.specs.Simulated.{IsOfRun};
 ghost use Rattle.simulation.specs.Wires.{traffic};
 
@@ -24,12 +24,26 @@ pub struct Wire<'a> {
     pub check: bool,
 }
 
+// A record's time in microseconds.
+fn time_of(frame: &Frame) -> u64
+    ensures { result ≡ time_of (packet frame.now) }
+{
+    let secs = frame.secs as u64;
+    let micros = frame.micros as u64;
+    secs * 1_000_000 + micros
+}
+
 impl<'a> Wire<'a> {
-    /// A record as a packet.
+    /// A record as a packet, with the record's time.
     pub fn packet(&self, frame: &Frame) -> Packet
         ensures { result ≡ packet_in self.now.link self.now.check (packet frame.now) }
     {
-        read_packet(self.link, frame.bytes.as_slice(), self.check)
+        read_packet(
+            self.link,
+            frame.bytes.as_slice(),
+            time_of(frame),
+            self.check,
+        )
     }
 
     fn address(&self, node: u16) -> Option<u32>
@@ -47,7 +61,7 @@ fn datagram<'a>(link: Link, packet: &Packet, bytes: &'a [u8]) -> Option<&'a [u8]
         return None;
     };
     match *packet {
-        Packet::Good { flow: _, len } => Some(&bytes[..(len as usize).min(bytes.len())]),
+        Packet::Good { len, .. } => Some(&bytes[..(len as usize).min(bytes.len())]),
         Packet::Bad(_) => None,
     }
 }

@@ -71,7 +71,8 @@ pub fn catalogue(alloc: Global, size: TableSize, dice: &mut Dice) -> Result<Cata
     Ok(catalogue)
 }
 
-/// A cluster of 1 to 8 nodes with 1 to 16 workers each, whose tables keep 1 to 4 entries.
+/// A cluster of 1 to 8 nodes with 1 to 16 workers each, whose tables keep 1 to 4 entries, without an idle limit or with one of
+/// some microseconds.
 pub fn setup<S: Scheme>(
     alloc: Global,
     scheme: S,
@@ -86,14 +87,18 @@ pub fn setup<S: Scheme>(
     }
     let workers = 1 + dice.below(16) as u16;
     let capacity = 1 + dice.below(4);
-    match Setup::new(Fnv, scheme, size, nodes, workers, capacity) {
+    let idle = match dice.below(3) {
+        0 => None,
+        limit => Some(u64::from(limit) * 2),
+    };
+    match Setup::new(Fnv, scheme, size, nodes, workers, capacity, idle) {
         Ok(setup) => Ok(setup),
         Err(_) => Err(AllocError),
     }
 }
 
-// A packet of a flow to this port of the one address.
-fn packet(sport: u16, dport: u16) -> Packet
+// A packet of a flow to this port of the one address, at a time.
+fn packet(sport: u16, dport: u16, at: u64) -> Packet
     ensures { WasRead (Some result) }
 {
     let flow = Flow {
@@ -103,7 +108,7 @@ fn packet(sport: u16, dport: u16) -> Packet
         dport,
         proto: 6,
     };
-    Packet::Good { flow, len: 40 }
+    Packet::Good { flow, len: 40, at }
 }
 
 /// Five flows with a service, one without, and two packets that are no datagrams.
@@ -111,12 +116,12 @@ pub fn packets() -> [Packet; 8]
     ensures { (k : ℕ) (p : Packet) → slice_get result k ≡ Some p → WasRead (Some p) }
 {
     [
-        packet(1000, 80),
-        packet(1001, 80),
-        packet(1002, 80),
-        packet(1003, 80),
-        packet(1006, 80),
-        packet(1000, 53),
+        packet(1000, 80, 3),
+        packet(1001, 80, 0),
+        packet(1002, 80, 5),
+        packet(1003, 80, 1),
+        packet(1006, 80, 4),
+        packet(1000, 53, 9),
         Packet::Bad(Cause::Truncated),
         Packet::Bad(Cause::TooLarge),
     ]

@@ -76,12 +76,12 @@ module _ (all q : List Record) (ls : List Line) (h : Beside all q ls) where
   arrived_beside n w r (Restart m) p o sound here = absurd here
   arrived_beside n w r (Arrive m k marks) None o sound here = kept all q ls (m == n) h
   arrived_beside n w r (Arrive m k marks) (Some (Bad c)) o sound here = kept all q ls (m == n) h
-  arrived_beside n w r (Arrive m k marks) (Some (Good x l)) Installed sound here = kept all q ls (m == n) h
-  arrived_beside n w r (Arrive m k marks) (Some (Good x l)) (Placed u f) sound here = placed_beside (record { packet = k; flow = x; floor = f }) r sound here (m == n) (u == w)
-  arrived_beside n w r (Arrive m k marks) (Some (Good x l)) (Forward a u j y b v) sound here = kept all q ls (m == n) h
-  arrived_beside n w r (Arrive m k marks) (Some (Good x l)) (Dropped j c) sound here = kept all q ls (m == n) h
-  arrived_beside n w r (Arrive m k marks) (Some (Good x l)) (Restarted lost) sound here = kept all q ls (m == n) h
-  arrived_beside n w r (Arrive m k marks) (Some (Good x l)) (Refused c) sound here = kept all q ls (m == n) h
+  arrived_beside n w r (Arrive m k marks) (Some (Good x l t)) Installed sound here = kept all q ls (m == n) h
+  arrived_beside n w r (Arrive m k marks) (Some (Good x l t)) (Placed u f) sound here = placed_beside (record { packet = k; flow = x; at = t; floor = f }) r sound here (m == n) (u == w)
+  arrived_beside n w r (Arrive m k marks) (Some (Good x l t)) (Forward a u j y b v) sound here = kept all q ls (m == n) h
+  arrived_beside n w r (Arrive m k marks) (Some (Good x l t)) (Dropped j c) sound here = kept all q ls (m == n) h
+  arrived_beside n w r (Arrive m k marks) (Some (Good x l t)) (Restarted lost) sound here = kept all q ls (m == n) h
+  arrived_beside n w r (Arrive m k marks) (Some (Good x l t)) (Refused c) sound here = kept all q ls (m == n) h
 
   served_beside : (v : ℕ) (x : Bool) (a b d : Bool) → Beside all (if a then (if b && d then drop 1 q else q) else q) (if b then (if d then (if a then took v x ∷ ls else ls) else ls) else ls)
   served_beside v x true true true = took_beside all q ls v x h

@@ -43,7 +43,7 @@ on_worker n (Refused r) = None
 abbrev pub on_node : ℕ → Option Packet → Outcome → Option (ℕ × ℕ)
 on_node n None o = None
 on_node n (Some (Bad c)) o = None
-on_node n (Some (Good x len)) o = on_worker n o
+on_node n (Some (Good x len at)) o = on_worker n o
 
 abbrev pub placed_by : Event → Option Packet → Outcome → Option (ℕ × ℕ)
 placed_by (Install n v) p o = None

@@ -43,6 +43,7 @@ fn arrival(node: u16, packet: u32, outcome: Outcome) -> Said {
         packet: Some(Packet::Good {
             flow: FLOW,
             len: 40,
+            at: 0,
         }),
         outcome,
     }

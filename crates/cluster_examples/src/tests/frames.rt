@@ -24,9 +24,12 @@ fn frames_and_setups(rt: HostRuntime) {
             proto: 6,
         },
         len: 40,
+        at: 7,
     };
-    assert!(rt; read_packet(Link::RawIp, &datagram, true) == whole);
-    assert!(rt; read_packet(Link::RawIp, &datagram[..39], true) == Packet::Bad(Cause::Truncated));
+    assert!(rt; read_packet(Link::RawIp, &datagram, 7, true) == whole);
+    assert!(rt;
+        read_packet(Link::RawIp, &datagram[..39], 7, true) == Packet::Bad(Cause::Truncated)
+    );
     let size = TableSize::new(7).expect(&rt, "a size");
     for (nodes, workers, capacity, want) in [
         (0usize, 1, 1, SetupFault::BadNodes),
@@ -35,7 +38,7 @@ fn frames_and_setups(rt: HostRuntime) {
         (64, 16, 1000001, SetupFault::BadCapacity),
     ] {
         let nodes = vec![in alloc; 0u32; nodes].expect(&rt, "memory");
-        match Setup::new(SumHash, RoundRobin, size, nodes, workers, capacity) {
+        match Setup::new(SumHash, RoundRobin, size, nodes, workers, capacity, None) {
             Ok(_) => assert!(rt; false),
             Err(fault) => assert_eq!(rt; fault, want),
         }

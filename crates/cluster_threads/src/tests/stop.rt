@@ -67,7 +67,7 @@ fn cluster(rt: &impl Abort, alloc: Global) -> Setup<Maglev<SumHash>, SumHash>
 {
     let nodes = Vec::from_slice(alloc, &[0x0a09_0001, 0x0a09_0002]).expect(rt, "memory");
     let size = TableSize::new(7).expect(rt, "a size");
-    Setup::new(SumHash, Maglev { hash: SumHash }, size, nodes, 2, 8).expect(rt, "a setup")
+    Setup::new(SumHash, Maglev { hash: SumHash }, size, nodes, 2, 8, None).expect(rt, "a setup")
 }
 
 fn packet(sport: u16) -> Packet
@@ -76,6 +76,7 @@ fn packet(sport: u16) -> Packet
     Packet::Good {
         flow: flow(sport),
         len: 40,
+        at: 0,
     }
 }
 

@@ -6,4 +6,4 @@ use Rattle.cluster_core.proofs.Frames.{datagram_read}
 use Rattle.cluster_core.proofs.reading.read_packet.Goals as goal
 
 pub returns-in-Ok-clause-cause : goal.returns-in-Ok-clause-cause
-returns-in-Ok-clause-cause c = subst (λ (p : Packet). WasRead (Some p)) (sym c.of_datagram.ensures) (datagram_read (ipv4_answer c.args.check c.in-Ok.bytes.now))
+returns-in-Ok-clause-cause c = subst (λ (p : Packet). WasRead (Some p)) (sym c.of_datagram.ensures) (datagram_read c.args.at (ipv4_answer c.args.check c.in-Ok.bytes.now))

@@ -1,4 +1,4 @@
-use Rattle.std.proofs.Common.{◌∙◌, sym, ap, rules, option_map}
+use Rattle.std.proofs.Common.{◌∙◌, sym, ap, option_map}
 use Rattle.toml.specs.View.{table_view}
 use Rattle.scenario.specs.Meaning.{plain_draft}
 use Rattle.scenario.proofs.Refusals.{refused_above}

@@ -3,4 +3,4 @@ use Rattle.cluster_node.specs.Record.{fresh}
 use Rattle.cluster_core.proofs.running.Run.make_fresh.Given as goal
 
 abbrev pub invariant-loop : goal.invariant-loop
-invariant-loop g l = l.nodes.items ≡ replicate l.counter (record { newest = 0; installed = []; cursor = 0; workers = replicate l.workers (fresh l.setup.capacity) })
+invariant-loop g l = l.nodes.items ≡ replicate l.counter (record { newest = 0; installed = []; cursor = 0; workers = replicate l.workers (fresh l.setup.capacity l.setup.idle) })

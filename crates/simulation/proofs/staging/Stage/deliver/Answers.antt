@@ -18,7 +18,7 @@ use Rattle.simulation.proofs.Staged.{Arriving, delivered, delivered_told, events
 use Rattle.simulation.proofs.staging.Stage.deliver.Goals as goal
 
 pub deliver-requires-clause-read : goal.deliver-requires-clause-read
-deliver-requires-clause-read g c = subst (λ (p : Packet). WasRead (Some p)) (sym c.packet-packet.ensures) (was_read _ _ _)
+deliver-requires-clause-read g c = subst (λ (p : Packet). WasRead (Some p)) (sym c.packet-packet.ensures) (was_read _ _ _ _)
 
 pub returns-in-Err-clause-cut : goal.returns-in-Err-clause-cut
 returns-in-Err-clause-cut g c = λ w all begun i j s here.
