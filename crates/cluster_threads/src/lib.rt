@@ -8,6 +8,3 @@ mod auditing;
 mod cluster;
 
 pub use cluster::{ClusterRun, run_cluster};
-
-#[cfg(test)]
-mod tests;

@@ -18,6 +18,3 @@ pub use key::Key;
 pub use member_words::{member_place, one_word_or_all_members};
 pub use place::{Flaw, Place, key_place, one_place_or_a_draft};
 pub use pools::{one_place_or_a_catalogue, pool_place};
-
-#[cfg(test)]
-mod tests;

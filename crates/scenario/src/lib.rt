@@ -24,6 +24,3 @@ pub use laws::formats_mean_the_same;
 pub use reading::{Scenario, pools_in, read};
 pub use scenario_steps::Step;
 pub use words::{SchemeKind, SpreadKind};
-
-#[cfg(test)]
-mod tests;

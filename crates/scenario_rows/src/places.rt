@@ -1,4 +1,6 @@
-use crate::{Flaw, Key, Place, key_place, member_place, pool_place};
+//! The places at which a scenario is refused, and that reading refuses it there.
+
+use fault_places::{Flaw, Key, Place, key_place, member_place, pool_place};
 use scenario::{ScenarioFault, format_of, pools_in};
 use std::alloc::Global;
 use std::process::Abort;

@@ -1,8 +1,10 @@
-use super::ScenarioFault::{BadFormat, BadKey, BadMember, BadStep, BadToml, Pool, TooLong};
-use super::{Scenario, ScenarioFault, SchemeKind, SpreadKind, Step, read};
+//! Scenarios that are read, and each fault of one.
+
 use five_tuple::Flow;
 use hash_laws::AnyHash;
 use pool_versions::PoolFault;
+use scenario::ScenarioFault::{BadFormat, BadKey, BadMember, BadStep, BadToml, Pool, TooLong};
+use scenario::{Scenario, ScenarioFault, SchemeKind, SpreadKind, Step, read};
 use std::alloc::Global;
 use std::process::Abort;
 

@@ -1,9 +1,9 @@
 //! Runs of two nodes, and of two workers, at once.
 ghost use Rattle.std.specs.Prelude.{◌≡◌, length};
 
-use crate::run_cluster;
 use cluster_core::Setup;
 use cluster_node::{Outcome, Packet};
+use cluster_threads::run_cluster;
 use connection_table::PlainTable;
 use five_tuple::Flow;
 use hash_laws::SumHash;

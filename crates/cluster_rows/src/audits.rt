@@ -3,13 +3,13 @@ ghost use Rattle.std.specs.Prelude.{◌≡◌, ℕ, Some, slice_get};
 ghost use Rattle.cluster_node.specs.declared.packets.Packet.{Packet};
 ghost use Rattle.cluster_node.specs.Records.{WasRead};
 
-use super::*;
 use cluster_core::Setup;
 use cluster_node::{Cause, Event, Outcome, Packet, Reason};
 use connection_table::PlainTable;
 use five_tuple::Flow;
 use hash_laws::SumHash;
 use maglev_table::TableSize;
+use node_records::{History, NodeRecord};
 use pool_versions::Catalogue;
 use selection::RoundRobin;
 use std::alloc::Global;

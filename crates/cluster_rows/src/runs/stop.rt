@@ -4,9 +4,9 @@ ghost use Rattle.cluster_node.specs.declared.packets.Packet.{Packet};
 ghost use Rattle.cluster_node.specs.Records.{WasRead};
 
 use super::{VIP, flow};
-use crate::{ClusterRun, run_cluster};
 use cluster_core::Setup;
 use cluster_node::{Outcome, Packet};
+use cluster_threads::{ClusterRun, run_cluster};
 use connection_table::{LruTable, PlainTable};
 use hash_laws::SumHash;
 use maglev_table::{Name, TableSize, Weight};
