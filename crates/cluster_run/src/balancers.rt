@@ -69,6 +69,7 @@ impl<S: Scheme, H: FlowHash, T: ConnTable, N: Notes> Core for Balancers<S, H, T,
 
     ghost stands = { λ task past balancers. RunStands (λ s z. S.pick s z) (rules_of (λ s z. S.pick s z) (λ h. H.plain h) task.rules) past balancers.run × N.are_of task.asked past balancers.notes };
 
+    #[inline(always)]
     fn step(
         &mut self,
         setup: &Task<S, H, N::Asked>,
@@ -88,6 +89,7 @@ impl<S: Scheme, H: FlowHash, T: ConnTable, N: Notes> Core for Balancers<S, H, T,
     }
 
     #[tactic(auto, unfolding(course::specs::Cluster::newest_on))]
+    #[inline(always)]
     fn newest(&self, setup: &Task<S, H, N::Asked>, node: u16) -> u32 {
         let _ = setup;
         self.run.newest(node)

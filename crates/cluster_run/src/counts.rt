@@ -103,6 +103,7 @@ impl Counts {
     }
 
     /// One outcome more. Where a count has no room it is refused, as memory is.
+    #[inline(always)]
     pub fn count(&mut self, outcome: &Outcome) -> Result<(), AllocError>
         ensures { (others : List Outcome) → CountsAre others self.old → OnOk result (CountsAre (outcome.now ∷ others) self.new) }
     {

@@ -17,6 +17,7 @@ use std::alloc::{AllocError, Global};
 use std::marker::Model;
 
 /// The worker on which an arrival was placed.
+#[inline(always)]
 fn placed_on(outcome: &Outcome) -> Option<u16>
     ensures { result ≡ placed_on outcome.now }
 {
@@ -27,6 +28,7 @@ fn placed_on(outcome: &Outcome) -> Option<u16>
 }
 
 /// The node that a spreader chooses for a packet, after so many packets.
+#[inline(always)]
 fn choose<P: Spread>(spread: &P, packet: &Packet, nth: u64) -> Option<u16>
     ensures { result ≡ P.choice spread.now (P.live spread.now) (flow_of packet.now) nth }
 {
@@ -76,6 +78,7 @@ impl Model for Play {
 
 impl Play {
     /// The workers of a node that refuse.
+    #[inline(always)]
     fn marks_at(&self, node: u16) -> [bool; 16]
         ensures { result ≡ marks_at node self.now }
     {
@@ -85,6 +88,7 @@ impl Play {
         }
     }
 
+    #[inline(always)]
     fn is_held(&self, node: u16) -> bool
         ensures { result ≡ is_held node self.now }
     {
@@ -119,6 +123,7 @@ impl Play {
     }
 
     /// How many events there were.
+    #[inline(always)]
     fn said_count(&self) -> u64
         ensures { result ≡ length self.now.past }
     {
@@ -126,6 +131,7 @@ impl Play {
     }
 
     /// An event was said. Where their number has no room it is refused, as memory is.
+    #[inline(always)]
     fn note(&mut self, said: &Said) -> Result<(), AllocError>
         ensures { OnOk result (self.new ≡ noted said.now self.old) }
     {
@@ -138,6 +144,7 @@ impl Play {
     }
 
     /// An event, which is put behind those that are told so far, and the worker on which it placed a packet.
+    #[inline(always)]
     fn say<C: Core>(
         &mut self,
         core: &mut C,
@@ -169,6 +176,7 @@ impl Play {
 
     /// A serving under the node's newest version.
     #[tactic(auto, unfolding(crate::specs::Steps::serve))]
+    #[inline(always)]
     fn serve<C: Core>(
         &mut self,
         core: &mut C,
@@ -195,6 +203,7 @@ impl Play {
     }
 
     #[tactic(auto, unfolding(crate::specs::Steps::follow))]
+    #[inline(always)]
     fn follow<C: Core>(
         &mut self,
         core: &mut C,
@@ -217,6 +226,7 @@ impl Play {
 
     /// An arrival, and the serving that may follow it.
     #[tactic(auto, unfolding(crate::specs::Steps::arrive))]
+    #[inline(always)]
     fn arrive<C: Core>(
         &mut self,
         core: &mut C,
@@ -243,6 +253,7 @@ impl Play {
     }
 
     #[tactic(auto, unfolding(crate::specs::Steps::route))]
+    #[inline(always)]
     fn route<C: Core>(
         &mut self,
         core: &mut C,
@@ -271,6 +282,7 @@ impl Play {
 
     /// A packet is handed to the spreader.
     #[tactic(auto, unfolding(crate::specs::Steps::deliver))]
+    #[inline(always)]
     pub fn deliver<C: Core, P: Spread>(
         &mut self,
         core: &mut C,

@@ -226,6 +226,7 @@ impl<'a> InputFile<'a> {
         self.head
     }
 
+    #[inline(always)]
     fn read_on(&mut self, buf: &mut [u8]) -> io::Result<usize>
         ensures { ReadsAtMost result buf.new }
     {
@@ -238,6 +239,7 @@ impl<'a> InputFile<'a> {
 }
 
 impl Read for InputFile<'_> {
+    #[inline(always)]
     fn read(&mut self, buf: &mut [u8]) -> io::Result<usize> {
         if self.reader.is_none() {
             self.opened()?;
@@ -329,6 +331,7 @@ impl<'a> OutputFile<'a> {
         self.refusal
     }
 
+    #[inline(always)]
     fn write_on(&mut self, buf: &[u8]) -> io::Result<usize>
         ensures { WritesAtMost result buf.now }
     {
@@ -349,6 +352,7 @@ impl<'a> OutputFile<'a> {
 }
 
 impl Write for OutputFile<'_> {
+    #[inline(always)]
     fn write(&mut self, buf: &[u8]) -> io::Result<usize> {
         if self.writer.is_none() {
             self.opened()?;
@@ -397,6 +401,7 @@ impl Kept {
 }
 
 impl Write for Kept {
+    #[inline(always)]
     fn write(&mut self, buf: &[u8]) -> io::Result<usize> {
         let written = self.text.write(buf);
         self.is_short = written.is_err();

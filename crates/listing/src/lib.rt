@@ -7,7 +7,6 @@ mod reports;
 mod verdicts;
 
 pub use lines::push_line;
-pub use names::{CauseText, ReasonText};
 pub use reports::report_text;
 pub use verdicts::{ChoiceText, verdict_text};
 

@@ -2,13 +2,13 @@
 use cluster_node::{Cause, Reason};
 use std::fmt;
 
-/// A cause of a drop, printed by its name.
+// A cause of a drop, printed by its name.
 #[derive(Clone, Copy)]
-pub struct CauseText(pub Cause);
+pub(crate) struct CauseText(pub(crate) Cause);
 
-/// Why an event was refused, printed by its name.
+// Why an event was refused, printed by its name.
 #[derive(Clone, Copy)]
-pub struct ReasonText(pub Reason);
+pub(crate) struct ReasonText(pub(crate) Reason);
 
 impl fmt::Display for CauseText {
     ghost use Rattle.std.specs.Prelude.{Some};

@@ -1,4 +1,5 @@
-use super::{CauseText, ReasonText, push_line, report_text, verdict_text};
+use super::names::{CauseText, ReasonText};
+use super::{push_line, report_text, verdict_text};
 use cluster_core::{Totals, Verdict};
 use cluster_node::{Cause, Event, Outcome, Reason, Said};
 use course::Tally;

@@ -12,6 +12,7 @@ pub struct Refused;
 /// Reads until the place is full or the input ends, and answers how many bytes came. The device is
 /// called at most 1,000 times more than the place has bytes; an empty place makes no call. What was read before a refusal
 /// is lost.
+#[inline(always)]
 pub fn fill<S: Source>(source: &mut S, buf: &mut [u8]) -> Result<usize, Refused>
     requires { length buf.old + 1000 < 2 ^ 64 }
     ensures bound { IfOk result (λ n. n ≤ length buf.new) }
@@ -41,6 +42,7 @@ pub fn fill<S: Source>(source: &mut S, buf: &mut [u8]) -> Result<usize, Refused>
 }
 
 /// Writes all of the bytes, in at most 1,000 calls more than there are bytes.
+#[inline(always)]
 pub fn put_all<S: Sink>(sink: &mut S, bytes: &[u8]) -> Result<(), Refused>
     requires { length bytes.now + 1000 < 2 ^ 64 }
     ensures bytes { OnOk result (Appends (S.tape sink.old).bytes (S.tape sink.new).bytes bytes.now) }

@@ -38,6 +38,7 @@ impl<R: Read> Source for FromRead<R> {
 
     ghost tape = { λ s. taped (R.remaining s.reader) s.counts };
 
+    #[inline(always)]
     fn read(&mut self, buf: &mut [u8]) -> Result<usize, DeviceFault> {
         self.counts.call();
         match self.reader.read(buf) {
@@ -81,6 +82,7 @@ impl<W: Write> Sink for ToWrite<W> {
 
     ghost tape = { λ s. taped (W.contents s.writer) s.counts };
 
+    #[inline(always)]
     fn write(&mut self, buf: &[u8]) -> Result<usize, DeviceFault> {
         self.counts.call();
         match self.writer.write(buf) {

@@ -72,6 +72,7 @@ impl Notebook {
     }
 
     // The same, where lines are asked for.
+    #[inline(always)]
     fn list_if(&mut self, list: bool, event: &Event, outcome: &Outcome) -> Result<(), AllocError>
         ensures lists { (past : List Said) (packet : Option Packet) → ListsIf list past self.old → OnOk result (ListsIf list (said_by event.now packet outcome.now ∷ past) self.new) }
         ensures counts { self.new.counts ≡ self.old.counts }
@@ -85,6 +86,7 @@ impl Notebook {
     }
 
     // An event goes into the book, where splits are asked for.
+    #[inline(always)]
     fn book_if(&mut self, splits: bool, event: &Event, outcome: &Outcome) -> Result<(), AllocError>
         ensures books { (past : List Said) (packet : Option Packet) → BookIf splits past self.old.book → OnOk result (BookIf splits (said_by event.now packet outcome.now ∷ past) self.new.book) }
         ensures lines { self.new.lines ≡ self.old.lines }
@@ -116,6 +118,7 @@ impl Notes for Notebook {
 
     ghost are_of = { λ asked past notes. AreOf asked past notes };
 
+    #[inline(always)]
     fn note(&mut self, asked: &Asked, event: &Event, outcome: &Outcome) -> Result<(), AllocError> {
         match *asked {
             Asked::Report(wanted) => {

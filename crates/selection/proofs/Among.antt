@@ -1,11 +1,13 @@
 -- The test of a backend among others is that it is one of them.
-use Rattle.std.proofs.Common.{◌≡◌, ℕ, suc, true, ◌==◌, ◌↔◌, List, [], ◌∷◌, Contains, refl, sym, ◌∙◌, ap, arith, inl, inr, nat_eq}
+use Rattle.std.proofs.Common.{Bor, Some, subst, ◌≡◌, ℕ, suc, true, ◌==◌, ◌↔◌, List, [], ◌∷◌, Contains, refl, sym, ◌∙◌, ap, arith, inl, inr, nat_eq}
 use Rattle.std.specs.Cmp.Lexicographic.{pointwise}
 use Rattle.std.specs.List.{list_any}
+use Rattle.std.specs.Slice.{IsItemAt}
 use Rattle.std.proofs.lemmas.Bool.{and_parts, and_from, or_cases, eqb-true, eq-eqb}
 use Rattle.std.proofs.lemmas.Bool.Decides.{Decides-eqb}
 use Rattle.std.proofs.lemmas.Slice.Eq.{slice_eq-Decides}
 use Rattle.std.proofs.lemmas.List.Folds.{list_any_at}
+use Rattle.std.proofs.lemmas.List.Elements.{Contains-get_or}
 use Rattle.pool_versions.specs.declared.backend.Backend.{Backend}
 use Rattle.selection.specs.Readied.{same_backend}
 
@@ -40,3 +42,7 @@ any_is_contained b bs = (
   contained_from_any b bs,
   λ inside. list_any_at (same_backend b) bs inside.0 b inside.1 (rw inside.2 (is_same b)),
 )
+
+-- what stands at a place of a list is in it
+pub is_item : {X : Type 0} (xs : List X) (i : ℕ) (x : Bor X) (b : X) → IsItemAt xs i (Some x) → b ≡ x.now → Contains xs b
+is_item {X} xs i x b h e = subst (λ (y : X). Contains xs y) (sym (e ∙ h.1)) (Contains-get_or xs i x.now h.3.0)

@@ -1,5 +1,5 @@
 //! What a scheme prepared of some backends, for every version in which they are the up ones, with the same weights.
-ghost use Rattle.std.specs.Prelude.{◌≡◌, ℕ, ◌↔◌, true, length, IsTrue, IfOk, IfErr, IfSome};
+ghost use Rattle.std.specs.Prelude.{◌≡◌, ℕ, ◌↔◌, true, length, IsTrue, IfOk, IfErr, IfSome, Contains};
 ghost use Rattle.std.specs.Arc.{arc_value};
 ghost use Rattle.pool_versions.specs.Pool.{AscendsByName};
 ghost use Rattle.selection.specs.Candidates.{among};
@@ -9,7 +9,7 @@ ghost use Rattle.selection.specs.Faults.{IsPrepareFault};
 use crate::scheme::{PrepareFault, Scheme};
 use maglev_table::{TableSize, Weight};
 use pool_versions::Backend;
-use std::alloc::Global;
+use std::alloc::{AllocError, Global};
 use std::marker::Model;
 use std::sync::Arc;
 
@@ -20,6 +20,8 @@ pub(crate) struct Choices<S: Scheme> {
     size: TableSize,
     ups: Vec<Backend>,
     weights: Vec<Weight>,
+    // Where a backend is looked for first, by what remains of its address.
+    places: Vec<usize>,
     prepared: S::Prepared,
 }
 
@@ -73,6 +75,19 @@ fn weigh_the_same(weights: &[Weight], others: &[Weight]) -> bool
     true
 }
 
+// For each remainder of an address by the number of backends the place of the last backend with it. Nothing rests on it.
+fn likely_places(alloc: Global, ups: &[Backend]) -> Result<Vec<usize>, AllocError> {
+    let mut places = Vec::new(alloc);
+    places.resize_with(ups.len(), || 0)?;
+    for place in 0..ups.len() {
+        let at = ups[place].addr as usize % ups.len();
+        if at < places.len() {
+            places[at] = place;
+        }
+    }
+    Ok(places)
+}
+
 impl<S: Scheme> Choices<S> {
     /// Prepares backends that ascend by name.
     pub(crate) fn make(
@@ -88,11 +103,13 @@ impl<S: Scheme> Choices<S> {
         ensures err { IfErr result (IsPrepareFault size ups.items) }
     {
         let prepared = scheme.prepare(alloc, size, ups.as_slice(), weights.as_slice())?;
+        let places = likely_places(alloc, ups.as_slice())?;
         let choices = Choices {
             scheme: *scheme,
             size,
             ups,
             weights,
+            places,
             prepared,
         };
         match Arc::new(alloc, choices) {
@@ -133,6 +150,20 @@ impl<S: Scheme> Choices<S> {
         ensures ascending { AscendsByName self.now.ups.backends }
     {
         self.ups.as_slice()
+    }
+
+    /// Whether a backend stands where its address lets expect it. If it doesn't, it may stand elsewhere.
+    pub(crate) fn is_where_expected(&self, backend: &Backend) -> bool
+        ensures { IsTrue result → Contains self.now.ups.backends backend.now }
+    {
+        if self.places.is_empty() {
+            return false;
+        }
+        let place = self.places[backend.addr as usize % self.places.len()];
+        match self.ups.get(place) {
+            Some(other) => is_same(backend, other),
+            None => false,
+        }
     }
 
     /// What the scheme prepared.

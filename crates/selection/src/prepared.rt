@@ -216,10 +216,15 @@ impl<S: Scheme> PreparedVersion<S> {
         }
     }
 
+    // The first service of a flow. The first of all is asked for most.
     fn first(&self, flow: &Flow) -> Option<&Ready<S>>
         ensures { option_copied result ≡ ready_for flow.now self.now.services }
     {
-        self.first_of(ServiceKey::of_flow(flow))
+        let key = ServiceKey::of_flow(flow);
+        match self.services.first() {
+            Some(ready) if ready.key() == key => Some(ready),
+            _ => self.first_of(key),
+        }
     }
 
     /// The first service that a flow is of, prepared. Ask it for a backend: that needs no condition.

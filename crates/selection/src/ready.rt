@@ -176,6 +176,9 @@ impl<S: Scheme> Ready<S> {
         ensures among { (result ≡ true) ↔ Contains self.now.ups.backends backend.now }
         ensures value { result ≡ list_any (same_backend backend.now) self.now.ups.backends }
     {
+        if self.choices.is_where_expected(backend) {
+            return true;
+        }
         is_among(self.choices.ups(), backend)
     }
 }

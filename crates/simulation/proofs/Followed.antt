@@ -1,5 +1,5 @@
 -- What is sent as events come.
-use Rattle.std.proofs.Common.{◌≡◌, ℕ, ◌+◌, ◌<◌, Bool, List, [], ◌∷◌, ◌++◌, length, drop, get_or, Option, Some, Result, Ok, Err, refl, sym, ap, ◌∙◌, subst, arith, append_assoc, drop-cons, add-one, suc, slice_get, append-nil}
+use Rattle.std.proofs.Common.{◌≡◌, ℕ, ◌+◌, ◌<◌, ◌≤◌, Bool, List, [], ◌∷◌, ◌++◌, length, drop, get_or, Option, Some, Result, Ok, Err, refl, sym, ap, ◌∙◌, subst, arith, append_assoc, drop-cons, add-one, suc, slice_get, append-nil}
 use Rattle.std.specs.Prelude.{OnOk}
 use Rattle.five_tuple.specs.declared.Flow.{Flow}
 use Rattle.pool_versions.specs.declared.backend.Backend.{Backend}
@@ -117,3 +117,14 @@ can_rest all k past rest s qs ps can e m = record { workers = can.workers; room 
 
 pub all_sent : (all : List Record) (k : Cluster) (past rest : List Said) (s : Said) (r : Record) (qs : List (List Record)) (t : Traffic) → CanSettle all k past (s ∷ rest) qs → ComesAs all r s.event → sent t (s ∷ rest) ≡ sent t rest
 all_sent all k past rest s r qs t can c = ap (λ (l : List Sending). l ++ sent t rest) (arrival_sends all k past s r t can.orderly (judged_onto k.judge (s ∷ past) rest can.judged) c)
+
+-- a list of one item
+pub only_one : (xs : List Said) (s : Said) → 1 ≤ length xs → length xs < 2 → s ≡ get_or xs 0 s → xs ≡ s ∷ []
+only_one [] s a b e = absurd (omega (arith, a))
+only_one (x ∷ []) s a b e = ap (λ (y : Said). y ∷ []) (sym e)
+only_one (x ∷ y ∷ ys) s a b e = absurd (omega (arith, b))
+
+-- an arrival and what takes its packet out at once send what is sent of its record
+pub sent_passed : (w : Wire) (all : List Record) (k : Cluster) (past : List Said) (s t : Said) (r : Record) (qs : List (List Record)) → CanSettle all k past (s ∷ t ∷ []) qs → ComesAs all r s.event
+    → ((n u i : ℕ) (x : Flow) (b : Backend) (v : ℕ) → t.outcome ≡ Forward n u i x b v → slice_get all i ≡ Some r) → sent_with (traffic w []) t.outcome r ≡ sent (traffic w all) (s ∷ t ∷ [])
+sent_passed w all k past s t r qs can c f = sent_as_taken w all t.outcome r f ∙ sym (append-nil (sent_by (traffic w all) t.outcome)) ∙ sym (all_sent all k past (t ∷ []) s r qs (traffic w all) can c)

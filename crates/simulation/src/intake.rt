@@ -49,6 +49,7 @@ impl Intake {
     }
 
     // What the records' bytes begin with.
+    #[inline(always)]
     pub(crate) fn link(&self) -> Link
         ensures { result ≡ self.now.head.link }
     {
@@ -56,6 +57,7 @@ impl Intake {
     }
 
     // How many were read.
+    #[inline(always)]
     pub(crate) fn given(&self) -> u32
         ensures value { result ≡ self.now.given }
         ensures few { self.now.given ≤ max_records }
@@ -64,6 +66,7 @@ impl Intake {
     }
 
     // The record read last.
+    #[inline(always)]
     pub(crate) fn frame(&self) -> &Frame
         ensures { packet result.now ≡ self.now.record_read }
     {
@@ -71,6 +74,7 @@ impl Intake {
     }
 
     // Reads the next record, unless the input has ended.
+    #[inline(always)]
     pub(crate) fn next<I: Source>(&mut self, input: &mut I) -> Result<bool, PcapFault>
         ensures head { self.new.head ≡ self.old.head }
         ensures more { (text : Tape) (seen : List Record) → Seen text seen (I.tape input.old) self.old → IfOk result (λ more. SeenMore more text seen (I.tape input.new) self.new) }
@@ -121,6 +125,7 @@ impl Intake {
     }
 
     // Hands the record read last out, and takes a frame in its place.
+    #[inline(always)]
     pub(crate) fn exchange(&mut self, frame: Frame) -> Frame
         ensures out { packet result ≡ self.old.record_read }
         ensures rest { self.new ≡ record self.old { record_read = packet frame } }

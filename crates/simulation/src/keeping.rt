@@ -47,6 +47,7 @@ fn copy_of_one(alloc: Global, frame: &Option<Frame>) -> Result<Option<Frame>, Al
 
 impl Kept {
     // How many steps that are left name a place.
+    #[inline(always)]
     fn times(&self, place: u32) -> u64
         ensures { result ≡ times_in (kept_at self.now place) }
     {
@@ -91,6 +92,7 @@ impl Kept {
     }
 
     // The record of the next place was read. It is kept if a step that is left names it.
+    #[inline(always)]
     pub(crate) fn note(
         &mut self,
         alloc: Global,

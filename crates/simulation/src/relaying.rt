@@ -4,7 +4,7 @@ ghost use Rattle.pcap_file.specs.Format.{Packet as Record, packet};
 ghost use Rattle.cluster_node.specs.declared.events.Said.{Said};
 ghost use Rattle.course.specs.Cluster.{Cluster};
 ghost use Rattle.waiting_frames.specs.Mirrors.{Mirrors, CanFollow, ComesAs, IsNoArrival};
-ghost use Rattle.simulation.specs.Sent.{sent, sent_by, Wrote, WroteUntil};
+ghost use Rattle.simulation.specs.Sent.{packet_in, sent, sent_by, Wrote, WroteUntil};
 ghost use Rattle.simulation.specs.Simulated.{IsOfRun};
 ghost use Rattle.simulation.specs.Wires.{traffic};
 ghost use Rattle.simulation.specs.PrivateGoing.{onto};
@@ -13,7 +13,7 @@ ghost use Rattle.simulation.specs.Following.{sent_with, NoArrivals, ArrivesFirst
 use crate::fault::SimulationFault;
 use crate::intake::Intake;
 use crate::sending::{Wire, send_record};
-use cluster_node::{Outcome, Said};
+use cluster_node::{Outcome, Packet, Said};
 use pcap_file::{Frame, Sink};
 use std::alloc::{AllocError, Global};
 use std::mem;
@@ -22,29 +22,32 @@ use waiting_frames::Waiting;
 /// The frames that wait, and room that is used again.
 #[derive(Drop)]
 pub(crate) struct Relay {
+    alloc: Global,
     waiting: Waiting,
     spare: Frame,
     room: Vec<u8>,
 }
 
-// Sends a record on, if the outcome says so.
+// Sends a record on, which was read as this packet, if the outcome says so.
 #[tactic(auto, unfolding(crate::specs::Following::sent_with))]
+#[inline(always)]
 fn send_taken<O: Sink>(
     room: &mut Vec<u8>,
     output: &mut O,
     wire: &Wire<'_>,
     outcome: &Outcome,
     frame: &Frame,
+    read: &Packet,
 ) -> Result<(), SimulationFault>
+    requires { read.now ≡ packet_in wire.now.link wire.now.check (packet frame.now) }
     ensures ok { OnOk result (Wrote (O.tape output.old) (O.tape output.new) (sent_with (traffic wire.now []) outcome.now (packet frame.now))) }
     ensures named { IfErr result IsOfRun }
     ensures cut { IfErr result (λ fault. WroteUntil fault (O.tape output.old) (O.tape output.new) (sent_with (traffic wire.now []) outcome.now (packet frame.now))) }
 {
     match outcome {
-        Outcome::Forward { node, backend, .. } => {
-            let read = wire.packet(frame);
-            send_record(room, output, wire, *node, backend, frame, &read)
-        }
+        Outcome::Forward { node, backend, .. } => send_record(
+            room, output, wire, *node, backend, frame, read,
+        ),
         _ => Ok(()),
     }
 }
@@ -56,6 +59,7 @@ impl Relay {
         ensures mirrors { IfOk result (λ r. (all : List Record) (k : Cluster) → Mirrors all k [] r.waiting) }
     {
         Ok(Relay {
+            alloc,
             waiting: Waiting::new(alloc, nodes)?,
             spare: Frame::empty(alloc),
             room: Vec::new(alloc),
@@ -63,6 +67,7 @@ impl Relay {
     }
 
     // Follows an event that is no arrival, and sends what it sends.
+    #[inline(always)]
     fn settle_one<O: Sink>(
         &mut self,
         wire: &Wire<'_>,
@@ -80,10 +85,19 @@ impl Relay {
             return Ok(());
         };
         self.spare = frame;
-        send_taken(&mut self.room, output, wire, &said.outcome, &self.spare)
+        let read = wire.packet(&self.spare);
+        send_taken(
+            &mut self.room,
+            output,
+            wire,
+            &said.outcome,
+            &self.spare,
+            &read,
+        )
     }
 
     // Follows events that are no arrivals.
+    #[inline(always)]
     pub(crate) fn settle_all<O: Sink>(
         &mut self,
         wire: &Wire<'_>,
@@ -107,13 +121,14 @@ impl Relay {
     }
 
     // Follows an arrival, whose packet has the record that was read last.
-    fn take_in(&mut self, alloc: Global, said: &Said, intake: &mut Intake) -> Result<(), AllocError>
+    #[inline(always)]
+    fn take_in(&mut self, said: &Said, intake: &mut Intake) -> Result<(), AllocError>
         ensures count { length self.new.waiting ≡ length self.old.waiting }
         ensures taken { (all : List Record) (k : Cluster) (past : List Said) → CanFollow all k past said.now self.old.waiting → ComesAs all intake.old.record_read said.now.event →
             OnOk result (Mirrors all k (said.now ∷ past) self.new.waiting) }
         ensures intake { (intake.new.given ≡ intake.old.given) × (intake.new.ended ≡ intake.old.ended) × (intake.new.head ≡ intake.old.head) }
     {
-        let spare = mem::replace(&mut self.spare, Frame::empty(alloc));
+        let spare = mem::replace(&mut self.spare, Frame::empty(self.alloc));
         let frame = intake.exchange(spare);
         if let Some(back) = self.waiting.arrive(said, frame)? {
             self.spare = back;
@@ -121,15 +136,18 @@ impl Relay {
         Ok(())
     }
 
-    // Follows the events of a packet that was delivered: its arrival, if it arrived, and what came behind it.
+    // Follows the events of a packet that was delivered, as which the record read last was read: its arrival, if it arrived,
+    // and what came behind it. Where the packet was served at once its frame isn't kept.
+    #[inline(always)]
     pub(crate) fn settle_delivered<O: Sink>(
         &mut self,
-        alloc: Global,
         wire: &Wire<'_>,
+        read: &Packet,
         events: &[Said],
         intake: &mut Intake,
         output: &mut O,
     ) -> Result<(), SimulationFault>
+        requires { read.now ≡ packet_in wire.now.link wire.now.check intake.old.record_read }
         ensures count { length self.new.waiting ≡ length self.old.waiting }
         ensures intake { (intake.new.given ≡ intake.old.given) × (intake.new.ended ≡ intake.old.ended) × (intake.new.head ≡ intake.old.head) }
         ensures settled { (all : List Record) (k : Cluster) (past : List Said) → CanSettle all k past events.now self.old.waiting → ArrivesFirst all intake.old.record_read events.now →
@@ -141,7 +159,15 @@ impl Relay {
         let Some((first, rest)) = events.split_first() else {
             return Ok(());
         };
-        self.take_in(alloc, first, intake)?;
-        self.settle_all(wire, rest, output)
+        match rest {
+            [next] if self.waiting.passes(first, next) => {
+                let frame = intake.frame();
+                send_taken(&mut self.room, output, wire, &next.outcome, frame, read)
+            }
+            _ => {
+                self.take_in(first, intake)?;
+                self.settle_all(wire, rest, output)
+            }
+        }
     }
 }

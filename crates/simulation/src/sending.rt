@@ -25,6 +25,7 @@ pub struct Wire<'a> {
 }
 
 // A record's time in microseconds.
+#[inline(always)]
 fn time_of(frame: &Frame) -> u64
     ensures { result ≡ time_of (packet frame.now) }
 {
@@ -35,6 +36,7 @@ fn time_of(frame: &Frame) -> u64
 
 impl<'a> Wire<'a> {
     /// A record as a packet, with the record's time.
+    #[inline(always)]
     pub fn packet(&self, frame: &Frame) -> Packet
         ensures { result ≡ packet_in self.now.link self.now.check (packet frame.now) }
     {
@@ -46,6 +48,7 @@ impl<'a> Wire<'a> {
         )
     }
 
+    #[inline(always)]
     fn address(&self, node: u16) -> Option<u32>
         ensures { result ≡ slice_get self.now.nodes.now node }
     {
@@ -54,6 +57,7 @@ impl<'a> Wire<'a> {
 }
 
 // The datagram of a packet in the bytes of its frame.
+#[inline(always)]
 fn datagram<'a>(link: Link, packet: &Packet, bytes: &'a [u8]) -> Option<&'a [u8]>
     ensures { option_map (λ d. d.now) result ≡ cut_to packet.now (frame_answer link bytes.now) }
 {
@@ -78,6 +82,7 @@ fn tunnelled(room: &mut Vec<u8>, inner: &[u8], node: u32, backend: u32) -> Resul
     }
 }
 
+#[inline(always)]
 fn put_record<O: Sink>(
     output: &mut O,
     secs: u32,
@@ -96,6 +101,7 @@ fn put_record<O: Sink>(
 }
 
 // A datagram is wrapped from a node's address to a backend's, and written with its record's time.
+#[inline(always)]
 fn put_wrapped<O: Sink>(
     room: &mut Vec<u8>,
     output: &mut O,
@@ -122,6 +128,7 @@ fn put_wrapped<O: Sink>(
 /// What a node sends to a backend of a record, which was read as this packet. The datagram is wrapped in the room, which is
 /// used again.
 #[tactic(auto, unfolding(crate::specs::Sent::datagram_in))]
+#[inline(always)]
 pub fn send_record<O: Sink>(
     room: &mut Vec<u8>,
     output: &mut O,

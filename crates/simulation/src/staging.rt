@@ -61,6 +61,7 @@ impl Stage {
     }
 
     // How frames are read, and the nodes' addresses.
+    #[inline(always)]
     fn wire<'a>(&self, plan: Plan<'a>) -> Wire<'a>
         ensures { result ≡ record { nodes = plan.entry.nodes; link = self.now.intake.head.link; check = plan.entry.check } }
     {
@@ -72,9 +73,9 @@ impl Stage {
     }
 
     // Delivers the record that was read last, and sends what is sent then.
+    #[inline(always)]
     fn deliver<C: Core, P: Spread, O: Sink>(
         &mut self,
-        alloc: Global,
         core: &mut C,
         setup: &C::Setup,
         spread: &P,
@@ -111,7 +112,7 @@ impl Stage {
         }
         let events = self.events.as_slice();
         self.relay
-            .settle_delivered(alloc, &wire, events, &mut self.intake, output)
+            .settle_delivered(&wire, &packet, events, &mut self.intake, output)
     }
 
     // A step that names no record.
@@ -155,6 +156,7 @@ impl Stage {
     }
 
     // Reads a record, and keeps it where a step that is left delivers it again.
+    #[inline(always)]
     fn read_one<I: Source>(&mut self, alloc: Global, input: &mut I) -> Result<bool, SimulationFault>
         ensures play { self.new.play ≡ self.old.play }
         ensures relay { self.new.relay ≡ self.old.relay }
@@ -180,6 +182,7 @@ impl Stage {
     }
 
     // Takes the next record: reads it and delivers it. Says whether there was one.
+    #[inline(always)]
     fn take_one<C: Core, P: Spread, I: Source, O: Sink>(
         &mut self,
         alloc: Global,
@@ -210,7 +213,7 @@ impl Stage {
             Err(fault) => return Err(fault),
         }
         let place = self.play.next_place();
-        match self.deliver(alloc, core, setup, spread, plan, place, output) {
+        match self.deliver(core, setup, spread, plan, place, output) {
             Ok(()) => Ok(true),
             Err(fault) => Err(fault),
         }
@@ -331,7 +334,7 @@ impl Stage {
         match self.kept.take(alloc, place) {
             Ok(Some(frame)) => {
                 let _ = self.intake.exchange(frame);
-                match self.deliver(alloc, core, setup, spread, plan, place, output) {
+                match self.deliver(core, setup, spread, plan, place, output) {
                     Ok(()) => Ok(()),
                     Err(fault) => Err(fault),
                 }

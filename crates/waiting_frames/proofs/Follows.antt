@@ -140,7 +140,7 @@ record_first : (q : List Record) (o : Option Record) → slice_get (map (λ (r :
 record_first [] o h = absurd (cc)
 record_first (r ∷ q) o h = (r, refl, cc)
 
-first_sent : (all : List Record) (k : Cluster) (past : List Said) (s : Said) (qs : List (List Record)) → CanFollow all k past s qs → (n w i : ℕ) (x : Flow) (b : Backend) (v : ℕ) → s.outcome ≡ Forward n w i x b v → IsFirst (taken_out s qs) (slice_get all i)
+pub first_sent : (all : List Record) (k : Cluster) (past : List Said) (s : Said) (qs : List (List Record)) → CanFollow all k past s qs → (n w i : ℕ) (x : Flow) (b : Backend) (v : ℕ) → s.outcome ≡ Forward n w i x b v → IsFirst (taken_out s qs) (slice_get all i)
 first_sent all k past s qs f n w i x b v e =
     let t : TakesFirst k past s.event n w i = f.orderly.first past s.event s.packet n w i x b v (sym f.judged.0 ∙ e) in
     let out : taken_out s qs ≡ slice_get (queue_at qs n w) 0 = ap (λ (o : Outcome). if accepted o then taken_by s.event qs else None) e ∙ ap (λ (a : Event). taken_by a qs) t.event in

@@ -13,7 +13,7 @@ at_place qs n w h = ap (λ (b : Bool). if b then slice_index_or qs (n * 16 + w) 
 same_place : (n w m u : ℕ) → w < 16 → u < 16 → n * 16 + w ≡ m * 16 + u → (m ≡ n) × (u ≡ w)
 same_place n w m u h g e = (omega arith, omega arith)
 
-and_parts : (a b : Bool) → (a && b) ≡ true → (a ≡ true) × (b ≡ true)
+pub and_parts : (a b : Bool) → (a && b) ≡ true → (a ≡ true) × (b ≡ true)
 and_parts true true h = (refl, refl)
 and_parts true false h = absurd (true≢false (sym h))
 and_parts false b h = absurd (true≢false (sym h))

@@ -1,6 +1,6 @@
 -- The queues of the frames that wait, and how an event moves them. A node has 16 of them, one for each worker that it may
 -- have, and they lie behind one another in the order of nodes and workers.
-use Rattle.std.specs.Prelude.{◌≡◌, ℕ, zero, suc, ◌+◌, ◌*◌, ◌<◌, ◌==◌, ◌&&◌, nat_lt, List, [], ◌∷◌, ◌++◌, length, drop, Option, Some, None, if◌then◌else◌, slice_get, slice_set, slice_index_or}
+use Rattle.std.specs.Prelude.{◌≡◌, ℕ, zero, suc, ◌+◌, ◌*◌, ◌<◌, ◌==◌, ◌&&◌, nat_lt, Bool, false, List, [], ◌∷◌, ◌++◌, length, drop, Option, Some, None, if◌then◌else◌, slice_get, slice_set, slice_index_or}
 use Rattle.pcap_file.specs.Format.{Packet as Record}
 use Rattle.cluster_node.specs.declared.packets.Packet.{Packet}
 use Rattle.cluster_node.specs.declared.packets.Packet.TheVariants.{Good, Bad}
@@ -105,3 +105,27 @@ first_at qs (Some place) = slice_get (slice_index_or qs place []) 0
 abbrev pub emptied : ℕ → ℕ → List (List Record) → List (List Record)
 emptied first zero qs = qs
 emptied first (suc count) qs = slice_set (emptied first count qs) (first + count) []
+
+-- a worker's queue is there, and nothing waits in it
+abbrev pub is_free : List (List Record) → ℕ → ℕ → Bool
+is_free qs n w = (nat_lt w 16 && nat_lt (n * 16 + w) (length qs)) && length (slice_index_or qs (n * 16 + w) []) == 0
+
+-- the node and the worker whose queue an event takes a packet out of
+abbrev pub serving_on : Event → Option (ℕ × ℕ)
+serving_on (Install n v) = None
+serving_on (Arrive n k marks) = None
+serving_on (Serve n w v refused) = Some (n, w)
+serving_on (Restart n) = None
+
+abbrev pub taken_on : Said → Option (ℕ × ℕ)
+taken_on s = if accepted s.outcome then serving_on s.event else None
+
+-- whether a packet that is placed there waits alone, and is taken out there
+abbrev pub alone_on : Option (ℕ × ℕ) → Option (ℕ × ℕ) → List (List Record) → Bool
+alone_on None on qs = false
+alone_on (Some at) None qs = false
+alone_on (Some at) (Some on) qs = (at.0 == on.0 && at.1 == on.1) && is_free qs at.0 at.1
+
+-- whether the packet of an arrival waits alone, and the event behind takes it out
+abbrev pub passes : Said → Said → List (List Record) → Bool
+passes s t qs = alone_on (placed_by s.event s.packet s.outcome) (taken_on t) qs

@@ -1,5 +1,5 @@
 //! The frames that wait at one worker.
-ghost use Rattle.std.specs.Prelude.{◌≡◌, ◌∷◌, ◌++◌, [], drop, slice_get, option_map, OnOk, OnErr};
+ghost use Rattle.std.specs.Prelude.{◌≡◌, ◌==◌, length, ◌∷◌, ◌++◌, [], drop, slice_get, option_map, OnOk, OnErr};
 ghost use Rattle.pcap_file.specs.Format.{packet};
 
 use pcap_file::Frame;
@@ -32,6 +32,7 @@ impl Queue {
     }
 
     // Puts a frame at the end.
+    #[inline(always)]
     pub(crate) fn put(&mut self, frame: Frame) -> Result<(), AllocError>
         ensures ok { OnOk result (self.new ≡ self.old ++ packet frame ∷ []) }
         ensures err { OnErr result (self.new ≡ self.old) }
@@ -41,11 +42,20 @@ impl Queue {
     }
 
     // Takes the first frame.
+    #[inline(always)]
     pub(crate) fn take(&mut self) -> Option<Frame>
         ensures taken { option_map packet result ≡ slice_get self.old 0 }
         ensures after { self.new ≡ drop 1 self.old }
     {
         self.frames.pop_front()
+    }
+
+    // Whether no frame waits.
+    #[inline(always)]
+    pub(crate) fn is_empty(&self) -> bool
+        ensures { result ≡ (length self.now == 0) }
+    {
+        self.frames.is_empty()
     }
 
     // Lets all frames go, and keeps the queue's room.

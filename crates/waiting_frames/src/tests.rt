@@ -155,3 +155,26 @@ fn a_frame_that_does_not_wait_comes_back(rt: HostRuntime) {
     assert_eq!(rt; placed(&rt, alloc, &mut all, (1, 15), 18), None);
     assert_eq!(rt; byte(&all.settle(&forward(&rt, 1, 15, 18))), Some(18));
 }
+
+#[test]
+fn a_packet_passes_where_none_waits(rt: HostRuntime) {
+    let alloc = rt.alloc();
+    let all = four(&rt, alloc);
+    let placed = |node: u16, worker: u16| arrival(node, 15, Outcome::Placed { worker, floor: 1 });
+    assert!(&rt; all.passes(&placed(1, 0), &forward(&rt, 1, 0, 15)));
+    assert!(&rt; all.passes(&placed(0, 15), &dropped(0, 15, 15)));
+    // Another packet waits there.
+    assert!(&rt; !all.passes(&placed(1, 2), &forward(&rt, 1, 2, 10)));
+    // Another worker serves, or another node's.
+    assert!(&rt; !all.passes(&placed(1, 0), &forward(&rt, 1, 3, 12)));
+    assert!(&rt; !all.passes(&placed(1, 0), &forward(&rt, 0, 0, 15)));
+    // Nobody serves, or nothing was placed.
+    let refused = serving(1, 0, Outcome::Refused(Reason::UnknownVersion));
+    assert!(&rt; !all.passes(&placed(1, 0), &refused));
+    let cause = Cause::RingsFull;
+    let full = arrival(1, 15, Outcome::Dropped { packet: 15, cause });
+    assert!(&rt; !all.passes(&full, &forward(&rt, 1, 0, 15)));
+    // There is no such worker, and no such node.
+    assert!(&rt; !all.passes(&placed(1, 16), &forward(&rt, 1, 16, 15)));
+    assert!(&rt; !all.passes(&placed(2, 0), &forward(&rt, 2, 0, 15)));
+}

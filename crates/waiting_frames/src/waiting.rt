@@ -1,11 +1,12 @@
 //! The frames that wait at all workers of a cluster.
-ghost use Rattle.std.specs.Prelude.{◌≡◌, ◌*◌, ◌<◌, ◌∷◌, ◌++◌, [], ℕ, List, length, drop, replicate, slice_get, slice_set, option_map, Some, IfOk, OnOk, OnErr, IfSome, IsSomeAnd};
+ghost use Rattle.std.specs.Prelude.{◌≡◌, true, ◌*◌, ◌<◌, ◌∷◌, ◌++◌, [], ℕ, List, length, drop, replicate, slice_get, slice_set, option_map, Some, IfOk, OnOk, OnErr, IfSome, IsSomeAnd};
 ghost use Rattle.pcap_file.specs.Format.{Packet as Record, packet};
 ghost use Rattle.cluster_node.specs.declared.events.Said.{Said};
 ghost use Rattle.cluster_node.specs.declared.outcomes.Outcome.TheVariants.{Forward};
 ghost use Rattle.cluster_node.specs.Record.{accepted};
+ghost use Rattle.cluster_node.specs.Records.{Judged};
 ghost use Rattle.course.specs.Cluster.{Cluster};
-ghost use Rattle.waiting_frames.specs.Queues.{place_of, Moves, only_at, placed_by, arrived, handed_back, unless_put, settled_by, settled, taken_by, taken_out, changed_at, first_at, emptied};
+ghost use Rattle.waiting_frames.specs.Queues.{place_of, Moves, only_at, placed_by, arrived, handed_back, unless_put, settled_by, settled, taken_by, taken_out, changed_at, first_at, emptied, is_free, taken_on, passes};
 ghost use Rattle.waiting_frames.specs.Mirrors.{Mirrors, CanFollow, ComesAs, IsNoArrival};
 
 use crate::queue::Queue;
@@ -32,6 +33,7 @@ impl Model for Waiting {
 }
 
 // Where a worker's queue lies among so many.
+#[inline(always)]
 fn place_of(count: usize, node: u16, worker: u16) -> Option<usize>
     ensures is { result ≡ place_of count node worker }
     ensures within { IfSome result (λ place. place < count) }
@@ -45,6 +47,7 @@ fn place_of(count: usize, node: u16, worker: u16) -> Option<usize>
 }
 
 // The node and the worker where an arrival made its packet wait.
+#[inline(always)]
 fn placed_by(said: &Said) -> Option<(u16, u16)>
     ensures { result ≡ placed_by said.now.event said.now.packet said.now.outcome }
 {
@@ -55,10 +58,22 @@ fn placed_by(said: &Said) -> Option<(u16, u16)>
     }
 }
 
+#[inline(always)]
 fn is_accepted(outcome: &Outcome) -> bool
     ensures { result ≡ accepted outcome.now }
 {
     !matches!(outcome, Outcome::Refused(_))
+}
+
+// The node and the worker whose queue an event takes a packet out of.
+#[inline(always)]
+fn taken_on(said: &Said) -> Option<(u16, u16)>
+    ensures { result ≡ taken_on said.now }
+{
+    match said.event {
+        Event::Serve { node, worker, .. } if is_accepted(&said.outcome) => Some((node, worker)),
+        _ => None,
+    }
 }
 
 fn clear_at(queues: &mut Vec<Queue>, place: usize)
@@ -93,6 +108,7 @@ impl Waiting {
         Ok(Waiting { queues })
     }
 
+    #[inline(always)]
     fn put(&mut self, node: u16, worker: u16, frame: Frame) -> Result<Option<Frame>, AllocError>
         ensures queues { OnOk result (self.new ≡ changed_at self.old (place_of (length self.old) node worker) (λ q. q ++ packet frame ∷ [])) }
         ensures back { IfOk result (λ back. option_map packet back ≡ unless_put (place_of (length self.old) node worker) (packet frame)) }
@@ -108,6 +124,7 @@ impl Waiting {
         }
     }
 
+    #[inline(always)]
     fn take(&mut self, node: u16, worker: u16) -> Option<Frame>
         ensures taken { option_map packet result ≡ first_at self.old (place_of (length self.old) node worker) }
         ensures after { self.new ≡ changed_at self.old (place_of (length self.old) node worker) (drop 1) }
@@ -121,7 +138,48 @@ impl Waiting {
         }
     }
 
+    // Whether a worker's queue is there, and nothing waits in it.
+    #[inline(always)]
+    fn is_free(&self, node: u16, worker: u16) -> bool
+        ensures { result ≡ is_free self.now node worker }
+    {
+        match place_of(self.queues.len(), node, worker) {
+            Some(place) => {
+                let queue = &self.queues[place];
+                queue.is_empty()
+            }
+            None => false,
+        }
+    }
+
+    #[inline(always)]
+    fn is_passed(&self, arrival: &Said, next: &Said) -> bool
+        ensures { result ≡ passes arrival.now next.now self.now }
+    {
+        match (placed_by(arrival), taken_on(next)) {
+            (Some((node, worker)), Some(on)) => on.0 == node
+                && on.1 == worker
+                && self.is_free(node, worker),
+            _ => false,
+        }
+    }
+
+    /// Whether the packet of an arrival waits alone, and the event behind takes it out again. Then both are followed as they
+    /// stand, and what is sent is that packet: its frame need not be kept.
+    #[inline(always)]
+    pub fn passes(&self, arrival: &Said, next: &Said) -> bool
+        ensures is { result ≡ passes arrival.now next.now self.now }
+        ensures mirrors { (all : List Record) (k : Cluster) (past : List Said) (r : Record) → result ≡ true → CanFollow all k past arrival.now self.now → ComesAs all r arrival.now.event →
+            Judged k.judge (next.now ∷ arrival.now ∷ past) → Mirrors all k (next.now ∷ arrival.now ∷ past) self.now }
+        ensures sent { (all : List Record) (k : Cluster) (past : List Said) (r : Record) → result ≡ true → CanFollow all k past arrival.now self.now → ComesAs all r arrival.now.event →
+            Judged k.judge (next.now ∷ arrival.now ∷ past) →
+            (n w i : ℕ) (x : _) (b : _) (v : ℕ) → next.now.outcome ≡ Forward n w i x b v → slice_get all i ≡ Some r }
+    {
+        self.is_passed(arrival, next)
+    }
+
     // Follows an event that was accepted.
+    #[inline(always)]
     fn settle_by(&mut self, event: &Event) -> Option<Frame>
         ensures queues { Moves self.old self.new (settled_by event.now) }
         ensures taken { option_map packet result ≡ taken_by event.now self.old }
@@ -139,6 +197,7 @@ impl Waiting {
 
     /// Follows an arrival, whose packet has this frame. Where the packet waits now, the frame is kept behind those that wait
     /// at its worker; else it is handed back.
+    #[inline(always)]
     pub fn arrive(&mut self, said: &Said, frame: Frame) -> Result<Option<Frame>, AllocError>
         ensures queues { OnOk result (Moves self.old self.new (arrived said.now (packet frame))) }
         ensures back { IfOk result (λ back. option_map packet back ≡ handed_back said.now (length self.old) (packet frame)) }
@@ -155,6 +214,7 @@ impl Waiting {
     /// Follows an event that is no arrival. The frame of a packet that was taken out of its queue is handed back.
     ///
     /// By the clause `sent` this is, where a packet was sent, that packet's frame.
+    #[inline(always)]
     pub fn settle(&mut self, said: &Said) -> Option<Frame>
         ensures queues { Moves self.old self.new (settled said.now) }
         ensures taken { option_map packet result ≡ taken_out said.now self.old }
