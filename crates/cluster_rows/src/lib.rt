@@ -1,8 +1,10 @@
-//! Tests of a cluster on threads: nodes and workers that serve at once, and a node that stops in full traffic; and of audits
-//! of a history whose outcomes are known.
+//! Tests of a cluster on threads: nodes and workers that serve at once, and a node that stops in full traffic; of audits of a
+//! history whose outcomes are known; and of a book in which two count.
 #![tactic(auto)]
 
 #[cfg(test)]
 mod audits;
+#[cfg(test)]
+mod counts;
 #[cfg(test)]
 mod runs;

@@ -16,6 +16,3 @@ pub use laws::tables_stay_tables;
 pub use lru_table::LruTable;
 pub use plain::PlainTable;
 pub use table::{ConnTable, Entry};
-
-#[cfg(test)]
-mod tests;

@@ -19,9 +19,6 @@ use selection::{PreparedVersion, Ready, Scheme};
 use std::alloc::{AllocError, Global};
 use std::marker::Model;
 
-#[cfg(test)]
-mod tests;
-
 /// Where a packet goes.
 #[derive(Clone, Copy, PartialEq, Eq)]
 pub enum Choice {

@@ -1,5 +1,9 @@
-//! Tests of the schemes of selection and of prepared versions.
+//! Tests of the schemes of selection and of prepared versions, of both connection tables, and of a forwarder.
 #![tactic(auto)]
 
 #[cfg(test)]
-mod tests;
+mod forwarders;
+#[cfg(test)]
+mod schemes;
+#[cfg(test)]
+mod tables;

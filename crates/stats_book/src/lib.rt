@@ -16,6 +16,3 @@ pub use book::{Blanks, StatsBook};
 pub use ledgers::{Names, Of};
 pub use shares::Shares;
 pub use stats::Stats;
-
-#[cfg(test)]
-mod tests;

@@ -1,12 +1,14 @@
 //! Packets served one after another, on both tables, with the backends that the worked examples give.
 ghost use Rattle.std.specs.Prelude.{◌<◌, ◌≤◌};
 
-use super::*;
-use connection_table::{LruTable, PlainTable};
+use connection_table::{ConnTable, LruTable, PlainTable};
+use five_tuple::Flow;
+use forwarder::{Choice, Forwarder};
 use hash_laws::SumHash;
 use maglev_table::{Name, TableSize, Weight};
-use pool_versions::{Member, Service, Version};
-use selection::Maglev;
+use pool_versions::{Backend, Member, Service, Version};
+use selection::{Maglev, PreparedVersion};
+use std::alloc::Global;
 use std::process::Abort;
 
 type Sums = Maglev<SumHash>;

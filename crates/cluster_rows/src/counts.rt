@@ -1,9 +1,9 @@
 //! Two threads' worth of counting, on one.
 ghost use Rattle.std.specs.Prelude.{◌≡◌, ℕ, slice_index};
 
-use super::*;
 use cluster_node::Cause;
 use std::marker::Brand;
+use stats_book::{Blanks, Names, Stats, StatsBook};
 
 // The counts of a book after some packets, and what each of two counters had of them.
 fn counted_by_two<B: Names>(blanks: Blanks) -> (Stats, bool)

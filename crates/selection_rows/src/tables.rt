@@ -1,7 +1,7 @@
 //! Sequences of touches and stores, on both tables.
 ghost use Rattle.std.specs.Prelude.{◌<◌, ◌≤◌};
 
-use super::*;
+use connection_table::{ConnTable, Entry, LruTable, PlainTable};
 use five_tuple::Flow;
 use maglev_table::Name;
 use pool_versions::Backend;
