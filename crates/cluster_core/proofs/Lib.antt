@@ -18,3 +18,4 @@ pub mod Order
 pub mod Told
 pub mod Promised
 pub mod Balanced
+pub mod Passing

@@ -42,7 +42,7 @@ get_below [] w u h = absurd (cc)
 get_below (y ∷ ws) zero u h = omega arith
 get_below (y ∷ ws) (suc w) u h = omega (arith, get_below ws w u h)
 
-get_of_or : (us : List NodeView) (k : ℕ) (d : NodeView) → k < length us → slice_get us k ≡ Some (get_or us k d)
+pub get_of_or : (us : List NodeView) (k : ℕ) (d : NodeView) → k < length us → slice_get us k ≡ Some (get_or us k d)
 get_of_or [] k d h = absurd (omega arith)
 get_of_or (u ∷ us) zero d h = refl
 get_of_or (u ∷ us) (suc k) d h = get_of_or us k d (omega arith)

@@ -17,7 +17,7 @@ mod reading;
 mod replaying;
 mod running;
 
-pub use cluster_node::{Cause, Event, Item, Outcome, Packet, Reason, Said};
+pub use cluster_node::{Cause, Event, Item, Outcome, Packet, Passed, Reason, Said};
 pub use counting::totals;
 pub use counts::Totals;
 pub use explaining::{Verdict, explain};

@@ -7,12 +7,13 @@ ghost use Rattle.cluster_node.specs.declared.events.Said.{Said};
 ghost use Rattle.cluster_node.specs.Record.{fresh, newest_of, lines_of};
 ghost use Rattle.cluster_core.specs.Setups.{Fixed, rules_for};
 ghost use Rattle.cluster_core.specs.RunView.{RunView};
-ghost use Rattle.cluster_core.specs.Runs.{prepared_with, prepared_above, prepared_for, is_known_in, newest_at, waiting_on, newest_said, waiting_said, RunStands, RunGoes};
+ghost use Rattle.cluster_core.specs.Runs.{prepared_with, prepared_above, prepared_for, is_known_in, newest_at, waiting_on, newest_said, waiting_said, RunStands, RunGoes, RunPasses};
+ghost use Rattle.cluster_node.specs.declared.events.Event.TheVariants.{Arrive, Serve};
 ghost use Rattle.cluster_core.specs.Totals.{came_of, went_of};
 ghost use Rattle.cluster_node.specs.Records.{WasRead, node_of, of_node};
 
 use crate::fixed::Setup;
-use cluster_node::{Event, Node, Outcome, Packet, Reason};
+use cluster_node::{Event, Node, Outcome, Packet, Passed, Reason};
 use connection_table::ConnTable;
 use hash_laws::FlowHash;
 use maglev_table::TableSize;
@@ -266,5 +267,60 @@ impl<S: Scheme, T: ConnTable> Run<S, T> {
         )?;
         let one = &mut self.nodes[at];
         one.step(&setup.hash(), &self.versions, known, *event, packet)
+    }
+
+    /// A packet comes to a node, and where it is placed its worker serves at once under the node's newest version. The setup
+    /// is the same in every step. Once memory was refused it is refused from then on.
+    ///
+    /// By the clause `verdict`, for every record for which the run stands, what is told is what the record gives of the
+    /// arrival and of the serving behind it, and the run stands for the record with them: it is what two calls of
+    /// [`step`](Self::step) do.
+    #[inline(always)]
+    pub fn pass<H: FlowHash>(
+        &mut self,
+        setup: &Setup<S, H>,
+        node: u16,
+        packet: u32,
+        refused: &[bool; 16],
+        body: &Packet,
+    ) -> Result<Passed, AllocError>
+        requires read { WasRead (Some body.now) }
+        ensures verdict { (pools : Pools) (past : List Said) → let rules = rules_for (λ s z. S.pick s z) (λ h. H.plain h) setup.now pools in
+            RunStands (λ s z. S.pick s z) rules past self.old →
+            IfOk result (λ q. RunPasses (λ s z. S.pick s z) rules past (Arrive node packet refused.now) body.now (λ w. Serve node w (newest_at (slice_get self.old.nodes node)) false) q self.new) }
+        ensures refused { OnErr result (IsTrue self.new.failed) }
+        ensures failed { IsTrue self.old.failed → IsErr result }
+    {
+        if self.failed {
+            return Err(AllocError);
+        }
+        let passed = self.advance_by(setup, node, packet, refused, body);
+        if passed.is_err() {
+            self.failed = true;
+        }
+        passed
+    }
+
+    // A packet comes to a node.
+    #[inline(always)]
+    fn advance_by<H: FlowHash>(
+        &mut self,
+        setup: &Setup<S, H>,
+        node: u16,
+        packet: u32,
+        refused: &[bool; 16],
+        body: &Packet,
+    ) -> Result<Passed, AllocError>
+        requires { WasRead (Some body.now) }
+        ensures { (pools : Pools) (past : List Said) → let rules = rules_for (λ s z. S.pick s z) (λ h. H.plain h) setup.now pools in
+            RunStands (λ s z. S.pick s z) rules past self.old →
+            IfOk result (λ q. RunPasses (λ s z. S.pick s z) rules past (Arrive node packet refused.now) body.now (λ w. Serve node w (newest_at (slice_get self.old.nodes node)) false) q self.new) }
+    {
+        let at = node as usize;
+        if at >= self.nodes.len() {
+            return Ok(Passed::Unplaced(Outcome::Refused(Reason::NoNode)));
+        }
+        let one = &mut self.nodes[at];
+        one.pass(&setup.hash(), &self.versions, node, packet, refused, body)
     }
 }

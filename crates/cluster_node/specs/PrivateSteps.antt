@@ -1,5 +1,5 @@
 -- One event of a node, by what the node keeps.
-use Rattle.std.specs.Prelude.{ℕ, ◌==◌, Bool, List, [], ◌∷◌, ◌++◌, length, map, Option, Some, None, if◌then◌else◌, nat_lt, slice_get, slice_set}
+use Rattle.std.specs.Prelude.{ℕ, ◌==◌, Bool, false, List, [], ◌∷◌, ◌++◌, length, map, Option, Some, None, if◌then◌else◌, nat_lt, slice_get, slice_set}
 use Rattle.std.specs.List.{list_any}
 use Rattle.five_tuple.specs.declared.Flow.{Flow}
 use Rattle.forwarder.specs.Serving.{Pick, ups_in}
@@ -14,7 +14,9 @@ use Rattle.cluster_node.specs.NodeView.{NodeView}
 use Rattle.cluster_node.specs.declared.packets.Packet.{Packet}
 use Rattle.cluster_node.specs.declared.packets.Packet.TheVariants.{Good, Bad}
 use Rattle.cluster_node.specs.declared.outcomes.Outcome.{Outcome}
-use Rattle.cluster_node.specs.declared.outcomes.Outcome.TheVariants.{Installed, Placed, Dropped, Refused}
+use Rattle.cluster_node.specs.declared.outcomes.Outcome.TheVariants.{Installed, Placed, Forward, Dropped, Restarted, Refused}
+use Rattle.cluster_node.specs.declared.outcomes.Passed.{Passed}
+use Rattle.cluster_node.specs.declared.outcomes.Passed.TheVariants.{Unplaced, Served}
 use Rattle.cluster_node.specs.declared.outcomes.Reason.TheVariants.{NoWorker, NoPacket, UnknownVersion, NotNewer, Idle}
 use Rattle.cluster_node.specs.declared.outcomes.Cause.TheVariants.{NoVersion, RingsFull}
 use Rattle.cluster_node.specs.Record.{prepared_at, of_taken, cleared}
@@ -92,3 +94,32 @@ serve_step pick_of ps n place w v r = serve_at pick_of ps n place w v r (slice_g
 
 abbrev pub restarted : NodeView → NodeView
 restarted n = record { newest = n.newest; installed = n.installed; cursor = 0; workers = map cleared n.workers }
+
+-- a worker at which one packet more waits
+abbrev pub with_item : WorkerView → Item → WorkerView
+with_item u i = record { queue = u.queue ++ i ∷ []; used = u.used; forwarding = u.forwarding }
+
+-- a packet that comes, and the serving that follows at once where it was placed, under the node's newest version
+pub record PassStep : Type 0 where
+  pub passed : Passed
+  pub after : NodeView
+
+abbrev pub served_at : ℕ → ℕ → NodeStep → PassStep
+served_at w floor s = record { passed = Served w floor s.outcome; after = s.after }
+
+abbrev pub pass_then : {S : Type 0} → (S → ℕ → Pick) → List (Readied S) → ℕ → NodeView → Outcome → PassStep
+pass_then pick_of ps place n Installed = record { passed = Unplaced Installed; after = n }
+pass_then pick_of ps place n (Placed w f) = served_at w f (serve_step pick_of ps n place w n.newest false)
+pass_then pick_of ps place n (Forward m w k x b v) = record { passed = Unplaced (Forward m w k x b v); after = n }
+pass_then pick_of ps place n (Dropped k c) = record { passed = Unplaced (Dropped k c); after = n }
+pass_then pick_of ps place n (Restarted lost) = record { passed = Unplaced (Restarted lost); after = n }
+pass_then pick_of ps place n (Refused r) = record { passed = Unplaced (Refused r); after = n }
+
+abbrev pub pass_after : {S : Type 0} → (S → ℕ → Pick) → List (Readied S) → ℕ → NodeStep → PassStep
+pass_after pick_of ps place s = pass_then pick_of ps place s.after s.outcome
+
+abbrev pub pass_on : {S : Type 0} → (S → ℕ → Pick) → List (Readied S) → (List ℕ → ℕ) → NodeView → ℕ → ℕ → List Bool → Flow → ℕ → PassStep
+pass_on pick_of ps plain n place k marks x t = pass_after pick_of ps place (arrive_on plain (length n.workers) n k marks x t)
+
+abbrev pub pass_step : {S : Type 0} → (S → ℕ → Pick) → List (Readied S) → (List ℕ → ℕ) → NodeView → ℕ → ℕ → List Bool → Packet → PassStep
+pass_step pick_of ps plain n place k marks p = pass_after pick_of ps place (arrive_step plain n k marks (Some p))

@@ -1,13 +1,18 @@
 -- The record of a whole cluster, newest first: what it has of one node and of one worker, and how it was said.
 use Rattle.std.specs.Prelude.{◌≡◌, ℕ, ◌==◌, Bool, true, false, List, [], ◌∷◌, Option, Some, None, if◌then◌else◌}
 use Rattle.cluster_node.specs.Book.{Line}
-use Rattle.cluster_node.specs.Record.{lines_of}
+use Rattle.cluster_node.specs.Record.{lines_of, node_verdict, NodeStands}
+use Rattle.cluster_node.specs.Rules.{Rules}
+use Rattle.cluster_node.specs.NodeView.{NodeView}
 use Rattle.cluster_node.specs.declared.packets.Packet.{Packet}
 use Rattle.cluster_node.specs.declared.packets.Packet.TheVariants.{Good, Bad}
 use Rattle.cluster_node.specs.declared.events.Event.{Event}
 use Rattle.cluster_node.specs.declared.events.Event.TheVariants.{Install, Arrive, Serve, Restart}
 use Rattle.cluster_node.specs.declared.events.Said.{Said}
 use Rattle.cluster_node.specs.declared.outcomes.Outcome.{Outcome}
+use Rattle.cluster_node.specs.declared.outcomes.Outcome.TheVariants.{Installed, Placed, Forward, Dropped, Restarted, Refused}
+use Rattle.cluster_node.specs.declared.outcomes.Passed.{Passed}
+use Rattle.cluster_node.specs.declared.outcomes.Passed.TheVariants.{Unplaced, Served}
 use Rattle.cluster_node.specs.declared.outcomes.Cause.{Cause}
 use Rattle.cluster_node.specs.declared.outcomes.Cause.TheVariants.{NotIpv4, Truncated, BadHeader, BadChecksum, Fragment, NotTcpUdp, BadTransport, TooLarge, NoService, NoBackend, NoVersion, RingsFull, LostAtRestart}
 
@@ -35,6 +40,45 @@ Judge = List Said → Event → Option Packet → Outcome
 abbrev pub Judged : Judge → List Said → Type 0
 Judged judge [] = Unit {0}
 Judged judge (s ∷ past) = (s.outcome ≡ judge past s.event s.packet) × Judged judge past
+
+-- an event with what the judge says of it
+abbrev pub said : Judge → List Said → Event → Option Packet → Said
+said judge past e p = record { event = e; packet = p; outcome = judge past e p }
+
+-- the worker on which an arrival was placed
+abbrev pub placed_on : Outcome → Option ℕ
+placed_on (Placed u f) = Some u
+placed_on Installed = None
+placed_on (Forward m u k x b v) = None
+placed_on (Dropped k d) = None
+placed_on (Restarted l) = None
+placed_on (Refused r) = None
+
+-- the record with the arrival, and where a worker has it, with that worker's serving
+abbrev pub with_arrival : Judge → List Said → Event → Packet → List Said
+with_arrival judge past e p = said judge past e (Some p) ∷ past
+
+abbrev pub with_serving : Judge → List Said → Event → Packet → Event → List Said
+with_serving judge past e p serving = said judge (with_arrival judge past e p) serving None ∷ with_arrival judge past e p
+
+-- A packet arrived, and where it was placed its worker served at once. What is told of both is the judge's, one after the
+-- other: serving at once is placing and then serving.
+abbrev pub AreTold : Judge → List Said → Event → Packet → (ℕ → Event) → Passed → Type 0
+AreTold judge past e p serving (Unplaced o) = (placed_on o ≡ None) × (o ≡ judge past e (Some p))
+AreTold judge past e p serving (Served w floor o) = (Placed w floor ≡ judge past e (Some p)) × (o ≡ judge (with_arrival judge past e p) (serving w) None)
+
+-- the record after both
+abbrev pub with_passing : Judge → List Said → Event → Packet → (ℕ → Event) → Passed → List Said
+with_passing judge past e p serving (Unplaced o) = with_arrival judge past e p
+with_passing judge past e p serving (Served w floor o) = with_serving judge past e p (serving w)
+
+-- the node stands for that record, and where the packet was placed another one stood for the record between
+abbrev pub StandsThrough : Rules → List Said → Event → Packet → (ℕ → Event) → Passed → NodeView → Type 0
+StandsThrough rules past e p serving (Unplaced o) m = NodeStands rules (with_arrival (node_verdict rules) past e p) m
+StandsThrough rules past e p serving (Served w floor o) m = (between : NodeView) × NodeStands rules (with_arrival (node_verdict rules) past e p) between × NodeStands rules (with_serving (node_verdict rules) past e p (serving w)) m
+
+abbrev pub NodePasses : Rules → List Said → Event → Packet → (ℕ → Event) → Passed → NodeView → Type 0
+NodePasses rules past e p serving q m = AreTold (node_verdict rules) past e p serving q × StandsThrough rules past e p serving q m
 
 -- a cause that reading a packet has
 abbrev pub of_reading : Cause → Bool

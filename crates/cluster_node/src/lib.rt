@@ -11,7 +11,7 @@ mod serving;
 mod steps;
 
 pub use events::{Event, Said};
-pub use outcomes::{Cause, Outcome, Reason};
+pub use outcomes::{Cause, Outcome, Passed, Reason};
 pub use packets::Packet;
 pub use serving::{Item, Taken};
 pub use steps::Node;

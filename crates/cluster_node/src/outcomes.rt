@@ -45,6 +45,20 @@ pub enum Reason {
     VersionRange,
 }
 
+/// What came of a packet that came to a node and was served at once where it was placed.
+#[derive(Clone, Copy, PartialEq, Eq)]
+pub enum Passed {
+    /// It wasn't placed: what its arrival came to.
+    Unplaced(Outcome),
+    /// It was placed on a worker, to be served under a version that is not below the floor, and the serving came to this
+    /// outcome.
+    Served {
+        worker: u16,
+        floor: u32,
+        outcome: Outcome,
+    },
+}
+
 /// What an event comes to.
 #[derive(Clone, Copy, PartialEq, Eq)]
 pub enum Outcome {

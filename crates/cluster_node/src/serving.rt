@@ -1,8 +1,10 @@
 //! A worker of a node: the packets that wait at it, and the forwarder that serves them.
-ghost use Rattle.std.specs.Prelude.{◌≡◌, ◌≤◌, ◌<◌, ◌∷◌, ◌++◌, [], ◌==◌, length, IfOk, OnOk, OnErr};
+ghost use Rattle.std.specs.Prelude.{◌≡◌, ◌≤◌, ◌<◌, ◌∷◌, ◌++◌, [], ◌==◌, true, false, length, IfOk, OnOk, OnErr};
 ghost use Rattle.forwarder.specs.Serving.{ups_in};
+ghost use Rattle.cluster_node.specs.declared.serving.Taken.TheVariants.{Done};
 ghost use Rattle.cluster_node.specs.WorkerView.{WorkerView};
 ghost use Rattle.cluster_node.specs.Book.{step_of};
+ghost use Rattle.cluster_node.specs.PrivateSteps.{with_item};
 ghost use Rattle.cluster_node.specs.Record.{cleared, fresh};
 
 use connection_table::{ConnTable, TableKey};
@@ -120,6 +122,35 @@ impl<S: Scheme, T: ConnTable> Worker<S, T> {
             item,
             choice: served.choice,
         })
+    }
+
+    // Whether a packet that comes now is served next under a version.
+    #[inline(always)]
+    pub(crate) fn is_ready(&self, version: u32) -> bool
+        ensures { result ≡ true → (self.now.queue ≡ []) × (self.now.used ≤ version) }
+    {
+        self.queue.is_empty() && self.used <= version
+    }
+
+    // Serves a packet that comes when none waits, under a version that is its floor.
+    #[inline(always)]
+    pub(crate) fn pass(
+        &mut self,
+        version: &PreparedVersion<S>,
+        item: &Item,
+    ) -> Result<Choice, AllocError>
+        requires queue { self.old.queue ≡ [] }
+        requires floor { item.now.floor ≡ version.now.number }
+        requires used { self.old.used ≤ version.now.number }
+        ensures taken { IfOk result (λ c. Done item.now c ≡ (step_of (S.pick version.now.scheme version.now.size) (λ x. ups_in version.now x) (with_item self.old item.now) version.now.number false).taken) }
+        ensures after { OnOk result (self.new ≡ (step_of (S.pick version.now.scheme version.now.size) (λ x. ups_in version.now x) (with_item self.old item.now) version.now.number false).after) }
+    {
+        let served = self.forwarder.serve(version, &item.flow, item.at, false);
+        self.used = version.number();
+        if served.unstored {
+            return Err(AllocError);
+        }
+        Ok(served.choice)
     }
 
     // Begins a new life: forgets all, and says how many packets waited.

@@ -1,14 +1,16 @@
 //! One node: its versions, its steerer and its workers.
-ghost use Rattle.std.specs.Prelude.{◌≡◌, ◌≤◌, ◌<◌, ◌%◌, ◌^◌, ◌==◌, ◌∷◌, [], ℕ, Bool, List, length, map, Option, Some, None, IfOk, OnOk, OnErr, slice_get, slice_set, replicate, nat_eq, vec_len};
+ghost use Rattle.std.specs.Prelude.{◌≡◌, ◌≤◌, ◌<◌, ◌%◌, ◌^◌, ◌==◌, ◌∷◌, [], ℕ, Bool, false, List, length, map, Option, Some, None, IfOk, OnOk, OnErr, slice_get, slice_set, replicate, nat_eq, vec_len};
 ghost use Rattle.std.specs.List.{list_any};
 ghost use Rattle.cluster_node.specs.Rules.{Rules};
 ghost use Rattle.cluster_node.specs.NodeView.{NodeView};
-ghost use Rattle.cluster_node.specs.PrivateSteps.{install_step, arrive_on, arrive_step, one_if, put_at, serve_step, restarted};
+ghost use Rattle.cluster_node.specs.PrivateSteps.{install_step, arrive_on, arrive_step, one_if, put_at, serve_step, restarted, with_item, pass_on, pass_step};
 ghost use Rattle.cluster_node.specs.Record.{of_taken, of_choice, node_verdict, ArePrepared, IsKnown, installed_of, waits, waiting_at, fresh, cleared, NodeStands, NodeGoes};
+ghost use Rattle.cluster_node.specs.Records.{NodePasses};
+ghost use Rattle.cluster_node.specs.declared.events.Event.TheVariants.{Arrive, Serve};
 ghost use Rattle.cluster_node.specs.declared.events.Said.{Said};
 
 use crate::events::Event;
-use crate::outcomes::{Cause, Outcome, Reason};
+use crate::outcomes::{Cause, Outcome, Passed, Reason};
 use crate::packets::Packet;
 use crate::serving::{Item, Taken, Worker};
 use connection_table::{ConnTable, TableKey};
@@ -102,6 +104,32 @@ fn serve_one<S: Scheme, T: ConnTable>(
     };
     let taken = one.take(prepared, refused)?;
     Ok(outcome_of(node, worker, taken))
+}
+
+// A packet comes to a worker, which serves the one that waits first then. Where none waits that is this packet, which need
+// not be put into the queue.
+#[inline(always)]
+fn pass_one<S: Scheme, T: ConnTable>(
+    one: &mut Worker<S, T>,
+    versions: &PreparedVersions<S>,
+    installed: bool,
+    node: u16,
+    worker: u16,
+    item: &Item,
+) -> Result<Outcome, AllocError>
+    ensures outcome { IfOk result (λ o. o ≡ (one_if (λ s z. S.pick s z) versions.now installed node worker (with_item one.old item.now) item.now.floor false).outcome) }
+    ensures after { OnOk result (one.new ≡ (one_if (λ s z. S.pick s z) versions.now installed node worker (with_item one.old item.now) item.now.floor false).after) }
+{
+    match versions.find(item.floor) {
+        Some(prepared) if installed && one.is_ready(item.floor) => {
+            let choice = one.pass(prepared, item)?;
+            Ok(sent(node, worker, item, choice))
+        }
+        _ => {
+            one.put(*item)?;
+            serve_one(one, versions, installed, node, worker, item.floor, false)
+        }
+    }
 }
 
 // A packet waits at a worker.
@@ -330,5 +358,100 @@ impl<S: Scheme, T: ConnTable> Node<S, T> {
                 lost: self.restart(),
             }),
         }
+    }
+
+    fn pass_flow<H: FlowHash>(
+        &mut self,
+        hash: &H,
+        versions: &PreparedVersions<S>,
+        node: u16,
+        packet: u32,
+        refused: &[bool; 16],
+        flow: &Flow,
+        at: u64,
+    ) -> Result<Passed, AllocError>
+        ensures passed { IfOk result (λ p. p ≡ (pass_on (λ s z. S.pick s z) versions.now (H.plain hash.now) self.old node packet refused.now flow.now at).passed) }
+        ensures after { OnOk result (self.new ≡ (pass_on (λ s z. S.pick s z) versions.now (H.plain hash.now) self.old node packet refused.now flow.now at).after) }
+        ensures kept { OnErr result ((self.new.newest ≡ self.old.newest) × (self.new.installed ≡ self.old.installed)) }
+    {
+        let floor = self.newest;
+        let installed = self.has(floor);
+        if self.newest == 0 {
+            let cause = Cause::NoVersion;
+            return Ok(Passed::Unplaced(Outcome::Dropped { packet, cause }));
+        }
+        match self.steerer.place(hash, flow, refused) {
+            Placed::RingsFull => {
+                let cause = Cause::RingsFull;
+                Ok(Passed::Unplaced(Outcome::Dropped { packet, cause }))
+            }
+            Placed::Worker(worker) => {
+                let item = Item {
+                    packet,
+                    flow: *flow,
+                    at,
+                    floor,
+                };
+                let one = &mut self.workers[worker as usize];
+                let outcome = pass_one(one, versions, installed, node, worker, &item)?;
+                Ok(Passed::Served {
+                    worker,
+                    floor,
+                    outcome,
+                })
+            }
+        }
+    }
+
+    #[inline(always)]
+    fn pass_packet<H: FlowHash>(
+        &mut self,
+        hash: &H,
+        versions: &PreparedVersions<S>,
+        node: u16,
+        packet: u32,
+        refused: &[bool; 16],
+        body: &Packet,
+    ) -> Result<Passed, AllocError>
+        ensures passed { IfOk result (λ p. p ≡ (pass_step (λ s z. S.pick s z) versions.now (H.plain hash.now) self.old node packet refused.now body.now).passed) }
+        ensures after { OnOk result (self.new ≡ (pass_step (λ s z. S.pick s z) versions.now (H.plain hash.now) self.old node packet refused.now body.now).after) }
+        ensures kept { OnErr result ((self.new.newest ≡ self.old.newest) × (self.new.installed ≡ self.old.installed)) }
+    {
+        match body {
+            Packet::Bad(cause) => Ok(Passed::Unplaced(Outcome::Dropped {
+                packet,
+                cause: *cause,
+            })),
+            Packet::Good { flow, at, .. } => {
+                self.pass_flow(hash, versions, node, packet, refused, flow, *at)
+            }
+        }
+    }
+
+    /// A packet comes to this node, whose place is told, and where it is placed its worker serves at once under the node's
+    /// newest version: two events, of which the queue sees nothing where no other packet waits. All versions that were
+    /// installed are among the prepared ones.
+    ///
+    /// By the clause `verdict` what is told is what the record gives of both, one after the other, and the node stands for
+    /// the record with them, for every record for which it stands: serving at once is placing and then serving. Where memory
+    /// was refused the versions installed are as they were (`kept`); nothing is said of the queues, and a run ends there.
+    #[inline(always)]
+    pub fn pass<H: FlowHash>(
+        &mut self,
+        hash: &H,
+        versions: &PreparedVersions<S>,
+        node: u16,
+        packet: u32,
+        refused: &[bool; 16],
+        body: &Packet,
+    ) -> Result<Passed, AllocError>
+        ensures verdict { (rules : Rules) → (past : List Said) →
+            rules.plain ≡ H.plain hash.now →
+            ArePrepared (λ s z. S.pick s z) rules versions.now (installed_of past) →
+            NodeStands rules past self.old →
+            IfOk result (λ p. NodePasses rules past (Arrive node packet refused.now) body.now (λ w. Serve node w self.old.newest false) p self.new) }
+        ensures kept { OnErr result ((self.new.newest ≡ self.old.newest) × (self.new.installed ≡ self.old.installed)) }
+    {
+        self.pass_packet(hash, versions, node, packet, refused, body)
     }
 }
