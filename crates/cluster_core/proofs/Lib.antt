@@ -18,3 +18,5 @@ pub mod Order
 pub mod Told
 pub mod Promised
 pub mod Balanced
+pub mod Ordered
+pub mod Counted
