@@ -13,7 +13,7 @@ use Rattle.node_records.specs.Losses.{as_written}
 use Rattle.spreader.specs.Choices.{Choice}
 use Rattle.scenario_steps.specs.declared.Step.{Step}
 use Rattle.scenario_steps.specs.declared.Step.TheVariants as steps
-use Rattle.course.specs.Cluster.{Cluster, flow_of, waiting_on}
+use Rattle.cluster_core.specs.Cluster.{Cluster, flow_of, waiting_on}
 use Rattle.course.specs.Course.{Course}
 use Rattle.course.specs.Steps.{World, world_of, placed_on, is_held, say, serve, follow, arrival, arrive, route, deliver, take_all, repeat, serve_times, drain_from, release, next_ones, after, run, start, below}
 use Rattle.course.specs.Tally.{tally_of}

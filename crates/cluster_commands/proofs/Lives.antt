@@ -15,7 +15,7 @@ use Rattle.node_records.specs.Losses.{drained_lives}
 use Rattle.scenario_steps.specs.declared.Step.{Step}
 use Rattle.scenario_steps.specs.declared.Step.TheVariants as steps
 use Rattle.spreader.specs.Choices.{Choice}
-use Rattle.course.specs.Cluster.{Cluster, said, newest_on, flow_of, waiting_on}
+use Rattle.cluster_core.specs.Cluster.{Cluster, said, newest_on, flow_of, waiting_on}
 use Rattle.course.specs.Course.{Course}
 use Rattle.course.specs.Steps.{World, world_of, placed_on, is_held, say, serve, follow, arrival, arrive, route, deliver, take_all, repeat, serve_times, drain_from, release, next_ones, after, run, start, below}
 use Rattle.cluster_commands.specs.Orders.{commands_on, events_of, course_on, plan_of, ends_by, ends_on, orders_on, orders_of, EndsAreTold}

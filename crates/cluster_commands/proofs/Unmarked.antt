@@ -13,7 +13,7 @@ use Rattle.cluster_node.specs.Records.{node_of}
 use Rattle.node_records.specs.Histories.{commands_of}
 use Rattle.scenario_steps.specs.declared.Step.{Step}
 use Rattle.scenario_steps.specs.declared.Step.TheVariants as steps
-use Rattle.course.specs.Cluster.{flow_of}
+use Rattle.cluster_core.specs.Cluster.{flow_of}
 use Rattle.course.specs.Course.{Course}
 use Rattle.course.specs.Steps.{World, world_of, none_marked, marks_or, marks_at, placed_on, is_held, say, serve, follow, arrival, arrive, route, deliver, take_all, repeat, next_ones, after, run, start}
 use Rattle.cluster_commands.specs.Knowing.{is_known, first_unknown_of}

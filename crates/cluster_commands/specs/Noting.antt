@@ -4,7 +4,7 @@ use Rattle.cluster_node.specs.declared.events.Event.TheVariants.{Install, Arrive
 use Rattle.cluster_node.specs.declared.outcomes.Outcome.{Outcome}
 use Rattle.cluster_node.specs.declared.outcomes.Outcome.TheVariants.{Installed, Dropped, Restarted}
 use Rattle.cluster_node.specs.declared.outcomes.Cause.TheVariants.{NoService, RingsFull}
-use Rattle.course.specs.Cluster.{Cluster}
+use Rattle.cluster_core.specs.Cluster.{Cluster}
 
 abbrev pub answer : Event → Outcome
 answer (Install n v) = Installed

@@ -12,7 +12,7 @@ use Rattle.scenario_steps.specs.declared.Step.{Step}
 use Rattle.scenario_steps.specs.declared.Step.TheVariants as steps
 use Rattle.node_records.specs.Losses.{ending, drained_lives}
 use Rattle.spreader.specs.Choices.{Choice}
-use Rattle.course.specs.Cluster.{Cluster}
+use Rattle.cluster_core.specs.Cluster.{Cluster}
 use Rattle.course.specs.Course.{Course}
 use Rattle.course.specs.Steps.{none_marked, world_of, run, start, below}
 use Rattle.cluster_commands.specs.Knowing.{first_unknown_of}

@@ -1,6 +1,6 @@
 //! The commands of each node's driver.
 ghost use Rattle.std.specs.Prelude.{◌≡◌, ◌<◌, ◌^◌, [], length, map, replicate, IfOk, OnOk, All};
-ghost use Rattle.course.specs.Cluster.{Cluster, WereRead};
+ghost use Rattle.cluster_core.specs.Cluster.{Cluster, WereRead};
 ghost use Rattle.course.specs.Steps.{below};
 ghost use Rattle.course.specs.Tally.{tally_of};
 ghost use Rattle.node_records.specs.Losses.{as_written, drained_lives};

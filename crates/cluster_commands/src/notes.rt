@@ -2,8 +2,8 @@
 ghost use Rattle.std.specs.Prelude.{◌≡◌};
 ghost use Rattle.cluster_commands.specs.Noting.{answer, noting};
 
+use cluster_core::Core;
 use cluster_node::{Cause, Event, Outcome, Packet};
-use course::Core;
 use std::alloc::AllocError;
 
 /// Places no packet, so that nothing is served.
@@ -17,7 +17,7 @@ impl Core for Notes {
 
     ghost stands = { λ setup past core. Unit {0} };
 
-    #[tactic(auto, unfolding(course::specs::Cluster::newest_on))]
+    #[tactic(auto, unfolding(cluster_core::specs::Cluster::newest_on))]
     fn step(
         &mut self,
         setup: &(),
@@ -57,14 +57,14 @@ impl Core for Notes {
         0
     }
 
-    #[tactic(auto, unfolding(course::specs::Cluster::newest_on))]
+    #[tactic(auto, unfolding(cluster_core::specs::Cluster::newest_on))]
     fn newest(&self, setup: &(), node: u16) -> u32 {
         let _ = setup;
         let _ = node;
         0
     }
 
-    #[tactic(auto, unfolding(course::specs::Cluster::waiting_on))]
+    #[tactic(auto, unfolding(cluster_core::specs::Cluster::waiting_on))]
     fn waiting(&self, setup: &(), node: u16, worker: u16) -> u64 {
         let _ = setup;
         let _ = node;

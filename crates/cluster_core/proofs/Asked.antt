@@ -13,7 +13,8 @@ use Rattle.cluster_node.specs.Records.{of_node, lines_at}
 use Rattle.cluster_node.proofs.Records.{get_below, get_past}
 use Rattle.cluster_core.specs.RunView.{RunView}
 use Rattle.cluster_core.specs.Totals.{came_of, went_of}
-use Rattle.cluster_core.specs.Runs.{RunStands, waiting_in, newest_at, waiting_on, waiting_by, newest_said, waiting_said}
+use Rattle.cluster_core.specs.Cluster.{newest_on, left_of, waiting_on}
+use Rattle.cluster_core.specs.Runs.{cluster_by, RunStands, waiting_in, newest_at, queued_at}
 use Rattle.cluster_core.proofs.Nodes.{get_below as node_below}
 
 node_past : (ws : List NodeView) (w : ℕ) → slice_get ws w ≡ None → length ws ≤ w
@@ -28,26 +29,28 @@ module _ {S : Type 0} (pick_of : S → ℕ → Pick) (rules : Rules) (past : Lis
   missing : (n : ℕ) → slice_get run.nodes n ≡ None → nat_lt n rules.nodes ≡ false
   missing n h = le-ltb n rules.nodes (subst (λ (k : ℕ). k ≤ n) st.count (node_past run.nodes n h))
 
-  pub newest_is : (n : ℕ) → newest_at (slice_get run.nodes n) ≡ newest_said rules n past
+  pub newest_is : (n : ℕ) → newest_at (slice_get run.nodes n) ≡ newest_on (cluster_by rules) n past
+  unfolding newest_on
   newest_is n = go (slice_get run.nodes n) refl
     where
-      go : (o : Option NodeView) → slice_get run.nodes n ≡ o → newest_at o ≡ newest_said rules n past
+      go : (o : Option NodeView) → slice_get run.nodes n ≡ o → newest_at o ≡ newest_on (cluster_by rules) n past
       go None h = ap (λ (b : Bool). if b then newest_of (of_node n past) else 0) (sym (missing n h))
       go (Some m) h = (st.each n m h).newest ∙ ap (λ (b : Bool). if b then newest_of (of_node n past) else 0) (sym (there n m h))
 
-  on_worker : (n w : ℕ) (m : NodeView) → NodeStands rules (of_node n past) m → (o : Option WorkerView) → slice_get m.workers w ≡ o → waiting_at o ≡ (if nat_lt w rules.workers then waiting_by (lines_at past n w) else 0)
-  on_worker n w m ns None h = ap (λ (b : Bool). if b then waiting_by (lines_at past n w) else 0) (sym (le-ltb w rules.workers (subst (λ (k : ℕ). k ≤ w) ns.count (get_past m.workers w h))))
+  on_worker : (n w : ℕ) (m : NodeView) → NodeStands rules (of_node n past) m → (o : Option WorkerView) → slice_get m.workers w ≡ o → waiting_at o ≡ (if nat_lt w rules.workers then left_of (lines_at past n w) else 0)
+  on_worker n w m ns None h = ap (λ (b : Bool). if b then left_of (lines_at past n w) else 0) (sym (le-ltb w rules.workers (subst (λ (k : ℕ). k ≤ w) ns.count (get_past m.workers w h))))
   on_worker n w m ns (Some u) h =
       let s : Stands rules (lines_at past n w) u = ns.each w u h in
       ap (λ (x : WorkerView). length x.queue) s.is ∙ length-drop (taken_count (lines_at past n w)) (placed (lines_at past n w))
-      ∙ ap (λ (b : Bool). if b then waiting_by (lines_at past n w) else 0) (sym (lt-ltb w rules.workers (subst (λ (k : ℕ). w < k) ns.count (get_below m.workers w u h))))
+      ∙ ap (λ (b : Bool). if b then left_of (lines_at past n w) else 0) (sym (lt-ltb w rules.workers (subst (λ (k : ℕ). w < k) ns.count (get_below m.workers w u h))))
 
-  pub waiting_is : (n w : ℕ) → waiting_on w (slice_get run.nodes n) ≡ waiting_said rules n w past
+  pub waiting_is : (n w : ℕ) → queued_at w (slice_get run.nodes n) ≡ waiting_on (cluster_by rules) n w past
+  unfolding waiting_on
   waiting_is n w = go (slice_get run.nodes n) refl
     where
-      go : (o : Option NodeView) → slice_get run.nodes n ≡ o → waiting_on w o ≡ waiting_said rules n w past
-      go None h = ap (λ (b : Bool). if b && nat_lt w rules.workers then waiting_by (lines_at past n w) else 0) (sym (missing n h))
-      go (Some m) h = on_worker n w m (st.each n m h) (slice_get m.workers w) refl ∙ ap (λ (b : Bool). if b && nat_lt w rules.workers then waiting_by (lines_at past n w) else 0) (sym (there n m h))
+      go : (o : Option NodeView) → slice_get run.nodes n ≡ o → queued_at w o ≡ waiting_on (cluster_by rules) n w past
+      go None h = ap (λ (b : Bool). if b && nat_lt w rules.workers then left_of (lines_at past n w) else 0) (sym (missing n h))
+      go (Some m) h = on_worker n w m (st.each n m h) (slice_get m.workers w) refl ∙ ap (λ (b : Bool). if b && nat_lt w rules.workers then left_of (lines_at past n w) else 0) (sym (there n m h))
 
   pub balanced_run : went_of past ≤ came_of past
   balanced_run = let b : waiting_in run.nodes + went_of past ≡ came_of past = st.balance in omega arith

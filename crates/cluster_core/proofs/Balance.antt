@@ -26,23 +26,23 @@ use Rattle.cluster_node.specs.Rules.{Rules}
 use Rattle.cluster_node.specs.declared.events.Said.{Said}
 use Rattle.cluster_node.specs.Record.{accepted, lines_of, of_taken, of_choice, install_verdict, arrive_verdict, steered, serve_verdict, node_verdict, newest_of, refusals_of, installed_of, placed_count, served_count, placed_by, served_by, waits, by_queue}
 use Rattle.cluster_core.specs.Runs.{waiting_in}
-use Rattle.cluster_core.specs.Totals.{came, of_serving, went, came_all, went_all}
+use Rattle.cluster_core.specs.Totals.{came, went, came_all, went_all}
 use Rattle.cluster_node.specs.Records.{WasRead, of_reading}
 
-reading_not_serving : (c : Cause) → of_reading c ≡ true → of_serving c ≡ 0
-reading_not_serving NotIpv4 h = refl
-reading_not_serving Truncated h = refl
-reading_not_serving BadHeader h = refl
-reading_not_serving BadChecksum h = refl
-reading_not_serving Fragment h = refl
-reading_not_serving NotTcpUdp h = refl
-reading_not_serving BadTransport h = refl
-reading_not_serving TooLarge h = refl
-reading_not_serving NoService h = absurd (false≢true h)
-reading_not_serving NoBackend h = absurd (false≢true h)
-reading_not_serving NoVersion h = refl
-reading_not_serving RingsFull h = refl
-reading_not_serving LostAtRestart h = refl
+reading_not_serving : (k : ℕ) (c : Cause) → of_reading c ≡ true → went (Dropped k c) ≡ 0
+reading_not_serving k NotIpv4 h = refl
+reading_not_serving k Truncated h = refl
+reading_not_serving k BadHeader h = refl
+reading_not_serving k BadChecksum h = refl
+reading_not_serving k Fragment h = refl
+reading_not_serving k NotTcpUdp h = refl
+reading_not_serving k BadTransport h = refl
+reading_not_serving k TooLarge h = refl
+reading_not_serving k NoService h = absurd (false≢true h)
+reading_not_serving k NoBackend h = absurd (false≢true h)
+reading_not_serving k NoVersion h = refl
+reading_not_serving k RingsFull h = refl
+reading_not_serving k LostAtRestart h = refl
 
 -- a serving takes one packet out exactly where it is accepted
 abbrev pub TakesOne : Outcome → Type 0
@@ -88,7 +88,7 @@ module _ (before after s p : ℕ) (h : before + s ≡ p) where
 
   arrive_moves : (rules : Rules) (newest cursor n k : ℕ) (marks : List Bool) (x : Option Packet) → WasRead x → after + served_by (Arrive n k marks) (arrive_verdict rules newest cursor k marks x) s ≡ placed_by (Arrive n k marks) (arrive_verdict rules newest cursor k marks x) p → Moves before after (arrive_verdict rules newest cursor k marks x)
   arrive_moves rules newest cursor n k marks None r e = omega arith
-  arrive_moves rules newest cursor n k marks (Some (Bad c)) r e = omega (arith, reading_not_serving c r)
+  arrive_moves rules newest cursor n k marks (Some (Bad c)) r e = omega (arith, reading_not_serving k c r)
   arrive_moves rules newest cursor n k marks (Some (Good x l t)) r e = go (newest == 0) e
     where
       go : (b : Bool) → after + s ≡ placed_by (Arrive n k marks) (if b then Dropped k NoVersion else steered newest k (place_for marks rules.workers (home_of rules.plain rules.workers x) cursor)) p → Moves before after (if b then Dropped k NoVersion else steered newest k (place_for marks rules.workers (home_of rules.plain rules.workers x) cursor))

@@ -19,3 +19,5 @@ pub mod Told
 pub mod Promised
 pub mod Balanced
 pub mod Passing
+pub mod Ordered
+pub mod Counted

@@ -26,8 +26,8 @@ use Rattle.cluster_node.specs.Rules.{Rules}
 use Rattle.cluster_node.specs.Record.{accepted, placed_line, arrived_line, line_by, lines_of, of_taken, of_choice, install_verdict, arrive_verdict, steered, by_queue, serve_verdict, node_verdict, newest_of, installed_of}
 use Rattle.cluster_node.specs.Records.{Judged, node_of, of_node, lines_at}
 use Rattle.cluster_node.proofs.Books.{drop_at}
-use Rattle.cluster_core.specs.Runs.{verdict}
-use Rattle.cluster_core.specs.Histories.{TakesNext}
+use Rattle.cluster_core.specs.Cluster.{TakesFirst}
+use Rattle.cluster_core.specs.Runs.{verdict, cluster_by}
 
 abbrev pub Sound : List Line → Type 0
 Sound ls = taken_count ls ≤ length (placed ls)
@@ -166,10 +166,10 @@ module _ (m u place : ℕ) (x : Flow) (b : Backend) (o : ℕ) where
       not_if (newest == 0) (Dropped k NoVersion) (steered newest k (place_for marks rules.workers (home_of rules.plain rules.workers y) cursor)) (λ z. absurd (cc)) (steered_sends newest k (place_for marks rules.workers (home_of rules.plain rules.workers y) cursor)) h
 
   abbrev pub Takes : Rules → List Said → Event → Type 0
-  Takes rules past e = TakesNext rules past e m u place
+  Takes rules past e = TakesFirst (cluster_by rules) past e m u place
 
-  of_serving : (rules : Rules) (past : List Said) (n w v : ℕ) (r : Bool) → n < rules.nodes → ServesOn rules (of_node n past) n w → Takes rules past (Serve n w v r)
-  of_serving rules past n w v r there g = record {
+  by_serving : (rules : Rules) (past : List Said) (n w v : ℕ) (r : Bool) → n < rules.nodes → ServesOn rules (of_node n past) n w → Takes rules past (Serve n w v r)
+  by_serving rules past n w v r there g = record {
     version = v;
     refused = r;
     item = g.0.item;
@@ -183,7 +183,7 @@ module _ (m u place : ℕ) (x : Flow) (b : Backend) (o : ℕ) where
   node_sends : (rules : Rules) (past : List Said) (e : Event) (p : Option Packet) → node_of e < rules.nodes → Sends (node_verdict rules (of_node (node_of e) past) e p) → Takes rules past e
   node_sends rules past (Install n v) p there h = absurd (install_sends (rules.known v) (newest_of (of_node n past)) v h)
   node_sends rules past (Arrive n k marks) p there h = absurd (arrive_sends rules (newest_of (of_node n past)) _ k marks p h)
-  node_sends rules past (Serve n w v r) p there h = of_serving rules past n w v r there (serve_sends rules (of_node n past) n w v r h)
+  node_sends rules past (Serve n w v r) p there h = by_serving rules past n w v r there (serve_sends rules (of_node n past) n w v r h)
   node_sends rules past (Restart n) p there h = absurd (cc)
 
   pub verdict_sends : (rules : Rules) (past : List Said) (e : Event) (p : Option Packet) → Sends (verdict rules past e p) → Takes rules past e

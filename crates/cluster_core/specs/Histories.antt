@@ -1,19 +1,18 @@
 -- What is true of every record whose outcomes are the verdicts. A record has the newest event in front, a history the oldest.
-use Rattle.std.specs.Prelude.{◌≡◌, ◌≤◌, ◌<◌, ℕ, Bool, List, [], ◌∷◌, length, map, reverse, Option, Some, slice_get}
+use Rattle.std.specs.Prelude.{◌≡◌, ◌≤◌, ℕ, List, [], ◌∷◌, length, map, reverse, Option, Some, slice_get}
 use Rattle.five_tuple.specs.declared.Flow.{Flow}
 use Rattle.pool_versions.specs.declared.backend.Backend.{Backend}
 use Rattle.selection.specs.Candidates.{Candidates}
-use Rattle.cluster_node.specs.declared.serving.Item.{Item}
 use Rattle.cluster_node.specs.declared.packets.Packet.{Packet}
 use Rattle.cluster_node.specs.declared.events.Event.{Event}
-use Rattle.cluster_node.specs.declared.events.Event.TheVariants.{Serve}
 use Rattle.cluster_node.specs.declared.events.Said.{Said}
 use Rattle.cluster_node.specs.declared.outcomes.Outcome.{Outcome}
 use Rattle.cluster_node.specs.declared.outcomes.Outcome.TheVariants.{Forward}
 use Rattle.cluster_node.specs.Rules.{Rules}
-use Rattle.cluster_node.specs.Book.{placed, taken_count, next_item}
+use Rattle.cluster_node.specs.Book.{placed, taken_count}
 use Rattle.cluster_node.specs.Records.{Judged, WasRead, lines_at}
-use Rattle.cluster_core.specs.Runs.{verdict, verdicts}
+use Rattle.cluster_core.specs.Cluster.{TakesFirst}
+use Rattle.cluster_core.specs.Runs.{verdict, verdicts, cluster_by}
 use Rattle.cluster_core.specs.Totals.{came_all, went_all, came_of, went_of}
 use Rattle.cluster_core.specs.Explain.{PickedSends}
 
@@ -25,20 +24,9 @@ IsSteady rules = (ups : Candidates) (x : Flow) (t u : ℕ) → rules.pick ups x 
 abbrev pub ServesWhatWasPlaced : Type 0
 ServesWhatWasPlaced = (rules : Rules) (past : List Said) → Judged (verdict rules) past → (n w : ℕ) → taken_count (lines_at past n w) ≤ length (placed (lines_at past n w))
 
--- an event is the serving that takes the packet that waits first for a worker
-pub record TakesNext (rules : Rules) (past : List Said) (e : Event) (n w place : ℕ) : Type 0 where
-  pub version : ℕ
-  pub refused : Bool
-  pub item : Item
-  pub event : e ≡ Serve n w version refused
-  pub node : n < rules.nodes
-  pub worker : w < rules.workers
-  pub first : next_item (lines_at past n w) ≡ Some item
-  pub packet : item.packet ≡ place
-
 -- what is sent is the packet that waits first for the worker
 abbrev pub SendsWhatWaitsFirst : Type 0
-SendsWhatWaitsFirst = (rules : Rules) (past : List Said) (e : Event) (p : Option Packet) (n w place : ℕ) (x : Flow) (b : Backend) (v : ℕ) → verdict rules past e p ≡ Forward n w place x b v → TakesNext rules past e n w place
+SendsWhatWaitsFirst = (rules : Rules) (past : List Said) (e : Event) (p : Option Packet) (n w place : ℕ) (x : Flow) (b : Backend) (v : ℕ) → verdict rules past e p ≡ Forward n w place x b v → TakesFirst (cluster_by rules) past e n w place
 
 abbrev pub outcomes_of : List Said → List Outcome
 outcomes_of history = map (λ s. s.outcome) history

@@ -3,6 +3,7 @@ pub mod Setups
 pub mod Totals
 pub mod Tally
 pub mod RunView
+pub mod Cluster
 pub mod Runs
 pub mod Headline
 pub mod Explain
@@ -13,3 +14,5 @@ pub mod Laws
 pub mod Histories
 pub mod PrivateCounting
 pub mod Promises
+pub mod Ruling
+pub mod Noting

@@ -1,5 +1,5 @@
 -- What a list of events comes to: each outcome is read off the record of all events before it.
-use Rattle.std.specs.Prelude.{◌≡◌, ℕ, ◌+◌, ◌&&◌, Bool, true, false, List, [], ◌∷◌, length, Option, Some, None, if◌then◌else◌, nat_lt, slice_get, is_some, ◌-◌}
+use Rattle.std.specs.Prelude.{◌≡◌, ℕ, ◌+◌, Bool, true, false, List, [], ◌∷◌, length, Option, Some, None, if◌then◌else◌, nat_lt, slice_get, is_some}
 use Rattle.forwarder.specs.Serving.{Pick}
 use Rattle.cluster_node.specs.NodeView.{NodeView}
 use Rattle.cluster_node.specs.declared.packets.Packet.{Packet}
@@ -10,19 +10,23 @@ use Rattle.cluster_node.specs.declared.outcomes.Outcome.TheVariants.{Refused}
 use Rattle.cluster_node.specs.declared.outcomes.Reason.TheVariants.{NoNode}
 use Rattle.cluster_node.specs.Rules.{Rules}
 use Rattle.cluster_node.specs.declared.events.Said.{Said}
-use Rattle.cluster_node.specs.Record.{node_verdict, waits, NodeStands, installed_of, prepared_at, waiting_at, IsPrepared, ArePrepared, newest_of}
+use Rattle.cluster_node.specs.Record.{node_verdict, waits, NodeStands, installed_of, prepared_at, waiting_at, IsPrepared, ArePrepared}
 use Rattle.cluster_node.specs.declared.outcomes.Passed.{Passed}
-use Rattle.cluster_node.specs.Records.{node_of, of_node, lines_at, AreTold, with_passing}
+use Rattle.cluster_node.specs.Records.{node_of, of_node, AreTold, with_passing}
+use Rattle.cluster_core.specs.Cluster.{Cluster}
 use Rattle.cluster_core.specs.Totals.{came_of, went_of}
 use Rattle.cluster_core.specs.RunView.{RunView}
 use Rattle.pool_versions.specs.Pool.{Pools, version_at}
 use Rattle.pool_versions.specs.declared.service.Version.{Version}
 use Rattle.selection.specs.Readied.{Readied, readied_version}
-use Rattle.cluster_node.specs.Book.{Line, placed, taken_count}
 
 -- what an event comes to after all before it
 abbrev pub verdict : Rules → List Said → Event → Option Packet → Outcome
 verdict rules past e x = if nat_lt (node_of e) rules.nodes then node_verdict rules (of_node (node_of e) past) e x else Refused NoNode
+
+-- the cluster of these rules
+abbrev pub cluster_by : Rules → Cluster
+cluster_by rules = record { judge = verdict rules; nodes = rules.nodes; workers = rules.workers }
 
 -- the packet that an event names
 abbrev pub packet_of : List Packet → Event → Option Packet
@@ -101,18 +105,6 @@ newest_at None = 0
 newest_at (Some m) = m.newest
 
 -- how many packets wait at a worker, 0 where there is no such node or worker
-abbrev pub waiting_on : ℕ → Option NodeView → ℕ
-waiting_on w None = 0
-waiting_on w (Some m) = waiting_at (slice_get m.workers w)
-
--- how many packets wait by a worker's lines
-abbrev pub waiting_by : List Line → ℕ
-waiting_by ls = length (placed ls) - taken_count ls
-
--- by the record: the version installed last on a node of the cluster, 0 where there is none
-abbrev pub newest_said : Rules → ℕ → List Said → ℕ
-newest_said rules n past = if nat_lt n rules.nodes then newest_of (of_node n past) else 0
-
--- by the record: how many packets wait for a worker of the cluster
-abbrev pub waiting_said : Rules → ℕ → ℕ → List Said → ℕ
-waiting_said rules n w past = if nat_lt n rules.nodes && nat_lt w rules.workers then waiting_by (lines_at past n w) else 0
+abbrev pub queued_at : ℕ → Option NodeView → ℕ
+queued_at w None = 0
+queued_at w (Some m) = waiting_at (slice_get m.workers w)

@@ -1,10 +1,9 @@
 -- How many packets came and went, read off the outcomes.
-use Rattle.std.specs.Prelude.{ℕ, ◌+◌, List, [], ◌∷◌}
+use Rattle.std.specs.Prelude.{ℕ, ◌+◌, List, [], ◌∷◌, if◌then◌else◌}
 use Rattle.cluster_node.specs.declared.outcomes.Outcome.{Outcome}
 use Rattle.cluster_node.specs.declared.outcomes.Outcome.TheVariants.{Installed, Placed, Forward, Dropped, Restarted, Refused}
-use Rattle.cluster_node.specs.declared.outcomes.Cause.{Cause}
-use Rattle.cluster_node.specs.declared.outcomes.Cause.TheVariants.{NotIpv4, Truncated, BadHeader, BadChecksum, Fragment, NotTcpUdp, BadTransport, TooLarge, NoService, NoBackend, NoVersion, RingsFull, LostAtRestart}
 use Rattle.cluster_node.specs.declared.events.Said.{Said}
+use Rattle.cluster_core.specs.Tally.{at_serving}
 
 -- how many packets an outcome puts into the queues
 abbrev pub came : Outcome → ℕ
@@ -15,28 +14,12 @@ came (Dropped k c) = 0
 came (Restarted l) = 0
 came (Refused r) = 0
 
--- a drop of a packet that was served
-abbrev pub of_serving : Cause → ℕ
-of_serving NotIpv4 = 0
-of_serving Truncated = 0
-of_serving BadHeader = 0
-of_serving BadChecksum = 0
-of_serving Fragment = 0
-of_serving NotTcpUdp = 0
-of_serving BadTransport = 0
-of_serving TooLarge = 0
-of_serving NoService = 1
-of_serving NoBackend = 1
-of_serving NoVersion = 0
-of_serving RingsFull = 0
-of_serving LostAtRestart = 0
-
 -- how many it takes out
 abbrev pub went : Outcome → ℕ
 went Installed = 0
 went (Placed w f) = 0
 went (Forward n w k x b v) = 1
-went (Dropped k c) = of_serving c
+went (Dropped k c) = if at_serving c then 1 else 0
 went (Restarted l) = l
 went (Refused r) = 0
 

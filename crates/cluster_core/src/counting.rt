@@ -5,17 +5,8 @@ ghost use Rattle.cluster_core.specs.Tally.{number, at_serving, is_arrival, is_fo
 ghost use Rattle.cluster_core.specs.Totals.{came_all, went_all};
 ghost use Rattle.cluster_core.specs.PrivateCounting.{kind, bumped, Leads, Fits, Totalled};
 
-use crate::counts::Totals;
-use cluster_node::{Cause, Outcome};
-
-fn at_serving(cause: Cause) -> bool
-    ensures { result ≡ at_serving cause }
-{
-    match cause {
-        Cause::NoService | Cause::NoBackend => true,
-        _ => false,
-    }
-}
+use crate::counts::{Totals, at_serving, number};
+use cluster_node::Outcome;
 
 // How many packets came to a node.
 fn arrivals(outcome: &Outcome) -> u64
@@ -34,27 +25,6 @@ fn lost_of(outcome: &Outcome) -> u64
     match *outcome {
         Outcome::Restarted { lost } => lost,
         _ => 0,
-    }
-}
-
-fn number(cause: Cause) -> u8
-    ensures number { result ≡ number cause }
-    ensures few { result ≤ 13 }
-{
-    match cause {
-        Cause::NotIpv4 => 1,
-        Cause::Truncated => 2,
-        Cause::BadHeader => 3,
-        Cause::BadChecksum => 4,
-        Cause::Fragment => 5,
-        Cause::NotTcpUdp => 6,
-        Cause::BadTransport => 7,
-        Cause::TooLarge => 8,
-        Cause::NoService => 9,
-        Cause::NoBackend => 10,
-        Cause::NoVersion => 11,
-        Cause::RingsFull => 12,
-        Cause::LostAtRestart => 13,
     }
 }
 

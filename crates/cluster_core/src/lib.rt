@@ -5,21 +5,31 @@
 //! before it. `replay` judges a whole list, `Run` one event after another. The promises, for every list: two packets of
 //! one flow that were sent to different backends were chosen under versions that differ for that flow; and a forwarder
 //! keeps a flow's backend while the flow's entry stands and the backend is up (Maglev, NSDI 2016, section 3.4).
+//!
+//! `Core` is what the steps of a scenario ask of a core, and `Balancers` is a run as one, under `Rules`: a setup beside a
+//! catalogue of the same table size. Of its events it keeps what `Notes` are taken of them, for what is asked of the run;
+//! `Counts` are their totals.
 #![tactic(auto)]
 
+mod balancers;
 mod counting;
 mod counts;
 mod explaining;
 mod fixed;
 mod headline;
 mod laws;
+mod machine;
+mod notes;
 mod reading;
 mod replaying;
+mod rules;
 mod running;
+mod task;
 
+pub use balancers::Balancers;
 pub use cluster_node::{Cause, Event, Item, Outcome, Packet, Passed, Reason, Said};
 pub use counting::totals;
-pub use counts::Totals;
+pub use counts::{Counts, Totals};
 pub use explaining::{Verdict, explain};
 pub use fixed::{Setup, SetupFault};
 pub use headline::replay_maglev;
@@ -27,6 +37,10 @@ pub use laws::{
     histories_are_told, promises_are_kept, queues_are_balanced, queues_are_in_order,
     servings_follow_packets, servings_stand_apart,
 };
+pub use machine::Core;
+pub use notes::Notes;
 pub use reading::read_packet;
 pub use replaying::replay;
+pub use rules::Rules;
 pub use running::{Run, prepare_newer};
+pub use task::Task;

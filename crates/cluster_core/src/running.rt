@@ -7,7 +7,8 @@ ghost use Rattle.cluster_node.specs.declared.events.Said.{Said};
 ghost use Rattle.cluster_node.specs.Record.{fresh, newest_of, lines_of};
 ghost use Rattle.cluster_core.specs.Setups.{Fixed, rules_for};
 ghost use Rattle.cluster_core.specs.RunView.{RunView};
-ghost use Rattle.cluster_core.specs.Runs.{prepared_with, prepared_above, prepared_for, is_known_in, newest_at, waiting_on, newest_said, waiting_said, RunStands, RunGoes, RunPasses};
+ghost use Rattle.cluster_core.specs.Runs.{prepared_with, prepared_above, prepared_for, is_known_in, newest_at, queued_at, cluster_by, RunStands, RunGoes, RunPasses};
+ghost use Rattle.cluster_core.specs.Cluster.{newest_on, waiting_on};
 ghost use Rattle.cluster_node.specs.declared.events.Event.TheVariants.{Arrive, Serve};
 ghost use Rattle.cluster_core.specs.Totals.{came_of, went_of};
 ghost use Rattle.cluster_node.specs.Records.{WasRead, node_of, of_node};
@@ -169,7 +170,7 @@ impl<S: Scheme, T: ConnTable> Run<S, T> {
     /// A node's newest version, 0 where there is none.
     pub fn newest(&self, node: u16) -> u32
         ensures kept { result ≡ newest_at (slice_get self.now.nodes node) }
-        ensures said { (rules : Rules) → (past : List Said) → RunStands (λ s z. S.pick s z) rules past self.now → result ≡ newest_said rules node past }
+        ensures said { (rules : Rules) → (past : List Said) → RunStands (λ s z. S.pick s z) rules past self.now → result ≡ newest_on (cluster_by rules) node past }
     {
         self.newest_of(node)
     }
@@ -185,14 +186,14 @@ impl<S: Scheme, T: ConnTable> Run<S, T> {
 
     /// How many packets wait at a worker of a node.
     pub fn waiting(&self, node: u16, worker: u16) -> usize
-        ensures kept { result ≡ waiting_on worker (slice_get self.now.nodes node) }
-        ensures said { (rules : Rules) → (past : List Said) → RunStands (λ s z. S.pick s z) rules past self.now → result ≡ waiting_said rules node worker past }
+        ensures kept { result ≡ queued_at worker (slice_get self.now.nodes node) }
+        ensures said { (rules : Rules) → (past : List Said) → RunStands (λ s z. S.pick s z) rules past self.now → result ≡ waiting_on (cluster_by rules) node worker past }
     {
         self.waiting_of(node, worker)
     }
 
     fn waiting_of(&self, node: u16, worker: u16) -> usize
-        ensures { result ≡ waiting_on worker (slice_get self.now.nodes node) }
+        ensures { result ≡ queued_at worker (slice_get self.now.nodes node) }
     {
         match self.nodes.get(node as usize) {
             Some(one) => one.waiting(worker),

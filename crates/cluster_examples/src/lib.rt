@@ -1,6 +1,8 @@
 //! Tests of the cluster's core: lists of events and what each comes to, with both connection tables and every scheme, how a
-//! frame is read, and what a setup refuses.
+//! frame is read, what a setup refuses, and scenarios that `course` plays on its balancers.
 #![tactic(auto)]
 
+#[cfg(test)]
+mod balancers;
 #[cfg(test)]
 mod tests;

@@ -10,7 +10,7 @@ use Rattle.cluster_node.specs.declared.packets.Packet.{Packet}
 use Rattle.cluster_node.specs.declared.outcomes.Outcome.{Outcome}
 use Rattle.cluster_core.specs.Totals.{came_all, went_all}
 use Rattle.cluster_core.proofs.Balanced.{lists_balance}
-use Rattle.course.specs.Cluster.{WereRead}
+use Rattle.cluster_core.specs.Cluster.{WereRead}
 use Rattle.course.specs.Tally.{tally_of}
 use Rattle.cluster_commands.specs.Orders.{orders_of, plan_of}
 use Rattle.node_records.specs.declared.command.Command.{Command}

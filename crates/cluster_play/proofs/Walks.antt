@@ -11,7 +11,7 @@ use Rattle.pcap_file.specs.Format.{Packet as Record, packet}
 use Rattle.cluster_node.specs.declared.packets.Packet.{Packet}
 use Rattle.cluster_node.specs.Records.{WasRead}
 use Rattle.cluster_core.proofs.Frames.{was_read}
-use Rattle.course.specs.Cluster.{WereRead}
+use Rattle.cluster_core.specs.Cluster.{WereRead}
 use Rattle.simulation.specs.declared.fault.SimulationFault.{SimulationFault}
 use Rattle.simulation.specs.Sent.{Sending, Wrote, WroteUntil, packet_in, packets_of, time_of}
 use Rattle.simulation.proofs.Sends.{wrote_both, until_more, until_behind}

@@ -1,6 +1,6 @@
 //! What the steps of a scenario tell the nodes.
 ghost use Rattle.std.specs.Prelude.{◌≡◌, ◌<◌, ◌^◌, length, map, IfOk};
-ghost use Rattle.course.specs.Cluster.{WereRead};
+ghost use Rattle.cluster_core.specs.Cluster.{WereRead};
 ghost use Rattle.course.specs.Tally.{tally_of};
 ghost use Rattle.cluster_commands.specs.Orders.{plan_of, orders_of};
 ghost use Rattle.scenario.specs.Meaning.{HasLimits};

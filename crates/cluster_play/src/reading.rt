@@ -1,7 +1,7 @@
 //! A capture is read whole.
 ghost use Rattle.std.specs.Prelude.{◌≡◌, ◌≤◌, IfOk, IfErr, length, map};
 ghost use Rattle.pcap_file.specs.Format.{packet, max_records};
-ghost use Rattle.course.specs.Cluster.{WereRead};
+ghost use Rattle.cluster_core.specs.Cluster.{WereRead};
 ghost use Rattle.simulation.specs.Sent.{packets_of};
 ghost use Rattle.cluster_play.specs.Inputs.{IsReadWhole, ReadingFails};
 

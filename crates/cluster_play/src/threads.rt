@@ -1,7 +1,7 @@
 //! The cluster of a scenario runs on threads.
 ghost use Rattle.std.specs.Prelude.{◌≡◌, true, length, map, IfOk, IfErr};
 ghost use Rattle.hash_laws.specs.Any.{plain_of};
-ghost use Rattle.course.specs.Cluster.{WereRead};
+ghost use Rattle.cluster_core.specs.Cluster.{WereRead};
 ghost use Rattle.node_records.specs.Runs.{AreRuns, JoinsRuns};
 ghost use Rattle.scenario.specs.Meaning.{HasLimits};
 ghost use Rattle.scenario_play.specs.Described.{pick_by, rules_in};

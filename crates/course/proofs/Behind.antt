@@ -2,7 +2,7 @@
 use Rattle.std.proofs.Common.{◌≡◌, List, [], ◌∷◌, ◌++◌, reverse, ap, sym, ◌∙◌, append_assoc}
 use Rattle.std.proofs.lemmas.List.{reverse-append}
 use Rattle.cluster_node.specs.declared.events.Said.{Said}
-use Rattle.course.specs.Cluster.{Behind}
+use Rattle.cluster_core.specs.Cluster.{Behind}
 
 pub behind_more : (before events more past new : List Said) (s : Said) → new ≡ s ∷ past → more ≡ events ++ s ∷ [] → Behind before past events → Behind before new more
 behind_more before events more past new s e f h =

@@ -2,7 +2,7 @@
 use Rattle.std.proofs.Common.{◌≡◌, ℕ, zero, suc, true, false, ◌+◌, ◌<◌, ◌≤◌, ◌^◌, List, [], ◌∷◌, length, drop, take, Option, Some, None, refl, sym, ap, ◌∙◌, arith, length-drop, get_or, drop-cons, add-one}
 use Rattle.std.specs.Prelude.{slice_get}
 use Rattle.cluster_node.specs.declared.packets.Packet.{Packet}
-use Rattle.course.specs.Cluster.{waiting_on}
+use Rattle.cluster_core.specs.Cluster.{waiting_on}
 use Rattle.scenario_steps.specs.declared.Step.{Step}
 use Rattle.scenario_steps.specs.declared.Step.TheVariants as steps
 use Rattle.course.specs.Course.{Course}

@@ -4,8 +4,8 @@ use Rattle.std.specs.Prelude.{if◌then◌else◌, slice_get}
 use Rattle.cluster_node.specs.declared.events.Said.{Said}
 use Rattle.cluster_node.specs.declared.events.Event.{Event}
 use Rattle.cluster_node.specs.declared.packets.Packet.{Packet}
-use Rattle.course.specs.Cluster.{flow_of}
-use Rattle.course.specs.Cluster.{Cluster, said, waiting_on}
+use Rattle.cluster_core.specs.Cluster.{flow_of}
+use Rattle.cluster_core.specs.Cluster.{Cluster, said, waiting_on}
 use Rattle.spreader.specs.Choices.{Choice}
 use Rattle.scenario_steps.specs.declared.Step.{Step}
 use Rattle.scenario_steps.specs.declared.Step.TheVariants as steps

@@ -2,7 +2,7 @@
 use Rattle.std.proofs.Common.{◌≡◌, ℕ, ◌+◌, ◌≤◌, Bool, true, false, Option, Some, None, refl, ap, ◌∙◌, arith}
 use Rattle.std.specs.Prelude.{if◌then◌else◌}
 use Rattle.cluster_node.specs.declared.packets.Packet.{Packet}
-use Rattle.course.specs.Cluster.{flow_of}
+use Rattle.cluster_core.specs.Cluster.{flow_of}
 use Rattle.course.specs.Course.{Course}
 use Rattle.course.specs.Steps.{World, placed_on, is_held, say, serve, follow, arrival, arrive, route, deliver}
 

@@ -4,7 +4,7 @@ use Rattle.std.specs.Prelude.{slice_get}
 use Rattle.std.proofs.lemmas.List.{length-take, get_or-take, get_or-drop}
 use Rattle.std.proofs.lemmas.Option.{slice_get_within, get_or_from_slice_get, slice_get-get_or}
 use Rattle.cluster_node.specs.declared.packets.Packet.{Packet}
-use Rattle.course.specs.Cluster.{WereRead}
+use Rattle.cluster_core.specs.Cluster.{WereRead}
 use Rattle.cluster_node.specs.Records.{WasRead}
 
 pub read_at : (ps : List Packet) (i : ℕ) (d : Packet) → WereRead ps → i < length ps → WasRead (Some (get_or ps i d))

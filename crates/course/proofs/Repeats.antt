@@ -1,7 +1,7 @@
 -- What is left of a repetition.
 use Rattle.std.proofs.Common.{◌≡◌, ℕ, suc, ◌+◌, ◌-◌, ◌<◌, List, [], ◌∷◌, length, drop, get_or, refl, sym, ap, ◌∙◌, arith, drop-cons, add-one}
 use Rattle.cluster_node.specs.declared.packets.Packet.{Packet}
-use Rattle.course.specs.Cluster.{waiting_on}
+use Rattle.cluster_core.specs.Cluster.{waiting_on}
 use Rattle.course.specs.Course.{Course}
 use Rattle.course.specs.Steps.{World, serve, serve_times, drain_from, deliver, take_all}
 

@@ -1,4 +1,3 @@
-pub mod Cluster
 pub mod Course
 pub mod Steps
 pub mod Room

@@ -8,7 +8,7 @@ use Rattle.cluster_node.specs.declared.events.Said.{Said}
 use Rattle.cluster_node.specs.declared.outcomes.Outcome.{Outcome}
 use Rattle.cluster_node.specs.declared.outcomes.Outcome.TheVariants.{Installed, Placed, Forward, Dropped, Restarted, Refused}
 use Rattle.spreader.specs.Choices.{Choice}
-use Rattle.course.specs.Cluster.{Cluster, said, newest_on, waiting_on, flow_of}
+use Rattle.cluster_core.specs.Cluster.{Cluster, said, newest_on, waiting_on, flow_of}
 use Rattle.scenario_steps.specs.declared.Step.{Step}
 use Rattle.scenario_steps.specs.declared.Step.TheVariants as steps
 use Rattle.course.specs.Course.{Course}

@@ -6,10 +6,8 @@
 #![tactic(auto)]
 
 mod laws;
-mod machine;
 mod play;
 
 pub use laws::courses_add_up;
-pub use machine::Core;
 pub use play::{Play, Tally, all_live};
 pub use scenario_steps::Step;

@@ -1,14 +1,14 @@
 //! A run of a scenario's steps.
 ghost use Rattle.std.specs.Prelude.{◌≡◌, ◌<◌, ◌≤◌, ◌+◌, ◌-◌, ◌^◌, ◌∷◌, ◌++◌, [], ℕ, List, Option, Some, None, length, take, drop, reverse, IfOk, OnOk, slice_get, slice_set, false};
 ghost use Rattle.cluster_node.specs.declared.events.Event.{Event};
-ghost use Rattle.course.specs.Cluster.{Cluster, WereRead, flow_of, said, newest_on, waiting_on, Behind};
+ghost use Rattle.cluster_core.specs.Cluster.{Cluster, WereRead, flow_of, said, newest_on, waiting_on, Behind};
 ghost use Rattle.cluster_node.specs.Records.{WasRead};
 ghost use Rattle.course.specs.Course.{Course};
 ghost use Rattle.course.specs.Steps.{World, SameChoice, world_of, marks_at, is_held, noted, placed_on, say, serve, follow, arrival, arrive, route, deliver, take_all, repeat, serve_times, drain_from, release, next_ones, names_records, after, run, start, below};
 ghost use Rattle.course.specs.Tally.{tally_of};
 ghost use Rattle.course.specs.Room.{Room, Counted};
 
-use crate::machine::Core;
+use cluster_core::Core;
 use cluster_node::{Event, Outcome, Packet, Said};
 use past_log::Log;
 use scenario_steps::Step;

@@ -7,7 +7,7 @@ use Rattle.cluster_node.specs.declared.events.Said.{Said}
 use Rattle.cluster_node.specs.declared.outcomes.Outcome.{Outcome}
 use Rattle.cluster_node.specs.declared.outcomes.Outcome.TheVariants.{Installed, Placed, Dropped, Restarted}
 use Rattle.cluster_node.specs.declared.outcomes.Cause.TheVariants.{NoService}
-use Rattle.course.specs.Cluster.{Cluster}
+use Rattle.cluster_core.specs.Cluster.{Cluster}
 
 abbrev pub answer : Event → Outcome
 answer (Install n v) = Installed

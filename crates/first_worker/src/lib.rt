@@ -4,8 +4,8 @@
 ghost use Rattle.std.specs.Prelude.{◌≡◌};
 ghost use Rattle.first_worker.specs.FirstWorker.{answer, placing};
 
+use cluster_core::Core;
 use cluster_node::{Cause, Event, Outcome, Packet};
-use course::Core;
 use std::alloc::AllocError;
 
 /// Places every packet on the first worker. It keeps nothing, so that nothing is ever installed or waits.
@@ -19,7 +19,7 @@ impl Core for FirstWorker {
 
     ghost stands = { λ workers past core. Unit {0} };
 
-    #[tactic(auto, unfolding(course::specs::Cluster::newest_on))]
+    #[tactic(auto, unfolding(cluster_core::specs::Cluster::newest_on))]
     fn step(
         &mut self,
         setup: &u16,
@@ -58,14 +58,14 @@ impl Core for FirstWorker {
         *setup
     }
 
-    #[tactic(auto, unfolding(course::specs::Cluster::newest_on))]
+    #[tactic(auto, unfolding(cluster_core::specs::Cluster::newest_on))]
     fn newest(&self, setup: &u16, node: u16) -> u32 {
         let _ = setup;
         let _ = node;
         0
     }
 
-    #[tactic(auto, unfolding(course::specs::Cluster::waiting_on))]
+    #[tactic(auto, unfolding(cluster_core::specs::Cluster::waiting_on))]
     fn waiting(&self, setup: &u16, node: u16, worker: u16) -> u64 {
         let _ = setup;
         let _ = node;

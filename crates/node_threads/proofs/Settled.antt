@@ -28,7 +28,7 @@ use Rattle.cluster_node.specs.Records.{Judged, WasRead, of_reading, node_of, of_
 use Rattle.cluster_core.specs.Runs.{verdict, verdicts, say, packet_of}
 use Rattle.cluster_core.specs.Histories.{AllRead}
 use Rattle.cluster_core.specs.Tally.{is_arrival, is_forward, how_many, drop_counts}
-use Rattle.cluster_core.specs.Totals.{came, of_serving, went, came_all, went_all, came_of, went_of}
+use Rattle.cluster_core.specs.Totals.{came, went, came_all, went_all, came_of, went_of}
 use Rattle.cluster_core.proofs.Balanced.{records_balance}
 use Rattle.cluster_core.proofs.Nodes.{named_read}
 use Rattle.cluster_core.proofs.Bumps.{lawful}
@@ -39,20 +39,20 @@ use Rattle.node_records.specs.Runs.{IsRunOf, AreRuns}
 use Rattle.node_records.specs.Joins.{all_outcomes}
 use Rattle.node_duties.specs.Counts.{AreRead}
 
-reading_not_serving : (c : Cause) → of_reading c ≡ true → of_serving c ≡ 0
-reading_not_serving NotIpv4 h = refl
-reading_not_serving Truncated h = refl
-reading_not_serving BadHeader h = refl
-reading_not_serving BadChecksum h = refl
-reading_not_serving Fragment h = refl
-reading_not_serving NotTcpUdp h = refl
-reading_not_serving BadTransport h = refl
-reading_not_serving TooLarge h = refl
-reading_not_serving NoService h = absurd (false≢true h)
-reading_not_serving NoBackend h = absurd (false≢true h)
-reading_not_serving NoVersion h = refl
-reading_not_serving RingsFull h = refl
-reading_not_serving LostAtRestart h = refl
+reading_not_serving : (k : ℕ) (c : Cause) → of_reading c ≡ true → went (Dropped k c) ≡ 0
+reading_not_serving k NotIpv4 h = refl
+reading_not_serving k Truncated h = refl
+reading_not_serving k BadHeader h = refl
+reading_not_serving k BadChecksum h = refl
+reading_not_serving k Fragment h = refl
+reading_not_serving k NotTcpUdp h = refl
+reading_not_serving k BadTransport h = refl
+reading_not_serving k TooLarge h = refl
+reading_not_serving k NoService h = absurd (false≢true h)
+reading_not_serving k NoBackend h = absurd (false≢true h)
+reading_not_serving k NoVersion h = refl
+reading_not_serving k RingsFull h = refl
+reading_not_serving k LostAtRestart h = refl
 
 -- a serving takes one packet out exactly where it is accepted
 abbrev TakesOne : Outcome → Type 0
@@ -98,7 +98,7 @@ if_none false o q h k = k
 
 arrive_none : (rules : Rules) (newest cursor k : ℕ) (marks : List Bool) (x : Option Packet) → WasRead x → went (arrive_verdict rules newest cursor k marks x) ≡ 0
 arrive_none rules newest cursor k marks None r = refl
-arrive_none rules newest cursor k marks (Some (Bad c)) r = reading_not_serving c r
+arrive_none rules newest cursor k marks (Some (Bad c)) r = reading_not_serving k c r
 arrive_none rules newest cursor k marks (Some (Good x l t)) r = if_none (newest == 0) (Dropped k NoVersion) (steered newest k (place_for marks rules.workers (home_of rules.plain rules.workers x) cursor)) refl (steered_none newest k (place_for marks rules.workers (home_of rules.plain rules.workers x) cursor))
 
 install_none : (known : Bool) (newest v : ℕ) → (went (install_verdict known newest v) ≡ 0) × (came (install_verdict known newest v) ≡ 0)

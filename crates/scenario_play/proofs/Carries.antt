@@ -9,7 +9,8 @@ use Rattle.pool_versions.specs.Pool.{version_at}
 use Rattle.selection.specs.Candidates.{candidates_of}
 use Rattle.cluster_node.specs.Rules.{Rules}
 use Rattle.cluster_core.specs.Setups.{Fixed}
-use Rattle.cluster_run.specs.Ruling.{Ruling, rules_of, cluster_by}
+use Rattle.cluster_core.specs.Ruling.{Ruling, rules_of}
+use Rattle.cluster_core.specs.Runs.{cluster_by}
 use Rattle.scenario_steps.specs.declared.Step.{Step}
 use Rattle.scenario.specs.declared.reading.Scenario.{Scenario}
 use Rattle.pcap_file.specs.Device.{Tape}

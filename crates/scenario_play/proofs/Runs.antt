@@ -8,7 +8,7 @@ use Rattle.pcap_file.specs.Format.{Packet as Record}
 use Rattle.spreader.specs.Choices.{Choice}
 use Rattle.cluster_node.specs.Records.{Judged}
 use Rattle.cluster_core.specs.declared.counts.Totals.{Totals}
-use Rattle.course.specs.Cluster.{Cluster}
+use Rattle.cluster_core.specs.Cluster.{Cluster}
 use Rattle.course.specs.Course.{Course}
 use Rattle.course.specs.Steps.{world_of, start}
 use Rattle.course.specs.declared.play.Tally.{Tally}

@@ -12,7 +12,7 @@ use Rattle.cluster_core.specs.Tally.{is_arrival, is_forward, is_refused, how_man
 use Rattle.cluster_core.specs.Totals.{came_all, went_all}
 use Rattle.cluster_core.specs.Histories.{outcomes_of}
 use Rattle.cluster_core.specs.Explain.{Send, send_of, explained}
-use Rattle.course.specs.Cluster.{Cluster}
+use Rattle.cluster_core.specs.Cluster.{Cluster}
 use Rattle.course.specs.Course.{Course}
 use Rattle.course.specs.Tally.{tally_of}
 use Rattle.listing.specs.Lines.{listing}

@@ -7,8 +7,8 @@ use Rattle.selection.specs.Picks.{pick_at, flow_hash, table_pick}
 use Rattle.forwarder.specs.Serving.{Pick}
 use Rattle.spreader.specs.Choices.{Choice, node_by_hash, node_by_turn}
 use Rattle.cluster_node.specs.Rules.{Rules}
-use Rattle.course.specs.Cluster.{Cluster}
-use Rattle.cluster_run.specs.Ruling.{cluster_by}
+use Rattle.cluster_core.specs.Cluster.{Cluster}
+use Rattle.cluster_core.specs.Runs.{cluster_by}
 use Rattle.flow_splits.specs.Causes.{Lookups, lookups_of}
 use Rattle.scenario.specs.declared.words.SchemeKind.{SchemeKind}
 use Rattle.scenario.specs.declared.words.SchemeKind.TheVariants.{Maglev, Plain, Round}

@@ -4,11 +4,11 @@ ghost use Rattle.cluster_node.specs.declared.events.Event.{Event};
 ghost use Rattle.scenario_play.specs.declared.asking.Asked.{Asked};
 ghost use Rattle.cluster_node.specs.declared.events.Said.{Said};
 ghost use Rattle.cluster_node.specs.declared.packets.Packet.{Packet};
-ghost use Rattle.cluster_run.specs.Noting.{said_by};
+ghost use Rattle.cluster_core.specs.Noting.{said_by};
 
 use crate::asking::Asked;
+use cluster_core::{Counts, Notes};
 use cluster_node::{Event, Outcome};
-use cluster_run::{Counts, Notes};
 use connection_table::TableKey;
 use flow_splits::SplitBook;
 use listing::push_line;

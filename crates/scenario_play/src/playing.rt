@@ -2,7 +2,7 @@
 ghost use Rattle.std.specs.Prelude.{◌≡◌, ◌≤◌, [], IfOk, IfErr, string_bytes, length, reverse};
 ghost use Rattle.hash_laws.specs.Any.{plain_of};
 ghost use Rattle.course.specs.Steps.{below};
-ghost use Rattle.cluster_run.specs.Ruling.{cluster_of};
+ghost use Rattle.cluster_core.specs.Ruling.{cluster_of};
 ghost use Rattle.scenario.specs.Meaning.{HasLimits};
 ghost use Rattle.simulation.specs.Plans.{planned};
 ghost use Rattle.simulation.specs.Simulated.{Stopped};
@@ -14,8 +14,7 @@ ghost use Rattle.scenario_play.specs.Kept.{KeepsPromises};
 use crate::answering::answer;
 use crate::asking::Asked;
 use crate::notes::Notebook;
-use cluster_core::Setup;
-use cluster_run::{Balancers, Rules, Task};
+use cluster_core::{Balancers, Rules, Setup, Task};
 use connection_table::{LruTable, TableKey};
 use course::all_live;
 use hash_laws::AnyHash;

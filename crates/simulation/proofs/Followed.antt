@@ -11,7 +11,7 @@ use Rattle.cluster_node.specs.declared.events.Event.{Event}
 use Rattle.cluster_node.specs.declared.events.Event.TheVariants.{Install, Arrive, Serve, Restart}
 use Rattle.cluster_node.specs.declared.events.Said.{Said}
 use Rattle.cluster_node.specs.Records.{Judge, Judged}
-use Rattle.course.specs.Cluster.{Cluster, TakesFirst, Orderly}
+use Rattle.cluster_core.specs.Cluster.{Cluster, TakesFirst, Orderly}
 use Rattle.waiting_frames.specs.Mirrors.{Mirrors, CanFollow, ComesAs}
 use Rattle.simulation.specs.declared.sending.Wire.{Wire}
 use Rattle.simulation.specs.Sent.{Traffic, Sending, sent, sent_by, sent_at, Wrote, WroteUntil}

@@ -7,7 +7,7 @@ use Rattle.pcap_file.specs.Format.{Packet as Record}
 use Rattle.spreader.specs.Choices.{Choice}
 use Rattle.scenario_steps.specs.declared.Step.{Step}
 use Rattle.cluster_node.specs.declared.events.Said.{Said}
-use Rattle.course.specs.Cluster.{Cluster}
+use Rattle.cluster_core.specs.Cluster.{Cluster}
 use Rattle.course.specs.Course.{Course}
 use Rattle.course.specs.Steps.{world_of, run}
 use Rattle.course.proofs.Coming.{Grows, run_grows}

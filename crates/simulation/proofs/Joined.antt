@@ -10,7 +10,7 @@ use Rattle.pcap_file.specs.Format.{Packet as Record, written_head}
 use Rattle.pcap_file.specs.Capture.{HeadRead}
 use Rattle.pcap_file.specs.Text.{Reads, IsTold, ending_of}
 use Rattle.spreader.specs.Choices.{Choice}
-use Rattle.course.specs.Cluster.{Cluster}
+use Rattle.cluster_core.specs.Cluster.{Cluster}
 use Rattle.course.specs.Course.{Course}
 use Rattle.simulation.specs.declared.fault.SimulationFault.{SimulationFault}
 use Rattle.simulation.specs.declared.fault.SimulationFault.TheVariants.{Write, Memory}

@@ -15,7 +15,7 @@ use Rattle.cluster_node.specs.declared.packets.Packet.{Packet}
 use Rattle.cluster_node.specs.declared.events.Said.{Said}
 use Rattle.cluster_node.specs.Records.{Judged}
 use Rattle.waiting_frames.specs.Mirrors.{Mirrors}
-use Rattle.course.specs.Cluster.{Cluster, Orderly}
+use Rattle.cluster_core.specs.Cluster.{Cluster, Orderly}
 use Rattle.course.specs.Course.{Course}
 use Rattle.course.specs.Steps.{World, world_of, run, deliver, repeat, after, names_records, start}
 use Rattle.course.specs.PrivateStreams.{take_of, lose_of, again_of}

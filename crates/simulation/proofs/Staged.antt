@@ -9,7 +9,7 @@ use Rattle.cluster_node.specs.declared.events.Event.TheVariants.{Install, Arrive
 use Rattle.cluster_node.specs.declared.events.Said.{Said}
 use Rattle.cluster_node.specs.declared.packets.Packet.{Packet}
 use Rattle.cluster_node.specs.Records.{Judged}
-use Rattle.course.specs.Cluster.{Cluster, Behind}
+use Rattle.cluster_core.specs.Cluster.{Cluster, Behind}
 use Rattle.course.specs.Course.{Course}
 use Rattle.course.specs.Steps.{World, deliver, after, names_records}
 use Rattle.course.proofs.Quiet.{is_arrival, Quiet, Calm, Arrived, deliver_arrives, apart_calm}

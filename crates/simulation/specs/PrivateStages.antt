@@ -9,7 +9,7 @@ use Rattle.pcap_file.specs.Text.{IsTold}
 use Rattle.spreader.specs.Choices.{Choice}
 use Rattle.scenario_steps.specs.declared.Step.{Step}
 use Rattle.cluster_node.specs.Records.{Judged}
-use Rattle.course.specs.Cluster.{Cluster, Orderly}
+use Rattle.cluster_core.specs.Cluster.{Cluster, Orderly}
 use Rattle.course.specs.Course.{Course}
 use Rattle.course.specs.PrivateStreams.{take_of, lose_of}
 use Rattle.waiting_frames.specs.Mirrors.{Mirrors}

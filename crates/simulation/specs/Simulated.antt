@@ -9,7 +9,7 @@ use Rattle.pcap_file.specs.Format.{Packet as Record, head_answer, written_head}
 use Rattle.pcap_file.specs.Capture.{HeadRead, HeadCause}
 use Rattle.pcap_file.specs.Text.{Reads, ending_of}
 use Rattle.spreader.specs.Choices.{Choice}
-use Rattle.course.specs.Cluster.{Cluster}
+use Rattle.cluster_core.specs.Cluster.{Cluster}
 use Rattle.course.specs.Course.{Course}
 use Rattle.course.specs.Steps.{world_of, run, start}
 use Rattle.simulation.specs.declared.fault.SimulationFault.{SimulationFault}

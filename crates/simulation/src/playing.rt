@@ -2,7 +2,7 @@
 ghost use Rattle.std.specs.Prelude.{◌≡◌, ◌≤◌, [], IfOk, OnOk, IfErr, length};
 ghost use Rattle.pcap_file.specs.Device.{PutRefused};
 ghost use Rattle.pcap_file.specs.Format.{written_head};
-ghost use Rattle.course.specs.Cluster.{Orderly};
+ghost use Rattle.cluster_core.specs.Cluster.{Orderly};
 ghost use Rattle.course.specs.Steps.{below};
 ghost use Rattle.simulation.specs.Plans.{planned};
 ghost use Rattle.simulation.specs.Simulated.{Begun, Simulated, Stopped};
@@ -10,7 +10,8 @@ ghost use Rattle.simulation.specs.Simulated.{Begun, Simulated, Stopped};
 use crate::fault::SimulationFault;
 use crate::plan::Plan;
 use crate::staging::play_records;
-use course::{Core, Play};
+use cluster_core::Core;
+use course::Play;
 use pcap_file::{InputEnd, Sink, Source, read_start, write_head};
 use spreader::Spread;
 use std::alloc::Global;

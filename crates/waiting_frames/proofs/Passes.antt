@@ -11,7 +11,7 @@ use Rattle.cluster_node.specs.declared.events.Said.{Said}
 use Rattle.cluster_node.specs.declared.outcomes.Outcome.TheVariants.{Forward}
 use Rattle.cluster_node.specs.Record.{accepted}
 use Rattle.cluster_node.specs.Records.{Judged}
-use Rattle.course.specs.Cluster.{Cluster}
+use Rattle.cluster_core.specs.Cluster.{Cluster}
 use Rattle.waiting_frames.specs.Queues.{queue_at, HasQueue, place_of, Moves, only_at, placed_by, put_by, arrived, settled_by, taken_by, taken_out, changed_at, is_free, serving_on, alone_on, passes}
 use Rattle.waiting_frames.specs.Mirrors.{Mirrors, CanFollow, ComesAs, IsNoArrival}
 use Rattle.waiting_frames.proofs.Places.{at_place, and_parts, moves_changed}

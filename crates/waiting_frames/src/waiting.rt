@@ -5,7 +5,7 @@ ghost use Rattle.cluster_node.specs.declared.events.Said.{Said};
 ghost use Rattle.cluster_node.specs.declared.outcomes.Outcome.TheVariants.{Forward};
 ghost use Rattle.cluster_node.specs.Record.{accepted};
 ghost use Rattle.cluster_node.specs.Records.{Judged};
-ghost use Rattle.course.specs.Cluster.{Cluster};
+ghost use Rattle.cluster_core.specs.Cluster.{Cluster};
 ghost use Rattle.waiting_frames.specs.Queues.{place_of, Moves, only_at, placed_by, arrived, handed_back, unless_put, settled_by, settled, taken_by, taken_out, changed_at, first_at, emptied, is_free, taken_on, passes};
 ghost use Rattle.waiting_frames.specs.Mirrors.{Mirrors, CanFollow, ComesAs, IsNoArrival};
 

@@ -1,7 +1,7 @@
 use Rattle.std.proofs.Common.{◌++◌, ◌∷◌, [], ap, ◌∙◌, sym, subst, List, map, take, arith}
 use Rattle.pcap_file.specs.Format.{packet}
 use Rattle.cluster_node.specs.declared.packets.Packet.{Packet}
-use Rattle.course.specs.Cluster.{WereRead}
+use Rattle.cluster_core.specs.Cluster.{WereRead}
 use Rattle.simulation.specs.Sent.{packets_of}
 use Rattle.cluster_play.proofs.Walks.{packets_more, all_read}
 use Rattle.cluster_play.proofs.reading.packets_of.Goals as goal

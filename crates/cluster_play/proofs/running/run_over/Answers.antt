@@ -7,7 +7,7 @@ use Rattle.cluster_commands.specs.Orders.{orders_of, orders_on}
 use Rattle.node_records.specs.declared.command.Command.{Command}
 use Rattle.node_records.specs.Runs.{AreRuns, JoinsRuns}
 use Rattle.cluster_node.specs.declared.packets.Packet.{Packet}
-use Rattle.course.specs.Cluster.{WereRead}
+use Rattle.cluster_core.specs.Cluster.{WereRead}
 use Rattle.course.specs.Steps.{below}
 use Rattle.course.specs.declared.play.Tally.{Tally}
 use Rattle.scenario_play.specs.Answers.{totals_in, is_cut}

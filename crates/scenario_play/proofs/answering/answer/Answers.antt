@@ -1,6 +1,6 @@
 use Rattle.std.proofs.Common.{reverse, string_bytes, subst}
 use Rattle.cluster_core.specs.Histories.{outcomes_of}
-use Rattle.cluster_run.specs.Ruling.{rules_of}
+use Rattle.cluster_core.specs.Ruling.{rules_of}
 use Rattle.flow_splits.specs.Causes.{lookups_of}
 use Rattle.scenario_play.specs.declared.asking.Asked.{Asked}
 use Rattle.scenario_play.specs.Notebooks.{AreOf}

@@ -1,5 +1,5 @@
 use Rattle.std.proofs.Common.{ℕ, ◌+◌, ◌-◌, sym, ◌∙◌, ap, arith}
-use Rattle.course.specs.Cluster.{Cluster, waiting_on}
+use Rattle.cluster_core.specs.Cluster.{Cluster, waiting_on}
 use Rattle.course.specs.Course.{Course}
 use Rattle.course.specs.Steps.{drain_from, serve_times}
 use Rattle.course.proofs.Repeats.{drain_next}

@@ -1,6 +1,6 @@
 use Rattle.std.proofs.Common.{List, ◌≡◌, drop, length}
 use Rattle.cluster_node.specs.declared.events.Said.{Said}
-use Rattle.course.specs.Cluster.{Behind}
+use Rattle.cluster_core.specs.Cluster.{Behind}
 use Rattle.course.specs.Steps.{SameChoice, world_of, run}
 use Rattle.course.specs.Room.{Counted}
 use Rattle.course.proofs.play.Play.run.Given as goal

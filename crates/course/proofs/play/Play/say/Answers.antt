@@ -1,7 +1,7 @@
 use Rattle.std.proofs.Common.{◌<◌, ◌^◌, List, length, sym, ap, ◌∙◌, subst, arith}
 use Rattle.cluster_node.specs.declared.events.Said.{Said}
 use Rattle.cluster_node.specs.declared.outcomes.Outcome.{Outcome}
-use Rattle.course.specs.Cluster.{Cluster}
+use Rattle.cluster_core.specs.Cluster.{Cluster}
 use Rattle.course.specs.Course.{Course}
 use Rattle.course.specs.Steps.{noted, placed_on}
 use Rattle.course.proofs.Behind.{behind_more}

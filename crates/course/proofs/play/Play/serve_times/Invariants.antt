@@ -1,6 +1,6 @@
 use Rattle.std.proofs.Common.{List, ◌≡◌, ◌-◌}
 use Rattle.cluster_node.specs.declared.events.Said.{Said}
-use Rattle.course.specs.Cluster.{Behind}
+use Rattle.cluster_core.specs.Cluster.{Behind}
 use Rattle.course.specs.Steps.{World, serve_times}
 use Rattle.course.proofs.play.Play.serve_times.Given as goal
 

@@ -1,7 +1,7 @@
 use Rattle.std.proofs.Common.{List, [], sym, ◌∙◌, ap, arith, refl, subst}
 use Rattle.std.proofs.lemmas.List.{drop_all}
 use Rattle.cluster_node.specs.declared.packets.Packet.{Packet}
-use Rattle.course.specs.Cluster.{Behind}
+use Rattle.cluster_core.specs.Cluster.{Behind}
 use Rattle.course.specs.Course.{Course}
 use Rattle.course.specs.Steps.{world_of, take_all}
 use Rattle.course.proofs.Repeats.{delivered_next, take_none}

@@ -1,6 +1,6 @@
 use Rattle.std.proofs.Common.{List, ◌≡◌, ◌+◌, ◌≤◌, drop}
 use Rattle.cluster_node.specs.declared.events.Said.{Said}
-use Rattle.course.specs.Cluster.{Behind}
+use Rattle.cluster_core.specs.Cluster.{Behind}
 use Rattle.course.specs.Steps.{World, SameChoice, take_all}
 use Rattle.course.proofs.play.Play.take_all.Given as goal
 

@@ -1,4 +1,4 @@
-use Rattle.cluster_run.specs.Noting.{said_by}
+use Rattle.cluster_core.specs.Noting.{said_by}
 use Rattle.scenario_play.proofs.Noted.{lists_more}
 use Rattle.scenario_play.proofs.notes.Notebook.list.Goals as goal
 

@@ -1,7 +1,7 @@
 use Rattle.std.proofs.Common.{◌≡◌, List, length, drop}
 use Rattle.pcap_file.specs.Format.{Packet as Record}
 use Rattle.cluster_node.specs.declared.events.Said.{Said}
-use Rattle.course.specs.Cluster.{Cluster}
+use Rattle.cluster_core.specs.Cluster.{Cluster}
 use Rattle.simulation.specs.Wires.{traffic}
 use Rattle.simulation.specs.Following.{NoArrivals, CanSettle}
 use Rattle.simulation.proofs.Followed.{Settling}

@@ -1,7 +1,7 @@
 use Rattle.std.proofs.Common.{◌≡◌, ◌-◌, ◌∷◌, ℕ, List}
 use Rattle.scenario_steps.specs.declared.Step.{Step}
 use Rattle.spreader.specs.Choices.{Choice}
-use Rattle.course.specs.Cluster.{Cluster}
+use Rattle.cluster_core.specs.Cluster.{Cluster}
 use Rattle.course.specs.Room.{Counted}
 use Rattle.course.specs.PrivateStreams.{lose_of}
 use Rattle.simulation.specs.Plans.{Planned}

@@ -1,0 +1,101 @@
+//! A cluster's run under rules.
+ghost use Rattle.std.specs.Prelude.{◌≡◌, ◌≤◌, [], ℕ, List, reverse, IfOk};
+ghost use Rattle.cluster_node.specs.declared.events.Said.{Said};
+ghost use Rattle.cluster_core.specs.Runs.{RunStands};
+ghost use Rattle.cluster_core.specs.Totals.{came_of, went_of};
+ghost use Rattle.cluster_core.specs.Ruling.{Ruling, rules_of, cluster_of, IsBalanced};
+
+use crate::machine::Core;
+use crate::notes::Notes;
+use crate::rules::Rules;
+use crate::running::Run;
+use crate::task::Task;
+use cluster_node::{Event, Outcome, Packet};
+use connection_table::ConnTable;
+use hash_laws::FlowHash;
+use selection::Scheme;
+use std::alloc::{AllocError, Global};
+use std::marker::PhantomData;
+
+/// The balancers of a cluster, under events that are learnt one by one, and what is kept of these. The rules, and what is
+/// asked, are the same in every step.
+#[derive(Drop)]
+pub struct Balancers<S: Scheme, H: FlowHash, T: ConnTable, N: Notes> {
+    run: Run<S, T>,
+    notes: N,
+    hash: PhantomData<H>,
+}
+
+impl<S: Scheme, H: FlowHash, T: ConnTable, N: Notes> Balancers<S, H, T, N> {
+    /// Balancers to which nothing has happened, with such notes. They stand for the empty record.
+    pub fn make(alloc: Global, rules: &Rules<S, H>, notes: N) -> Result<Self, AllocError>
+        ensures run { IfOk result (λ b. RunStands (λ s z. S.pick s z) (rules_of (λ s z. S.pick s z) (λ h. H.plain h) rules.now) [] b.run) }
+        ensures notes { IfOk result (λ b. b.notes ≡ notes) }
+    {
+        let run = Run::make(alloc, rules.setup())?;
+        Ok(Balancers {
+            run,
+            notes,
+            hash: PhantomData,
+        })
+    }
+
+    /// What was kept of the events.
+    pub fn into_notes(self) -> N
+        ensures { result ≡ self.notes }
+    {
+        let Balancers {
+            run: _,
+            notes,
+            hash: _,
+        } = self;
+        notes
+    }
+
+    /// What left the queues is no more than what was placed, by every record for which the balancers stand, and so by its
+    /// history, as `Counts::totals` asks. The body does nothing.
+    pub fn keep_balance(&self, rules: &Rules<S, H>)
+        ensures record { (past : List Said) → RunStands (λ s z. S.pick s z) (rules_of (λ s z. S.pick s z) (λ h. H.plain h) rules.now) past self.now.run → went_of past ≤ came_of past }
+        ensures history { (past : List Said) → RunStands (λ s z. S.pick s z) (rules_of (λ s z. S.pick s z) (λ h. H.plain h) rules.now) past self.now.run → IsBalanced (reverse past) }
+    {
+        let _ = rules;
+    }
+}
+
+impl<S: Scheme, H: FlowHash, T: ConnTable, N: Notes> Core for Balancers<S, H, T, N> {
+    type Setup = Task<S, H, N::Asked>;
+
+    ghost cluster = { λ task. cluster_of (λ s z. S.pick s z) (λ h. H.plain h) task.rules };
+
+    ghost stands = { λ task past balancers. RunStands (λ s z. S.pick s z) (rules_of (λ s z. S.pick s z) (λ h. H.plain h) task.rules) past balancers.run × N.are_of task.asked past balancers.notes };
+
+    #[inline(always)]
+    fn step(
+        &mut self,
+        setup: &Task<S, H, N::Asked>,
+        event: Event,
+        packet: Option<Packet>,
+    ) -> Result<Outcome, AllocError> {
+        let rules = &setup.rules;
+        let outcome = self
+            .run
+            .step(rules.setup(), rules.catalogue(), &event, packet.as_ref())?;
+        self.notes.note(&setup.asked, &event, &outcome)?;
+        Ok(outcome)
+    }
+
+    fn workers(setup: &Task<S, H, N::Asked>) -> u16 {
+        setup.rules.setup().workers()
+    }
+
+    #[inline(always)]
+    fn newest(&self, setup: &Task<S, H, N::Asked>, node: u16) -> u32 {
+        let _ = setup;
+        self.run.newest(node)
+    }
+
+    fn waiting(&self, setup: &Task<S, H, N::Asked>, node: u16, worker: u16) -> u64 {
+        let _ = setup;
+        self.run.waiting(node, worker) as u64
+    }
+}

@@ -1,0 +1,44 @@
+//! What a cluster's core owes to the steps of a scenario.
+ghost use Rattle.std.specs.Prelude.{◌≡◌, ◌<◌, ◌^◌, ◌∷◌, ℕ, List, length, IfOk};
+ghost use Rattle.cluster_node.specs.declared.events.Said.{Said};
+ghost use Rattle.cluster_core.specs.Cluster.{Cluster, said, newest_on, waiting_on};
+ghost use Rattle.cluster_node.specs.Records.{WasRead};
+
+use cluster_node::{Event, Outcome, Packet};
+use std::alloc::AllocError;
+
+/// A cluster's core: a state machine over events. What it answers is read off the record of all events before.
+pub trait Core {
+    /// What is fixed for a run.
+    type Setup;
+
+    /// What an event comes to after a record of others, how many nodes there are, and how many workers each has.
+    ghost cluster: { Self.Setup → Cluster };
+
+    /// The core stands for the record, which has the newest event in front.
+    ghost stands: { Self.Setup → List Said → Self → Type 0 };
+
+    /// One event, with the packet that it names where it is an arrival. After a refusal of memory nothing is said of the
+    /// core any more.
+    fn step(
+        &mut self,
+        setup: &Self::Setup,
+        event: Event,
+        packet: Option<Packet>,
+    ) -> Result<Outcome, AllocError>
+        requires { WasRead packet }
+        ensures { (past : List Said) → length past < 2 ^ 64 → stands setup.now past self.old →
+            IfOk result (λ o. (o ≡ (cluster setup.now).judge past event packet) × stands setup.now (said (cluster setup.now).judge past event packet ∷ past) self.new) };
+
+    /// How many workers a node has.
+    fn workers(setup: &Self::Setup) -> u16
+        ensures { result ≡ (cluster setup.now).workers };
+
+    /// The version installed last on a node, 0 where there is none.
+    fn newest(&self, setup: &Self::Setup, node: u16) -> u32
+        ensures { (past : List Said) → stands setup.now past self.now → result ≡ newest_on (cluster setup.now) node past };
+
+    /// How many packets wait for a worker.
+    fn waiting(&self, setup: &Self::Setup, node: u16, worker: u16) -> u64
+        ensures { (past : List Said) → stands setup.now past self.now → result ≡ waiting_on (cluster setup.now) node worker past };
+}

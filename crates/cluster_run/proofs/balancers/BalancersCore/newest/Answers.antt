@@ -1,7 +1,0 @@
-use Rattle.course.specs.Cluster.{newest_on}
-use Rattle.cluster_run.specs.Ruling.{rules_of}
-use Rattle.cluster_run.proofs.balancers.BalancersCore.newest.Goals as goal
-
-pub returns : goal.returns
-unfolding newest_on
-returns g c = λ past st. c.newest.ensures.said (rules_of (λ s z. g.S.Scheme.pick s z) (λ h. g.H.FlowHash.plain h) c.args.setup.now.rules) past st.0

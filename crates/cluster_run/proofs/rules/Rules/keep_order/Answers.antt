@@ -1,6 +1,0 @@
-use Rattle.cluster_run.specs.Ruling.{rules_of}
-use Rattle.cluster_run.proofs.Ordered.{orderly}
-use Rattle.cluster_run.proofs.rules.Rules.keep_order.Goals as goal
-
-pub returns : goal.returns
-returns g c = orderly (rules_of (λ s z. g.S.Scheme.pick s z) (λ h. g.H.FlowHash.plain h) c.args.self.now)

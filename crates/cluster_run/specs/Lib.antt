@@ -1,2 +1,0 @@
-pub mod Ruling
-pub mod Noting
