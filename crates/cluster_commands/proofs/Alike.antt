@@ -7,7 +7,7 @@ use Rattle.cluster_node.specs.declared.packets.Packet.{Packet}
 use Rattle.cluster_node.specs.declared.events.Event.{Event}
 use Rattle.cluster_node.specs.declared.events.Event.TheVariants.{Install, Restart}
 use Rattle.cluster_node.specs.declared.events.Said.{Said}
-use Rattle.cluster_node.specs.Records.{node_of}
+use Rattle.cluster_node.specs.Records.{node_of, placed_on}
 use Rattle.node_records.specs.declared.command.Command.{Command}
 use Rattle.node_records.specs.Losses.{as_written}
 use Rattle.spreader.specs.Choices.{Choice}
@@ -15,7 +15,7 @@ use Rattle.scenario_steps.specs.declared.Step.{Step}
 use Rattle.scenario_steps.specs.declared.Step.TheVariants as steps
 use Rattle.cluster_core.specs.Cluster.{Cluster, flow_of, waiting_on}
 use Rattle.course.specs.Course.{Course}
-use Rattle.course.specs.Steps.{World, world_of, placed_on, is_held, say, serve, follow, arrival, arrive, route, deliver, take_all, repeat, serve_times, drain_from, release, next_ones, after, run, start, below}
+use Rattle.course.specs.Steps.{World, world_of, is_held, say, serve, follow, arrival, arrive, route, deliver, take_all, repeat, serve_times, drain_from, release, next_ones, after, run, start, below}
 use Rattle.course.specs.Tally.{tally_of}
 use Rattle.course.specs.declared.play.Tally.{Tally}
 use Rattle.cluster_commands.specs.Noting.{noting}

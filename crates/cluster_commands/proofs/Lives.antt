@@ -1,4 +1,5 @@
 -- A course ends as many lives of a node as its steps.
+use Rattle.cluster_node.specs.Records.{said, placed_on}
 use Rattle.std.proofs.Common.{◌≡◌, ℕ, zero, suc, ◌+◌, Bool, true, false, List, [], ◌∷◌, ◌++◌, map, length, take, Option, Some, None, refl, ap, ◌∙◌, arith}
 use Rattle.std.specs.Prelude.{◌==◌, if◌then◌else◌, cond, slice_get}
 use Rattle.std.specs.List.{cons_option}
@@ -15,9 +16,9 @@ use Rattle.node_records.specs.Losses.{drained_lives}
 use Rattle.scenario_steps.specs.declared.Step.{Step}
 use Rattle.scenario_steps.specs.declared.Step.TheVariants as steps
 use Rattle.spreader.specs.Choices.{Choice}
-use Rattle.cluster_core.specs.Cluster.{Cluster, said, newest_on, flow_of, waiting_on}
+use Rattle.cluster_core.specs.Cluster.{Cluster, newest_on, flow_of, waiting_on}
 use Rattle.course.specs.Course.{Course}
-use Rattle.course.specs.Steps.{World, world_of, placed_on, is_held, say, serve, follow, arrival, arrive, route, deliver, take_all, repeat, serve_times, drain_from, release, next_ones, after, run, start, below}
+use Rattle.course.specs.Steps.{World, world_of, is_held, say, serve, follow, arrival, arrive, route, deliver, take_all, repeat, serve_times, drain_from, release, next_ones, after, run, start, below}
 use Rattle.cluster_commands.specs.Orders.{commands_on, events_of, course_on, plan_of, ends_by, ends_on, orders_on, orders_of, EndsAreTold}
 use Rattle.cluster_commands.specs.Noting.{noting}
 use Rattle.cluster_commands.proofs.Telling.{no_serve}

@@ -9,13 +9,13 @@ use Rattle.cluster_node.specs.declared.packets.Packet.{Packet}
 use Rattle.cluster_node.specs.declared.events.Event.{Event}
 use Rattle.cluster_node.specs.declared.events.Event.TheVariants.{Install, Arrive, Serve, Restart}
 use Rattle.cluster_node.specs.declared.events.Said.{Said}
-use Rattle.cluster_node.specs.Records.{node_of}
+use Rattle.cluster_node.specs.Records.{node_of, placed_on}
 use Rattle.node_records.specs.Histories.{commands_of}
 use Rattle.scenario_steps.specs.declared.Step.{Step}
 use Rattle.scenario_steps.specs.declared.Step.TheVariants as steps
 use Rattle.cluster_core.specs.Cluster.{flow_of}
 use Rattle.course.specs.Course.{Course}
-use Rattle.course.specs.Steps.{World, world_of, none_marked, marks_or, marks_at, placed_on, is_held, say, serve, follow, arrival, arrive, route, deliver, take_all, repeat, next_ones, after, run, start}
+use Rattle.course.specs.Steps.{World, world_of, none_marked, marks_or, marks_at, is_held, say, serve, follow, arrival, arrive, route, deliver, take_all, repeat, next_ones, after, run, start}
 use Rattle.cluster_commands.specs.Knowing.{is_known, first_unknown_of}
 use Rattle.cluster_commands.specs.Orders.{commands_on, events_of, plan_of, ends_on, is_serve, event_of, KnownStepsAreTold}
 use Rattle.cluster_commands.specs.Noting.{noting}

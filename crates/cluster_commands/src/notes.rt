@@ -3,7 +3,7 @@ ghost use Rattle.std.specs.Prelude.{◌≡◌};
 ghost use Rattle.cluster_commands.specs.Noting.{answer, noting};
 
 use cluster_core::Core;
-use cluster_node::{Cause, Event, Outcome, Packet};
+use cluster_node::{Cause, Event, Outcome, Packet, Passed};
 use std::alloc::AllocError;
 
 /// Places no packet, so that nothing is served.
@@ -50,6 +50,21 @@ impl Core for Notes {
             },
             Event::Restart { node: _ } => Outcome::Restarted { lost: 0 },
         })
+    }
+
+    fn pass(
+        &mut self,
+        setup: &(),
+        node: u16,
+        packet: u32,
+        refused: &[bool; 16],
+        body: &Packet,
+    ) -> Result<Passed, AllocError> {
+        let _ = (setup, node, refused, body);
+        Ok(Passed::Unplaced(Outcome::Dropped {
+            packet,
+            cause: Cause::RingsFull,
+        }))
     }
 
     fn workers(setup: &()) -> u16 {

@@ -17,6 +17,11 @@ use Rattle.cluster_node.specs.declared.outcomes.Passed.TheVariants.{Unplaced, Se
 use Rattle.cluster_node.specs.Record.{node_verdict, newest_of, installed_of, ArePrepared, NodeStands, NodeGoes}
 use Rattle.cluster_node.specs.Records.{WasRead, of_node, said, with_arrival, NodePasses}
 use Rattle.cluster_node.proofs.Passing.{get_same, set_twice}
+use Rattle.pool_versions.specs.Pool.{Pools}
+use Rattle.cluster_core.specs.Setups.{Fixed, rules_for}
+use Rattle.cluster_core.specs.Ruling.{Ruling, rules_of, cluster_of}
+use Rattle.cluster_core.specs.Cluster.{newest_on}
+use Rattle.cluster_core.proofs.Asked.{newest_is}
 use Rattle.cluster_core.specs.RunView.{RunView}
 use Rattle.cluster_core.specs.Runs.{verdict, newest_at, RunStands, RunGoes, RunPasses}
 use Rattle.cluster_core.proofs.Preparing.{none_more}
@@ -48,12 +53,14 @@ module _ {S : Type 0} (pick_of : S → ℕ → Pick) (rules : Rules) (past : Lis
       (subst (λ (had : List Said). NodeGoes rules had (Serve n w v false) None o after) (sym same_before) goes) in
       let last : RunGoes pick_of rules (with_arrival (verdict rules) past Come p) (Serve n w v false) None o (with_node after) =
       subst (λ (ys : List NodeView). RunGoes pick_of rules (with_arrival (verdict rules) past Come p) (Serve n w v false) None o (record { failed = run.failed; nodes = ys; versions = run.versions })) (set_twice run.nodes n between after) second in
-      ((first.0, last.0), last.1)
+      ((first.0, last.0),
+        subst (λ (x : Outcome). RunStands pick_of rules (record { event = Serve n w v false; packet = None; outcome = o } ∷ record { event = Come; packet = Some p; outcome = x } ∷ past) (with_node after)) (sym first.0)
+        (subst (λ (x : Outcome). RunStands pick_of rules (record { event = Serve n w v false; packet = None; outcome = x } ∷ with_arrival (verdict rules) past Come p) (with_node after)) (sym last.0) last.1))
 
   pub pass_goes : (v : ℕ) (q : Passed) → NodePasses rules (of_node n past) Come p (λ w. Serve n w v false) q after → RunPasses pick_of rules past Come p (λ w. Serve n w v false) q (with_node after)
   pass_goes v (Unplaced o) g =
       let r : RunGoes pick_of rules past Come (Some p) o (with_node after) = arrives o after (g.0.1, g.1) in
-      ((g.0.0, r.0), r.1)
+      ((g.0.0, r.0), subst (λ (x : Outcome). RunStands pick_of rules (record { event = Come; packet = Some p; outcome = x } ∷ past) (with_node after)) (sym r.0) r.1)
   pass_goes v (Served w f o) g = serves w f v o g.1.0 g.0.0 g.1.1 (g.0.1, g.1.2)
 
 -- the same of a result, as the code finds it
@@ -69,4 +76,12 @@ pass_said pick_of rules past run n k marks p one after (Err e) read lt is st g =
 pub no_node_passes : {S : Type 0} (pick_of : S → ℕ → Pick) (rules : Rules) (past : List Said) (run : RunView S) (n k v : ℕ) (marks : List Bool) (p : Packet) → length run.nodes ≤ n → RunStands pick_of rules past run → RunPasses pick_of rules past (Arrive n k marks) p (λ w. Serve n w v false) (Unplaced (Refused NoNode)) run
 no_node_passes pick_of rules past run n k v marks p le st =
     let r : RunGoes pick_of rules past (Arrive n k marks) (Some p) (Refused NoNode) run = no_node pick_of rules past run (Arrive n k marks) (Some p) le st in
-    ((refl, r.0), r.1)
+    ((refl, r.0), subst (λ (x : Outcome). RunStands pick_of rules (record { event = Arrive n k marks; packet = Some p; outcome = x } ∷ past) run) (sym r.0) r.1)
+
+-- the same under a setup and a catalogue that fit, by the record's newest version
+pub passed_by : {S H : Type 0} (pick_of : S → ℕ → Pick) (plain_of : H → List ℕ → ℕ) (ruling : Ruling S H) (setup : Fixed S H) (past : List Said) (n k : ℕ) (marks : List Bool) (p : Packet) (run after : RunView S) (q : Passed) → setup ≡ ruling.setup → RunStands pick_of (rules_of pick_of plain_of ruling) past run
+    → ((pools : Pools) (had : List Said) → RunStands pick_of (rules_for pick_of plain_of setup pools) had run → RunPasses pick_of (rules_for pick_of plain_of setup pools) had (Arrive n k marks) p (λ w. Serve n w (newest_at (slice_get run.nodes n)) false) q after)
+    → RunPasses pick_of (rules_of pick_of plain_of ruling) past (Arrive n k marks) p (λ w. Serve n w (newest_on (cluster_of pick_of plain_of ruling) n past) false) q after
+passed_by {S} {H} pick_of plain_of ruling setup past n k marks p run after q same st g =
+    subst (λ (v : ℕ). RunPasses pick_of (rules_of pick_of plain_of ruling) past (Arrive n k marks) p (λ w. Serve n w v false) q after) (newest_is pick_of (rules_of pick_of plain_of ruling) past run st n)
+    (subst (λ (s : Fixed S H). RunStands pick_of (rules_for pick_of plain_of s ruling.catalogue) past run → RunPasses pick_of (rules_for pick_of plain_of s ruling.catalogue) past (Arrive n k marks) p (λ w. Serve n w (newest_at (slice_get run.nodes n)) false) q after) same (g ruling.catalogue past) st)

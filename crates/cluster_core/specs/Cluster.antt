@@ -19,9 +19,6 @@ pub record Cluster : Type 0 where
   -- the workers of each node
   pub workers : ℕ
 
-abbrev pub said : Judge → List Said → Event → Option Packet → Said
-said judge past e p = record { event = e; packet = p; outcome = judge past e p }
-
 -- the version installed last on a node of the cluster, 0 where there is none
 unfoldable pub newest_on : Cluster → ℕ → List Said → ℕ
 newest_on k n past = if nat_lt n k.nodes then newest_of (of_node n past) else 0

@@ -12,7 +12,7 @@ use Rattle.cluster_node.specs.Rules.{Rules}
 use Rattle.cluster_node.specs.declared.events.Said.{Said}
 use Rattle.cluster_node.specs.Record.{node_verdict, waits, NodeStands, installed_of, prepared_at, waiting_at, IsPrepared, ArePrepared}
 use Rattle.cluster_node.specs.declared.outcomes.Passed.{Passed}
-use Rattle.cluster_node.specs.Records.{node_of, of_node, AreTold, with_passing}
+use Rattle.cluster_node.specs.Records.{node_of, of_node, AreTold, with_told}
 use Rattle.cluster_core.specs.Cluster.{Cluster}
 use Rattle.cluster_core.specs.Totals.{came_of, went_of}
 use Rattle.cluster_core.specs.RunView.{RunView}
@@ -70,7 +70,7 @@ RunGoes pick_of rules past e x o run = (o ≡ verdict rules past e x) × RunStan
 -- what came of a packet, and of its serving where it was placed, is what the record says of both, and the run stands for
 -- the record with them
 abbrev pub RunPasses : {S : Type 0} → (S → ℕ → Pick) → Rules → List Said → Event → Packet → (ℕ → Event) → Passed → RunView S → Type 0
-RunPasses pick_of rules past e p serving q run = AreTold (verdict rules) past e p serving q × RunStands pick_of rules (with_passing (verdict rules) past e p serving q) run
+RunPasses pick_of rules past e p serving q run = AreTold (verdict rules) past e p serving q × RunStands pick_of rules (with_told past e p serving q) run
 
 -- the versions after one was prepared: it is prepared once
 abbrev pub prepared_with : {S : Type 0} → S → ℕ → Version → List (Readied S) → List (Readied S)

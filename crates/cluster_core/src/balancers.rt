@@ -1,5 +1,8 @@
 //! A cluster's run under rules.
-ghost use Rattle.std.specs.Prelude.{◌≡◌, ◌≤◌, [], ℕ, List, reverse, IfOk};
+ghost use Rattle.std.specs.Prelude.{◌≡◌, ◌≤◌, [], ℕ, List, reverse, false, IfOk, OnOk};
+ghost use Rattle.cluster_node.specs.declared.packets.Packet.{Packet};
+ghost use Rattle.cluster_node.specs.declared.events.Event.TheVariants.{Serve};
+ghost use Rattle.cluster_node.specs.Records.{with_told};
 ghost use Rattle.cluster_node.specs.declared.events.Said.{Said};
 ghost use Rattle.cluster_core.specs.Runs.{RunStands};
 ghost use Rattle.cluster_core.specs.Totals.{came_of, went_of};
@@ -10,7 +13,7 @@ use crate::notes::Notes;
 use crate::rules::Rules;
 use crate::running::Run;
 use crate::task::Task;
-use cluster_node::{Event, Outcome, Packet};
+use cluster_node::{Event, Outcome, Packet, Passed};
 use connection_table::ConnTable;
 use hash_laws::FlowHash;
 use selection::Scheme;
@@ -24,6 +27,41 @@ pub struct Balancers<S: Scheme, H: FlowHash, T: ConnTable, N: Notes> {
     run: Run<S, T>,
     notes: N,
     hash: PhantomData<H>,
+}
+
+// What came of an arrival at a node, and of its serving under a version where it was placed, is noted.
+#[inline(always)]
+fn note_passed<N: Notes>(
+    notes: &mut N,
+    asked: &N::Asked,
+    node: u16,
+    event: &Event,
+    version: u32,
+    passed: &Passed,
+) -> Result<(), AllocError>
+    ensures { (past : List Said) (packet : Packet) → N.are_of asked.now past notes.old → OnOk result (N.are_of asked.now (with_told past event.now packet (λ w. Serve node w version false) passed.now) notes.new) }
+{
+    match passed {
+        Passed::Unplaced(outcome) => notes.note(asked, event, outcome),
+        Passed::Served {
+            worker,
+            floor,
+            outcome,
+        } => {
+            let placed = Outcome::Placed {
+                worker: *worker,
+                floor: *floor,
+            };
+            notes.note(asked, event, &placed)?;
+            let serving = Event::Serve {
+                node,
+                worker: *worker,
+                version,
+                refused: false,
+            };
+            notes.note(asked, &serving, outcome)
+        }
+    }
 }
 
 impl<S: Scheme, H: FlowHash, T: ConnTable, N: Notes> Balancers<S, H, T, N> {
@@ -82,6 +120,35 @@ impl<S: Scheme, H: FlowHash, T: ConnTable, N: Notes> Core for Balancers<S, H, T,
             .step(rules.setup(), rules.catalogue(), &event, packet.as_ref())?;
         self.notes.note(&setup.asked, &event, &outcome)?;
         Ok(outcome)
+    }
+
+    #[inline(always)]
+    fn pass(
+        &mut self,
+        setup: &Task<S, H, N::Asked>,
+        node: u16,
+        packet: u32,
+        refused: &[bool; 16],
+        body: &Packet,
+    ) -> Result<Passed, AllocError> {
+        let version = self.newest(setup, node);
+        let passed = self
+            .run
+            .pass(setup.rules.setup(), node, packet, refused, body)?;
+        let event = Event::Arrive {
+            node,
+            packet,
+            refused: *refused,
+        };
+        note_passed(
+            &mut self.notes,
+            &setup.asked,
+            node,
+            &event,
+            version,
+            &passed,
+        )?;
+        Ok(passed)
     }
 
     fn workers(setup: &Task<S, H, N::Asked>) -> u16 {

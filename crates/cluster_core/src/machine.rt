@@ -1,10 +1,11 @@
 //! What a cluster's core owes to the steps of a scenario.
-ghost use Rattle.std.specs.Prelude.{◌≡◌, ◌<◌, ◌^◌, ◌∷◌, ℕ, List, length, IfOk};
+ghost use Rattle.std.specs.Prelude.{◌≡◌, ◌<◌, ◌^◌, ◌∷◌, ℕ, List, length, Some, false, IfOk};
+ghost use Rattle.cluster_node.specs.declared.events.Event.TheVariants.{Arrive, Serve};
 ghost use Rattle.cluster_node.specs.declared.events.Said.{Said};
-ghost use Rattle.cluster_core.specs.Cluster.{Cluster, said, newest_on, waiting_on};
-ghost use Rattle.cluster_node.specs.Records.{WasRead};
+ghost use Rattle.cluster_core.specs.Cluster.{Cluster, newest_on, waiting_on};
+ghost use Rattle.cluster_node.specs.Records.{AreTold, WasRead, said, with_told};
 
-use cluster_node::{Event, Outcome, Packet};
+use cluster_node::{Event, Outcome, Packet, Passed};
 use std::alloc::AllocError;
 
 /// A cluster's core: a state machine over events. What it answers is read off the record of all events before.
@@ -29,6 +30,21 @@ pub trait Core {
         requires { WasRead packet }
         ensures { (past : List Said) → length past < 2 ^ 64 → stands setup.now past self.old →
             IfOk result (λ o. (o ≡ (cluster setup.now).judge past event packet) × stands setup.now (said (cluster setup.now).judge past event packet ∷ past) self.new) };
+
+    /// A packet comes to a node, and where it is placed its worker serves at once under the node's newest version: two steps,
+    /// one after the other.
+    fn pass(
+        &mut self,
+        setup: &Self::Setup,
+        node: u16,
+        packet: u32,
+        refused: &[bool; 16],
+        body: &Packet,
+    ) -> Result<Passed, AllocError>
+        requires { WasRead (Some body.now) }
+        ensures { let k = cluster setup.now in let come = Arrive node packet refused.now in
+            (past : List Said) → length past < 2 ^ 64 → stands setup.now past self.old → let serving = (λ (u : ℕ). Serve node u (newest_on k node past) false) in
+            IfOk result (λ q. AreTold k.judge past come body.now serving q × stands setup.now (with_told past come body.now serving q) self.new) };
 
     /// How many workers a node has.
     fn workers(setup: &Self::Setup) -> u16

@@ -67,12 +67,12 @@ abbrev pub AreTold : Judge → List Said → Event → Packet → (ℕ → Event
 AreTold judge past e p serving (Unplaced o) = (placed_on o ≡ None) × (o ≡ judge past e (Some p))
 AreTold judge past e p serving (Served w floor o) = (Placed w floor ≡ judge past e (Some p)) × (o ≡ judge (with_arrival judge past e p) (serving w) None)
 
--- the record after both
-abbrev pub with_passing : Judge → List Said → Event → Packet → (ℕ → Event) → Passed → List Said
-with_passing judge past e p serving (Unplaced o) = with_arrival judge past e p
-with_passing judge past e p serving (Served w floor o) = with_serving judge past e p (serving w)
+-- the record with what is told
+abbrev pub with_told : List Said → Event → Packet → (ℕ → Event) → Passed → List Said
+with_told past e p serving (Unplaced o) = record { event = e; packet = Some p; outcome = o } ∷ past
+with_told past e p serving (Served w floor o) = record { event = serving w; packet = None; outcome = o } ∷ record { event = e; packet = Some p; outcome = Placed w floor } ∷ past
 
--- the node stands for that record, and where the packet was placed another one stood for the record between
+-- the node stands for the record with what the judge says, and where the packet was placed another one stood for the record between
 abbrev pub StandsThrough : Rules → List Said → Event → Packet → (ℕ → Event) → Passed → NodeView → Type 0
 StandsThrough rules past e p serving (Unplaced o) m = NodeStands rules (with_arrival (node_verdict rules) past e p) m
 StandsThrough rules past e p serving (Served w floor o) m = (between : NodeView) × NodeStands rules (with_arrival (node_verdict rules) past e p) between × NodeStands rules (with_serving (node_verdict rules) past e p (serving w)) m

@@ -1,4 +1,5 @@
 -- The counts of every course add up.
+use Rattle.cluster_node.specs.Records.{placed_on}
 use Rattle.std.proofs.Common.{◌≡◌, ℕ, zero, suc, ◌+◌, ◌-◌, ◌<◌, ◌≤◌, Bool, true, false, List, [], ◌∷◌, length, take, drop, Option, Some, None, refl, sym, ap, ◌∙◌, subst, arith}
 use Rattle.std.specs.Prelude.{if◌then◌else◌, slice_get, slice_set}
 use Rattle.cluster_node.specs.declared.packets.Packet.{Packet}
@@ -9,7 +10,7 @@ use Rattle.cluster_core.specs.Cluster.{flow_of, waiting_on}
 use Rattle.scenario_steps.specs.declared.Step.{Step}
 use Rattle.scenario_steps.specs.declared.Step.TheVariants as steps
 use Rattle.course.specs.Course.{Course}
-use Rattle.course.specs.Steps.{World, placed_on, is_held, say, serve, follow, arrival, arrive, route, deliver, take_all, repeat, serve_times, drain_from, release, next_ones, after, run, start}
+use Rattle.course.specs.Steps.{World, is_held, say, serve, follow, arrival, arrive, route, deliver, take_all, repeat, serve_times, drain_from, release, next_ones, after, run, start}
 use Rattle.course.specs.Sums.{arrives, arrivals, IsOfRecord, AreOfRecords, again_by, agains, AddsUp, CoursesAddUp}
 use Rattle.course.proofs.Told.{run_told}
 use Rattle.course.proofs.Moves.{deliver_hands}

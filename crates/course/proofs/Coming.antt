@@ -1,17 +1,18 @@
 -- What a run that reads its records one by one rests on.
+use Rattle.cluster_node.specs.Records.{said, placed_on}
 use Rattle.std.proofs.Common.{◌≡◌, ℕ, zero, suc, ◌+◌, Bool, true, false, List, [], ◌∷◌, ◌++◌, length, take, Option, Some, None, refl, sym, ap, ◌∙◌, arith, append_assoc, drop_at, take_at, length-append}
 use Rattle.std.specs.Prelude.{if◌then◌else◌, slice_get}
 use Rattle.cluster_node.specs.declared.events.Said.{Said}
 use Rattle.cluster_node.specs.declared.events.Event.{Event}
 use Rattle.cluster_node.specs.declared.packets.Packet.{Packet}
 use Rattle.cluster_core.specs.Cluster.{flow_of}
-use Rattle.cluster_core.specs.Cluster.{Cluster, said, waiting_on}
+use Rattle.cluster_core.specs.Cluster.{Cluster, waiting_on}
 use Rattle.spreader.specs.Choices.{Choice}
 use Rattle.scenario_steps.specs.declared.Step.{Step}
 use Rattle.scenario_steps.specs.declared.Step.TheVariants as steps
 use Rattle.course.specs.Course.{Course}
 use Rattle.course.proofs.Moves.{deliver_hands}
-use Rattle.course.specs.Steps.{World, world_of, placed_on, is_held, say, serve, follow, arrival, arrive, route, deliver, take_all, repeat, serve_times, drain_from, release, next_ones, after, run}
+use Rattle.course.specs.Steps.{World, world_of, is_held, say, serve, follow, arrival, arrive, route, deliver, take_all, repeat, serve_times, drain_from, release, next_ones, after, run}
 
 -- the list goes on with later events
 pub record Grows (old new : List Said) : Type 0 where

@@ -7,3 +7,4 @@ pub mod Told
 pub mod Quiet
 pub mod Adding
 pub mod Behind
+pub mod Passing

@@ -1,10 +1,11 @@
 -- How far a run's counts move.
+use Rattle.cluster_node.specs.Records.{placed_on}
 use Rattle.std.proofs.Common.{◌≡◌, ℕ, ◌+◌, ◌≤◌, Bool, true, false, Option, Some, None, refl, ap, ◌∙◌, arith}
 use Rattle.std.specs.Prelude.{if◌then◌else◌}
 use Rattle.cluster_node.specs.declared.packets.Packet.{Packet}
 use Rattle.cluster_core.specs.Cluster.{flow_of}
 use Rattle.course.specs.Course.{Course}
-use Rattle.course.specs.Steps.{World, placed_on, is_held, say, serve, follow, arrival, arrive, route, deliver}
+use Rattle.course.specs.Steps.{World, is_held, say, serve, follow, arrival, arrive, route, deliver}
 
 -- only events are added
 pub record Keeps (c d : Course) : Type 0 where

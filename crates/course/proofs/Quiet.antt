@@ -1,15 +1,16 @@
 -- Which events are arrivals: of a packet that is delivered the first alone, and none of a step that names no record.
+use Rattle.cluster_node.specs.Records.{said, placed_on}
 use Rattle.std.proofs.Common.{◌≡◌, ◌⊎◌, ℕ, zero, suc, ◌+◌, Bool, true, false, List, [], ◌∷◌, ◌++◌, Option, Some, None, refl, sym, ap, ◌∙◌, append_assoc, inl, inr}
 use Rattle.std.specs.Prelude.{if◌then◌else◌}
 use Rattle.cluster_node.specs.declared.events.Event.{Event}
 use Rattle.cluster_node.specs.declared.events.Event.TheVariants.{Install, Arrive, Serve, Restart}
 use Rattle.cluster_node.specs.declared.events.Said.{Said}
 use Rattle.cluster_node.specs.declared.packets.Packet.{Packet}
-use Rattle.cluster_core.specs.Cluster.{said, flow_of, waiting_on}
+use Rattle.cluster_core.specs.Cluster.{flow_of, waiting_on}
 use Rattle.scenario_steps.specs.declared.Step.{Step}
 use Rattle.scenario_steps.specs.declared.Step.TheVariants as steps
 use Rattle.course.specs.Course.{Course}
-use Rattle.course.specs.Steps.{World, placed_on, is_held, say, serve, follow, arrival, arrive, route, deliver, serve_times, drain_from, release, names_records, after}
+use Rattle.course.specs.Steps.{World, is_held, say, serve, follow, arrival, arrive, route, deliver, serve_times, drain_from, release, names_records, after}
 
 abbrev pub is_arrival : Event → Bool
 is_arrival (Install n v) = false

@@ -2,12 +2,12 @@
 use Rattle.std.proofs.Common.{ℕ, zero, suc, ◌+◌, Bool, true, false, List, [], ◌∷◌, take, Option, Some, None, refl}
 use Rattle.std.specs.Prelude.{if◌then◌else◌, slice_get}
 use Rattle.cluster_node.specs.declared.packets.Packet.{Packet}
-use Rattle.cluster_node.specs.Records.{Judged}
+use Rattle.cluster_node.specs.Records.{Judged, placed_on}
 use Rattle.cluster_core.specs.Cluster.{flow_of, waiting_on}
 use Rattle.scenario_steps.specs.declared.Step.{Step}
 use Rattle.scenario_steps.specs.declared.Step.TheVariants as steps
 use Rattle.course.specs.Course.{Course}
-use Rattle.course.specs.Steps.{World, placed_on, is_held, say, serve, follow, arrival, arrive, route, deliver, take_all, repeat, serve_times, drain_from, release, next_ones, after, run}
+use Rattle.course.specs.Steps.{World, is_held, say, serve, follow, arrival, arrive, route, deliver, take_all, repeat, serve_times, drain_from, release, next_ones, after, run}
 
 abbrev Told : World → Course → Type 0
 Told w c = Judged w.cluster.judge c.past

@@ -7,8 +7,10 @@ use Rattle.cluster_node.specs.declared.events.Event.TheVariants.{Install, Arrive
 use Rattle.cluster_node.specs.declared.events.Said.{Said}
 use Rattle.cluster_node.specs.declared.outcomes.Outcome.{Outcome}
 use Rattle.cluster_node.specs.declared.outcomes.Outcome.TheVariants.{Installed, Placed, Forward, Dropped, Restarted, Refused}
+use Rattle.cluster_node.specs.Records.{said, placed_on, with_told}
+use Rattle.cluster_node.specs.declared.outcomes.Passed.{Passed}
 use Rattle.spreader.specs.Choices.{Choice}
-use Rattle.cluster_core.specs.Cluster.{Cluster, said, newest_on, waiting_on, flow_of}
+use Rattle.cluster_core.specs.Cluster.{Cluster, newest_on, waiting_on, flow_of}
 use Rattle.scenario_steps.specs.declared.Step.{Step}
 use Rattle.scenario_steps.specs.declared.Step.TheVariants as steps
 use Rattle.course.specs.Course.{Course}
@@ -49,18 +51,13 @@ noted s c = record c { past = s ∷ c.past }
 abbrev pub say : World → Event → Option Packet → Course → Course
 say w e p c = record c { past = said w.cluster.judge c.past e p ∷ c.past }
 
+-- what is told of a packet that came, and of its serving where it was placed
+abbrev pub with_passed : Event → Packet → (ℕ → Event) → Passed → Course → Course
+with_passed e p serving q c = record c { past = with_told c.past e p serving q }
+
 -- a serving under the node's newest version
 unfoldable pub serve : World → ℕ → ℕ → Course → Course
 serve w n u c = say w (Serve n u (newest_on w.cluster n c.past) false) None c
-
--- the worker on which an arrival was placed
-abbrev pub placed_on : Outcome → Option ℕ
-placed_on (Placed u f) = Some u
-placed_on Installed = None
-placed_on (Forward m u k x b v) = None
-placed_on (Dropped k d) = None
-placed_on (Restarted l) = None
-placed_on (Refused r) = None
 
 -- the serving that follows an arrival that was placed
 unfoldable pub follow : World → ℕ → Option ℕ → Course → Course

@@ -1,31 +1,21 @@
 //! A run of a scenario's steps.
 ghost use Rattle.std.specs.Prelude.{◌≡◌, ◌<◌, ◌≤◌, ◌+◌, ◌-◌, ◌^◌, ◌∷◌, ◌++◌, [], ℕ, List, Option, Some, None, length, take, drop, reverse, IfOk, OnOk, slice_get, slice_set, false};
 ghost use Rattle.cluster_node.specs.declared.events.Event.{Event};
-ghost use Rattle.cluster_core.specs.Cluster.{Cluster, WereRead, flow_of, said, newest_on, waiting_on, Behind};
-ghost use Rattle.cluster_node.specs.Records.{WasRead};
+ghost use Rattle.cluster_node.specs.declared.events.Event.TheVariants.{Serve};
+ghost use Rattle.cluster_core.specs.Cluster.{Cluster, WereRead, flow_of, newest_on, waiting_on, Behind};
+ghost use Rattle.cluster_node.specs.Records.{WasRead, said, placed_on};
 ghost use Rattle.course.specs.Course.{Course};
-ghost use Rattle.course.specs.Steps.{World, SameChoice, world_of, marks_at, is_held, noted, placed_on, say, serve, follow, arrival, arrive, route, deliver, take_all, repeat, serve_times, drain_from, release, next_ones, names_records, after, run, start, below};
+ghost use Rattle.course.specs.Steps.{World, SameChoice, world_of, marks_at, is_held, noted, say, serve, arrival, arrive, route, deliver, take_all, repeat, serve_times, drain_from, release, next_ones, names_records, after, run, start, below, with_passed};
 ghost use Rattle.course.specs.Tally.{tally_of};
 ghost use Rattle.course.specs.Room.{Room, Counted};
 
 use cluster_core::Core;
-use cluster_node::{Event, Outcome, Packet, Said};
+use cluster_node::{Event, Outcome, Packet, Passed, Said};
 use past_log::Log;
 use scenario_steps::Step;
 use spreader::Spread;
 use std::alloc::{AllocError, Global};
 use std::marker::Model;
-
-/// The worker on which an arrival was placed.
-#[inline(always)]
-fn placed_on(outcome: &Outcome) -> Option<u16>
-    ensures { result ≡ placed_on outcome.now }
-{
-    match outcome {
-        Outcome::Placed { worker, floor: _ } => Some(*worker),
-        _ => None,
-    }
-}
 
 /// The node that a spreader chooses for a packet, after so many packets.
 #[inline(always)]
@@ -143,7 +133,18 @@ impl Play {
         Ok(())
     }
 
-    /// An event, which is put behind those that are told so far, and the worker on which it placed a packet.
+    /// An event and what it came to, which are put behind those that are told so far.
+    #[inline(always)]
+    fn tell(&mut self, said: Said, events: &mut Vec<Said>) -> Result<(), AllocError>
+        ensures after { OnOk result (self.new ≡ noted said self.old) }
+        ensures told { (before : List Said) → Behind before self.old.past events.old.items → OnOk result (Behind before self.new.past events.new.items) }
+    {
+        self.note(&said)?;
+        events.push(said)?;
+        Ok(())
+    }
+
+    /// An event, which is put behind those that are told so far.
     #[inline(always)]
     fn say<C: Core>(
         &mut self,
@@ -152,10 +153,9 @@ impl Play {
         event: Event,
         packet: Option<Packet>,
         events: &mut Vec<Said>,
-    ) -> Result<Option<u16>, AllocError>
+    ) -> Result<(), AllocError>
         requires stands { C.stands setup.now self.old.past core.old }
         requires read { WasRead packet }
-        ensures placed { IfOk result (λ o. o ≡ placed_on ((C.cluster setup.now).judge self.old.past event packet)) }
         ensures stands { OnOk result (C.stands setup.now self.new.past core.new) }
         ensures live { OnOk result (self.new.live ≡ self.old.live) }
         ensures after { OnOk result ((w : World) → w.cluster ≡ C.cluster setup.now → self.new ≡ say w event packet self.old) }
@@ -163,15 +163,12 @@ impl Play {
     {
         let _count = self.said_count();
         let outcome = core.step(setup, event, packet)?;
-        let placed = placed_on(&outcome);
         let said = Said {
             event,
             packet,
             outcome,
         };
-        self.note(&said)?;
-        events.push(said)?;
-        Ok(placed)
+        self.tell(said, events)
     }
 
     /// A serving under the node's newest version.
@@ -198,34 +195,92 @@ impl Play {
             version,
             refused: false,
         };
-        self.say(core, setup, event, None, events)?;
-        Ok(())
+        self.say(core, setup, event, None, events)
     }
 
-    #[tactic(auto, unfolding(crate::specs::Steps::follow))]
+    /// What came of an arrival at a node, and of its serving under a version where it was placed, is told.
     #[inline(always)]
-    fn follow<C: Core>(
+    fn tell_passed(
+        &mut self,
+        event: Event,
+        packet: Packet,
+        node: u16,
+        version: u32,
+        passed: &Passed,
+        events: &mut Vec<Said>,
+    ) -> Result<(), AllocError>
+        ensures after { OnOk result (self.new ≡ with_passed event packet (λ u. Serve node u version false) passed.now self.old) }
+        ensures told { (before : List Said) → Behind before self.old.past events.old.items → OnOk result (Behind before self.new.past events.new.items) }
+    {
+        match *passed {
+            Passed::Unplaced(outcome) => {
+                let said = Said {
+                    event,
+                    packet: Some(packet),
+                    outcome,
+                };
+                self.tell(said, events)
+            }
+            Passed::Served {
+                worker,
+                floor,
+                outcome,
+            } => {
+                let come = Said {
+                    event,
+                    packet: Some(packet),
+                    outcome: Outcome::Placed { worker, floor },
+                };
+                self.tell(come, events)?;
+                let event = Event::Serve {
+                    node,
+                    worker,
+                    version,
+                    refused: false,
+                };
+                let served = Said {
+                    event,
+                    packet: None,
+                    outcome,
+                };
+                self.tell(served, events)
+            }
+        }
+    }
+
+    /// An arrival at a node that isn't held, and the serving that follows it where it is placed.
+    #[inline(always)]
+    fn pass<C: Core>(
         &mut self,
         core: &mut C,
         setup: &C::Setup,
         node: u16,
-        placed: Option<u16>,
+        place: u32,
+        packet: Packet,
         events: &mut Vec<Said>,
     ) -> Result<(), AllocError>
-        requires { C.stands setup.now self.old.past core.old }
+        requires stands { C.stands setup.now self.old.past core.old }
+        requires read { WasRead (Some packet) }
+        requires free { is_held node self.old ≡ false }
         ensures stands { OnOk result (C.stands setup.now self.new.past core.new) }
         ensures live { OnOk result (self.new.live ≡ self.old.live) }
-        ensures after { OnOk result ((w : World) → w.cluster ≡ C.cluster setup.now → self.new ≡ follow w node placed self.old) }
+        ensures after { OnOk result ((w : World) → w.cluster ≡ C.cluster setup.now → self.new ≡ arrive w node place packet self.old) }
         ensures told { (before : List Said) → Behind before self.old.past events.old.items → OnOk result (Behind before self.new.past events.new.items) }
     {
-        match placed {
-            Some(worker) if !self.is_held(node) => self.serve(core, setup, node, worker, events),
-            _ => Ok(()),
-        }
+        let _count = self.said_count();
+        let refused = self.marks_at(node);
+        let version = core.newest(setup, node);
+        let passed = core.pass(setup, node, place, &refused, &packet)?;
+        let event = Event::Arrive {
+            node,
+            packet: place,
+            refused,
+        };
+        self.tell_passed(event, packet, node, version, &passed, events)
     }
 
     /// An arrival, and the serving that may follow it.
-    #[tactic(auto, unfolding(crate::specs::Steps::arrive))]
+    #[tactic(auto, using(crate::proofs::Passing::held_stays))]
     #[inline(always)]
     fn arrive<C: Core>(
         &mut self,
@@ -243,13 +298,15 @@ impl Play {
         ensures after { OnOk result ((w : World) → w.cluster ≡ C.cluster setup.now → self.new ≡ arrive w node place packet self.old) }
         ensures told { (before : List Said) → Behind before self.old.past events.old.items → OnOk result (Behind before self.new.past events.new.items) }
     {
+        if !self.is_held(node) {
+            return self.pass(core, setup, node, place, packet, events);
+        }
         let event = Event::Arrive {
             node,
             packet: place,
             refused: self.marks_at(node),
         };
-        let placed = self.say(core, setup, event, Some(packet), events)?;
-        self.follow(core, setup, node, placed, events)
+        self.say(core, setup, event, Some(packet), events)
     }
 
     #[tactic(auto, unfolding(crate::specs::Steps::route))]
@@ -478,8 +535,7 @@ impl Play {
                     node: *node,
                     version: *version,
                 };
-                self.say(core, setup, event, None, events)?;
-                Ok(())
+                self.say(core, setup, event, None, events)
             }
             Step::Live(nodes) => {
                 self.live = Vec::from_slice(alloc, nodes.as_slice())?;
@@ -500,8 +556,7 @@ impl Play {
             }
             Step::Restart(node) | Step::Stop(node) => {
                 self.release(*node);
-                self.say(core, setup, Event::Restart { node: *node }, None, events)?;
-                Ok(())
+                self.say(core, setup, Event::Restart { node: *node }, None, events)
             }
             Step::Take(_) => Ok(()),
             Step::Lose(_) => Ok(()),

@@ -5,7 +5,7 @@ ghost use Rattle.std.specs.Prelude.{◌≡◌};
 ghost use Rattle.first_worker.specs.FirstWorker.{answer, placing};
 
 use cluster_core::Core;
-use cluster_node::{Cause, Event, Outcome, Packet};
+use cluster_node::{Cause, Event, Outcome, Packet, Passed};
 use std::alloc::AllocError;
 
 /// Places every packet on the first worker. It keeps nothing, so that nothing is ever installed or waits.
@@ -51,6 +51,25 @@ impl Core for FirstWorker {
                 cause: Cause::NoService,
             },
             Event::Restart { node: _ } => Outcome::Restarted { lost: 0 },
+        })
+    }
+
+    fn pass(
+        &mut self,
+        setup: &u16,
+        node: u16,
+        packet: u32,
+        refused: &[bool; 16],
+        body: &Packet,
+    ) -> Result<Passed, AllocError> {
+        let _ = (setup, node, packet, refused, body);
+        Ok(Passed::Served {
+            worker: 0,
+            floor: 0,
+            outcome: Outcome::Dropped {
+                packet: 0,
+                cause: Cause::NoService,
+            },
         })
     }
 

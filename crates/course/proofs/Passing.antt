@@ -1,0 +1,59 @@
+-- A packet that comes to a node that isn't held is served at once where it is placed; at one that is held it waits.
+use Rattle.std.proofs.Common.{◌≡◌, ℕ, Bool, true, false, List, ◌∷◌, Option, Some, None, refl, sym, ap, ◌∙◌, subst}
+use Rattle.std.specs.Prelude.{◌==◌, if◌then◌else◌, nat_lt}
+use Rattle.cluster_node.specs.declared.packets.Packet.{Packet}
+use Rattle.cluster_node.specs.declared.events.Event.{Event}
+use Rattle.cluster_node.specs.declared.events.Event.TheVariants.{Arrive, Serve}
+use Rattle.cluster_node.specs.declared.events.Said.{Said}
+use Rattle.cluster_node.specs.declared.outcomes.Outcome.{Outcome}
+use Rattle.cluster_node.specs.declared.outcomes.Outcome.TheVariants.{Placed}
+use Rattle.cluster_node.specs.declared.outcomes.Passed.{Passed}
+use Rattle.cluster_node.specs.declared.outcomes.Passed.TheVariants.{Unplaced, Served}
+use Rattle.cluster_node.specs.Record.{newest_of}
+use Rattle.cluster_node.specs.Records.{Judge, of_node, said, placed_on, AreTold, with_told}
+use Rattle.cluster_core.specs.Cluster.{Cluster, newest_on}
+use Rattle.course.specs.Course.{Course}
+use Rattle.course.specs.Steps.{World, is_held, say, serve, follow, arrival, arrive, with_passed}
+
+-- an arrival leaves each node's newest version
+newest_stays : (k : Cluster) (n i : ℕ) (marks : List Bool) (p : Packet) (past : List Said) → newest_on k n (said k.judge past (Arrive n i marks) (Some p) ∷ past) ≡ newest_on k n past
+unfolding newest_on
+newest_stays k n i marks p past = go (n == n)
+  where
+    go : (b : Bool) → (if nat_lt n k.nodes then newest_of (if b then said k.judge past (Arrive n i marks) (Some p) ∷ of_node n past else of_node n past) else 0) ≡ (if nat_lt n k.nodes then newest_of (of_node n past) else 0)
+    go true = refl
+    go false = refl
+
+module _ (w : World) (n i : ℕ) (p : Packet) (c : Course) where
+  abbrev pub Judged_by : Judge
+  Judged_by = w.cluster.judge
+
+  abbrev pub Come : Event
+  Come = arrival n i c
+
+  abbrev pub serving : ℕ → Event
+  serving u = Serve n u (newest_on w.cluster n c.past) false
+
+  -- what is told of a packet is its arrival, and the serving that follows
+  pub passed_arrives : is_held n c ≡ false → (q : Passed) → AreTold w.cluster.judge c.past (arrival n i c) p (λ u. Serve n u (newest_on w.cluster n c.past) false) q → with_passed (arrival n i c) p (λ u. Serve n u (newest_on w.cluster n c.past) false) q c ≡ arrive w n i p c
+  unfolding arrive follow serve
+  passed_arrives free (Unplaced o) t =
+      ap (λ (x : Outcome). let d : Course = record c { past = record { event = Come; packet = Some p; outcome = x } ∷ c.past } in d) t.1
+      ∙ ap (λ (u : Option ℕ). follow w n u (say w Come (Some p) c)) (sym t.0 ∙ ap placed_on t.1)
+  passed_arrives free (Served u f o) t =
+      let before : List Said = said w.cluster.judge c.past Come (Some p) ∷ c.past in
+      ap (λ (x : Outcome). let d : Course = record c { past = record { event = serving u; packet = None; outcome = o } ∷ record { event = Come; packet = Some p; outcome = x } ∷ c.past } in d) t.0
+      ∙ ap (λ (x : Outcome). let d : Course = record c { past = record { event = serving u; packet = None; outcome = x } ∷ before } in d) t.1
+      ∙ ap (λ (v : ℕ). let d : Course = record c { past = said w.cluster.judge before (Serve n u v false) None ∷ before } in d) (sym (newest_stays w.cluster n i _ p c.past))
+      ∙ ap (λ (b : Bool). let d : Course = (if b then say w Come (Some p) c else serve w n u (say w Come (Some p) c)) in d) (sym free)
+      ∙ ap (λ (x : Outcome). follow w n (placed_on x) (say w Come (Some p) c)) t.0
+
+  -- a packet waits where it is placed on a node that is held
+  pub held_stays : is_held n c ≡ true → say w (arrival n i c) (Some p) c ≡ arrive w n i p c
+  unfolding arrive follow serve
+  held_stays held = go (placed_on (w.cluster.judge c.past Come (Some p)))
+    where
+      go : (u : Option ℕ) → say w Come (Some p) c ≡ follow w n u (say w Come (Some p) c)
+      unfolding follow
+      go None = refl
+      go (Some u) = ap (λ (b : Bool). let d : Course = (if b then say w Come (Some p) c else serve w n u (say w Come (Some p) c)) in d) (sym held)
