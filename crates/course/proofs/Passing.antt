@@ -6,14 +6,13 @@ use Rattle.cluster_node.specs.declared.events.Event.{Event}
 use Rattle.cluster_node.specs.declared.events.Event.TheVariants.{Arrive, Serve}
 use Rattle.cluster_node.specs.declared.events.Said.{Said}
 use Rattle.cluster_node.specs.declared.outcomes.Outcome.{Outcome}
-use Rattle.cluster_node.specs.declared.outcomes.Outcome.TheVariants.{Placed}
 use Rattle.cluster_node.specs.declared.outcomes.Passed.{Passed}
 use Rattle.cluster_node.specs.declared.outcomes.Passed.TheVariants.{Unplaced, Served}
 use Rattle.cluster_node.specs.Record.{newest_of}
-use Rattle.cluster_node.specs.Records.{Judge, of_node, said, placed_on, AreTold, with_told}
+use Rattle.cluster_node.specs.Records.{Judge, of_node, said, placed_on, AreTold}
 use Rattle.cluster_core.specs.Cluster.{Cluster, newest_on}
 use Rattle.course.specs.Course.{Course}
-use Rattle.course.specs.Steps.{World, is_held, say, serve, follow, arrival, arrive, with_passed}
+use Rattle.course.specs.Steps.{World, marks_at, is_held, say, serve, follow, arrival, arrive, with_passed}
 
 -- an arrival leaves each node's newest version
 newest_stays : (k : Cluster) (n i : ℕ) (marks : List Bool) (p : Packet) (past : List Said) → newest_on k n (said k.judge past (Arrive n i marks) (Some p) ∷ past) ≡ newest_on k n past
@@ -54,6 +53,13 @@ module _ (w : World) (n i : ℕ) (p : Packet) (c : Course) where
   held_stays held = go (placed_on (w.cluster.judge c.past Come (Some p)))
     where
       go : (u : Option ℕ) → say w Come (Some p) c ≡ follow w n u (say w Come (Some p) c)
-      unfolding follow
       go None = refl
       go (Some u) = ap (λ (b : Bool). let d : Course = (if b then say w Come (Some p) c else serve w n u (say w Come (Some p) c)) in d) (sym held)
+
+-- the same, as the code finds it
+pub passed_is : (w : World) (k : Cluster) (n i : ℕ) (p : Packet) (c : Course) (marks : List Bool) (version : ℕ) (q : Passed) → w.cluster ≡ k → is_held n c ≡ false → marks ≡ marks_at n c → version ≡ newest_on k n c.past → AreTold k.judge c.past (Arrive n i marks) p (λ u. Serve n u (newest_on k n c.past) false) q → with_passed (Arrive n i marks) p (λ u. Serve n u version false) q c ≡ arrive w n i p c
+passed_is w k n i p c marks version q same free there new told =
+    ap (λ (v : ℕ). with_passed (Arrive n i marks) p (λ u. Serve n u v false) q c) new
+    ∙ subst (λ (j : Cluster). AreTold j.judge c.past (Arrive n i marks) p (λ u. Serve n u (newest_on j n c.past) false) q → with_passed (Arrive n i marks) p (λ u. Serve n u (newest_on j n c.past) false) q c ≡ arrive w n i p c) same
+      (subst (λ (ms : List Bool). AreTold w.cluster.judge c.past (Arrive n i ms) p (λ u. Serve n u (newest_on w.cluster n c.past) false) q → with_passed (Arrive n i ms) p (λ u. Serve n u (newest_on w.cluster n c.past) false) q c ≡ arrive w n i p c) (sym there)
+      (passed_arrives w n i p c free q)) told

@@ -135,10 +135,21 @@ impl Play {
 
     /// An event and what it came to, which are put behind those that are told so far.
     #[inline(always)]
-    fn tell(&mut self, said: Said, events: &mut Vec<Said>) -> Result<(), AllocError>
-        ensures after { OnOk result (self.new ≡ noted said self.old) }
+    fn tell(
+        &mut self,
+        event: Event,
+        packet: Option<Packet>,
+        outcome: Outcome,
+        events: &mut Vec<Said>,
+    ) -> Result<(), AllocError>
+        ensures after { OnOk result (self.new ≡ noted (record { event = event; packet = packet; outcome = outcome }) self.old) }
         ensures told { (before : List Said) → Behind before self.old.past events.old.items → OnOk result (Behind before self.new.past events.new.items) }
     {
+        let said = Said {
+            event,
+            packet,
+            outcome,
+        };
         self.note(&said)?;
         events.push(said)?;
         Ok(())
@@ -163,12 +174,8 @@ impl Play {
     {
         let _count = self.said_count();
         let outcome = core.step(setup, event, packet)?;
-        let said = Said {
-            event,
-            packet,
-            outcome,
-        };
-        self.tell(said, events)
+        self.tell(event, packet, outcome, events)?;
+        Ok(())
     }
 
     /// A serving under the node's newest version.
@@ -213,37 +220,21 @@ impl Play {
         ensures told { (before : List Said) → Behind before self.old.past events.old.items → OnOk result (Behind before self.new.past events.new.items) }
     {
         match *passed {
-            Passed::Unplaced(outcome) => {
-                let said = Said {
-                    event,
-                    packet: Some(packet),
-                    outcome,
-                };
-                self.tell(said, events)
-            }
+            Passed::Unplaced(outcome) => self.tell(event, Some(packet), outcome, events),
             Passed::Served {
                 worker,
                 floor,
                 outcome,
             } => {
-                let come = Said {
-                    event,
-                    packet: Some(packet),
-                    outcome: Outcome::Placed { worker, floor },
-                };
-                self.tell(come, events)?;
-                let event = Event::Serve {
+                let placed = Outcome::Placed { worker, floor };
+                self.tell(event, Some(packet), placed, events)?;
+                let serving = Event::Serve {
                     node,
                     worker,
                     version,
                     refused: false,
                 };
-                let served = Said {
-                    event,
-                    packet: None,
-                    outcome,
-                };
-                self.tell(served, events)
+                self.tell(serving, None, outcome, events)
             }
         }
     }
@@ -276,11 +267,11 @@ impl Play {
             packet: place,
             refused,
         };
-        self.tell_passed(event, packet, node, version, &passed, events)
+        self.tell_passed(event, packet, node, version, &passed, events)?;
+        Ok(())
     }
 
     /// An arrival, and the serving that may follow it.
-    #[tactic(auto, using(crate::proofs::Passing::held_stays))]
     #[inline(always)]
     fn arrive<C: Core>(
         &mut self,
@@ -298,15 +289,16 @@ impl Play {
         ensures after { OnOk result ((w : World) → w.cluster ≡ C.cluster setup.now → self.new ≡ arrive w node place packet self.old) }
         ensures told { (before : List Said) → Behind before self.old.past events.old.items → OnOk result (Behind before self.new.past events.new.items) }
     {
-        if !self.is_held(node) {
-            return self.pass(core, setup, node, place, packet, events);
+        if self.is_held(node) {
+            let event = Event::Arrive {
+                node,
+                packet: place,
+                refused: self.marks_at(node),
+            };
+            self.say(core, setup, event, Some(packet), events)?;
+            return Ok(());
         }
-        let event = Event::Arrive {
-            node,
-            packet: place,
-            refused: self.marks_at(node),
-        };
-        self.say(core, setup, event, Some(packet), events)
+        self.pass(core, setup, node, place, packet, events)
     }
 
     #[tactic(auto, unfolding(crate::specs::Steps::route))]
@@ -535,7 +527,8 @@ impl Play {
                     node: *node,
                     version: *version,
                 };
-                self.say(core, setup, event, None, events)
+                self.say(core, setup, event, None, events)?;
+                Ok(())
             }
             Step::Live(nodes) => {
                 self.live = Vec::from_slice(alloc, nodes.as_slice())?;
@@ -556,7 +549,8 @@ impl Play {
             }
             Step::Restart(node) | Step::Stop(node) => {
                 self.release(*node);
-                self.say(core, setup, Event::Restart { node: *node }, None, events)
+                self.say(core, setup, Event::Restart { node: *node }, None, events)?;
+                Ok(())
             }
             Step::Take(_) => Ok(()),
             Step::Lose(_) => Ok(()),

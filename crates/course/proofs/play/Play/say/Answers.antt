@@ -1,11 +1,9 @@
-use Rattle.cluster_node.specs.Records.{placed_on}
 use Rattle.std.proofs.Common.{◌<◌, ◌^◌, List, length, sym, ap, ◌∙◌, subst, arith}
 use Rattle.cluster_node.specs.declared.events.Said.{Said}
 use Rattle.cluster_node.specs.declared.outcomes.Outcome.{Outcome}
 use Rattle.cluster_core.specs.Cluster.{Cluster}
 use Rattle.course.specs.Course.{Course}
 use Rattle.course.specs.Steps.{noted}
-use Rattle.course.proofs.Behind.{behind_more}
 use Rattle.course.proofs.play.Play.say.Goals as goal
 
 pub returns-clause-stands : goal.returns-clause-stands
@@ -13,14 +11,11 @@ returns-clause-stands g c =
     let few : length c.args.self.now.past < 2 ^ 64 = omega (arith, c.said_count-count.ensures) in
     let goes = c.in_ok-outcome.ensures c.args.self.now.past few c.requires.stands in
     subst (λ (l : List Said). g.C.Core.stands c.args.setup.now l c.step.new.self)
-    (sym (ap (λ (d : Course). d.past) c.tell_NAME ∙ ap (λ (o : Outcome). (noted (record { event = c.args.event; packet = c.args.packet; outcome = o }) c.args.self.now).past) goes.0))
+    (sym (ap (λ (d : Course). d.past) c.in_ok-tell.ensures.after ∙ ap (λ (o : Outcome). (noted (record { event = c.args.event; packet = c.args.packet; outcome = o }) c.args.self.now).past) goes.0))
     goes.1
 
 pub returns-clause-after : goal.returns-clause-after
 returns-clause-after g c = λ w j.
     let few : length c.args.self.now.past < 2 ^ 64 = omega (arith, c.said_count-count.ensures) in
     let goes = c.in_ok-outcome.ensures c.args.self.now.past few c.requires.stands in
-    c.tell_NAME ∙ ap (λ (o : Outcome). noted (record { event = c.args.event; packet = c.args.packet; outcome = o }) c.args.self.now) (goes.0 ∙ ap (λ (k : Cluster). k.judge c.args.self.now.past c.args.event c.args.packet) (sym j))
-
-pub returns-clause-told : goal.returns-clause-told
-returns-clause-told g c = λ before h. behind_more before c.args.events.now.items c.push.new.self.items c.args.self.now.past c.note.new.self.past _ (ap (λ (d : Course). d.past) c.in_ok-note.ensures) c.in_ok-push.ensures.items h
+    c.in_ok-tell.ensures.after ∙ ap (λ (o : Outcome). noted (record { event = c.args.event; packet = c.args.packet; outcome = o }) c.args.self.now) (goes.0 ∙ ap (λ (k : Cluster). k.judge c.args.self.now.past c.args.event c.args.packet) (sym j))
