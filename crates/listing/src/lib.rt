@@ -9,6 +9,3 @@ mod verdicts;
 pub use lines::push_line;
 pub use reports::report_text;
 pub use verdicts::{ChoiceText, verdict_text};
-
-#[cfg(test)]
-mod tests;
