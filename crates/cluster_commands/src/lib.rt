@@ -25,6 +25,3 @@ pub use drivers::orders;
 pub use known::first_unknown;
 pub use laws::{ends_are_told, known_steps_are_told};
 pub use told::Orders;
-
-#[cfg(test)]
-mod tests;

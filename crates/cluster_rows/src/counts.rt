@@ -2,8 +2,8 @@
 ghost use Rattle.std.specs.Prelude.{◌≡◌, ℕ, slice_index};
 
 use cluster_node::Cause;
-use std::marker::Brand;
 use stats_book::{Blanks, Names, Stats, StatsBook};
+use std::marker::Brand;
 
 // The counts of a book after some packets, and what each of two counters had of them.
 fn counted_by_two<B: Names>(blanks: Blanks) -> (Stats, bool)

@@ -8,7 +8,7 @@ use Rattle.pool_versions.specs.declared.backend.Member.{Member}
 use Rattle.maglev_texts.specs.Parsing.{address_of}
 use Rattle.hash_laws.specs.Any.{hash_of_word}
 use Rattle.scenario.specs.Lookups.{number_at, number_or, number_if, flag_or, text_at, items_at, all_items, given_or, has_only}
-use Rattle.scenario.specs.Words.{size_of, scheme_of_word, spread_of_word, protocol_of_word, choices_of, limits_of}
+use Rattle.scenario.specs.Words.{size_of, scheme_of_word, spread_of_word, protocol_of_word, longest_idle, choices_of, limits_of}
 use Rattle.scenario.specs.Plain.{PlainService, PlainVersion}
 use Rattle.scenario.specs.Drafts.{service_keys, version_keys, member_in, word_of, service_draft, service_in, version_draft, version_in}
 use Rattle.scenario.specs.declared.formats.Format.{Format}
@@ -223,7 +223,7 @@ choices_law ms = some_four _ (option_and_then size_of (number_at 0 65537 (codes 
 
 limits_law : (ms : Members) → is_some (limits_of ms) ≡ (holds key.Workers ms && (holds key.Capacity ms && (holds key.Ring ms && (holds key.Check ms && holds key.Idle ms))))
 unfolding limits_of
-limits_law ms = some_five _ (number_at 1 16 (codes "workers") ms) (number_at 1 1000000 (codes "capacity") ms) (number_or 1024 1 65536 (codes "ring") ms) (flag_or true (codes "check") ms) (number_if 0 4294967295000000 (codes "idle") ms)
+limits_law ms = some_five _ (number_at 1 16 (codes "workers") ms) (number_at 1 1000000 (codes "capacity") ms) (number_or 1024 1 65536 (codes "ring") ms) (flag_or true (codes "check") ms) (number_if 0 longest_idle (codes "idle") ms)
 
 nine : (a b c d e f g h i : Bool) → (a && (b && (c && (d && (e && (f && (g && (h && (i && true))))))))) ≡ ((a && (b && (c && d))) && (e && (f && (g && (h && i)))))
 nine a b c d e f g h i =

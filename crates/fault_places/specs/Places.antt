@@ -5,7 +5,7 @@ use Rattle.hash_laws.specs.Any.{hash_of_word}
 use Rattle.maglev_texts.specs.Parsing.{address_of}
 use Rattle.toml.specs.Data.{Data, Items, no_items, item, Members, as_str, as_table}
 use Rattle.scenario.specs.Lookups.{number_at, number_or, number_if, flag_or, text_at, items_at, given_or, has_only}
-use Rattle.scenario.specs.Words.{size_of, scheme_of_word, spread_of_word, protocol_of_word}
+use Rattle.scenario.specs.Words.{size_of, scheme_of_word, spread_of_word, protocol_of_word, longest_idle}
 use Rattle.scenario.specs.Drafts.{service_keys, version_keys}
 use Rattle.scenario.specs.declared.formats.Format.{Format}
 use Rattle.scenario.specs.Meaning.{root_keys, address_in, draft_in}
@@ -46,7 +46,7 @@ holds key.Workers ms = is_some (number_at 1 16 (codes "workers") ms)
 holds key.Capacity ms = is_some (number_at 1 1000000 (codes "capacity") ms)
 holds key.Ring ms = is_some (number_or 1024 1 65536 (codes "ring") ms)
 holds key.Check ms = is_some (flag_or true (codes "check") ms)
-holds key.Idle ms = is_some (number_if 0 4294967295000000 (codes "idle") ms)
+holds key.Idle ms = is_some (number_if 0 longest_idle (codes "idle") ms)
 holds key.Number ms = is_some (number_at 0 4294967295 (codes "number") ms)
 holds key.Vip ms = is_some (option_and_then address_of (text_at (codes "vip") ms))
 holds key.Proto ms = is_some (option_and_then protocol_of_word (text_at (codes "proto") ms))

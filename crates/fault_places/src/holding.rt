@@ -4,7 +4,7 @@ ghost use Rattle.toml.specs.View.{table_view};
 ghost use Rattle.hash_laws.specs.Any.{hash_of_word};
 ghost use Rattle.maglev_texts.specs.Parsing.{address_of};
 ghost use Rattle.scenario.specs.Lookups.{number_at, number_or, number_if, flag_or, text_at};
-ghost use Rattle.scenario.specs.Words.{size_of, scheme_of_word, spread_of_word, protocol_of_word};
+ghost use Rattle.scenario.specs.Words.{size_of, scheme_of_word, spread_of_word, protocol_of_word, longest_idle};
 ghost use Rattle.fault_places.specs.Places.{holds};
 
 use crate::key::Key;
@@ -12,7 +12,7 @@ use crate::lookup::{natural, number_at, text_at, value_at};
 use hash_laws::AnyHash;
 use maglev_table::TableSize;
 use maglev_texts::address;
-use scenario::{SchemeKind, SpreadKind};
+use scenario::{LONGEST_IDLE, SchemeKind, SpreadKind};
 use std::alloc::{AllocError, Global};
 use toml::Table;
 
@@ -62,10 +62,10 @@ fn has_ring(table: &Table) -> bool
 }
 
 fn has_idle(table: &Table) -> bool
-    ensures { result ≡ is_some (number_if 0 4294967295000000 (codes "idle") (table_view table.now)) }
+    ensures { result ≡ is_some (number_if 0 longest_idle (codes "idle") (table_view table.now)) }
 {
     match value_at(table, "idle") {
-        Some(value) => natural(value, 0, 4_294_967_295_000_000).is_some(),
+        Some(value) => natural(value, 0, LONGEST_IDLE).is_some(),
         None => true,
     }
 }

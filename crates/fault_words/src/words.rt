@@ -2,7 +2,7 @@
 use crate::spots::{below, line_of, spot_of};
 use fault_places::{Flaw, Key, Place, key_place, member_place, pool_place};
 use pool_versions::PoolFault;
-use scenario::{Format, ScenarioFault, format_of, pools_in};
+use scenario::{Format, LONGEST_IDLE, ROOT_KEYS, ScenarioFault, format_of, is_root_key, pools_in};
 use std::alloc::Global;
 use toml::{Table, Value};
 
@@ -89,11 +89,11 @@ fn bad_key(alloc: Global, text: &str, document: &Table) -> Option<String> {
     let path = path.as_str();
     match flaw {
         Flaw::NoTable => at(alloc, text, path, "a table"),
-        Flaw::Value(key) => at(alloc, text, path, expected(key)),
+        Flaw::Value(key) => at(alloc, text, path, expected(alloc, key)?.as_str()),
         Flaw::Item(key, _) => at(alloc, text, path, expected_item(key)),
         Flaw::Unknown => {
-            let (table, keys) = keys_at(document, place)?;
-            unknown_key(alloc, text, path, table, keys)
+            let (table, keys) = keys_at(alloc, document, place)?;
+            unknown_key(alloc, text, path, table, keys.as_str())
         }
     }
 }
@@ -110,29 +110,31 @@ fn unknown_key(alloc: Global, text: &str, path: &str, table: &Table, keys: &str)
     None
 }
 
-// The keys of a document of a format.
-fn root_keys(format: Format) -> &'static str {
-    match format {
-        Format::One => {
-            "format, size, hash, scheme, spread, workers, capacity, ring, check, nodes, steps, versions"
-        }
-        Format::Two => {
-            "format, size, hash, scheme, spread, workers, capacity, ring, check, idle, nodes, steps, versions"
+// The keys of a document of a format, with commas between them.
+fn root_keys(alloc: Global, format: Format) -> Option<String> {
+    let mut keys = String::new(alloc);
+    for key in ROOT_KEYS {
+        if is_root_key(format, key) {
+            let comma = if keys.is_empty() { "" } else { ", " };
+            keys.push_str(comma).ok()?;
+            keys.push_str(key).ok()?;
         }
     }
+    Some(keys)
 }
 
 // The table of a place, and the keys that it may have.
-fn keys_at(table: &Table, place: Place) -> Option<(&Table, &'static str)> {
+fn keys_at(alloc: Global, table: &Table, place: Place) -> Option<(&Table, String)> {
     match place {
-        Place::Root(_) => Some((table, root_keys(format_of(table)?))),
-        Place::Version(version, _) => Some((nth(table, "versions", version)?, "number, services")),
+        Place::Root(_) => Some((table, root_keys(alloc, format_of(table)?)?)),
+        Place::Version(version, _) => {
+            let keys = String::from_str(alloc, "number, services").ok()?;
+            Some((nth(table, "versions", version)?, keys))
+        }
         Place::Service(version, service, _) => {
             let version = nth(table, "versions", version)?;
-            Some((
-                nth(version, "services", service)?,
-                "vip, proto, port, members",
-            ))
+            let keys = String::from_str(alloc, "vip, proto, port, members").ok()?;
+            Some((nth(version, "services", service)?, keys))
         }
     }
 }
@@ -151,8 +153,8 @@ fn items<'a>(table: &'a Table, key: &str) -> &'a [Value] {
 }
 
 // What is expected at a key.
-fn expected(key: Key) -> &'static str {
-    match key {
+fn expected(alloc: Global, key: Key) -> Option<String> {
+    let words = match key {
         Key::Size => "7, 13, 251, 1021, 8191 or 65537",
         Key::Hash => "\"fnv\", \"sha256\" or \"sum\"",
         Key::Scheme => "\"maglev\", \"plain\" or \"round\"",
@@ -161,7 +163,7 @@ fn expected(key: Key) -> &'static str {
         Key::Capacity => "a number from 1 to 1000000",
         Key::Ring => "a number from 1 to 65536",
         Key::Check => "true or false",
-        Key::Idle => "a number from 0 to 4294967295000000",
+        Key::Idle => return format!(in alloc; "a number from 0 to {LONGEST_IDLE}").ok(),
         Key::Nodes => "an array of 1 to 64 addresses",
         Key::Versions | Key::Services => "an array of tables",
         Key::Steps => "an array of at most 100000 texts",
@@ -170,7 +172,8 @@ fn expected(key: Key) -> &'static str {
         Key::Proto => "\"tcp\" or \"udp\"",
         Key::Port => "a number from 0 to 65535",
         Key::Members => "an array of texts",
-    }
+    };
+    String::from_str(alloc, words).ok()
 }
 
 // What is expected of an item of the array at a key.

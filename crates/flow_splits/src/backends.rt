@@ -49,11 +49,7 @@ impl Backends {
         ensures { IfSome result (λ place. slice_get self.now.all.items place ≡ Some backend.now) }
     {
         let place = *self.places.get(&(backend.name, backend.addr))?;
-        if self.is_at(place, backend) {
-            Some(place)
-        } else {
-            None
-        }
+        self.is_at(place, backend).then_some(place)
     }
 
     // Puts a backend behind the others.

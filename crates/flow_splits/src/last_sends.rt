@@ -110,8 +110,6 @@ impl LastSends {
         ensures flows { (sent : Flow → Option Sending) → AreLast sent self.old → OnOk result (hash_map_len self.new.sends ≡ hash_map_len self.old.sends + (if is_some (sent later.now.flow) then 0 else 1)) }
     {
         let key = FlowKey { flow: later.flow };
-        let last = self.sends.get(&key).copied();
-        let first = last.and_then(|last| self.told(&later.flow, &last));
         let place = self.backends.place_of(&later.backend)?;
         let send = LastSend {
             number: later.number,
@@ -119,9 +117,9 @@ impl LastSends {
             version: later.version,
             origin: later.origin,
         };
-        let Ok(_) = self.sends.insert(key, send) else {
+        let Ok(last) = self.sends.insert(key, send) else {
             return Err(AllocError);
         };
-        Ok(first)
+        Ok(last.and_then(|last| self.told(&later.flow, &last)))
     }
 }

@@ -17,6 +17,3 @@ pub use cause::{SplitCause, cause_of};
 pub use laws::{splits_are_all_pairs, splits_are_explained, splits_follow_picks};
 pub use lines::push_splits;
 pub use sending::{Sending, Split};
-
-#[cfg(test)]
-mod tests;

@@ -7,8 +7,6 @@ mod reports;
 mod verdicts;
 
 pub use lines::push_line;
+pub use names::CauseText;
 pub use reports::report_text;
 pub use verdicts::{ChoiceText, verdict_text};
-
-#[cfg(test)]
-mod tests;

@@ -2,9 +2,9 @@
 use cluster_node::{Cause, Reason};
 use std::fmt;
 
-// A cause of a drop, printed by its name.
+/// A cause of a drop, printed by its name.
 #[derive(Clone, Copy)]
-pub(crate) struct CauseText(pub(crate) Cause);
+pub struct CauseText(pub Cause);
 
 // Why an event was refused, printed by its name.
 #[derive(Clone, Copy)]

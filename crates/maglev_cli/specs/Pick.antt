@@ -1,50 +1,31 @@
 -- The command `pick`: the flow of a datagram, its slot and its backend, or why it is dropped.
-use Rattle.std.specs.Prelude.{◌≡◌, ◌<◌, ◌≤◌, ℕ, ◌-◌, ◌++◌, Bool, true, false, ◌==◌, nat_lt, if◌then◌else◌, List, [], map, take, length, slice_index, slice_index_or, Option, Some, None, Result, Ok, Err, IfSome, codes}
+use Rattle.std.specs.Prelude.{◌≡◌, ◌<◌, ◌≤◌, ℕ, ◌-◌, ◌++◌, Bool, true, false, ◌==◌, if◌then◌else◌, List, [], map, take, length, slice_index, slice_index_or, Option, Some, None, Ok, Err, IfSome, codes}
 use Rattle.std.specs.Fmt.{decimal}
 use Rattle.hash_laws.specs.declared.any.AnyHash.{AnyHash}
 use Rattle.hash_laws.specs.Any.{hash_of_word, plain_of}
 use Rattle.hex.specs.Hex.{decode_of}
 use Rattle.hex.specs.declared.FromHexError.{FromHexError}
 use Rattle.maglev_table.specs.Sizes.{is_table_size}
-use Rattle.ip_headers.specs.declared.IpFault.{IpFault}
-use Rattle.ip_headers.specs.declared.IpFault.TheVariants as fault
-use Rattle.ip_headers.specs.Ipv4.{Datagram, ipv4_answer}
+use Rattle.ip_headers.specs.declared.Link.TheVariants.{Ipv4}
 use Rattle.five_tuple.specs.declared.Flow.{Flow}
-use Rattle.five_tuple.specs.Flow.{flow_answer}
+use Rattle.cluster_node.specs.declared.packets.Packet.{Packet}
+use Rattle.cluster_node.specs.declared.packets.Packet.TheVariants.{Good, Bad}
+use Rattle.cluster_core.specs.Reading.{packet_read}
+use Rattle.listing.specs.Names.{cause_name}
 use Rattle.selection.specs.Picks.{slot_of_flow}
 use Rattle.maglev_texts.specs.Printing.{flow_text}
 use Rattle.maglev_cli.specs.Text.{owners_of_names, AreInOrder}
 use Rattle.maglev_cli.specs.Refusals.{AreListed, AreFew, WordsFail}
 use Rattle.maglev_cli.specs.declared.fault.CliFault.{CliFault}
 use Rattle.maglev_cli.specs.declared.fault.CliFault.TheVariants.{BadSize, BadHash, BadName, DoubleName, TooMany, Write, BadHex, TooLong, Read, Memory}
-use Rattle.maglev_cli.specs.declared.judging.Judged.{Judged}
-use Rattle.maglev_cli.specs.declared.judging.Judged.TheVariants.{Found, Dropped, TooLarge}
 
 -- the text without one newline at its end
 abbrev pub without_newline : List ℕ → List ℕ
 without_newline text = if slice_index text (length text - 1) == 10 then take (length text - 1) text else text
 
--- a datagram with a flow that a tunnel can carry
-abbrev pub judge_flow : Datagram → Result Flow IpFault → Judged
-judge_flow d (Err f) = Dropped f
-judge_flow d (Ok x) = if nat_lt 65511 d.total then TooLarge else Found x
-
-abbrev pub judge_datagram : Result Datagram IpFault → Judged
-judge_datagram (Err f) = Dropped f
-judge_datagram (Ok d) = judge_flow d (flow_answer d)
-
 -- what the bytes of a datagram come to, with the test of the checksum or without
-abbrev pub judge_of : Bool → List ℕ → Judged
-judge_of check bytes = judge_datagram (ipv4_answer check bytes)
-
-abbrev pub cause_text : IpFault → List ℕ
-cause_text fault.NotIpv4 = codes "NotIpv4"
-cause_text fault.Truncated = codes "Truncated"
-cause_text fault.BadHeader = codes "BadHeader"
-cause_text fault.BadChecksum = codes "BadChecksum"
-cause_text fault.Fragment = codes "Fragment"
-cause_text fault.NotTcpUdp = codes "NotTcpUdp"
-cause_text fault.BadTransport = codes "BadTransport"
+abbrev pub packet_of : Bool → List ℕ → Packet
+packet_of check bytes = packet_read Ipv4 bytes 0 check
 
 -- the name that a slot of a table names
 abbrev pub name_at : List (List ℕ) → List ℕ → ℕ → List ℕ
@@ -58,12 +39,15 @@ flow_line x slot name = flow_text x ++ (codes " slot " ++ (decimal slot ++ (code
 abbrev pub drop_line : List ℕ → List ℕ
 drop_line cause = codes "drop " ++ (cause ++ codes "\n")
 
--- the line of the command `pick` over some names in ascending order, of these weights
-abbrev pub pick_line : (List ℕ → ℕ) → ℕ → List (List ℕ) → List ℕ → Judged → List ℕ
-pick_line plain size names weights (Found x) =
+-- the line of a flow over some names in ascending order, of these weights
+abbrev pub found_line : (List ℕ → ℕ) → ℕ → List (List ℕ) → List ℕ → Flow → List ℕ
+found_line plain size names weights x =
     flow_line x (slot_of_flow plain size x) (name_at names (owners_of_names plain size names weights) (slot_of_flow plain size x))
-pick_line plain size names weights (Dropped f) = drop_line (cause_text f)
-pick_line plain size names weights TooLarge = drop_line (codes "TooLarge")
+
+-- the line of the command `pick`
+abbrev pub pick_line : (List ℕ → ℕ) → ℕ → List (List ℕ) → List ℕ → Packet → List ℕ
+pick_line plain size names weights (Good x _ _) = found_line plain size names weights x
+pick_line plain size names weights (Bad cause) = drop_line (cause_name cause)
 
 -- the text is hexadecimal digits and at most one newline, and they are these bytes
 abbrev pub IsHexOf : List ℕ → List ℕ → Type 0
@@ -80,7 +64,7 @@ longest = 524289
 -- the line of a datagram, where the input tells it
 abbrev pub IsPickLine : (List ℕ → ℕ) → ℕ → List (List ℕ) → Bool → Option (List ℕ) → List ℕ → Type 0
 IsPickLine plain size words check input line =
-    (names : List (List ℕ)) × (weights : List ℕ) × AreInOrder words names weights × (bytes : List ℕ) × IfSome input (IsHexOf bytes) × (line ≡ pick_line plain size names weights (judge_of check bytes))
+    (names : List (List ℕ)) × (weights : List ℕ) × AreInOrder words names weights × (bytes : List ℕ) × IfSome input (IsHexOf bytes) × (line ≡ pick_line plain size names weights (packet_of check bytes))
 
 -- the same, for the hash that a word names
 abbrev pub IsPickLineOf : List ℕ → ℕ → List (List ℕ) → Bool → Option (List ℕ) → List ℕ → Type 0

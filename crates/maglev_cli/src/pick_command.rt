@@ -2,16 +2,17 @@ ghost use Rattle.std.specs.Prelude.{◌≡◌, ◌+◌, ◌<◌, ◌≤◌, ◌�
 ghost use Rattle.pcap_file.specs.Device.{Unfailed, ReadRefused};
 ghost use Rattle.maglev_cli.specs.Printing.{Prints, BreaksOff};
 ghost use Rattle.maglev_cli.specs.Refusals.{AreFew, IsTableWork};
-ghost use Rattle.maglev_cli.specs.declared.judging.Judged.TheVariants.{Found};
-ghost use Rattle.maglev_cli.specs.Pick.{longest, without_newline, IsHexOf, judge_of, pick_line, HexFails, InputFails, IsPickLine, IsPickLineOf, IsShort, PickFailsWith, PickFails};
+ghost use Rattle.maglev_cli.specs.Pick.{longest, without_newline, IsHexOf, found_line, pick_line, HexFails, InputFails, IsPickLine, IsPickLineOf, IsShort, PickFailsWith, PickFails};
 
 use super::fault::CliFault;
-use super::judging::{CauseText, Judged, judge};
 use super::names::{Entrants, lists_of, names_for};
 use super::writing::put_text;
+use cluster_core::{Packet, read_packet};
 use five_tuple::Flow;
 use hash_laws::{AnyHash, FlowHash};
 use hex::FromHexError;
+use ip_headers::Link;
+use listing::CauseText;
 use maglev_table::{Name, TableSize, Weight, populate};
 use maglev_texts::FlowText;
 use pcap_file::{Sink, Source, fill};
@@ -82,7 +83,7 @@ fn found_line<H: FlowHash>(
     requires some { 0 < length names.now }
     requires few { length names.now ≤ size }
     requires weighed { length weights.now ≡ length names.now }
-    ensures line { IfOk result (λ s. string_bytes s ≡ pick_line (H.plain hash.now) size names.now weights.now (Found flow)) }
+    ensures line { IfOk result (λ s. string_bytes s ≡ found_line (H.plain hash.now) size names.now weights.now flow) }
     ensures fault { IfErr result (λ fault. fault ≡ CliFault.Memory) }
 {
     let lists = lists_of(alloc, size, hash, names)?;
@@ -106,23 +107,19 @@ fn line_of<H: FlowHash>(
     hash: &H,
     names: &[Name],
     weights: &[Weight],
-    judged: Judged,
+    packet: Packet,
 ) -> Result<String, CliFault>
     requires some { 0 < length names.now }
     requires few { length names.now ≤ size }
     requires weighed { length weights.now ≡ length names.now }
-    ensures line { IfOk result (λ s. string_bytes s ≡ pick_line (H.plain hash.now) size names.now weights.now judged) }
+    ensures line { IfOk result (λ s. string_bytes s ≡ pick_line (H.plain hash.now) size names.now weights.now packet) }
     ensures fault { IfErr result (λ fault. fault ≡ CliFault.Memory) }
 {
-    let line = match judged {
-        Judged::Found(flow) => return found_line(alloc, size, hash, names, weights, flow),
-        Judged::Dropped(fault) => {
-            let cause = CauseText(fault);
-            format!(in alloc; "drop {cause}\n")
-        }
-        Judged::TooLarge => format!(in alloc; "drop TooLarge\n"),
+    let cause = match packet {
+        Packet::Good { flow, .. } => return found_line(alloc, size, hash, names, weights, flow),
+        Packet::Bad(cause) => CauseText(cause),
     };
-    match line {
+    match format!(in alloc; "drop {cause}\n") {
         Ok(line) => Ok(line),
         Err(_) => Err(CliFault::Memory),
     }
@@ -167,14 +164,14 @@ fn pick_with<H: FlowHash, R: Source, S: Sink>(
         Ok(bytes) => bytes,
         Err(fault) => return Err(fault),
     };
-    let judged = judge(bytes.as_slice(), check);
+    let packet = read_packet(Link::Ipv4, bytes.as_slice(), 0, check);
     let line = line_of(
         alloc,
         size,
         hash,
         names.as_slice(),
         weights.as_slice(),
-        judged,
+        packet,
     )?;
     match put_text(out, line.as_str()) {
         Ok(()) => Ok(()),

@@ -12,6 +12,3 @@ pub use members::{member, weighed_member};
 pub use parsing::{address, decimal, pieces};
 pub use printing::{AddressText, BackendText, FlowText};
 pub use weights::{WeighedName, weighed_name, weight};
-
-#[cfg(test)]
-mod tests;

@@ -43,13 +43,17 @@ choices_of ms =
     (option_and_then hash_of_word (text_at (codes "hash") ms)))
     (option_and_then size_of (number_at 0 65537 (codes "size") ms))
 
+-- the longest idle limit, in microseconds
+abbrev pub longest_idle : ℕ
+longest_idle = 4294967295000000
+
 -- the workers, the capacity, the places a ring (1024 where missing), the checksum test (on where missing) and the idle limit in
 -- microseconds (none where missing)
 unfoldable pub limits_of : Members → Option Limits
 limits_of ms =
     option_and_then (λ workers. option_and_then (λ capacity. option_and_then (λ ring. option_and_then (λ check. option_map (λ idle.
     record { workers = workers; capacity = capacity; ring = ring; check = check; idle = idle })
-    (number_if 0 4294967295000000 (codes "idle") ms))
+    (number_if 0 longest_idle (codes "idle") ms))
     (flag_or true (codes "check") ms))
     (number_or 1024 1 65536 (codes "ring") ms))
     (number_at 1 1000000 (codes "capacity") ms))

@@ -8,7 +8,8 @@ ghost use Rattle.scenario.specs.Lookups.{has_only};
 
 use toml::Table;
 
-fn is_one_of(key: &str, names: &[&str]) -> bool
+/// Whether a key is one of these.
+pub(crate) fn is_one_of(key: &str, names: &[&str]) -> bool
     ensures { result ≡ list_any (pointwise nat_eq key.now) (map (λ n. n.now) names.now) }
 {
     for name in names {

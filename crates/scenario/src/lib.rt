@@ -17,10 +17,11 @@ mod step;
 mod versions;
 mod words;
 
-pub use draft::has_root_keys;
+pub use draft::{ROOT_KEYS, has_root_keys, is_root_key};
 pub use fault::ScenarioFault;
 pub use formats::{Format, format_of, member_in};
 pub use laws::formats_mean_the_same;
 pub use reading::{Scenario, pools_in, read};
 pub use scenario_steps::Step;
+pub use setup::LONGEST_IDLE;
 pub use words::{SchemeKind, SpreadKind};

@@ -29,8 +29,8 @@ pub(crate) struct Limits {
     pub(crate) idle: Option<u64>,
 }
 
-// The longest idle limit: as many microseconds as there are in the seconds of a record's time.
-const LONGEST_IDLE: u64 = 4_294_967_295_000_000;
+/// The longest idle limit, in microseconds: as many as there are in the seconds of a record's time.
+pub const LONGEST_IDLE: u64 = 4_294_967_295_000_000;
 
 fn size_at(table: &Table) -> Option<TableSize>
     ensures { result ≡ option_and_then size_of (number_at 0 65537 (codes "size") (table_view table.now)) }

@@ -1,6 +1,7 @@
+//! What the drivers of a cluster on threads are told of some steps.
 ghost use Rattle.std.specs.Prelude.{◌≡◌, ◌<◌, ◌^◌, length};
 
-use crate::{Orders, first_unknown, orders};
+use cluster_commands::{Orders, first_unknown, orders};
 use cluster_node::Packet;
 use course::{Step, Tally, all_live};
 use five_tuple::Flow;

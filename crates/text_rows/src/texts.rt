@@ -1,9 +1,10 @@
-use super::{
+//! Numbers, addresses, member words, backends and flows, as they are read and printed.
+use five_tuple::Flow;
+use maglev_table::Name;
+use maglev_texts::{
     AddressText, BackendText, FlowText, address, decimal, member, pieces, weighed_member,
     weighed_name, weight,
 };
-use five_tuple::Flow;
-use maglev_table::Name;
 use pool_versions::Backend;
 use std::alloc::Global;
 use std::process::Abort;

@@ -1,8 +1,8 @@
 //! Splits of short histories, worked out by hand.
-use crate::{SplitBook, SplitCause, cause_of, push_splits};
 use cluster_node::{Cause, Event, Outcome};
 use connection_table::TableKey;
 use five_tuple::Flow;
+use flow_splits::{SplitBook, SplitCause, cause_of, push_splits};
 use hash_laws::SumHash;
 use maglev_table::{Name, TableSize, Weight};
 use pool_versions::{Backend, Catalogue, Member, Service, Version};

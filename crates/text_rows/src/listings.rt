@@ -1,9 +1,9 @@
-use super::names::{CauseText, ReasonText};
-use super::{push_line, report_text, verdict_text};
+//! Lines of histories, reports and verdicts, as they are printed.
 use cluster_core::{Totals, Verdict};
 use cluster_node::{Cause, Event, Outcome, Reason, Said};
 use course::Tally;
 use five_tuple::Flow;
+use listing::{push_line, report_text, verdict_text};
 use maglev_table::Name;
 use pool_versions::Backend;
 use std::alloc::{AllocError, Global};
@@ -301,6 +301,7 @@ fn verdicts(rt: HostRuntime) {
 
 #[test]
 fn names(rt: HostRuntime) {
+    let alloc = rt.alloc();
     for (cause, name) in [
         (Cause::NotIpv4, "NotIpv4"),
         (Cause::Truncated, "Truncated"),
@@ -316,7 +317,9 @@ fn names(rt: HostRuntime) {
         (Cause::RingsFull, "RingsFull"),
         (Cause::LostAtRestart, "LostAtRestart"),
     ] {
-        shows(&rt, CauseText(cause).to_string(rt.alloc()), name);
+        let history = [arrive(4, Outcome::Dropped { packet: 4, cause })];
+        let line = format!(in alloc; "0 arrive 0 4: drop {name}\n").expect(&rt, "memory");
+        shows(&rt, listed(alloc, &history), line.as_str());
     }
     for (reason, name) in [
         (Reason::NoNode, "NoNode"),
@@ -327,6 +330,8 @@ fn names(rt: HostRuntime) {
         (Reason::Idle, "Idle"),
         (Reason::VersionRange, "VersionRange"),
     ] {
-        shows(&rt, ReasonText(reason).to_string(rt.alloc()), name);
+        let history = [serve(7, 9, Outcome::Refused(reason))];
+        let line = format!(in alloc; "0 serve 0 7 9: refused {name}\n").expect(&rt, "memory");
+        shows(&rt, listed(alloc, &history), line.as_str());
     }
 }
