@@ -11,7 +11,7 @@ ghost use Rattle.cluster_play.specs.Sends.{sent_of, sent_by_lives, sent_by_nodes
 use cluster_node::Outcome;
 use node_records::NodeRecord;
 use pcap_file::{Frame, Sink, write_head};
-use simulation::{SimulationFault, Wire, send_record};
+use simulation::{SimulationFault, Wire};
 use std::alloc::Global;
 
 // Sends the packet that an outcome sends.
@@ -38,7 +38,7 @@ fn send_outcome<O: Sink>(
                 return Ok(());
             };
             let read = wire.packet(frame);
-            send_record(room, output, wire, *node, backend, frame, &read)
+            wire.send_record(room, output, *node, backend, frame, &read)
         }
         _ => Ok(()),
     }

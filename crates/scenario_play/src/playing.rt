@@ -21,7 +21,7 @@ use hash_laws::AnyHash;
 use pcap_file::{Sink, Source};
 use scenario::{Scenario, SchemeKind, SpreadKind};
 use selection::{Maglev, PlainHash, RoundRobin, Scheme};
-use simulation::{Plan, SimulationFault, play_capture};
+use simulation::{Plan, Run, SimulationFault, play_capture};
 use spreader::{HashSpread, Spread, TurnSpread};
 use std::alloc::Global;
 
@@ -46,7 +46,12 @@ fn play_with<S: Scheme, P: Spread, I: Source, O: Sink>(
     let notes = Notebook::new(alloc, rules.setup().key());
     let mut balancers = Balancers::<S, AnyHash, LruTable, Notebook>::make(alloc, rules, notes)?;
     rules.keep_order();
-    match play_capture(alloc, plan, &mut balancers, task, spread, input, output) {
+    let run = Run {
+        alloc,
+        plan,
+        setup: task,
+    };
+    match play_capture(&run, &mut balancers, spread, input, output) {
         Ok(played) => {
             balancers.keep_balance(rules);
             match answer(alloc, task, &played, balancers.into_notes()) {

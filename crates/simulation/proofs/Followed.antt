@@ -12,11 +12,11 @@ use Rattle.cluster_node.specs.declared.events.Event.TheVariants.{Install, Arrive
 use Rattle.cluster_node.specs.declared.events.Said.{Said}
 use Rattle.cluster_node.specs.Records.{Judge, Judged}
 use Rattle.cluster_core.specs.Cluster.{Cluster, TakesFirst, Orderly}
-use Rattle.waiting_frames.specs.Mirrors.{Mirrors, CanFollow, ComesAs}
+use Rattle.simulation.specs.PrivateMirrors.{Mirrors, CanFollow, ComesAs}
 use Rattle.simulation.specs.declared.sending.Wire.{Wire}
 use Rattle.simulation.specs.Sent.{Traffic, Sending, sent, sent_by, sent_at, Wrote, WroteUntil}
 use Rattle.simulation.specs.Wires.{traffic}
-use Rattle.simulation.specs.Following.{sent_with, NoArrivals, CanSettle}
+use Rattle.simulation.specs.Following.{sent_with, NoArrivals, ArrivesFirst, CanSettle}
 use Rattle.simulation.specs.PrivateGoing.{onto}
 use Rattle.simulation.specs.declared.fault.SimulationFault.{SimulationFault}
 use Rattle.simulation.proofs.Sends.{wrote_none, wrote_both, until_more, until_behind}
@@ -128,3 +128,22 @@ only_one (x ∷ y ∷ ys) s a b e = absurd (omega (arith, b))
 pub sent_passed : (w : Wire) (all : List Record) (k : Cluster) (past : List Said) (s t : Said) (r : Record) (qs : List (List Record)) → CanSettle all k past (s ∷ t ∷ []) qs → ComesAs all r s.event
     → ((n u i : ℕ) (x : Flow) (b : Backend) (v : ℕ) → t.outcome ≡ Forward n u i x b v → slice_get all i ≡ Some r) → sent_with (traffic w []) t.outcome r ≡ sent (traffic w all) (s ∷ t ∷ [])
 sent_passed w all k past s t r qs can c f = sent_as_taken w all t.outcome r f ∙ sym (append-nil (sent_by (traffic w all) t.outcome)) ∙ sym (all_sent all k past (t ∷ []) s r qs (traffic w all) can c)
+
+-- the packet of the first of two events passed: what the queues mirror behind both, and what both send
+pub record Passed (w : Wire) (all : List Record) (k : Cluster) (past events : List Said) (t : Said) (r : Record) (qs : List (List Record)) : Type 0 where
+  pub mirrors : Mirrors all k (onto past events) qs
+  pub sends : sent_with (traffic w []) t.outcome r ≡ sent (traffic w all) events
+
+pub passed : (w : Wire) (all : List Record) (k : Cluster) (past events rest : List Said) (s t : Said) (r : Record) (qs : List (List Record)) → events ≡ s ∷ rest → 1 ≤ length rest → length rest < 2 → t ≡ get_or rest 0 t
+    → (CanFollow all k past s qs → ComesAs all r s.event → Judged k.judge (t ∷ s ∷ past) → Mirrors all k (t ∷ s ∷ past) qs)
+    → (CanFollow all k past s qs → ComesAs all r s.event → Judged k.judge (t ∷ s ∷ past) → (n u i : ℕ) (x : Flow) (b : Backend) (v : ℕ) → t.outcome ≡ Forward n u i x b v → slice_get all i ≡ Some r)
+    → CanSettle all k past events qs → ArrivesFirst all r events → Passed w all k past events t r qs
+passed w all k past events rest s t r qs e least below item mirrors sends can first =
+    let is : events ≡ s ∷ t ∷ [] = e ∙ ap (λ (l : List Said). s ∷ l) (only_one rest t least below item) in
+    let can' = subst (λ (l : List Said). CanSettle all k past l qs) is can in
+    let first' = subst (λ (l : List Said). ArrivesFirst all r l) is first in
+    let f = can_first all k past (t ∷ []) s qs can' in
+    record {
+      mirrors = subst (λ (l : List Said). Mirrors all k (onto past l) qs) (sym is) (mirrors f first'.0 can'.judged);
+      sends = sent_passed w all k past s t r qs can' first'.0 (sends f first'.0 can'.judged) ∙ ap (sent (traffic w all)) (sym is);
+    }

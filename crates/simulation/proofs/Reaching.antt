@@ -14,7 +14,7 @@ use Rattle.scenario_steps.specs.declared.Step.{Step}
 use Rattle.cluster_node.specs.declared.packets.Packet.{Packet}
 use Rattle.cluster_node.specs.declared.events.Said.{Said}
 use Rattle.cluster_node.specs.Records.{Judged}
-use Rattle.waiting_frames.specs.Mirrors.{Mirrors}
+use Rattle.simulation.specs.PrivateMirrors.{Mirrors}
 use Rattle.cluster_core.specs.Cluster.{Cluster, Orderly}
 use Rattle.course.specs.Course.{Course}
 use Rattle.course.specs.Steps.{World, world_of, run, deliver, repeat, after, names_records, start}

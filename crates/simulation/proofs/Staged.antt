@@ -14,7 +14,7 @@ use Rattle.course.specs.Course.{Course}
 use Rattle.course.specs.Steps.{World, deliver, after, names_records}
 use Rattle.course.proofs.Quiet.{is_arrival, Quiet, Calm, Arrived, deliver_arrives, apart_calm}
 use Rattle.course.proofs.Told.{deliver_told, after_told}
-use Rattle.waiting_frames.specs.Mirrors.{Mirrors, ComesAs, IsNoArrival}
+use Rattle.simulation.specs.PrivateMirrors.{Mirrors, ComesAs, IsNoArrival}
 use Rattle.simulation.specs.declared.fault.SimulationFault.{SimulationFault}
 use Rattle.simulation.specs.declared.fault.SimulationFault.TheVariants.{Memory}
 use Rattle.simulation.specs.Plans.{Planned}

@@ -5,5 +5,7 @@ pub mod Plans
 pub mod Wires
 pub mod Simulated
 pub mod PrivateGoing
+pub mod PrivateQueues
+pub mod PrivateMirrors
 pub mod Following
 pub mod PrivateStages

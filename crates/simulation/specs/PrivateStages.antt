@@ -12,7 +12,7 @@ use Rattle.cluster_node.specs.Records.{Judged}
 use Rattle.cluster_core.specs.Cluster.{Cluster, Orderly}
 use Rattle.course.specs.Course.{Course}
 use Rattle.course.specs.PrivateStreams.{take_of, lose_of}
-use Rattle.waiting_frames.specs.Mirrors.{Mirrors}
+use Rattle.simulation.specs.PrivateMirrors.{Mirrors}
 use Rattle.simulation.specs.Plans.{Planned}
 use Rattle.simulation.specs.Sent.{Wrote}
 use Rattle.simulation.specs.Simulated.{course_of, sendings}

@@ -22,3 +22,14 @@ impl From<AllocError> for SimulationFault {
         SimulationFault::Memory
     }
 }
+
+impl From<PcapFault> for SimulationFault {
+    ghost use Rattle.std.specs.Prelude.{◌≡◌};
+    ghost use Rattle.simulation.specs.declared.fault.SimulationFault.TheVariants.{Capture};
+
+    ghost from_gives = { λ refusal fault. fault ≡ Capture refusal };
+
+    fn from(refusal: PcapFault) -> SimulationFault {
+        SimulationFault::Capture(refusal)
+    }
+}

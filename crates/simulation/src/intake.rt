@@ -112,15 +112,10 @@ impl Intake {
         ensures more { OnOk result (self.old.given ≤ self.new.given) }
         ensures fault { (text : Tape) (seen : List Record) → Seen text seen (I.tape input.old) self.old → IfErr result (λ fault. ReadStops self.old text seen (I.tape input.new) (Capture fault)) }
     {
-        loop {
-            match self.next(input) {
-                Ok(true) => {}
-                Ok(false) => match self.ended {
-                    Some(ending) => return Ok(ending),
-                    None => unreachable!(),
-                },
-                Err(fault) => return Err(fault),
-            }
+        while self.next(input)? {}
+        match self.ended {
+            Some(ending) => Ok(ending),
+            None => unreachable!(),
         }
     }
 

@@ -61,10 +61,8 @@ impl Kept {
     fn set(&mut self, place: u32, later: Later) -> Result<(), AllocError>
         ensures { OnOk result ((q : ℕ) → kept_at self.new q ≡ (if q == place then Some (kept_of later) else kept_at self.old q)) }
     {
-        match self.places.insert(place, later) {
-            Ok(_) => Ok(()),
-            Err(_) => Err(AllocError),
-        }
+        self.places.insert(place, later)?;
+        Ok(())
     }
 
     // Nothing is kept of a place from now on: what was.

@@ -6,11 +6,13 @@ mod intake;
 mod keeping;
 mod plan;
 mod playing;
+mod queue;
 mod relaying;
 mod sending;
 mod staging;
+mod waiting;
 
 pub use fault::SimulationFault;
-pub use plan::Plan;
+pub use plan::{Plan, Run};
 pub use playing::{Played, play_capture};
-pub use sending::{Wire, send_record};
+pub use sending::Wire;

@@ -1,4 +1,5 @@
 use course::Step;
+use std::alloc::Global;
 
 /// What a run takes of a scenario.
 #[derive(Clone, Copy)]
@@ -9,4 +10,15 @@ pub struct Plan<'a> {
     pub check: bool,
     /// The steps, in order.
     pub steps: &'a [Step],
+}
+
+/// What is fixed for a run over a capture.
+#[derive(Drop)]
+pub struct Run<'a, S> {
+    /// Where the run takes its memory.
+    pub alloc: Global,
+    /// What it takes of a scenario.
+    pub plan: Plan<'a>,
+    /// What its cluster's core works by.
+    pub setup: &'a S,
 }

@@ -8,13 +8,12 @@ ghost use Rattle.simulation.specs.Plans.{planned};
 ghost use Rattle.simulation.specs.Simulated.{Begun, Simulated, Stopped};
 
 use crate::fault::SimulationFault;
-use crate::plan::Plan;
+use crate::plan::Run;
 use crate::staging::play_records;
 use cluster_core::Core;
 use course::Play;
 use pcap_file::{InputEnd, Sink, Source, read_start, write_head};
 use spreader::Spread;
-use std::alloc::Global;
 
 /// A run over a capture: the course of its steps, how many records the capture has, and how it ends.
 #[derive(Drop)]
@@ -38,36 +37,25 @@ fn begin<O: Sink>(output: &mut O) -> Result<(), SimulationFault>
 /// begun once the input's header was accepted. Of the records only those are kept that a later step delivers again, and
 /// those of packets that wait. Whatever goes wrong but a write, the output is cut between records.
 pub fn play_capture<C: Core, P: Spread, I: Source, O: Sink>(
-    alloc: Global,
-    plan: Plan<'_>,
+    run: &Run<'_, C::Setup>,
     core: &mut C,
-    setup: &C::Setup,
     spread: &mut P,
     input: &mut I,
     output: &mut O,
 ) -> Result<Played, SimulationFault>
-    requires fresh { C.stands setup.now [] core.old }
-    requires live { P.live spread.old ≡ below (length plan.nodes.now) }
-    requires nodes { length plan.nodes.now ≤ 64 }
-    requires steps { length plan.steps.now ≤ 100000 }
-    requires workers { (C.cluster setup.now).workers ≤ 16 }
-    requires cluster { (C.cluster setup.now).nodes ≡ length plan.nodes.now }
-    requires orderly { Orderly (C.cluster setup.now) }
-    ensures ok { IfOk result (λ p. Simulated (C.cluster setup.now) (P.choice spread.old) (planned plan.entry) (I.tape input.old) (I.tape input.new) (O.tape output.old) (O.tape output.new) p.play p.packets p.ending) }
+    requires fresh { C.stands run.now.setup.now [] core.old }
+    requires live { P.live spread.old ≡ below (length run.now.plan.nodes.now) }
+    requires nodes { length run.now.plan.nodes.now ≤ 64 }
+    requires steps { length run.now.plan.steps.now ≤ 100000 }
+    requires workers { (C.cluster run.now.setup.now).workers ≤ 16 }
+    requires cluster { (C.cluster run.now.setup.now).nodes ≡ length run.now.plan.nodes.now }
+    requires orderly { Orderly (C.cluster run.now.setup.now) }
+    ensures ok { IfOk result (λ p. Simulated (C.cluster run.now.setup.now) (P.choice spread.old) (planned run.now.plan) (I.tape input.old) (I.tape input.new) (O.tape output.old) (O.tape output.new) p.play p.packets p.ending) }
     ensures read { IfOk result (λ p. p.play.read ≤ p.packets) }
-    ensures stands { IfOk result (λ p. C.stands setup.now p.play.past core.new) }
-    ensures stopped { IfErr result (Stopped (C.cluster setup.now) (P.choice spread.old) (planned plan.entry) (I.tape input.old) (I.tape input.new) (O.tape output.old) (O.tape output.new)) }
+    ensures stands { IfOk result (λ p. C.stands run.now.setup.now p.play.past core.new) }
+    ensures stopped { IfErr result (Stopped (C.cluster run.now.setup.now) (P.choice spread.old) (planned run.now.plan) (I.tape input.old) (I.tape input.new) (O.tape output.old) (O.tape output.new)) }
 {
-    let head = match read_start(input) {
-        Ok(head) => head,
-        Err(fault) => return Err(SimulationFault::Capture(fault)),
-    };
-    match begin(output) {
-        Ok(()) => {}
-        Err(fault) => return Err(fault),
-    }
-    match play_records(alloc, plan, core, setup, spread, head, input, output) {
-        Ok(played) => Ok(played),
-        Err(fault) => Err(fault),
-    }
+    let head = read_start(input)?;
+    begin(output)?;
+    play_records(run, core, spread, head, input, output)
 }

@@ -3,7 +3,7 @@ ghost use Rattle.std.specs.Prelude.{◌≡◌, ◌*◌, List, [], ◌∷◌, len
 ghost use Rattle.pcap_file.specs.Format.{Packet as Record, packet};
 ghost use Rattle.cluster_node.specs.declared.events.Said.{Said};
 ghost use Rattle.cluster_core.specs.Cluster.{Cluster};
-ghost use Rattle.waiting_frames.specs.Mirrors.{Mirrors, CanFollow, ComesAs, IsNoArrival};
+ghost use Rattle.simulation.specs.PrivateMirrors.{Mirrors, CanFollow, ComesAs, IsNoArrival};
 ghost use Rattle.simulation.specs.Sent.{packet_in, sent, sent_by, Wrote, WroteUntil};
 ghost use Rattle.simulation.specs.Simulated.{IsOfRun};
 ghost use Rattle.simulation.specs.Wires.{traffic};
@@ -12,12 +12,12 @@ ghost use Rattle.simulation.specs.Following.{sent_with, NoArrivals, ArrivesFirst
 
 use crate::fault::SimulationFault;
 use crate::intake::Intake;
-use crate::sending::{Wire, send_record};
+use crate::sending::Wire;
+use crate::waiting::Waiting;
 use cluster_node::{Outcome, Packet, Said};
 use pcap_file::{Frame, Sink};
 use std::alloc::{AllocError, Global};
 use std::mem;
-use waiting_frames::Waiting;
 
 /// The frames that wait, and room that is used again.
 #[derive(Drop)]
@@ -45,9 +45,32 @@ fn send_taken<O: Sink>(
     ensures cut { IfErr result (λ fault. WroteUntil fault (O.tape output.old) (O.tape output.new) (sent_with (traffic wire.now []) outcome.now (packet frame.now))) }
 {
     match outcome {
-        Outcome::Forward { node, backend, .. } => send_record(
-            room, output, wire, *node, backend, frame, read,
-        ),
+        Outcome::Forward { node, backend, .. } => {
+            wire.send_record(room, output, *node, backend, frame, read)
+        }
+        _ => Ok(()),
+    }
+}
+
+// Reads the record of a packet that waited and sends it on, if the outcome says so.
+#[tactic(auto, unfolding(crate::specs::Following::sent_with))]
+#[inline(always)]
+fn send_waited<O: Sink>(
+    room: &mut Vec<u8>,
+    output: &mut O,
+    wire: &Wire<'_>,
+    outcome: &Outcome,
+    frame: &Frame,
+) -> Result<(), SimulationFault>
+    ensures ok { OnOk result (Wrote (O.tape output.old) (O.tape output.new) (sent_with (traffic wire.now []) outcome.now (packet frame.now))) }
+    ensures named { IfErr result IsOfRun }
+    ensures cut { IfErr result (λ fault. WroteUntil fault (O.tape output.old) (O.tape output.new) (sent_with (traffic wire.now []) outcome.now (packet frame.now))) }
+{
+    match outcome {
+        Outcome::Forward { node, backend, .. } => {
+            let read = wire.packet(frame);
+            wire.send_record(room, output, *node, backend, frame, &read)
+        }
         _ => Ok(()),
     }
 }
@@ -85,15 +108,7 @@ impl Relay {
             return Ok(());
         };
         self.spare = frame;
-        let read = wire.packet(&self.spare);
-        send_taken(
-            &mut self.room,
-            output,
-            wire,
-            &said.outcome,
-            &self.spare,
-            &read,
-        )
+        send_waited(&mut self.room, output, wire, &said.outcome, &self.spare)
     }
 
     // Follows events that are no arrivals.
@@ -112,10 +127,7 @@ impl Relay {
             IfErr result (λ fault. WroteUntil fault (O.tape output.old) (O.tape output.new) (sent (traffic wire.now all) events.now)) }
     {
         for said in events {
-            match self.settle_one(wire, said, output) {
-                Ok(()) => {}
-                Err(fault) => return Err(fault),
-            }
+            self.settle_one(wire, said, output)?;
         }
         Ok(())
     }

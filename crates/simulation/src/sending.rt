@@ -125,24 +125,26 @@ fn put_wrapped<O: Sink>(
     put_record(output, frame.secs, frame.micros, room.as_slice())
 }
 
-/// What a node sends to a backend of a record, which was read as this packet. The datagram is wrapped in the room, which is
-/// used again.
-#[tactic(auto, unfolding(crate::specs::Sent::datagram_in))]
-#[inline(always)]
-pub fn send_record<O: Sink>(
-    room: &mut Vec<u8>,
-    output: &mut O,
-    wire: &Wire<'_>,
-    node: u16,
-    backend: &Backend,
-    frame: &Frame,
-    read: &Packet,
-) -> Result<(), SimulationFault>
-    requires { read.now ≡ packet_in wire.now.link wire.now.check (packet frame.now) }
-    ensures ok { OnOk result (Wrote (O.tape output.old) (O.tape output.new) (sent_at (traffic wire.now []) node backend.entry.now (Some (packet frame.now)))) }
-    ensures named { IfErr result IsOfRun }
-    ensures cut { IfErr result (λ fault. WroteUntil fault (O.tape output.old) (O.tape output.new) (sent_at (traffic wire.now []) node backend.entry.now (Some (packet frame.now)))) }
-{
-    let inner = datagram(wire.link, read, frame.bytes.as_slice());
-    put_wrapped(room, output, wire.address(node), backend.addr, frame, inner)
+impl Wire<'_> {
+    /// What a node sends to a backend of a record, which was read as this packet. The datagram is wrapped in the room, which
+    /// is used again.
+    #[tactic(auto, unfolding(crate::specs::Sent::datagram_in))]
+    #[inline(always)]
+    pub fn send_record<O: Sink>(
+        &self,
+        room: &mut Vec<u8>,
+        output: &mut O,
+        node: u16,
+        backend: &Backend,
+        frame: &Frame,
+        read: &Packet,
+    ) -> Result<(), SimulationFault>
+        requires { read.now ≡ packet_in self.now.link self.now.check (packet frame.now) }
+        ensures ok { OnOk result (Wrote (O.tape output.old) (O.tape output.new) (sent_at (traffic self.now []) node backend.entry.now (Some (packet frame.now)))) }
+        ensures named { IfErr result IsOfRun }
+        ensures cut { IfErr result (λ fault. WroteUntil fault (O.tape output.old) (O.tape output.new) (sent_at (traffic self.now []) node backend.entry.now (Some (packet frame.now)))) }
+    {
+        let inner = datagram(self.link, read, frame.bytes.as_slice());
+        put_wrapped(room, output, self.address(node), backend.addr, frame, inner)
+    }
 }

@@ -19,7 +19,7 @@ ghost use Rattle.simulation.specs.PrivateStages.{Sound, Going, Reached, IsOver, 
 use crate::fault::SimulationFault;
 use crate::intake::Intake;
 use crate::keeping::Kept;
-use crate::plan::Plan;
+use crate::plan::{Plan, Run};
 use crate::playing::Played;
 use crate::relaying::Relay;
 use crate::sending::Wire;
@@ -77,40 +77,34 @@ impl Stage {
     #[inline(always)]
     fn deliver<C: Core, P: Spread, O: Sink>(
         &mut self,
+        run: &Run<'_, C::Setup>,
         core: &mut C,
-        setup: &C::Setup,
         spread: &P,
-        plan: Plan<'_>,
         place: u32,
         output: &mut O,
     ) -> Result<(), SimulationFault>
-        requires stands { C.stands setup.now self.old.play.past core.old }
+        requires stands { C.stands run.now.setup.now self.old.play.past core.old }
         requires live { P.live spread.now ≡ self.old.play.live }
         requires room { self.old.play.unrouted + 1 < 2 ^ 64 }
         requires many { self.old.play.nth + 1 < 2 ^ 64 }
-        ensures stands { OnOk result (C.stands setup.now self.new.play.past core.new) }
+        ensures stands { OnOk result (C.stands run.now.setup.now self.new.play.past core.new) }
         ensures live { OnOk result (self.new.play.live ≡ self.old.play.live) }
         ensures kept { self.new.kept ≡ self.old.kept }
         ensures intake { (self.new.intake.given ≡ self.old.intake.given) × (self.new.intake.ended ≡ self.old.intake.ended) × (self.new.intake.head ≡ self.old.intake.head) }
-        ensures play { OnOk result ((w : World) → w.cluster ≡ C.cluster setup.now → SameChoice w.choice (P.choice spread.now) → self.new.play ≡ deliver w place (packet_in self.old.intake.head.link plan.entry.check self.old.intake.record_read) self.old.play) }
+        ensures play { OnOk result ((w : World) → w.cluster ≡ C.cluster run.now.setup.now → SameChoice w.choice (P.choice spread.now) → self.new.play ≡ deliver w place (packet_in self.old.intake.head.link run.now.plan.check self.old.intake.record_read) self.old.play) }
         ensures sound { (all : List Record) (begun : Tape) →
-            Sound (C.cluster setup.now) (planned plan.entry) self.old.intake.head.link all self.old.play self.old.relay.waiting begun (O.tape output.old) → slice_get all place ≡ Some self.old.intake.record_read →
-            OnOk result (Sound (C.cluster setup.now) (planned plan.entry) self.old.intake.head.link all self.new.play self.new.relay.waiting begun (O.tape output.new)) }
+            Sound (C.cluster run.now.setup.now) (planned run.now.plan) self.old.intake.head.link all self.old.play self.old.relay.waiting begun (O.tape output.old) → slice_get all place ≡ Some self.old.intake.record_read →
+            OnOk result (Sound (C.cluster run.now.setup.now) (planned run.now.plan) self.old.intake.head.link all self.new.play self.new.relay.waiting begun (O.tape output.new)) }
         ensures named { IfErr result IsOfRun }
-        ensures cut { (w : World) (all : List Record) (begun : Tape) → w.cluster ≡ C.cluster setup.now → SameChoice w.choice (P.choice spread.now) →
-            Sound (C.cluster setup.now) (planned plan.entry) self.old.intake.head.link all self.old.play self.old.relay.waiting begun (O.tape output.old) → slice_get all place ≡ Some self.old.intake.record_read →
-            IfErr result (λ fault. WroteUntil fault begun (O.tape output.new) (sent (traffic_of (planned plan.entry) self.old.intake.head.link all) (reverse (deliver w place (packet_in self.old.intake.head.link plan.entry.check self.old.intake.record_read) self.old.play).past))) }
+        ensures cut { (w : World) (all : List Record) (begun : Tape) → w.cluster ≡ C.cluster run.now.setup.now → SameChoice w.choice (P.choice spread.now) →
+            Sound (C.cluster run.now.setup.now) (planned run.now.plan) self.old.intake.head.link all self.old.play self.old.relay.waiting begun (O.tape output.old) → slice_get all place ≡ Some self.old.intake.record_read →
+            IfErr result (λ fault. WroteUntil fault begun (O.tape output.new) (sent (traffic_of (planned run.now.plan) self.old.intake.head.link all) (reverse (deliver w place (packet_in self.old.intake.head.link run.now.plan.check self.old.intake.record_read) self.old.play).past))) }
     {
-        let wire = self.wire(plan);
+        let wire = self.wire(run.plan);
         let packet = wire.packet(self.intake.frame());
         self.events.clear();
-        match self
-            .play
-            .deliver(core, setup, spread, place, packet, &mut self.events)
-        {
-            Ok(()) => {}
-            Err(_) => return Err(SimulationFault::Memory),
-        }
+        self.play
+            .deliver(core, run.setup, spread, place, packet, &mut self.events)?;
         let events = self.events.as_slice();
         self.relay
             .settle_delivered(&wire, &packet, events, &mut self.intake, output)
@@ -119,39 +113,32 @@ impl Stage {
     // A step that names no record.
     fn apart<C: Core, P: Spread, O: Sink>(
         &mut self,
-        alloc: Global,
+        run: &Run<'_, C::Setup>,
         core: &mut C,
-        setup: &C::Setup,
         spread: &mut P,
-        plan: Plan<'_>,
         step: &Step,
         output: &mut O,
     ) -> Result<(), SimulationFault>
-        requires stands { C.stands setup.now self.old.play.past core.old }
+        requires stands { C.stands run.now.setup.now self.old.play.past core.old }
         requires live { P.live spread.old ≡ self.old.play.live }
-        ensures stands { OnOk result (C.stands setup.now self.new.play.past core.new) }
+        ensures stands { OnOk result (C.stands run.now.setup.now self.new.play.past core.new) }
         ensures live { OnOk result (P.live spread.new ≡ self.new.play.live) }
         ensures choice { SameChoice (P.choice spread.old) (P.choice spread.new) }
         ensures kept { self.new.kept ≡ self.old.kept }
         ensures intake { self.new.intake ≡ self.old.intake }
-        ensures play { OnOk result ((w : World) → w.cluster ≡ C.cluster setup.now → names_records step.now ≡ false → self.new.play ≡ after w step.now self.old.play) }
+        ensures play { OnOk result ((w : World) → w.cluster ≡ C.cluster run.now.setup.now → names_records step.now ≡ false → self.new.play ≡ after w step.now self.old.play) }
         ensures sound { (all : List Record) (begun : Tape) → names_records step.now ≡ false →
-            Sound (C.cluster setup.now) (planned plan.entry) self.old.intake.head.link all self.old.play self.old.relay.waiting begun (O.tape output.old) →
-            OnOk result (Sound (C.cluster setup.now) (planned plan.entry) self.old.intake.head.link all self.new.play self.new.relay.waiting begun (O.tape output.new)) }
+            Sound (C.cluster run.now.setup.now) (planned run.now.plan) self.old.intake.head.link all self.old.play self.old.relay.waiting begun (O.tape output.old) →
+            OnOk result (Sound (C.cluster run.now.setup.now) (planned run.now.plan) self.old.intake.head.link all self.new.play self.new.relay.waiting begun (O.tape output.new)) }
         ensures named { IfErr result IsOfRun }
-        ensures cut { (w : World) (all : List Record) (begun : Tape) → w.cluster ≡ C.cluster setup.now → names_records step.now ≡ false →
-            Sound (C.cluster setup.now) (planned plan.entry) self.old.intake.head.link all self.old.play self.old.relay.waiting begun (O.tape output.old) →
-            IfErr result (λ fault. WroteUntil fault begun (O.tape output.new) (sent (traffic_of (planned plan.entry) self.old.intake.head.link all) (reverse (after w step.now self.old.play).past))) }
+        ensures cut { (w : World) (all : List Record) (begun : Tape) → w.cluster ≡ C.cluster run.now.setup.now → names_records step.now ≡ false →
+            Sound (C.cluster run.now.setup.now) (planned run.now.plan) self.old.intake.head.link all self.old.play self.old.relay.waiting begun (O.tape output.old) →
+            IfErr result (λ fault. WroteUntil fault begun (O.tape output.new) (sent (traffic_of (planned run.now.plan) self.old.intake.head.link all) (reverse (after w step.now self.old.play).past))) }
     {
-        let wire = self.wire(plan);
+        let wire = self.wire(run.plan);
         self.events.clear();
-        match self
-            .play
-            .step_apart(alloc, core, setup, spread, step, &mut self.events)
-        {
-            Ok(()) => {}
-            Err(_) => return Err(SimulationFault::Memory),
-        }
+        self.play
+            .step_apart(run.alloc, core, run.setup, spread, step, &mut self.events)?;
         let events = self.events.as_slice();
         self.relay.settle_all(&wire, events, output)
     }
@@ -172,85 +159,75 @@ impl Stage {
         ensures stops { (text : Tape) (seen : List Record) → Seen text seen (I.tape input.old) self.old.intake → IfErr result (ReadStops self.old.intake text seen (I.tape input.new)) }
     {
         let place = self.intake.given();
-        match self.intake.next(input) {
-            Ok(true) => match self.kept.note(alloc, place, self.intake.frame()) {
-                Ok(()) => Ok(true),
-                Err(_) => Err(SimulationFault::Memory),
-            },
-            Ok(false) => Ok(false),
-            Err(fault) => Err(SimulationFault::Capture(fault)),
+        let more = self.intake.next(input)?;
+        if !more {
+            return Ok(false);
         }
+        self.kept.note(alloc, place, self.intake.frame())?;
+        Ok(true)
     }
 
     // Takes the next record: reads it and delivers it. Says whether there was one.
     #[inline(always)]
     fn take_one<C: Core, P: Spread, I: Source, O: Sink>(
         &mut self,
-        alloc: Global,
+        run: &Run<'_, C::Setup>,
         core: &mut C,
-        setup: &C::Setup,
         spread: &P,
-        plan: Plan<'_>,
         input: &mut I,
         output: &mut O,
     ) -> Result<bool, SimulationFault>
-        requires stands { C.stands setup.now self.old.play.past core.old }
+        requires stands { C.stands run.now.setup.now self.old.play.past core.old }
         requires live { P.live spread.now ≡ self.old.play.live }
         requires few { (n : ℕ) × (n < 2 ^ 32) × Counted self.old.intake.given n self.old.play }
-        ensures stands { OnOk result (C.stands setup.now self.new.play.past core.new) }
+        ensures stands { OnOk result (C.stands run.now.setup.now self.new.play.past core.new) }
         ensures live { OnOk result (self.new.play.live ≡ self.old.play.live) }
         ensures few { (n : ℕ) → Counted self.old.intake.given n self.old.play → OnOk result (Counted self.new.intake.given n self.new.play) }
         ensures head { self.new.intake.head ≡ self.old.intake.head }
         ensures reached { (choice : Choice) (text begun : Tape) (ss : List Step) (k : ℕ) → SameChoice choice (P.choice spread.now) →
-            Reached (C.cluster setup.now) choice (planned plan.entry) text begun (take_of (k + 1) ∷ ss) self.old (I.tape input.old) (O.tape output.old) →
-            IfOk result (λ more. Reached (C.cluster setup.now) choice (planned plan.entry) text begun (still_to_take more k ss) self.new (I.tape input.new) (O.tape output.new)) }
+            Reached (C.cluster run.now.setup.now) choice (planned run.now.plan) text begun (take_of (k + 1) ∷ ss) self.old (I.tape input.old) (O.tape output.old) →
+            IfOk result (λ more. Reached (C.cluster run.now.setup.now) choice (planned run.now.plan) text begun (still_to_take more k ss) self.new (I.tape input.new) (O.tape output.new)) }
         ensures short { (choice : Choice) (text begun : Tape) (ss : List Step) (k : ℕ) → SameChoice choice (P.choice spread.now) →
-            Reached (C.cluster setup.now) choice (planned plan.entry) text begun (take_of (k + 1) ∷ ss) self.old (I.tape input.old) (O.tape output.old) →
-            IfErr result (λ fault. Shortened (C.cluster setup.now) choice (planned plan.entry) self.old.intake.head text (I.tape input.new) begun (O.tape output.new) fault) }
+            Reached (C.cluster run.now.setup.now) choice (planned run.now.plan) text begun (take_of (k + 1) ∷ ss) self.old (I.tape input.old) (O.tape output.old) →
+            IfErr result (λ fault. Shortened (C.cluster run.now.setup.now) choice (planned run.now.plan) self.old.intake.head text (I.tape input.new) begun (O.tape output.new) fault) }
     {
-        match self.read_one(alloc, input) {
-            Ok(true) => {}
-            Ok(false) => return Ok(false),
-            Err(fault) => return Err(fault),
+        let more = self.read_one(run.alloc, input)?;
+        if !more {
+            return Ok(false);
         }
         let place = self.play.next_place();
-        match self.deliver(core, setup, spread, plan, place, output) {
-            Ok(()) => Ok(true),
-            Err(fault) => Err(fault),
-        }
+        self.deliver(run, core, spread, place, output)?;
+        Ok(true)
     }
 
     // Takes so many records, or those that remain.
     fn take<C: Core, P: Spread, I: Source, O: Sink>(
         &mut self,
-        alloc: Global,
+        run: &Run<'_, C::Setup>,
         core: &mut C,
-        setup: &C::Setup,
         spread: &P,
-        plan: Plan<'_>,
         count: u32,
         input: &mut I,
         output: &mut O,
     ) -> Result<(), SimulationFault>
-        requires stands { C.stands setup.now self.old.play.past core.old }
+        requires stands { C.stands run.now.setup.now self.old.play.past core.old }
         requires live { P.live spread.now ≡ self.old.play.live }
         requires few { (n : ℕ) × (n < 2 ^ 32) × Counted self.old.intake.given n self.old.play }
-        ensures stands { OnOk result (C.stands setup.now self.new.play.past core.new) }
+        ensures stands { OnOk result (C.stands run.now.setup.now self.new.play.past core.new) }
         ensures live { OnOk result (self.new.play.live ≡ self.old.play.live) }
         ensures few { (n : ℕ) → Counted self.old.intake.given n self.old.play → OnOk result (Counted self.new.intake.given n self.new.play) }
         ensures head { self.new.intake.head ≡ self.old.intake.head }
         ensures reached { (choice : Choice) (text begun : Tape) (ss : List Step) → SameChoice choice (P.choice spread.now) →
-            Reached (C.cluster setup.now) choice (planned plan.entry) text begun (take_of count ∷ ss) self.old (I.tape input.old) (O.tape output.old) →
-            OnOk result (Reached (C.cluster setup.now) choice (planned plan.entry) text begun ss self.new (I.tape input.new) (O.tape output.new)) }
+            Reached (C.cluster run.now.setup.now) choice (planned run.now.plan) text begun (take_of count ∷ ss) self.old (I.tape input.old) (O.tape output.old) →
+            OnOk result (Reached (C.cluster run.now.setup.now) choice (planned run.now.plan) text begun ss self.new (I.tape input.new) (O.tape output.new)) }
         ensures short { (choice : Choice) (text begun : Tape) (ss : List Step) → SameChoice choice (P.choice spread.now) →
-            Reached (C.cluster setup.now) choice (planned plan.entry) text begun (take_of count ∷ ss) self.old (I.tape input.old) (O.tape output.old) →
-            IfErr result (λ fault. Shortened (C.cluster setup.now) choice (planned plan.entry) self.old.intake.head text (I.tape input.new) begun (O.tape output.new) fault) }
+            Reached (C.cluster run.now.setup.now) choice (planned run.now.plan) text begun (take_of count ∷ ss) self.old (I.tape input.old) (O.tape output.old) →
+            IfErr result (λ fault. Shortened (C.cluster run.now.setup.now) choice (planned run.now.plan) self.old.intake.head text (I.tape input.new) begun (O.tape output.new) fault) }
     {
         for _ in 0..count {
-            match self.take_one(alloc, core, setup, spread, plan, input, output) {
-                Ok(true) => {}
-                Ok(false) => return Ok(()),
-                Err(fault) => return Err(fault),
+            let more = self.take_one(run, core, spread, input, output)?;
+            if !more {
+                return Ok(());
             }
         }
         Ok(())
@@ -268,10 +245,9 @@ impl Stage {
         ensures short { (cluster : Cluster) (choice : Choice) (plan : Planned) (text begun out : Tape) (ss : List Step) →
             Reached cluster choice plan text begun ss self.old (I.tape input.old) out → IfErr result (λ fault. Shortened cluster choice plan self.old.intake.head text (I.tape input.new) begun out fault) }
     {
-        match self.read_one(alloc, input) {
-            Ok(true) => {}
-            Ok(false) => return Ok(false),
-            Err(fault) => return Err(fault),
+        let more = self.read_one(alloc, input)?;
+        if !more {
+            return Ok(false);
         }
         self.play.lose(1);
         Ok(true)
@@ -295,10 +271,9 @@ impl Stage {
             Reached cluster choice plan text begun (lose_of count ∷ ss) self.old (I.tape input.old) out → IfErr result (λ fault. Shortened cluster choice plan self.old.intake.head text (I.tape input.new) begun out fault) }
     {
         for _ in 0..count {
-            match self.lose_one(alloc, input) {
-                Ok(true) => {}
-                Ok(false) => return Ok(()),
-                Err(fault) => return Err(fault),
+            let more = self.lose_one(alloc, input)?;
+            if !more {
+                return Ok(());
             }
         }
         Ok(())
@@ -307,148 +282,128 @@ impl Stage {
     // Delivers a record again, or skips it where it wasn't read.
     fn again<C: Core, P: Spread, O: Sink>(
         &mut self,
-        alloc: Global,
+        run: &Run<'_, C::Setup>,
         core: &mut C,
-        setup: &C::Setup,
         spread: &P,
-        plan: Plan<'_>,
         place: u32,
         output: &mut O,
     ) -> Result<(), SimulationFault>
-        requires stands { C.stands setup.now self.old.play.past core.old }
+        requires stands { C.stands run.now.setup.now self.old.play.past core.old }
         requires live { P.live spread.now ≡ self.old.play.live }
         requires few { (n : ℕ) × (n < 2 ^ 32) × Counted self.old.intake.given n self.old.play }
-        ensures stands { OnOk result (C.stands setup.now self.new.play.past core.new) }
+        ensures stands { OnOk result (C.stands run.now.setup.now self.new.play.past core.new) }
         ensures live { OnOk result (self.new.play.live ≡ self.old.play.live) }
         ensures few { (n : ℕ) → Counted self.old.intake.given n self.old.play → OnOk result (Counted self.new.intake.given (n + 1) self.new.play) }
         ensures head { self.new.intake.head ≡ self.old.intake.head }
         ensures named { IfErr result IsOfRun }
         ensures reached { (choice : Choice) (text begun left : Tape) (ss : List Step) → SameChoice choice (P.choice spread.now) →
-            Reached (C.cluster setup.now) choice (planned plan.entry) text begun (again_of place ∷ ss) self.old left (O.tape output.old) →
-            OnOk result (Reached (C.cluster setup.now) choice (planned plan.entry) text begun ss self.new left (O.tape output.new)) }
+            Reached (C.cluster run.now.setup.now) choice (planned run.now.plan) text begun (again_of place ∷ ss) self.old left (O.tape output.old) →
+            OnOk result (Reached (C.cluster run.now.setup.now) choice (planned run.now.plan) text begun ss self.new left (O.tape output.new)) }
         ensures short { (choice : Choice) (text begun left : Tape) (ss : List Step) → SameChoice choice (P.choice spread.now) →
-            Reached (C.cluster setup.now) choice (planned plan.entry) text begun (again_of place ∷ ss) self.old left (O.tape output.old) →
-            IfErr result (λ fault. Shortened (C.cluster setup.now) choice (planned plan.entry) self.old.intake.head text left begun (O.tape output.new) fault) }
+            Reached (C.cluster run.now.setup.now) choice (planned run.now.plan) text begun (again_of place ∷ ss) self.old left (O.tape output.old) →
+            IfErr result (λ fault. Shortened (C.cluster run.now.setup.now) choice (planned run.now.plan) self.old.intake.head text left begun (O.tape output.new) fault) }
     {
         // A capture has few records, so the counts have room.
         let _ = self.intake.given();
-        match self.kept.take(alloc, place) {
-            Ok(Some(frame)) => {
+        match self.kept.take(run.alloc, place)? {
+            Some(frame) => {
                 let _ = self.intake.exchange(frame);
-                match self.deliver(core, setup, spread, plan, place, output) {
-                    Ok(()) => Ok(()),
-                    Err(fault) => Err(fault),
-                }
+                self.deliver(run, core, spread, place, output)
             }
-            Ok(None) => match self
-                .play
-                .repeat(core, setup, spread, place, None, &mut self.events)
-            {
-                Ok(()) => Ok(()),
-                Err(_) => Err(SimulationFault::Memory),
-            },
-            Err(_) => Err(SimulationFault::Memory),
+            None => {
+                self.play
+                    .repeat(core, run.setup, spread, place, None, &mut self.events)?;
+                Ok(())
+            }
         }
     }
 
     // A step that names no record, among the others.
     fn aside<C: Core, P: Spread, O: Sink>(
         &mut self,
-        alloc: Global,
+        run: &Run<'_, C::Setup>,
         core: &mut C,
-        setup: &C::Setup,
         spread: &mut P,
-        plan: Plan<'_>,
         step: &Step,
         output: &mut O,
     ) -> Result<(), SimulationFault>
-        requires stands { C.stands setup.now self.old.play.past core.old }
+        requires stands { C.stands run.now.setup.now self.old.play.past core.old }
         requires live { P.live spread.old ≡ self.old.play.live }
         requires apart { names_records step.now ≡ false }
-        ensures stands { OnOk result (C.stands setup.now self.new.play.past core.new) }
+        ensures stands { OnOk result (C.stands run.now.setup.now self.new.play.past core.new) }
         ensures live { OnOk result (P.live spread.new ≡ self.new.play.live) }
         ensures choice { SameChoice (P.choice spread.old) (P.choice spread.new) }
         ensures few { (n : ℕ) → Counted self.old.intake.given n self.old.play → OnOk result (Counted self.new.intake.given (n + 1) self.new.play) }
         ensures head { self.new.intake.head ≡ self.old.intake.head }
         ensures named { IfErr result IsOfRun }
         ensures reached { (choice : Choice) (text begun left : Tape) (ss : List Step) →
-            Reached (C.cluster setup.now) choice (planned plan.entry) text begun (step.now ∷ ss) self.old left (O.tape output.old) →
-            OnOk result (Reached (C.cluster setup.now) choice (planned plan.entry) text begun ss self.new left (O.tape output.new)) }
+            Reached (C.cluster run.now.setup.now) choice (planned run.now.plan) text begun (step.now ∷ ss) self.old left (O.tape output.old) →
+            OnOk result (Reached (C.cluster run.now.setup.now) choice (planned run.now.plan) text begun ss self.new left (O.tape output.new)) }
         ensures short { (choice : Choice) (text begun left : Tape) (ss : List Step) →
-            Reached (C.cluster setup.now) choice (planned plan.entry) text begun (step.now ∷ ss) self.old left (O.tape output.old) →
-            IfErr result (λ fault. Shortened (C.cluster setup.now) choice (planned plan.entry) self.old.intake.head text left begun (O.tape output.new) fault) }
+            Reached (C.cluster run.now.setup.now) choice (planned run.now.plan) text begun (step.now ∷ ss) self.old left (O.tape output.old) →
+            IfErr result (λ fault. Shortened (C.cluster run.now.setup.now) choice (planned run.now.plan) self.old.intake.head text left begun (O.tape output.new) fault) }
     {
-        match self.apart(alloc, core, setup, spread, plan, step, output) {
-            Ok(()) => Ok(()),
-            Err(fault) => Err(fault),
-        }
+        self.apart(run, core, spread, step, output)
     }
 
     // A step.
     fn step<C: Core, P: Spread, I: Source, O: Sink>(
         &mut self,
-        alloc: Global,
+        run: &Run<'_, C::Setup>,
         core: &mut C,
-        setup: &C::Setup,
         spread: &mut P,
-        plan: Plan<'_>,
         step: &Step,
         input: &mut I,
         output: &mut O,
     ) -> Result<(), SimulationFault>
-        requires stands { C.stands setup.now self.old.play.past core.old }
+        requires stands { C.stands run.now.setup.now self.old.play.past core.old }
         requires live { P.live spread.old ≡ self.old.play.live }
         requires few { (n : ℕ) × (n < 2 ^ 32) × Counted self.old.intake.given n self.old.play }
-        ensures stands { OnOk result (C.stands setup.now self.new.play.past core.new) }
+        ensures stands { OnOk result (C.stands run.now.setup.now self.new.play.past core.new) }
         ensures live { OnOk result (P.live spread.new ≡ self.new.play.live) }
         ensures choice { SameChoice (P.choice spread.old) (P.choice spread.new) }
         ensures few { (n : ℕ) → Counted self.old.intake.given n self.old.play → OnOk result (Counted self.new.intake.given (n + 1) self.new.play) }
         ensures head { self.new.intake.head ≡ self.old.intake.head }
         ensures reached { (choice : Choice) (text begun : Tape) (ss : List Step) → SameChoice choice (P.choice spread.old) →
-            Reached (C.cluster setup.now) choice (planned plan.entry) text begun (step.now ∷ ss) self.old (I.tape input.old) (O.tape output.old) →
-            OnOk result (Reached (C.cluster setup.now) choice (planned plan.entry) text begun ss self.new (I.tape input.new) (O.tape output.new)) }
+            Reached (C.cluster run.now.setup.now) choice (planned run.now.plan) text begun (step.now ∷ ss) self.old (I.tape input.old) (O.tape output.old) →
+            OnOk result (Reached (C.cluster run.now.setup.now) choice (planned run.now.plan) text begun ss self.new (I.tape input.new) (O.tape output.new)) }
         ensures short { (choice : Choice) (text begun : Tape) (ss : List Step) → SameChoice choice (P.choice spread.old) →
-            Reached (C.cluster setup.now) choice (planned plan.entry) text begun (step.now ∷ ss) self.old (I.tape input.old) (O.tape output.old) →
-            IfErr result (λ fault. Shortened (C.cluster setup.now) choice (planned plan.entry) self.old.intake.head text (I.tape input.new) begun (O.tape output.new) fault) }
+            Reached (C.cluster run.now.setup.now) choice (planned run.now.plan) text begun (step.now ∷ ss) self.old (I.tape input.old) (O.tape output.old) →
+            IfErr result (λ fault. Shortened (C.cluster run.now.setup.now) choice (planned run.now.plan) self.old.intake.head text (I.tape input.new) begun (O.tape output.new) fault) }
     {
         match step {
-            Step::Take(count) => self.take(alloc, core, setup, spread, plan, *count, input, output),
-            Step::Lose(count) => self.lose(alloc, *count, input),
-            Step::Again(place) => self.again(alloc, core, setup, spread, plan, *place, output),
-            _ => self.aside(alloc, core, setup, spread, plan, step, output),
+            Step::Take(count) => self.take(run, core, spread, *count, input, output),
+            Step::Lose(count) => self.lose(run.alloc, *count, input),
+            Step::Again(place) => self.again(run, core, spread, *place, output),
+            _ => self.aside(run, core, spread, step, output),
         }
     }
 
     // All steps.
     fn steps<C: Core, P: Spread, I: Source, O: Sink>(
         &mut self,
-        alloc: Global,
+        run: &Run<'_, C::Setup>,
         core: &mut C,
-        setup: &C::Setup,
         spread: &mut P,
-        plan: Plan<'_>,
         input: &mut I,
         output: &mut O,
     ) -> Result<(), SimulationFault>
-        requires stands { C.stands setup.now self.old.play.past core.old }
+        requires stands { C.stands run.now.setup.now self.old.play.past core.old }
         requires live { P.live spread.old ≡ self.old.play.live }
         requires fresh { Counted self.old.intake.given 0 self.old.play }
-        requires some { length plan.steps.now ≤ 100000 }
-        ensures stands { OnOk result (C.stands setup.now self.new.play.past core.new) }
+        requires some { length run.now.plan.steps.now ≤ 100000 }
+        ensures stands { OnOk result (C.stands run.now.setup.now self.new.play.past core.new) }
         ensures head { self.new.intake.head ≡ self.old.intake.head }
         ensures read { OnOk result (self.new.play.read ≤ self.new.intake.given) }
         ensures reached { (text begun : Tape) →
-            Reached (C.cluster setup.now) (P.choice spread.old) (planned plan.entry) text begun plan.entry.steps.now self.old (I.tape input.old) (O.tape output.old) →
-            OnOk result (Reached (C.cluster setup.now) (P.choice spread.old) (planned plan.entry) text begun [] self.new (I.tape input.new) (O.tape output.new)) }
+            Reached (C.cluster run.now.setup.now) (P.choice spread.old) (planned run.now.plan) text begun run.now.plan.steps.now self.old (I.tape input.old) (O.tape output.old) →
+            OnOk result (Reached (C.cluster run.now.setup.now) (P.choice spread.old) (planned run.now.plan) text begun [] self.new (I.tape input.new) (O.tape output.new)) }
         ensures short { (text begun : Tape) →
-            Reached (C.cluster setup.now) (P.choice spread.old) (planned plan.entry) text begun plan.entry.steps.now self.old (I.tape input.old) (O.tape output.old) →
-            IfErr result (λ fault. Shortened (C.cluster setup.now) (P.choice spread.old) (planned plan.entry) self.old.intake.head text (I.tape input.new) begun (O.tape output.new) fault) }
+            Reached (C.cluster run.now.setup.now) (P.choice spread.old) (planned run.now.plan) text begun run.now.plan.steps.now self.old (I.tape input.old) (O.tape output.old) →
+            IfErr result (λ fault. Shortened (C.cluster run.now.setup.now) (P.choice spread.old) (planned run.now.plan) self.old.intake.head text (I.tape input.new) begun (O.tape output.new) fault) }
     {
-        for step in plan.steps {
-            match self.step(alloc, core, setup, spread, plan, step, input, output) {
-                Ok(()) => {}
-                Err(fault) => return Err(fault),
-            }
+        for step in run.plan.steps {
+            self.step(run, core, spread, step, input, output)?;
         }
         Ok(())
     }
@@ -472,50 +427,37 @@ impl Stage {
             kept: _,
             mut intake,
         } = self;
-        match intake.read_rest(input) {
-            Ok(ending) => Ok(Played {
-                play,
-                packets: intake.given(),
-                ending,
-            }),
-            Err(fault) => Err(SimulationFault::Capture(fault)),
-        }
+        let ending = intake.read_rest(input)?;
+        Ok(Played {
+            play,
+            packets: intake.given(),
+            ending,
+        })
     }
 }
 
 /// Runs the steps over the records behind a file header, record by record.
 pub(crate) fn play_records<C: Core, P: Spread, I: Source, O: Sink>(
-    alloc: Global,
-    plan: Plan<'_>,
+    run: &Run<'_, C::Setup>,
     core: &mut C,
-    setup: &C::Setup,
     spread: &mut P,
     head: Head,
     input: &mut I,
     output: &mut O,
 ) -> Result<Played, SimulationFault>
-    requires fresh { C.stands setup.now [] core.old }
-    requires live { P.live spread.old ≡ below (length plan.nodes.now) }
-    requires nodes { length plan.nodes.now ≤ 64 }
-    requires steps { length plan.steps.now ≤ 100000 }
-    requires workers { (C.cluster setup.now).workers ≤ 16 }
-    requires cluster { (C.cluster setup.now).nodes ≡ length plan.nodes.now }
-    requires orderly { Orderly (C.cluster setup.now) }
-    ensures over { IfOk result (λ p. IsOver (C.cluster setup.now) (P.choice spread.old) (planned plan.entry) head (I.tape input.old) (I.tape input.new) (O.tape output.old) (O.tape output.new) p.play p.packets p.ending) }
+    requires fresh { C.stands run.now.setup.now [] core.old }
+    requires live { P.live spread.old ≡ below (length run.now.plan.nodes.now) }
+    requires nodes { length run.now.plan.nodes.now ≤ 64 }
+    requires steps { length run.now.plan.steps.now ≤ 100000 }
+    requires workers { (C.cluster run.now.setup.now).workers ≤ 16 }
+    requires cluster { (C.cluster run.now.setup.now).nodes ≡ length run.now.plan.nodes.now }
+    requires orderly { Orderly (C.cluster run.now.setup.now) }
+    ensures over { IfOk result (λ p. IsOver (C.cluster run.now.setup.now) (P.choice spread.old) (planned run.now.plan) head (I.tape input.old) (I.tape input.new) (O.tape output.old) (O.tape output.new) p.play p.packets p.ending) }
     ensures read { IfOk result (λ p. p.play.read ≤ p.packets) }
-    ensures stands { IfOk result (λ p. C.stands setup.now p.play.past core.new) }
-    ensures short { IfErr result (λ fault. Shortened (C.cluster setup.now) (P.choice spread.old) (planned plan.entry) head (I.tape input.old) (I.tape input.new) (O.tape output.old) (O.tape output.new) fault) }
+    ensures stands { IfOk result (λ p. C.stands run.now.setup.now p.play.past core.new) }
+    ensures short { IfErr result (λ fault. Shortened (C.cluster run.now.setup.now) (P.choice spread.old) (planned run.now.plan) head (I.tape input.old) (I.tape input.new) (O.tape output.old) (O.tape output.new) fault) }
 {
-    let mut stage = match Stage::make(alloc, plan, head) {
-        Ok(stage) => stage,
-        Err(_) => return Err(SimulationFault::Memory),
-    };
-    match stage.steps(alloc, core, setup, spread, plan, input, output) {
-        Ok(()) => {}
-        Err(fault) => return Err(fault),
-    }
-    match stage.finish(input) {
-        Ok(played) => Ok(played),
-        Err(fault) => Err(fault),
-    }
+    let mut stage = Stage::make(run.alloc, run.plan, head)?;
+    stage.steps(run, core, spread, input, output)?;
+    stage.finish(input)
 }

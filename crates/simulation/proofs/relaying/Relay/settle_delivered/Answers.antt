@@ -1,12 +1,12 @@
 use Rattle.std.proofs.Common.{◌≡◌, [], ◌∷◌, List, ◌∙◌, sym, subst, ap}
 use Rattle.std.specs.Prelude.{OnOk, IfErr}
 use Rattle.cluster_node.specs.declared.events.Said.{Said}
-use Rattle.waiting_frames.specs.Mirrors.{Mirrors}
+use Rattle.simulation.specs.PrivateMirrors.{Mirrors}
 use Rattle.simulation.specs.Sent.{Sending, sent, Wrote, WroteUntil}
 use Rattle.simulation.specs.Wires.{traffic}
 use Rattle.simulation.specs.PrivateGoing.{onto}
 use Rattle.simulation.specs.Following.{sent_with, ArrivesFirst, CanSettle}
-use Rattle.simulation.proofs.Followed.{settled_with, can_first, can_rest, all_sent, only_one, sent_passed}
+use Rattle.simulation.proofs.Followed.{settled_with, can_first, can_rest, all_sent, passed}
 use Rattle.simulation.proofs.relaying.Relay.settle_delivered.Goals as goal
 
 pub returns-in_ok-take_in-in_default-rest-clause-settled : goal.returns-in_ok-take_in-in_default-rest-clause-settled
@@ -34,27 +34,15 @@ returns-in_ok-take_in-in_default-rest-clause-cut g c = λ all k past can first.
 
 pub returns-in-len1-clause-settled : goal.returns-in-len1-clause-settled
 returns-in-len1-clause-settled g c = λ all k past can first.
-    let s = c.in-Some.first.now in
     let t = c.next-item.result in
-    let r = c.args.intake.now.record_read in
-    let is = c.in-Some.ensures.cases.0 ∙ ap (λ (l : List Said). s ∷ l) (only_one c.in-Some.rest.now t c.in-len1.len_at_least c.in-len1.len_below c.next-item.is) in
-    let can' = subst (λ (l : List Said). CanSettle all k past l c.args.self.now.waiting) is can in
-    let first' = subst (λ (l : List Said). ArrivesFirst all r l) is first in
-    let f = can_first all k past (t ∷ []) s c.args.self.now.waiting can' in
-    let sends = sent_passed c.args.wire.now all k past s t r c.args.self.now.waiting can' first'.0 (c.passes.ensures.sent all k past r c.if-passes.true f first'.0 can'.judged) in
-    subst (λ (l : List Said). OnOk c.send_taken.result (Mirrors all k (onto past l) c.args.self.now.waiting × Wrote (g.O.Sink.tape c.args.output.now) (g.O.Sink.tape c.send_taken.new.output) (sent (traffic c.args.wire.now all) l))) (sym is)
-    (settled_with c.send_taken.result (Mirrors all k (t ∷ s ∷ past) c.args.self.now.waiting) _ _ _ _ (c.passes.ensures.mirrors all k past r c.if-passes.true f first'.0 can'.judged)
-    (ap (sent_with (traffic c.args.wire.now []) t.outcome) c.frame-frame.ensures ∙ sends) c.send_taken.ensures.ok)
+    let p = passed c.args.wire.now all k past _ _ c.in-Some.first.now t c.args.intake.now.record_read c.args.self.now.waiting c.in-Some.ensures.cases.0 c.in-len1.len_at_least c.in-len1.len_below c.next-item.is
+    (c.passes.ensures.mirrors all k past c.args.intake.now.record_read c.if-passes.true) (c.passes.ensures.sent all k past c.args.intake.now.record_read c.if-passes.true) can first in
+    settled_with c.send_taken.result _ _ _ _ _ p.mirrors (ap (sent_with (traffic c.args.wire.now []) t.outcome) c.frame-frame.ensures ∙ p.sends) c.send_taken.ensures.ok
 
 pub returns-in-len1-clause-cut : goal.returns-in-len1-clause-cut
 returns-in-len1-clause-cut g c = λ all k past can first.
-    let s = c.in-Some.first.now in
     let t = c.next-item.result in
-    let r = c.args.intake.now.record_read in
-    let is = c.in-Some.ensures.cases.0 ∙ ap (λ (l : List Said). s ∷ l) (only_one c.in-Some.rest.now t c.in-len1.len_at_least c.in-len1.len_below c.next-item.is) in
-    let can' = subst (λ (l : List Said). CanSettle all k past l c.args.self.now.waiting) is can in
-    let first' = subst (λ (l : List Said). ArrivesFirst all r l) is first in
-    let f = can_first all k past (t ∷ []) s c.args.self.now.waiting can' in
-    let sends = sent_passed c.args.wire.now all k past s t r c.args.self.now.waiting can' first'.0 (c.passes.ensures.sent all k past r c.if-passes.true f first'.0 can'.judged) in
+    let p = passed c.args.wire.now all k past _ _ c.in-Some.first.now t c.args.intake.now.record_read c.args.self.now.waiting c.in-Some.ensures.cases.0 c.in-len1.len_at_least c.in-len1.len_below c.next-item.is
+    (c.passes.ensures.mirrors all k past c.args.intake.now.record_read c.if-passes.true) (c.passes.ensures.sent all k past c.args.intake.now.record_read c.if-passes.true) can first in
     subst (λ (l : List Sending). IfErr c.send_taken.result (λ fault. WroteUntil fault (g.O.Sink.tape c.args.output.now) (g.O.Sink.tape c.send_taken.new.output) l))
-    (ap (sent_with (traffic c.args.wire.now []) t.outcome) c.frame-frame.ensures ∙ sends ∙ ap (sent (traffic c.args.wire.now all)) (sym is)) c.send_taken.ensures.cut
+    (ap (sent_with (traffic c.args.wire.now []) t.outcome) c.frame-frame.ensures ∙ p.sends) c.send_taken.ensures.cut

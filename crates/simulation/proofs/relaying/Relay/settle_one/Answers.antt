@@ -13,10 +13,10 @@ returns-in_default-clause-settled g c = λ all k past can quiet. (
 
 pub returns-clause-settled : goal.returns-clause-settled
 returns-clause-settled g c = λ all k past can quiet.
-    settled_with c.send_taken.result _ _ _ _ _ (c.settle.ensures.mirrors all k past can quiet)
-    (sent_as_taken c.args.wire.now all c.args.said.now.outcome _ (λ n w i x b v e. c.in-Some.ensures.sent all k past can n w i x b v e)) c.send_taken.ensures.ok
+    settled_with c.send_waited.result _ _ _ _ _ (c.settle.ensures.mirrors all k past can quiet)
+    (sent_as_taken c.args.wire.now all c.args.said.now.outcome _ (λ n w i x b v e. c.in-Some.ensures.sent all k past can n w i x b v e)) c.send_waited.ensures.ok
 
 pub returns-clause-cut : goal.returns-clause-cut
 returns-clause-cut g c = λ all k past can quiet.
-    subst (λ (l : List Sending). IfErr c.send_taken.result (λ fault. WroteUntil fault (g.O.Sink.tape c.args.output.now) (g.O.Sink.tape c.send_taken.new.output) l))
-    (sent_as_taken c.args.wire.now all c.args.said.now.outcome _ (λ n w i x b v e. c.in-Some.ensures.sent all k past can n w i x b v e)) c.send_taken.ensures.cut
+    subst (λ (l : List Sending). IfErr c.send_waited.result (λ fault. WroteUntil fault (g.O.Sink.tape c.args.output.now) (g.O.Sink.tape c.send_waited.new.output) l))
+    (sent_as_taken c.args.wire.now all c.args.said.now.outcome _ (λ n w i x b v e. c.in-Some.ensures.sent all k past can n w i x b v e)) c.send_waited.ensures.cut

@@ -1,4 +1,7 @@
 //! The frames that wait at all workers of a cluster.
+//!
+//! A cluster's core queues packets by their places in a capture. Where the capture isn't kept, `Waiting` keeps the frames
+//! beside those queues: it follows the record of events, and a frame is there exactly while its packet waits.
 ghost use Rattle.std.specs.Prelude.{◌≡◌, true, ◌*◌, ◌<◌, ◌∷◌, ◌++◌, [], ℕ, List, length, drop, replicate, slice_get, slice_set, option_map, Some, IfOk, OnOk, OnErr, IfSome, IsSomeAnd};
 ghost use Rattle.pcap_file.specs.Format.{Packet as Record, packet};
 ghost use Rattle.cluster_node.specs.declared.events.Said.{Said};
@@ -6,8 +9,8 @@ ghost use Rattle.cluster_node.specs.declared.outcomes.Outcome.TheVariants.{Forwa
 ghost use Rattle.cluster_node.specs.Record.{accepted};
 ghost use Rattle.cluster_node.specs.Records.{Judged};
 ghost use Rattle.cluster_core.specs.Cluster.{Cluster};
-ghost use Rattle.waiting_frames.specs.Queues.{place_of, Moves, only_at, placed_by, arrived, handed_back, unless_put, settled_by, settled, taken_by, taken_out, changed_at, first_at, emptied, is_free, taken_on, passes};
-ghost use Rattle.waiting_frames.specs.Mirrors.{Mirrors, CanFollow, ComesAs, IsNoArrival};
+ghost use Rattle.simulation.specs.PrivateQueues.{place_of, Moves, only_at, placed_by, arrived, handed_back, unless_put, settled_by, settled, taken_by, taken_out, changed_at, first_at, emptied, is_free, taken_on, passes};
+ghost use Rattle.simulation.specs.PrivateMirrors.{Mirrors, CanFollow, ComesAs, IsNoArrival};
 
 use crate::queue::Queue;
 use cluster_node::{Event, Outcome, Packet, Said};
@@ -19,7 +22,7 @@ const MOST_WORKERS: usize = 16;
 
 /// The frames of the packets that wait, in a queue for each worker of each node.
 #[derive(Drop)]
-pub struct Waiting {
+pub(crate) struct Waiting {
     queues: Vec<Queue>,
 }
 
@@ -97,7 +100,7 @@ fn clear_from(queues: &mut Vec<Queue>, node: u16)
 
 impl Waiting {
     /// Empty queues for so many nodes, of up to 16 workers each.
-    pub fn new(alloc: Global, nodes: u16) -> Result<Self, AllocError>
+    pub(crate) fn new(alloc: Global, nodes: u16) -> Result<Self, AllocError>
         ensures empty { IfOk result (λ w. w ≡ replicate (nodes * 16) []) }
         ensures mirrors { IfOk result (λ w. (all : List Record) (k : Cluster) → Mirrors all k [] w) }
     {
@@ -167,7 +170,7 @@ impl Waiting {
     /// Whether the packet of an arrival waits alone, and the event behind takes it out again. Then both are followed as they
     /// stand, and what is sent is that packet: its frame need not be kept.
     #[inline(always)]
-    pub fn passes(&self, arrival: &Said, next: &Said) -> bool
+    pub(crate) fn passes(&self, arrival: &Said, next: &Said) -> bool
         ensures is { result ≡ passes arrival.now next.now self.now }
         ensures mirrors { (all : List Record) (k : Cluster) (past : List Said) (r : Record) → result ≡ true → CanFollow all k past arrival.now self.now → ComesAs all r arrival.now.event →
             Judged k.judge (next.now ∷ arrival.now ∷ past) → Mirrors all k (next.now ∷ arrival.now ∷ past) self.now }
@@ -198,7 +201,7 @@ impl Waiting {
     /// Follows an arrival, whose packet has this frame. Where the packet waits now, the frame is kept behind those that wait
     /// at its worker; else it is handed back.
     #[inline(always)]
-    pub fn arrive(&mut self, said: &Said, frame: Frame) -> Result<Option<Frame>, AllocError>
+    pub(crate) fn arrive(&mut self, said: &Said, frame: Frame) -> Result<Option<Frame>, AllocError>
         ensures queues { OnOk result (Moves self.old self.new (arrived said.now (packet frame))) }
         ensures back { IfOk result (λ back. option_map packet back ≡ handed_back said.now (length self.old) (packet frame)) }
         ensures err { OnErr result (self.new ≡ self.old) }
@@ -215,7 +218,7 @@ impl Waiting {
     ///
     /// By the clause `sent` this is, where a packet was sent, that packet's frame.
     #[inline(always)]
-    pub fn settle(&mut self, said: &Said) -> Option<Frame>
+    pub(crate) fn settle(&mut self, said: &Said) -> Option<Frame>
         ensures queues { Moves self.old self.new (settled said.now) }
         ensures taken { option_map packet result ≡ taken_out said.now self.old }
         ensures mirrors { (all : List Record) (k : Cluster) (past : List Said) → CanFollow all k past said.now self.old → IsNoArrival said.now.event →

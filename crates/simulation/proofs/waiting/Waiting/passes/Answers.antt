@@ -1,6 +1,6 @@
 use Rattle.std.proofs.Common.{sym, ◌∙◌}
-use Rattle.waiting_frames.proofs.Passes.{pass_mirrors, pass_sent}
-use Rattle.waiting_frames.proofs.waiting.Waiting.passes.Goals as goal
+use Rattle.simulation.proofs.Passes.{pass_mirrors, pass_sent}
+use Rattle.simulation.proofs.waiting.Waiting.passes.Goals as goal
 
 pub returns-clause-mirrors : goal.returns-clause-mirrors
 returns-clause-mirrors c = λ all k past r h. pass_mirrors all k past c.args.arrival.now c.args.next.now r c.args.self.now (sym c.is_passed.ensures ∙ h)
