@@ -14,7 +14,7 @@ use Rattle.cluster_node.specs.declared.outcomes.Outcome.TheVariants.{Installed, 
 use Rattle.cluster_node.specs.declared.outcomes.Reason.TheVariants.{NoNode, NoWorker}
 use Rattle.cluster_node.specs.Rules.{Rules}
 use Rattle.cluster_node.specs.Record.{accepted, placed_line, arrived_line, line_by, lines_of, more_placed, placed_by, placed_count, served_by, served_count, by_queue, node_verdict, serve_verdict, installed_of}
-use Rattle.cluster_node.specs.Records.{Judged, WasRead, node_of, of_node, lines_at}
+use Rattle.cluster_node.specs.Records.{Judged, WasRead, node_of, of_node}
 use Rattle.cluster_core.specs.Runs.{verdict, verdicts, say, packet_of}
 use Rattle.cluster_core.specs.Laws.{record_after}
 use Rattle.cluster_core.specs.Totals.{came, went, came_of, went_of, came_all, went_all}

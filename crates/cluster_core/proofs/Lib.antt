@@ -20,4 +20,3 @@ pub mod Promised
 pub mod Balanced
 pub mod Passing
 pub mod Ordered
-pub mod Counted

@@ -1,7 +1,5 @@
 -- Every judged record keeps the promises.
-use Rattle.std.proofs.Common.{◌≡◌, ℕ, List, [], ◌∷◌, reverse, sym, ◌∙◌, subst}
-use Rattle.five_tuple.specs.declared.Flow.{Flow}
-use Rattle.selection.specs.Candidates.{Candidates}
+use Rattle.std.proofs.Common.{ℕ, List, [], ◌∷◌, reverse, sym, ◌∙◌, subst}
 use Rattle.pool_versions.specs.Pool.{Pools}
 use Rattle.cluster_node.specs.declared.events.Said.{Said}
 use Rattle.cluster_node.specs.declared.outcomes.Outcome.{Outcome}
@@ -11,7 +9,7 @@ use Rattle.cluster_core.specs.Runs.{verdict}
 use Rattle.cluster_core.specs.Headline.{Keeps}
 use Rattle.cluster_core.specs.Tables.{AreMaglevs}
 use Rattle.cluster_core.specs.Histories.{IsSteady, outcomes_of}
-use Rattle.cluster_core.specs.Promises.{KeptThroughout, Promises, MaglevPromises, HistoriesKeepPromises, MaglevKeepsPromises, ListsKeepPromises}
+use Rattle.cluster_core.specs.Promises.{KeptThroughout, Promises, HistoriesKeepPromises, MaglevKeepsPromises, ListsKeepPromises}
 use Rattle.cluster_core.proofs.Keeps.{keeps, keeping}
 use Rattle.cluster_core.proofs.Sends.{agreement, agreement_of_picks}
 use Rattle.cluster_core.proofs.Slots.{tables_differ, tables_are_even}

@@ -3,8 +3,6 @@ use Rattle.std.proofs.Common.{◌≡◌, ℕ, List, Option, Some, None, true, re
 use Rattle.std.specs.List.{All}
 use Rattle.five_tuple.specs.declared.Flow.{Flow}
 use Rattle.pool_versions.specs.Pool.{Pools, AreSound, IsWithinLimits, AreWeighed}
-use Rattle.pool_versions.specs.declared.service.Service.{Service}
-use Rattle.pool_versions.specs.declared.service.Version.{Version}
 use Rattle.maglev_table.specs.Sizes.{is_table_size}
 use Rattle.selection.specs.Picks.{table_pick, slot_of_flow}
 use Rattle.selection.proofs.Tables.{members_table_is_even}

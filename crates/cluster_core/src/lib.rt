@@ -29,7 +29,7 @@ mod task;
 pub use balancers::Balancers;
 pub use cluster_node::{Cause, Event, Item, Outcome, Packet, Passed, Reason, Said};
 pub use counting::totals;
-pub use counts::{Counts, Totals};
+pub use counts::{Totals, at_serving, number};
 pub use explaining::{Verdict, explain};
 pub use fixed::{Setup, SetupFault};
 pub use headline::replay_maglev;

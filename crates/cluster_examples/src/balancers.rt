@@ -1,10 +1,10 @@
 //! Worked scenarios on balancers with both tables, and what rules refuse.
 ghost use Rattle.std.specs.Prelude.{◌≡◌, ◌<◌, ◌^◌, [], length};
 
-use cluster_core::{Balancers, Core, Counts, Notes, Rules, Setup, Task, Totals};
+use cluster_core::{Balancers, Core, Notes, Rules, Setup, Task, Totals};
 use cluster_node::{Event, Outcome, Packet, Said};
 use connection_table::{ConnTable, LruTable, PlainTable};
-use course::{Play, Step, all_live};
+use course::{Counts, Play, Step, all_live};
 use five_tuple::Flow;
 use hash_laws::SumHash;
 use maglev_table::{Name, TableSize, Weight};
@@ -66,7 +66,7 @@ impl Notes for Kept {
     type Asked = ();
 
     ghost use Rattle.cluster_core.specs.Histories.{outcomes_of};
-    ghost use Rattle.cluster_core.specs.Noting.{CountsAre};
+    ghost use Rattle.course.specs.Counting.{CountsAre};
 
     ghost are_of = { λ asked past kept. CountsAre (outcomes_of past) kept.counts };
 

@@ -8,3 +8,4 @@ pub mod Quiet
 pub mod Adding
 pub mod Behind
 pub mod Passing
+pub mod Counted

@@ -4,3 +4,4 @@ pub mod Room
 pub mod Tally
 pub mod PrivateStreams
 pub mod Sums
+pub mod Counting

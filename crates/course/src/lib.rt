@@ -5,9 +5,11 @@
 //! the worker serves at once.
 #![tactic(auto)]
 
+mod counts;
 mod laws;
 mod play;
 
+pub use counts::Counts;
 pub use laws::courses_add_up;
 pub use play::{Play, Tally, all_live};
 pub use scenario_steps::Step;

@@ -6,9 +6,9 @@ use Rattle.std.proofs.lemmas.Bool.{eqb-true, eq-eqb, true≢false}
 use Rattle.cluster_node.specs.declared.events.Said.{Said}
 use Rattle.cluster_node.specs.declared.outcomes.Outcome.{Outcome}
 use Rattle.cluster_core.specs.Histories.{outcomes_of}
-use Rattle.cluster_core.specs.declared.counts.Counts.{Counts}
-use Rattle.cluster_core.specs.Noting.{CountsAre, totals_by}
-use Rattle.cluster_core.proofs.Counted.{counted_turned, outcomes_turned}
+use Rattle.course.specs.declared.counts.Counts.{Counts}
+use Rattle.course.specs.Counting.{CountsAre, totals_by}
+use Rattle.course.proofs.Counted.{counted_turned, outcomes_turned}
 use Rattle.listing.specs.Lines.{line_text, listing}
 use Rattle.listing.proofs.Walks.{lines_push}
 use Rattle.flow_splits.specs.declared.book.SplitBook.{SplitBook}

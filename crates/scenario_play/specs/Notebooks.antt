@@ -2,7 +2,7 @@
 use Rattle.std.specs.Prelude.{◌≡◌, ℕ, Bool, true, false, List, [], length, reverse, string_bytes, slice_get}
 use Rattle.cluster_node.specs.declared.events.Said.{Said}
 use Rattle.cluster_core.specs.Histories.{outcomes_of}
-use Rattle.cluster_core.specs.Noting.{CountsAre}
+use Rattle.course.specs.Counting.{CountsAre}
 use Rattle.listing.specs.Lines.{listing}
 use Rattle.flow_splits.specs.declared.book.SplitBook.{SplitBook}
 use Rattle.flow_splits.specs.Books.{IsBookOf}

@@ -7,9 +7,10 @@ ghost use Rattle.cluster_node.specs.declared.packets.Packet.{Packet};
 ghost use Rattle.cluster_core.specs.Noting.{said_by};
 
 use crate::asking::Asked;
-use cluster_core::{Counts, Notes};
+use cluster_core::Notes;
 use cluster_node::{Event, Outcome};
 use connection_table::TableKey;
+use course::Counts;
 use flow_splits::SplitBook;
 use listing::push_line;
 use std::alloc::{AllocError, Global};

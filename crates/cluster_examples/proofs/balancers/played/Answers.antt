@@ -1,7 +1,7 @@
 use Rattle.std.proofs.Common.{sym, subst}
 use Rattle.cluster_core.specs.Histories.{outcomes_of}
-use Rattle.cluster_core.specs.Noting.{CountsAre}
-use Rattle.cluster_core.proofs.Counted.{balanced_record}
+use Rattle.course.specs.Counting.{CountsAre}
+use Rattle.course.proofs.Counted.{balanced_record}
 use Rattle.cluster_examples.specs.declared.balancers.Kept.{Kept}
 use Rattle.cluster_examples.proofs.balancers.played.Goals as goal
 

@@ -1,6 +1,6 @@
 use Rattle.std.proofs.Common.{◌∙◌, string_bytes}
 use Rattle.cluster_core.specs.Histories.{outcomes_of}
-use Rattle.cluster_core.proofs.Counted.{balanced_record}
+use Rattle.course.proofs.Counted.{balanced_record}
 use Rattle.scenario_play.proofs.Noted.{totals_told}
 use Rattle.scenario_play.proofs.Runs.{told}
 use Rattle.scenario_play.proofs.answering.plain_report.Goals as goal

@@ -1,8 +1,9 @@
 use Rattle.std.proofs.Common.{◌≡◌, ◌∷◌, refl, sym, ◌∙◌, subst}
 use Rattle.cluster_core.specs.Histories.{outcomes_of}
-use Rattle.cluster_core.specs.declared.counts.Counts.{Counts}
-use Rattle.cluster_core.specs.Noting.{CountsAre, said_by}
-use Rattle.cluster_core.proofs.Counted.{then_ok}
+use Rattle.course.specs.declared.counts.Counts.{Counts}
+use Rattle.cluster_core.specs.Noting.{said_by}
+use Rattle.course.specs.Counting.{CountsAre}
+use Rattle.course.proofs.Counted.{then_ok}
 use Rattle.flow_splits.specs.declared.book.SplitBook.{SplitBook}
 use Rattle.scenario_play.specs.declared.asking.Asked.{Asked}
 use Rattle.scenario_play.specs.declared.asking.Asked.TheVariants.{Report}

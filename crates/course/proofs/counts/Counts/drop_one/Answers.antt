@@ -1,6 +1,6 @@
 use Rattle.std.proofs.Common.{sym, ◌∙◌}
-use Rattle.cluster_core.proofs.Counted.{dropped_at, then_ok, served_drop, arrived_drop}
-use Rattle.cluster_core.proofs.counts.Counts.drop_one.Goals as goal
+use Rattle.course.proofs.Counted.{dropped_at, then_ok, served_drop, arrived_drop}
+use Rattle.course.proofs.counts.Counts.drop_one.Goals as goal
 
 pub returns-then-at_serving : goal.returns-then-at_serving
 returns-then-at_serving c = λ others packet h.

@@ -9,9 +9,9 @@ use Rattle.cluster_node.specs.declared.outcomes.Cause.{Cause}
 use Rattle.cluster_node.specs.declared.outcomes.Cause.TheVariants.{NotIpv4, Truncated, BadHeader, BadChecksum, Fragment, NotTcpUdp, BadTransport, TooLarge, NoService, NoBackend, NoVersion, RingsFull, LostAtRestart}
 use Rattle.cluster_core.specs.Tally.{number, at_serving, is_arrival, is_forward, is_refused, lost_all, how_many, drops, drops_all, drop_counts}
 use Rattle.cluster_core.specs.Totals.{went, came_all, went_all}
-use Rattle.cluster_core.specs.declared.counts.Counts.{Counts}
+use Rattle.course.specs.declared.counts.Counts.{Counts}
 use Rattle.cluster_core.specs.Histories.{outcomes_of}
-use Rattle.cluster_core.specs.Noting.{CountsAre}
+use Rattle.course.specs.Counting.{CountsAre}
 use Rattle.cluster_core.specs.Ruling.{IsBalanced}
 
 -- a count with so many more, at a place
