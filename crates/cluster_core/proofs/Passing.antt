@@ -52,10 +52,11 @@ module _ {S : Type 0} (pick_of : S → ℕ → Pick) (rules : Rules) (past : Lis
       (none_more pick_of rules (newest_of (of_node n (with_arrival (verdict rules) past Come p))) run.versions (Serve n w v false) first.1.good tt) (get_same run.nodes n m between there)
       (subst (λ (had : List Said). NodeGoes rules had (Serve n w v false) None o after) (sym same_before) goes) in
       let last : RunGoes pick_of rules (with_arrival (verdict rules) past Come p) (Serve n w v false) None o (with_node after) =
-      subst (λ (ys : List NodeView). RunGoes pick_of rules (with_arrival (verdict rules) past Come p) (Serve n w v false) None o (record { failed = run.failed; nodes = ys; versions = run.versions })) (set_twice run.nodes n between after) second in
-      ((first.0, last.0),
+      subst (λ (ys : List NodeView). RunGoes pick_of rules (with_arrival (verdict rules) past Come p) (Serve n w v false) None o (record { failed = run.failed; nodes = ys; versions = run.versions })) (set_twice run.nodes n between after) second in (
+        (first.0, last.0),
         subst (λ (x : Outcome). RunStands pick_of rules (record { event = Serve n w v false; packet = None; outcome = o } ∷ record { event = Come; packet = Some p; outcome = x } ∷ past) (with_node after)) (sym first.0)
-        (subst (λ (x : Outcome). RunStands pick_of rules (record { event = Serve n w v false; packet = None; outcome = x } ∷ with_arrival (verdict rules) past Come p) (with_node after)) (sym last.0) last.1))
+            (subst (λ (x : Outcome). RunStands pick_of rules (record { event = Serve n w v false; packet = None; outcome = x } ∷ with_arrival (verdict rules) past Come p) (with_node after)) (sym last.0) last.1),
+      )
 
   pub pass_goes : (v : ℕ) (q : Passed) → NodePasses rules (of_node n past) Come p (λ w. Serve n w v false) q after → RunPasses pick_of rules past Come p (λ w. Serve n w v false) q (with_node after)
   pass_goes v (Unplaced o) g =

@@ -84,14 +84,14 @@ module _ {S : Type 0} (pick_of : S → ℕ → Pick) (ps : List (Readied S)) (pl
       let one : OneStep = one_if pick_of ps has place w (with_item u Here) m.newest false in
       let moved : cursor ≡ Turned = turned ∙ ap (λ (n : ℕ). cursor_after (refuses marks (home_of plain n x)) n m.cursor) (sym many) in (
         ap (λ (q : Outcome). Served w m.newest q) h
-        ∙ ap (λ (d : Bool). Served w m.newest (one_if pick_of ps d place w (with_item u Here) m.newest false).outcome) there
-        ∙ ap (λ (s : PassStep). s.passed) (sym is)
-        ∙ ap (λ (y : NodeView). (pass_on pick_of ps plain y place k marks x t).passed) same,
+            ∙ ap (λ (d : Bool). Served w m.newest (one_if pick_of ps d place w (with_item u Here) m.newest false).outcome) there
+            ∙ ap (λ (s : PassStep). s.passed) (sym is)
+            ∙ ap (λ (y : NodeView). (pass_on pick_of ps plain y place k marks x t).passed) same,
         ap (λ (q : ℕ). let y : NodeView = record { newest = m.newest; installed = m.installed; cursor = q; workers = slice_set m.workers w after } in y) moved
-        ∙ ap (λ (v : WorkerView). with_workers (slice_set m.workers w v)) j
-        ∙ ap (λ (d : Bool). with_workers (slice_set m.workers w (one_if pick_of ps d place w (with_item u Here) m.newest false).after)) there
-        ∙ ap (λ (s : PassStep). s.after) (sym is)
-        ∙ ap (λ (y : NodeView). (pass_on pick_of ps plain y place k marks x t).after) same,
+            ∙ ap (λ (v : WorkerView). with_workers (slice_set m.workers w v)) j
+            ∙ ap (λ (d : Bool). with_workers (slice_set m.workers w (one_if pick_of ps d place w (with_item u Here) m.newest false).after)) there
+            ∙ ap (λ (s : PassStep). s.after) (sym is)
+            ∙ ap (λ (y : NodeView). (pass_on pick_of ps plain y place k marks x t).after) same,
       )
 
 -- what came of both is what the record gives

@@ -61,5 +61,5 @@ pub passed_is : (w : World) (k : Cluster) (n i : ℕ) (p : Packet) (c : Course) 
 passed_is w k n i p c marks version q same free there new told =
     ap (λ (v : ℕ). with_passed (Arrive n i marks) p (λ u. Serve n u v false) q c) new
     ∙ subst (λ (j : Cluster). AreTold j.judge c.past (Arrive n i marks) p (λ u. Serve n u (newest_on j n c.past) false) q → with_passed (Arrive n i marks) p (λ u. Serve n u (newest_on j n c.past) false) q c ≡ arrive w n i p c) same
-      (subst (λ (ms : List Bool). AreTold w.cluster.judge c.past (Arrive n i ms) p (λ u. Serve n u (newest_on w.cluster n c.past) false) q → with_passed (Arrive n i ms) p (λ u. Serve n u (newest_on w.cluster n c.past) false) q c ≡ arrive w n i p c) (sym there)
-      (passed_arrives w n i p c free q)) told
+    (subst (λ (ms : List Bool). AreTold w.cluster.judge c.past (Arrive n i ms) p (λ u. Serve n u (newest_on w.cluster n c.past) false) q → with_passed (Arrive n i ms) p (λ u. Serve n u (newest_on w.cluster n c.past) false) q c ≡ arrive w n i p c) (sym there)
+    (passed_arrives w n i p c free q)) told
