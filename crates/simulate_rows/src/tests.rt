@@ -309,6 +309,23 @@ fn counts(rt: HostRuntime) {
     );
 }
 
+// Frames wait at two workers of two nodes, in queues that wrap, worker 0's first; a restart forgets those of its node alone.
+#[test]
+fn frames_wait(rt: HostRuntime) {
+    let mut words = plain(
+        "'install 0 1', 'install 1 1', 'hold 1', 'take 6', 'drain 1', 'hold 0', 'hold 1', 'take 8', 'restart 0', 'drain 1'",
+    );
+    words.workers = "2";
+    let capture = capture_of(rt.alloc(), "yzyyxxyxzzxyyx").expect(&rt, "memory");
+    let written = played(rt.alloc(), words, capture.as_slice(), REPORT).expect(&rt, "a run");
+    let ports = [0xe8, 0xe8, 0xee, 0xe8, 0xee, 0xe9, 0xee, 0xe8, 0xee, 0xe9];
+    for (place, port) in ports.iter().enumerate() {
+        let at = place.saturating_mul(80).saturating_add(85);
+        assert_eq!(rt; written.output.get(at), Some(port));
+    }
+    assert_eq!(rt; written.output.len(), 24 + 10 * 80);
+}
+
 // A record comes again before it was read, and then, with other steps between, as often as the steps say.
 #[test]
 fn repeats(rt: HostRuntime) {
