@@ -12,7 +12,7 @@ ghost use Rattle.node_records.specs.Losses.{ending};
 ghost use Rattle.cluster_node.specs.declared.packets.Packet.{Packet};
 ghost use Rattle.node_records.specs.Histories.{commands_of, past_of, NoneWaits};
 ghost use Rattle.node_records.specs.Journals.{JournalView, Tells, Drives, IsServed};
-ghost use Rattle.node_rehearsal.specs.PrivateGoing.{Going};
+ghost use Rattle.node_rehearsal.specs.PrivateGoing.{Going, drains};
 ghost use Rattle.node_records.specs.Runs.{IsRunOf};
 
 use cluster_core::Setup;
@@ -229,6 +229,13 @@ fn serve_none<S: Scheme, H: FlowHash, T: ConnTable>(
     Ok(workers)
 }
 
+// Whether the life that a command ends is drained before.
+fn is_drained(command: Command) -> bool
+    ensures { result ≡ drains command }
+{
+    matches!(command, Command::Restart)
+}
+
 // A life ends, and another begins. Where it isn't drained nothing was served in it. The answer is what was sent.
 fn restart<S: Scheme, H: FlowHash, T: ConnTable>(
     alloc: Global,
@@ -313,7 +320,8 @@ pub fn rehearse<S: Scheme, H: FlowHash, T: ConnTable>(
             Command::Offer(packet) => {
                 offer(&mut journal, setup, catalogue, packets, &mut queue, packet)?;
             }
-            Command::Restart => {
+            Command::Restart | Command::Stop => {
+                let drained = is_drained(*command);
                 let list = restart::<S, H, T>(
                     alloc,
                     &mut journal,
@@ -322,21 +330,7 @@ pub fn rehearse<S: Scheme, H: FlowHash, T: ConnTable>(
                     &newest,
                     &queue,
                     node,
-                    true,
-                )?;
-                keep(&mut sent, list)?;
-                queue = empty_queues(alloc, count, ring)?;
-            }
-            Command::Stop => {
-                let list = restart::<S, H, T>(
-                    alloc,
-                    &mut journal,
-                    setup,
-                    catalogue,
-                    &newest,
-                    &queue,
-                    node,
-                    false,
+                    drained,
                 )?;
                 keep(&mut sent, list)?;
                 queue = empty_queues(alloc, count, ring)?;

@@ -1,14 +1,14 @@
 use Rattle.std.proofs.Common.{◌≤◌, ◌+◌, ℕ, List, [], length, take, sym, subst, ap, ◌∙◌, arith}
 use Rattle.cluster_node.specs.Rules.{Rules}
 use Rattle.cluster_core.specs.Setups.{rules_for}
-use Rattle.node_records.specs.declared.command.Command.TheVariants.{Publish, Offer, Restart, Stop}
+use Rattle.node_records.specs.declared.command.Command.TheVariants.{Publish, Offer}
 use Rattle.node_records.specs.Losses.{drained_lives, losses, KeepDrained}
 use Rattle.node_records.specs.Histories.{commands_of}
 use Rattle.node_records.specs.Journals.{JournalView}
 use Rattle.node_rehearsal.specs.PrivateGoing.{Going}
-use Rattle.node_rehearsal.proofs.Goes.{obeyed_more, obeyed_all, same_run}
+use Rattle.node_rehearsal.proofs.Goes.{is_ending, obeyed_more, obeyed_all, same_run}
 use Rattle.node_rehearsal.proofs.rehearse.Goals as goal
-use Rattle.node_rehearsal.proofs.rehearse.Goals.{in-Publish+in_ok-publish-in-Publish, in-Offer+in_ok-offer-in-Offer, in-Restart+in_ok-list-in-Restart+in_ok-keep-in-Restart+in_ok-queue-in-Restart, in-Stop+in_ok-list-in-Stop+in_ok-keep-in-Stop+in_ok-queue-in-Stop}
+use Rattle.node_rehearsal.proofs.rehearse.Goals.{in-Publish+in_ok-publish-in-Publish, in-Offer+in_ok-offer-in-Offer, in-Restart+in_ok-list-in-Restart+in_ok-keep-in-Restart+in_ok-queue-in-Restart}
 
 pub loop-command-init : goal.loop-command-init
 loop-command-init g c =
@@ -37,14 +37,9 @@ loop-command-preserved g c =
         ring = ap (λ (j : JournalView). j.ring) w.journal-is ∙ w.in_ok-offer-in-Offer.ensures.kept.1 ∙ had.ring;
       }
       | in-Restart+in_ok-list-in-Restart+in_ok-keep-in-Restart+in_ok-queue-in-Restart w ↦ record {
-        going = subst (λ (z : JournalView). Going rules c.args.packets.now (take (i + 1) c.args.commands.now) z) (sym w.journal-is) (obeyed_more rules c.args.packets.now c.args.commands.now i Restart _ w.restart.new.journal c.loop-command-test.true w.in-Restart.is (w.in_ok-list-in-Restart.ensures.going c.args.packets.now (take i c.args.commands.now) had.going));
+        going = subst (λ (z : JournalView). Going rules c.args.packets.now (take (i + 1) c.args.commands.now) z) (sym w.journal-is) (obeyed_more rules c.args.packets.now c.args.commands.now i _ _ w.restart.new.journal c.loop-command-test.true (is_ending _ _ w.in-Restart.is w.is_drained-drained.ensures) (w.in_ok-list-in-Restart.ensures.going c.args.packets.now (take i c.args.commands.now) had.going));
         node = ap (λ (j : JournalView). j.node) w.journal-is ∙ w.in_ok-list-in-Restart.ensures.kept.0 ∙ had.node;
         ring = ap (λ (j : JournalView). j.ring) w.journal-is ∙ w.in_ok-list-in-Restart.ensures.kept.1 ∙ had.ring;
-      }
-      | in-Stop+in_ok-list-in-Stop+in_ok-keep-in-Stop+in_ok-queue-in-Stop w ↦ record {
-        going = subst (λ (z : JournalView). Going rules c.args.packets.now (take (i + 1) c.args.commands.now) z) (sym w.journal-is) (obeyed_more rules c.args.packets.now c.args.commands.now i Stop _ w.restart-in-Stop.new.journal c.loop-command-test.true w.in-Stop.is (w.in_ok-list-in-Stop.ensures.going c.args.packets.now (take i c.args.commands.now) had.going));
-        node = ap (λ (j : JournalView). j.node) w.journal-is ∙ w.in_ok-list-in-Stop.ensures.kept.0 ∙ had.node;
-        ring = ap (λ (j : JournalView). j.ring) w.journal-is ∙ w.in_ok-list-in-Stop.ensures.kept.1 ∙ had.ring;
       }
     ]
 
