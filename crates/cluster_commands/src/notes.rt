@@ -60,7 +60,10 @@ impl Core for Notes {
         refused: &[bool; 16],
         body: &Packet,
     ) -> Result<Passed, AllocError> {
-        let _ = (setup, node, refused, body);
+        let _ = setup;
+        let _ = node;
+        let _ = refused;
+        let _ = body;
         Ok(Passed::Unplaced(Outcome::Dropped {
             packet,
             cause: Cause::RingsFull,

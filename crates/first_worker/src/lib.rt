@@ -62,7 +62,11 @@ impl Core for FirstWorker {
         refused: &[bool; 16],
         body: &Packet,
     ) -> Result<Passed, AllocError> {
-        let _ = (setup, node, packet, refused, body);
+        let _ = setup;
+        let _ = node;
+        let _ = packet;
+        let _ = refused;
+        let _ = body;
         Ok(Passed::Served {
             worker: 0,
             floor: 0,
