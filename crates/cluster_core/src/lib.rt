@@ -7,8 +7,7 @@
 //! keeps a flow's backend while the flow's entry stands and the backend is up (Maglev, NSDI 2016, section 3.4).
 //!
 //! `Core` is what the steps of a scenario ask of a core, and `Balancers` is a run as one, under `Rules`: a setup beside a
-//! catalogue of the same table size. Of its events it keeps what `Notes` are taken of them, for what is asked of the run;
-//! `Counts` are their totals.
+//! catalogue of the same table size. Of its events it keeps what `Notes` are taken of them, for what is asked of the run.
 #![tactic(auto)]
 
 mod balancers;

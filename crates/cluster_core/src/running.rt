@@ -10,7 +10,6 @@ ghost use Rattle.cluster_core.specs.RunView.{RunView};
 ghost use Rattle.cluster_core.specs.Runs.{prepared_with, prepared_above, prepared_for, is_known_in, newest_at, queued_at, cluster_by, RunStands, RunGoes, RunPasses};
 ghost use Rattle.cluster_core.specs.Cluster.{newest_on, waiting_on};
 ghost use Rattle.cluster_node.specs.declared.events.Event.TheVariants.{Arrive, Serve};
-ghost use Rattle.cluster_core.specs.Totals.{came_of, went_of};
 ghost use Rattle.cluster_node.specs.Records.{WasRead, node_of, of_node};
 
 use crate::fixed::Setup;
@@ -200,12 +199,6 @@ impl<S: Scheme, T: ConnTable> Run<S, T> {
             None => 0,
         }
     }
-
-    /// What left the queues is no more than what was placed, by every record for which the run stands. The body does
-    /// nothing.
-    pub fn keeps_balance(&self)
-        ensures { (rules : Rules) → (past : List Said) → RunStands (λ s z. S.pick s z) rules past self.now → went_of past ≤ came_of past }
-    {}
 
     /// One event, after all before it, with the packet that it names if it is an arrival. The setup and the catalogue are
     /// the same in every step. Once memory was refused it is refused from then on.
