@@ -1,9 +1,9 @@
 //! A worker of a node: the packets that wait at it, and the forwarder that serves them.
 ghost use Rattle.std.specs.Prelude.{◌≡◌, ◌≤◌, ◌<◌, ◌∷◌, ◌++◌, [], ◌==◌, true, false, length, IfOk, OnOk, OnErr};
-ghost use Rattle.forwarder.specs.Serving.{ups_in};
+ghost use Rattle.forwarder.specs.Serving.{ups_in, told_in, after_told};
 ghost use Rattle.cluster_node.specs.declared.serving.Taken.TheVariants.{Done};
 ghost use Rattle.cluster_node.specs.WorkerView.{WorkerView};
-ghost use Rattle.cluster_node.specs.Book.{step_of};
+ghost use Rattle.cluster_node.specs.Book.{step_of, serving_under};
 ghost use Rattle.cluster_node.specs.PrivateSteps.{with_item};
 ghost use Rattle.cluster_node.specs.Record.{cleared, fresh};
 
@@ -113,15 +113,28 @@ impl<S: Scheme, T: ConnTable> Worker<S, T> {
             return Ok(Taken::Behind);
         }
         let _ = self.queue.pop_front();
+        let choice = self.serve(version, &item, refused)?;
+        Ok(Taken::Done { item, choice })
+    }
+
+    // Serves a packet that isn't in the queue.
+    #[inline(always)]
+    fn serve(
+        &mut self,
+        version: &PreparedVersion<S>,
+        item: &Item,
+        refused: bool,
+    ) -> Result<Choice, AllocError>
+        ensures choice { IfOk result (λ c. c ≡ (told_in (S.pick version.now.scheme version.now.size) self.old.forwarding (serving_under (λ x. ups_in version.now x) version.now.number item.now refused)).choice) }
+        ensures after { let t = told_in (S.pick version.now.scheme version.now.size) self.old.forwarding (serving_under (λ x. ups_in version.now x) version.now.number item.now refused) in
+            OnOk result (self.new ≡ record { queue = self.old.queue; used = version.now.number; forwarding = after_told t self.old.forwarding }) }
+    {
         let served = self.forwarder.serve(version, &item.flow, item.at, refused);
-        self.used = number;
+        self.used = version.number();
         if served.unstored && !refused {
             return Err(AllocError);
         }
-        Ok(Taken::Done {
-            item,
-            choice: served.choice,
-        })
+        Ok(served.choice)
     }
 
     // Whether a packet that comes now is served next under a version.
@@ -145,12 +158,7 @@ impl<S: Scheme, T: ConnTable> Worker<S, T> {
         ensures taken { IfOk result (λ c. Done item.now c ≡ (step_of (S.pick version.now.scheme version.now.size) (λ x. ups_in version.now x) (with_item self.old item.now) version.now.number false).taken) }
         ensures after { OnOk result (self.new ≡ (step_of (S.pick version.now.scheme version.now.size) (λ x. ups_in version.now x) (with_item self.old item.now) version.now.number false).after) }
     {
-        let served = self.forwarder.serve(version, &item.flow, item.at, false);
-        self.used = version.number();
-        if served.unstored {
-            return Err(AllocError);
-        }
-        Ok(served.choice)
+        self.serve(version, item, false)
     }
 
     // Begins a new life: forgets all, and says how many packets waited.
