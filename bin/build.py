@@ -4,16 +4,20 @@ there are processors and memory for, those with the longest way to the program f
 is proved; where one isn't, its lines. `build.py --sources NAME` only lists what the program is built from.
 
 `rt` keeps others out of each crate that it reads, so that two runs of it over one lower crate wait for each other. So each
-library is proved in a tree of its own, whose files are links to those here.
+library is proved in a tree of its own, whose files are links to those here. `build.py --rt WORD..` is `rt WORD..`, which
+works out a crate's sum once where `rt` alone does so for each way that leads down to the crate.
 """
 import concurrent.futures
 import fcntl
+import importlib.machinery
+import importlib.util
 import os
 import pathlib
 import shutil
 import subprocess
 import sys
 import tempfile
+import threading
 import time
 
 TOP = pathlib.Path(__file__).resolve().parent.parent
@@ -70,6 +74,41 @@ def taken(seconds):
     return f"{minutes} min {seconds} s" if minutes else f"{seconds} s"
 
 
+def sum_once(crates):
+    """Has a crate's sum, which is made of the sums below it, worked out once for each question. From the program 18,720 ways
+    lead down to crates, which took `rt` minutes of a processor."""
+    plain, known = crates.stamp, threading.local()
+
+    def stamp(crate):
+        if getattr(known, "sums", None) is None:
+            known.sums = {}
+            try:
+                return stamp(crate)
+            finally:
+                known.sums = None
+        if crate.folder not in known.sums:
+            known.sums[crate.folder] = plain(crate)
+        return known.sums[crate.folder]
+
+    crates.stamp = stamp
+
+
+def run_rt(words):
+    """Does what `rt` does with these words, and answers its status."""
+    loader = importlib.machinery.SourceFileLoader("rt", os.path.realpath(shutil.which("rt")))
+    rt = importlib.util.module_from_spec(importlib.util.spec_from_loader("rt", loader))
+    loader.exec_module(rt)
+    if hasattr(rt.rtlib.Crate, "stamp"):
+        sum_once(rt.rtlib.Crate)
+    return rt.main(words)
+
+
+def rt_in(crate, *words):
+    """Runs `rt` in a crate's folder, and answers what became of it."""
+    command = [sys.executable, __file__, "--rt", *words]
+    return subprocess.run(command, cwd=crate, capture_output=True, text=True, check=False)
+
+
 def link(source, target):
     """Makes a file that is another one's, or a copy of it where that can't be."""
     try:
@@ -98,7 +137,7 @@ def prove_library(name, below, trees, at_once):
     with tempfile.TemporaryDirectory(dir=trees) as folder:
         make_tree(pathlib.Path(folder), name, below)
         crate = pathlib.Path(folder) / "crates" / name
-        done = subprocess.run(["rt", "lib", "--jobs", str(at_once)], cwd=crate, capture_output=True, text=True, check=False)
+        done = rt_in(crate, "lib", "--jobs", str(at_once))
         shutil.rmtree(CRATES / name / "out", ignore_errors=True)
         if (crate / "out").exists():
             shutil.move(crate / "out", CRATES / name / "out")
@@ -160,10 +199,10 @@ def is_current(name):
 def prove_program(name, progress):
     """Proves and builds the program, over proved libraries. What rt answered; and the seconds."""
     start = time.monotonic()
-    done = subprocess.run(["rt", "check"], cwd=CRATES / name, capture_output=True, text=True, check=False)
+    done = rt_in(CRATES / name, "check")
     if done.returncode == 0:
         # rt run builds what it runs.
-        done = subprocess.run(["rt", "run", "--", "--help"], cwd=CRATES / name, capture_output=True, text=True, check=False)
+        done = rt_in(CRATES / name, "run", "--", "--help")
     return progress.takes(name, done, time.monotonic() - start)
 
 
@@ -193,5 +232,7 @@ def build(name):
 if __name__ == "__main__":
     if sys.argv[1] == "--sources":
         write_sources(sys.argv[2])
+    elif sys.argv[1] == "--rt":
+        sys.exit(run_rt(sys.argv[2:]))
     else:
         sys.exit(0 if build(sys.argv[1]) else 1)
