@@ -1,5 +1,6 @@
 // A datagram is wrapped.
-ghost use Rattle.std.specs.Prelude.{◌≡◌, ◌<◌, ◌+◌, ◌⊎◌, ◌↔◌, [], length, Err, IfOk, IfErr, OnOk, OnErr, vec_capacity};
+ghost use Rattle.std.specs.Prelude.{◌≡◌, ◌<◌, ◌+◌, ◌++◌, ◌⊎◌, ◌↔◌, [], length, Err, IsTrue, IfOk, IfErr, OnOk, OnErr, vec_len, vec_capacity};
+ghost use Rattle.ip_headers.specs.Outer.{outer_header};
 ghost use Rattle.gre_tunnel.specs.Gre.{joined, wrapped};
 
 use super::GreFault;
@@ -8,25 +9,68 @@ use std::alloc::{AllocError, Global};
 
 const LARGEST_INNER: usize = 65_511;
 
-// What is joined takes the place of what stood in `bytes`.
-fn refill(bytes: &mut Vec<u8>, outer: &[u8; 20], inner: &[u8]) -> Result<(), AllocError>
-    requires { length inner.now < 65512 }
-    ensures joined { OnOk result (bytes.new.items ≡ joined outer.now inner.now) }
-    ensures refused { OnErr result (vec_capacity bytes.old < 24 + length inner.now) }
+#[inline(always)]
+fn is_too_large(inner: &[u8]) -> bool
+    ensures { IsTrue result ↔ 65511 < length inner.now }
 {
-    bytes.clear();
-    bytes.reserve(inner.len() + 24)?;
-    bytes.extend_from_slice(outer)?;
-    bytes.extend_from_slice(&[0, 0, 8, 0])?;
-    bytes.extend_from_slice(inner)?;
+    inner.len() > LARGEST_INNER
+}
+
+// What stands before a datagram of so many bytes in a tunnel: the outer header and the GRE header.
+#[inline(always)]
+fn front(len: u16, node: u32, backend: u32) -> [u8; 24]
+    requires { len < 65512 }
+    ensures { result ≡ joined (outer_header (24 + len) node backend) [] }
+{
+    let mut outer = [0u8; 20];
+    write_outer(&mut outer, len + 24, node, backend);
+    let mut front = [0u8; 24];
+    front[..20].copy_from_slice(&outer);
+    front[22] = 8;
+    front
+}
+
+// Both pieces, behind what stands in `room`, or neither.
+#[inline(always)]
+fn append_both(room: &mut Vec<u8>, front: &[u8; 24], inner: &[u8]) -> Result<(), AllocError>
+    requires { length inner.now < 65512 }
+    ensures joined { OnOk result (room.new.items ≡ room.old.items ++ (front.now ++ inner.now)) }
+    ensures kept { OnErr result (room.new.items ≡ room.old.items) }
+    ensures refused { OnErr result (vec_capacity room.old < vec_len room.old + (24 + length inner.now)) }
+{
+    room.reserve(inner.len() + 24)?;
+    room.extend_from_slice(front)?;
+    room.extend_from_slice(inner)?;
     Ok(())
 }
 
-/// The datagram behind an outer header from `node` to `backend` and a GRE header (RFC 2784, 2.1), in a
-/// room that may be used again and again: it grows only where it has less capacity than the wrapped
-/// datagram has bytes. What stood in it is gone, but for TooLarge: the datagram has more than 65,511
-/// bytes.
+/// Puts the datagram, behind an outer header from `node` to `backend` and a GRE header (RFC 2784,
+/// 2.1), behind what the room holds. The room grows only where it has less capacity than all its bytes
+/// then need. A refusal leaves its bytes as they were: TooLarge where the datagram has more than 65,511
+/// bytes, or else Memory.
 #[tactic(auto, unfolding(crate::specs::Gre::wrapped))]
+#[inline(always)]
+pub fn wrap_onto(inner: &[u8], node: u32, backend: u32, room: &mut Vec<u8>) -> Result<(), GreFault>
+    ensures bytes { OnOk result (room.new.items ≡ room.old.items ++ wrapped node backend inner.now) }
+    ensures size { OnOk result (length room.new.items ≡ length room.old.items + (24 + length inner.now)) }
+    ensures large { (result ≡ Err GreFault.TooLarge) ↔ 65511 < length inner.now }
+    ensures refused { IfErr result (λ fault. (fault ≡ GreFault.TooLarge) ⊎ (fault ≡ GreFault.Memory)) }
+    ensures untouched { result ≡ Err GreFault.TooLarge → room.new ≡ room.old }
+    ensures kept { result ≡ Err GreFault.Memory → room.new.items ≡ room.old.items }
+    ensures small { result ≡ Err GreFault.Memory → vec_capacity room.old < vec_len room.old + (24 + length inner.now) }
+{
+    if is_too_large(inner) {
+        return Err(GreFault::TooLarge);
+    }
+    match append_both(room, &front(inner.len() as u16, node, backend), inner) {
+        Ok(()) => Ok(()),
+        Err(_) => Err(GreFault::Memory),
+    }
+}
+
+/// The datagram behind an outer header and a GRE header, as `wrap_onto` writes them, in a room that may
+/// be used again and again: it grows only where it has less capacity than the wrapped datagram has
+/// bytes. What stood in it is gone, but for TooLarge: the datagram has more than 65,511 bytes.
 pub fn wrap_into(inner: &[u8], node: u32, backend: u32, room: &mut Vec<u8>) -> Result<(), GreFault>
     ensures bytes { OnOk result (room.new.items ≡ wrapped node backend inner.now) }
     ensures size { OnOk result (length room.new.items ≡ 24 + length inner.now) }
@@ -36,17 +80,13 @@ pub fn wrap_into(inner: &[u8], node: u32, backend: u32, room: &mut Vec<u8>) -> R
     ensures empty { result ≡ Err GreFault.Memory → room.new.items ≡ [] }
     ensures small { result ≡ Err GreFault.Memory → vec_capacity room.old < 24 + length inner.now }
 {
-    if inner.len() > LARGEST_INNER {
+    if is_too_large(inner) {
         return Err(GreFault::TooLarge);
     }
-    let mut outer = [0u8; 20];
-    write_outer(&mut outer, inner.len() as u16 + 24, node, backend);
-    match refill(room, &outer, inner) {
+    room.clear();
+    match wrap_onto(inner, node, backend, room) {
         Ok(()) => Ok(()),
-        Err(_) => {
-            room.clear();
-            Err(GreFault::Memory)
-        }
+        Err(fault) => Err(fault),
     }
 }
 
