@@ -58,6 +58,7 @@ impl<S: Scheme, T: ConnTable> Model for Forwarder<S, T> {
 }
 
 // The entry where its backend is up.
+#[inline(always)]
 fn if_up<S: Scheme>(held: Option<Entry>, ready: &Ready<S>) -> Option<Entry>
     ensures { result ≡ kept held ready.now.ups }
 {
@@ -74,6 +75,7 @@ fn if_up<S: Scheme>(held: Option<Entry>, ready: &Ready<S>) -> Option<Entry>
 }
 
 // A packet goes where its flow's entry says.
+#[inline(always)]
 fn sent(entry: &Entry) -> Choice
     ensures { result ≡ Forward entry.now.backend entry.now.version }
 {
@@ -84,6 +86,7 @@ fn sent(entry: &Entry) -> Choice
 }
 
 // The flow's entry as it stood, which is touched. Where it is past the limit it is as none, and keeps its place.
+#[inline(always)]
 fn stand<T: ConnTable>(table: &mut T, idle: Option<u64>, flow: &Flow, clock: u64) -> Option<Entry>
     ensures stood { result ≡ in_time idle clock (last_touch flow.now (T.entries table.old)) }
     ensures touched { T.entries table.new ≡ moved clock flow.now (in_time idle clock (last_touch flow.now (T.entries table.old))) (T.entries table.old) }
@@ -100,6 +103,7 @@ fn stand<T: ConnTable>(table: &mut T, idle: Option<u64>, flow: &Flow, clock: u64
 }
 
 // Stores an entry, and says whether that was due and did not happen.
+#[inline(always)]
 fn keep<T: ConnTable>(table: &mut T, stood: bool, flow: Flow, entry: Entry, refused: bool) -> bool
     requires { IsTrue stood → IsSome (last_touch flow (T.entries table.old)) }
     ensures kept { MatchBool result (T.entries table.new ≡ T.entries table.old) (T.entries table.new ≡ stored (T.capacity table.old) flow entry (T.entries table.old)) }
@@ -177,6 +181,7 @@ impl<S: Scheme, T: ConnTable> Forwarder<S, T> {
     /// The clock is the greatest time of the packets that were served since the forwarder was made or restarted, this one
     /// included. A flow with an entry that stands and whose backend is up goes there, with the entry's origin. Otherwise the
     /// scheme is asked. By the clause `history` the answer is a function of all that this forwarder served before.
+    #[inline(always)]
     pub fn serve(
         &mut self,
         version: &PreparedVersion<S>,
@@ -205,6 +210,7 @@ impl<S: Scheme, T: ConnTable> Forwarder<S, T> {
 
     // Serves one packet.
     #[tactic(auto, using(crate::proofs::Tables::store_over, crate::proofs::Tables::touch_stores, crate::proofs::Tables::touched_is))]
+    #[inline(always)]
     fn serve_once(
         &mut self,
         version: &PreparedVersion<S>,
