@@ -1,6 +1,6 @@
 -- Serving at once is placing and then serving.
 use Rattle.std.proofs.Common.{◌≡◌, ℕ, ◌<◌, Bool, true, false, List, [], ◌∷◌, length, zero, suc, Option, Some, None, refl, sym, ap, ◌∙◌, subst, arith, Result, Ok, Err, get_or, find}
-use Rattle.std.specs.Prelude.{slice_get, slice_set, ◌==◌, if◌then◌else◌, IfOk, OnOk}
+use Rattle.std.specs.Prelude.{slice_get, slice_set, ◌==◌, if◌then◌else◌, OnOk}
 use Rattle.std.specs.List.{list_any}
 use Rattle.std.specs.declared.alloc.AllocError.{AllocError}
 use Rattle.std.proofs.lemmas.Bool.{eqb-true}
@@ -75,15 +75,16 @@ module _ {S : Type 0} (pick_of : S → ℕ → Pick) (ps : List (Readied S)) (pl
       ∙ ap (λ (ws : List WorkerView). let s : PassStep = record { passed = Served w m.newest One.outcome; after = with_workers ws } in s) (set_twice m.workers w (with_item u Here) One.after)
 
   -- the same, as the code finds it
-  pub placed_passes : (z : NodeView) (after : WorkerView) (o : Outcome) (has : Bool) (count cursor : ℕ) → m ≡ z → (m.newest == 0) ≡ false → length m.workers ≡ count → place_for marks count (home_of plain count x) m.cursor ≡ placings.Worker w → cursor ≡ cursor_after (refuses marks (home_of plain count x)) count m.cursor → w < length m.workers → u ≡ get_or m.workers w u → has ≡ list_any (λ j. j == m.newest) z.installed → o ≡ (one_if pick_of ps has place w (with_item u Here) m.newest false).outcome → after ≡ (one_if pick_of ps has place w (with_item u Here) m.newest false).after →
-      (Served w m.newest o ≡ (pass_on pick_of ps plain z place k marks x t).passed) × ◌≡◌ {A = NodeView} (record { newest = m.newest; installed = m.installed; cursor = cursor; workers = slice_set m.workers w after }) (pass_on pick_of ps plain z place k marks x t).after
-  placed_passes z after o has count cursor same b many e turned lt at known h j =
+  pub placed_passes : (z : NodeView) (after : WorkerView) (q : Passed) (has : Bool) (count cursor : ℕ) (r : Result (Unit {0}) AllocError) → m ≡ z → (m.newest == 0) ≡ false → length m.workers ≡ count → place_for marks count (home_of plain count x) m.cursor ≡ placings.Worker w → cursor ≡ cursor_after (refuses marks (home_of plain count x)) count m.cursor → w < length m.workers → u ≡ get_or m.workers w u → has ≡ list_any (λ j. j == m.newest) z.installed → OnOk r (q ≡ Served w m.newest (one_if pick_of ps has place w (with_item u Here) m.newest false).outcome) → OnOk r (after ≡ (one_if pick_of ps has place w (with_item u Here) m.newest false).after) →
+      OnOk r (q ≡ (pass_on pick_of ps plain z place k marks x t).passed) × OnOk r (◌≡◌ {A = NodeView} (record { newest = m.newest; installed = m.installed; cursor = cursor; workers = slice_set m.workers w after }) (pass_on pick_of ps plain z place k marks x t).after)
+  placed_passes z after q has count cursor (Err f) same b many e turned lt at known h j = (tt, tt)
+  placed_passes z after q has count cursor (Ok d) same b many e turned lt at known h j =
       let is : pass_on pick_of ps plain m place k marks x t ≡ record { passed = Served w m.newest One.outcome; after = with_workers (slice_set m.workers w One.after) } =
       placed_is b (subst (λ (n : ℕ). place_for marks n (home_of plain n x) m.cursor ≡ placings.Worker w) (sym many) e) (get_of_or m.workers w u lt ∙ ap Some (sym at)) in
       let there : has ≡ list_any (λ i. i == m.newest) m.installed = known ∙ ap (λ (y : NodeView). list_any (λ i. i == m.newest) y.installed) (sym same) in
       let one : OneStep = one_if pick_of ps has place w (with_item u Here) m.newest false in
       let moved : cursor ≡ Turned = turned ∙ ap (λ (n : ℕ). cursor_after (refuses marks (home_of plain n x)) n m.cursor) (sym many) in (
-        ap (λ (q : Outcome). Served w m.newest q) h
+        h
             ∙ ap (λ (d : Bool). Served w m.newest (one_if pick_of ps d place w (with_item u Here) m.newest false).outcome) there
             ∙ ap (λ (s : PassStep). s.passed) (sym is)
             ∙ ap (λ (y : NodeView). (pass_on pick_of ps plain y place k marks x t).passed) same,
@@ -125,10 +126,10 @@ module _ {S : Type 0} (pick_of : S → ℕ → Pick) (rules : Rules) (ps : List 
       let g : NodeGoes rules past Come (Some p) s.outcome s.after = as_said rules past Come (Some p) s.outcome s.after s refl refl (arrive_goes rules past m n k marks (Some p) st) in
       by_outcome s.outcome s.after (g.1.newest ∙ sym st.newest) g
 
-pub pass_said : {S : Type 0} (pick_of : S → ℕ → Pick) (rules : Rules) (ps : List (Readied S)) (past : List Said) (m after : NodeView) (n k : ℕ) (marks : List Bool) (p : Packet) (plain : List ℕ → ℕ) (r : Result Passed AllocError) → rules.plain ≡ plain → ArePrepared pick_of rules ps (installed_of past) → NodeStands rules past m → IfOk r (λ q. q ≡ (pass_step pick_of ps plain m n k marks p).passed) → OnOk r (after ≡ (pass_step pick_of ps plain m n k marks p).after) → IfOk r (λ q. NodePasses rules past (Arrive n k marks) p (λ w. Serve n w m.newest false) q after)
-pass_said pick_of rules ps past m after n k marks p plain (Ok q) f all st h j =
+pub pass_said : {S : Type 0} (pick_of : S → ℕ → Pick) (rules : Rules) (ps : List (Readied S)) (past : List Said) (m after : NodeView) (n k : ℕ) (marks : List Bool) (p : Packet) (plain : List ℕ → ℕ) (q : Passed) (r : Result (Unit {0}) AllocError) → rules.plain ≡ plain → ArePrepared pick_of rules ps (installed_of past) → NodeStands rules past m → OnOk r (q ≡ (pass_step pick_of ps plain m n k marks p).passed) → OnOk r (after ≡ (pass_step pick_of ps plain m n k marks p).after) → OnOk r (NodePasses rules past (Arrive n k marks) p (λ w. Serve n w m.newest false) q after)
+pass_said pick_of rules ps past m after n k marks p plain q (Ok u) f all st h j =
     subst (λ (o : Passed). NodePasses rules past (Arrive n k marks) p (λ w. Serve n w m.newest false) o after) (sym h)
     (subst (λ (z : NodeView). NodePasses rules past (Arrive n k marks) p (λ w. Serve n w m.newest false) (pass_step pick_of ps plain m n k marks p).passed z) (sym j)
     (subst (λ (g : List ℕ → ℕ). let s : PassStep = pass_step pick_of ps g m n k marks p in NodePasses rules past (Arrive n k marks) p (λ w. Serve n w m.newest false) s.passed s.after) f
     (pass_goes pick_of rules ps past m n k marks p all st)))
-pass_said pick_of rules ps past m after n k marks p plain (Err e) f all st h j = tt
+pass_said pick_of rules ps past m after n k marks p plain q (Err e) f all st h j = tt

@@ -8,6 +8,7 @@ ghost use Rattle.cluster_node.specs.Record.{of_taken, of_choice, node_verdict, A
 ghost use Rattle.cluster_node.specs.Records.{NodePasses};
 ghost use Rattle.cluster_node.specs.declared.events.Event.TheVariants.{Arrive, Serve};
 ghost use Rattle.cluster_node.specs.declared.events.Said.{Said};
+ghost use Rattle.cluster_node.specs.declared.outcomes.Passed.TheVariants.{Served};
 
 use crate::events::Event;
 use crate::outcomes::{Cause, Outcome, Passed, Reason};
@@ -107,7 +108,7 @@ fn serve_one<S: Scheme, T: ConnTable>(
 }
 
 // A packet comes to a worker, which serves the one that waits first then. Where none waits that is this packet, which need
-// not be put into the queue.
+// not be put into the queue. After a refusal nothing is said of the room.
 #[inline(always)]
 fn pass_one<S: Scheme, T: ConnTable>(
     one: &mut Worker<S, T>,
@@ -116,18 +117,31 @@ fn pass_one<S: Scheme, T: ConnTable>(
     node: u16,
     worker: u16,
     item: &Item,
-) -> Result<Outcome, AllocError>
-    ensures outcome { IfOk result (λ o. o ≡ (one_if (λ s z. S.pick s z) versions.now installed node worker (with_item one.old item.now) item.now.floor false).outcome) }
+    passed: &mut Passed,
+) -> Result<(), AllocError>
+    ensures passed { OnOk result (passed.new ≡ Served worker item.now.floor (one_if (λ s z. S.pick s z) versions.now installed node worker (with_item one.old item.now) item.now.floor false).outcome) }
     ensures after { OnOk result (one.new ≡ (one_if (λ s z. S.pick s z) versions.now installed node worker (with_item one.old item.now) item.now.floor false).after) }
 {
-    match versions.find(item.floor) {
-        Some(prepared) if installed && one.is_ready(item.floor) => {
+    let floor = item.floor;
+    match versions.find(floor) {
+        Some(prepared) if installed && one.is_ready(floor) => {
             let choice = one.pass(prepared, item)?;
-            Ok(sent(node, worker, item, choice))
+            *passed = Passed::Served {
+                worker,
+                floor,
+                outcome: sent(node, worker, item, choice),
+            };
+            Ok(())
         }
         _ => {
             one.put(*item)?;
-            serve_one(one, versions, installed, node, worker, item.floor, false)
+            let outcome = serve_one(one, versions, installed, node, worker, floor, false)?;
+            *passed = Passed::Served {
+                worker,
+                floor,
+                outcome,
+            };
+            Ok(())
         }
     }
 }
@@ -360,6 +374,7 @@ impl<S: Scheme, T: ConnTable> Node<S, T> {
         }
     }
 
+    #[inline(always)]
     fn pass_flow<H: FlowHash>(
         &mut self,
         hash: &H,
@@ -369,8 +384,9 @@ impl<S: Scheme, T: ConnTable> Node<S, T> {
         refused: &[bool; 16],
         flow: &Flow,
         at: u64,
-    ) -> Result<Passed, AllocError>
-        ensures passed { IfOk result (λ p. p ≡ (pass_on (λ s z. S.pick s z) versions.now (H.plain hash.now) self.old node packet refused.now flow.now at).passed) }
+        passed: &mut Passed,
+    ) -> Result<(), AllocError>
+        ensures passed { OnOk result (passed.new ≡ (pass_on (λ s z. S.pick s z) versions.now (H.plain hash.now) self.old node packet refused.now flow.now at).passed) }
         ensures after { OnOk result (self.new ≡ (pass_on (λ s z. S.pick s z) versions.now (H.plain hash.now) self.old node packet refused.now flow.now at).after) }
         ensures kept { OnErr result ((self.new.newest ≡ self.old.newest) × (self.new.installed ≡ self.old.installed)) }
     {
@@ -378,12 +394,14 @@ impl<S: Scheme, T: ConnTable> Node<S, T> {
         let installed = self.has(floor);
         if self.newest == 0 {
             let cause = Cause::NoVersion;
-            return Ok(Passed::Unplaced(Outcome::Dropped { packet, cause }));
+            *passed = Passed::Unplaced(Outcome::Dropped { packet, cause });
+            return Ok(());
         }
         match self.steerer.place(hash, flow, refused) {
             Placed::RingsFull => {
                 let cause = Cause::RingsFull;
-                Ok(Passed::Unplaced(Outcome::Dropped { packet, cause }))
+                *passed = Passed::Unplaced(Outcome::Dropped { packet, cause });
+                Ok(())
             }
             Placed::Worker(worker) => {
                 let item = Item {
@@ -393,12 +411,7 @@ impl<S: Scheme, T: ConnTable> Node<S, T> {
                     floor,
                 };
                 let one = &mut self.workers[worker as usize];
-                let outcome = pass_one(one, versions, installed, node, worker, &item)?;
-                Ok(Passed::Served {
-                    worker,
-                    floor,
-                    outcome,
-                })
+                pass_one(one, versions, installed, node, worker, &item, passed)
             }
         }
     }
@@ -412,29 +425,35 @@ impl<S: Scheme, T: ConnTable> Node<S, T> {
         packet: u32,
         refused: &[bool; 16],
         body: &Packet,
-    ) -> Result<Passed, AllocError>
-        ensures passed { IfOk result (λ p. p ≡ (pass_step (λ s z. S.pick s z) versions.now (H.plain hash.now) self.old node packet refused.now body.now).passed) }
+        passed: &mut Passed,
+    ) -> Result<(), AllocError>
+        ensures passed { OnOk result (passed.new ≡ (pass_step (λ s z. S.pick s z) versions.now (H.plain hash.now) self.old node packet refused.now body.now).passed) }
         ensures after { OnOk result (self.new ≡ (pass_step (λ s z. S.pick s z) versions.now (H.plain hash.now) self.old node packet refused.now body.now).after) }
         ensures kept { OnErr result ((self.new.newest ≡ self.old.newest) × (self.new.installed ≡ self.old.installed)) }
     {
         match body {
-            Packet::Bad(cause) => Ok(Passed::Unplaced(Outcome::Dropped {
-                packet,
-                cause: *cause,
-            })),
-            Packet::Good { flow, at, .. } => {
-                self.pass_flow(hash, versions, node, packet, refused, flow, *at)
+            Packet::Bad(cause) => {
+                *passed = Passed::Unplaced(Outcome::Dropped {
+                    packet,
+                    cause: *cause,
+                });
+                Ok(())
             }
+            Packet::Good { flow, at, .. } => self.pass_flow(
+                hash, versions, node, packet, refused, flow, *at, passed,
+            ),
         }
     }
 
     /// A packet comes to this node, whose place is told, and where it is placed its worker serves at once under the node's
     /// newest version: two events, of which the queue sees nothing where no other packet waits. All versions that were
-    /// installed are among the prepared ones.
+    /// installed are among the prepared ones. What the packet comes to is written into `passed`, which is the caller's room,
+    /// so that it is written once and not copied on the way out.
     ///
     /// By the clause `verdict` what is told is what the record gives of both, one after the other, and the node stands for
     /// the record with them, for every record for which it stands: serving at once is placing and then serving. Where memory
-    /// was refused the versions installed are as they were (`kept`); nothing is said of the queues, and a run ends there.
+    /// was refused the versions installed are as they were (`kept`); nothing is said of the queues, nor of `passed`, and a
+    /// run ends there.
     #[inline(always)]
     pub fn pass<H: FlowHash>(
         &mut self,
@@ -444,14 +463,15 @@ impl<S: Scheme, T: ConnTable> Node<S, T> {
         packet: u32,
         refused: &[bool; 16],
         body: &Packet,
-    ) -> Result<Passed, AllocError>
+        passed: &mut Passed,
+    ) -> Result<(), AllocError>
         ensures verdict { (rules : Rules) → (past : List Said) →
             rules.plain ≡ H.plain hash.now →
             ArePrepared (λ s z. S.pick s z) rules versions.now (installed_of past) →
             NodeStands rules past self.old →
-            IfOk result (λ p. NodePasses rules past (Arrive node packet refused.now) body.now (λ w. Serve node w self.old.newest false) p self.new) }
+            OnOk result (NodePasses rules past (Arrive node packet refused.now) body.now (λ w. Serve node w self.old.newest false) passed.new self.new) }
         ensures kept { OnErr result ((self.new.newest ≡ self.old.newest) × (self.new.installed ≡ self.old.installed)) }
     {
-        self.pass_packet(hash, versions, node, packet, refused, body)
+        self.pass_packet(hash, versions, node, packet, refused, body, passed)
     }
 }
