@@ -1,6 +1,6 @@
 -- A packet that comes to a node of a run, and the serving behind it.
 use Rattle.std.proofs.Common.{◌≡◌, ℕ, ◌<◌, ◌≤◌, Bool, false, List, ◌∷◌, length, Option, Some, None, refl, sym, ap, ◌∙◌, subst, Result, Ok, Err, get_or}
-use Rattle.std.specs.Prelude.{slice_get, slice_set, if◌then◌else◌, IfOk}
+use Rattle.std.specs.Prelude.{slice_get, slice_set, if◌then◌else◌, OnOk}
 use Rattle.std.proofs.lemmas.Bool.{eq-eqb, lt-ltb}
 use Rattle.forwarder.specs.Serving.{Pick}
 use Rattle.cluster_node.specs.NodeView.{NodeView}
@@ -64,15 +64,15 @@ module _ {S : Type 0} (pick_of : S → ℕ → Pick) (rules : Rules) (past : Lis
       ((g.0.0, r.0), subst (λ (x : Outcome). RunStands pick_of rules (record { event = Come; packet = Some p; outcome = x } ∷ past) (with_node after)) (sym r.0) r.1)
   pass_goes v (Served w f o) g = serves w f v o g.1.0 g.0.0 g.1.1 (g.0.1, g.1.2)
 
--- the same of a result, as the code finds it
-pub pass_said : {S E : Type 0} (pick_of : S → ℕ → Pick) (rules : Rules) (past : List Said) (run : RunView S) (n k : ℕ) (marks : List Bool) (p : Packet) (one after : NodeView) (r : Result Passed E) → WasRead (Some p) → n < length run.nodes → one ≡ get_or run.nodes n one → RunStands pick_of rules past run
-    → ((had : List Said) → ArePrepared pick_of rules run.versions (installed_of had) → NodeStands rules had one → IfOk r (λ q. NodePasses rules had (Arrive n k marks) p (λ w. Serve n w one.newest false) q after))
-    → IfOk r (λ q. RunPasses pick_of rules past (Arrive n k marks) p (λ w. Serve n w (newest_at (slice_get run.nodes n)) false) q (record { failed = run.failed; nodes = slice_set run.nodes n after; versions = run.versions }))
-pass_said pick_of rules past run n k marks p one after (Ok q) read lt is st g =
+-- the same where it isn't refused, as the code finds it
+pub pass_said : {S E : Type 0} (pick_of : S → ℕ → Pick) (rules : Rules) (past : List Said) (run : RunView S) (n k : ℕ) (marks : List Bool) (p : Packet) (one after : NodeView) (q : Passed) (r : Result (Unit {0}) E) → WasRead (Some p) → n < length run.nodes → one ≡ get_or run.nodes n one → RunStands pick_of rules past run
+    → ((had : List Said) → ArePrepared pick_of rules run.versions (installed_of had) → NodeStands rules had one → OnOk r (NodePasses rules had (Arrive n k marks) p (λ w. Serve n w one.newest false) q after))
+    → OnOk r (RunPasses pick_of rules past (Arrive n k marks) p (λ w. Serve n w (newest_at (slice_get run.nodes n)) false) q (record { failed = run.failed; nodes = slice_set run.nodes n after; versions = run.versions }))
+pass_said pick_of rules past run n k marks p one after q (Ok d) read lt is st g =
     let there : slice_get run.nodes n ≡ Some one = get_of_or run.nodes n one lt ∙ ap (λ (m : NodeView). Some m) (sym is) in
     subst (λ (o : Option NodeView). RunPasses pick_of rules past (Arrive n k marks) p (λ w. Serve n w (newest_at o) false) q (record { failed = run.failed; nodes = slice_set run.nodes n after; versions = run.versions })) (sym there)
     (pass_goes pick_of rules past run n k marks p one after read st there one.newest q (g (of_node n past) (st.prepared n) (st.each n one there)))
-pass_said pick_of rules past run n k marks p one after (Err e) read lt is st g = tt
+pass_said pick_of rules past run n k marks p one after q (Err e) read lt is st g = tt
 
 pub no_node_passes : {S : Type 0} (pick_of : S → ℕ → Pick) (rules : Rules) (past : List Said) (run : RunView S) (n k v : ℕ) (marks : List Bool) (p : Packet) → length run.nodes ≤ n → RunStands pick_of rules past run → RunPasses pick_of rules past (Arrive n k marks) p (λ w. Serve n w v false) (Unplaced (Refused NoNode)) run
 no_node_passes pick_of rules past run n k v marks p le st =

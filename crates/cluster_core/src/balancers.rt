@@ -130,25 +130,17 @@ impl<S: Scheme, H: FlowHash, T: ConnTable, N: Notes> Core for Balancers<S, H, T,
         packet: u32,
         refused: &[bool; 16],
         body: &Packet,
-    ) -> Result<Passed, AllocError> {
+        passed: &mut Passed,
+    ) -> Result<(), AllocError> {
         let version = self.newest(setup, node);
-        let passed = self
-            .run
-            .pass(setup.rules.setup(), node, packet, refused, body)?;
+        self.run
+            .pass(setup.rules.setup(), node, packet, refused, body, passed)?;
         let event = Event::Arrive {
             node,
             packet,
             refused: *refused,
         };
-        note_passed(
-            &mut self.notes,
-            &setup.asked,
-            node,
-            &event,
-            version,
-            &passed,
-        )?;
-        Ok(passed)
+        note_passed(&mut self.notes, &setup.asked, node, &event, version, passed)
     }
 
     fn workers(setup: &Task<S, H, N::Asked>) -> u16 {

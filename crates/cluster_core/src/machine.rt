@@ -1,5 +1,5 @@
 //! What a cluster's core owes to the steps of a scenario.
-ghost use Rattle.std.specs.Prelude.{◌≡◌, ◌<◌, ◌^◌, ◌∷◌, ℕ, List, length, Some, false, IfOk};
+ghost use Rattle.std.specs.Prelude.{◌≡◌, ◌<◌, ◌^◌, ◌∷◌, ℕ, List, length, Some, false, IfOk, OnOk};
 ghost use Rattle.cluster_node.specs.declared.events.Event.TheVariants.{Arrive, Serve};
 ghost use Rattle.cluster_node.specs.declared.events.Said.{Said};
 ghost use Rattle.cluster_core.specs.Cluster.{Cluster, newest_on, waiting_on};
@@ -32,7 +32,9 @@ pub trait Core {
             IfOk result (λ o. (o ≡ (cluster setup.now).judge past event packet) × stands setup.now (said (cluster setup.now).judge past event packet ∷ past) self.new) };
 
     /// A packet comes to a node, and where it is placed its worker serves at once under the node's newest version: two steps,
-    /// one after the other.
+    /// one after the other. What the packet comes to is written into `passed`, which is the caller's room, so that it is
+    /// written once and not copied on the way out. After a refusal of memory nothing is said of the core any more, nor of
+    /// `passed`.
     fn pass(
         &mut self,
         setup: &Self::Setup,
@@ -40,11 +42,12 @@ pub trait Core {
         packet: u32,
         refused: &[bool; 16],
         body: &Packet,
-    ) -> Result<Passed, AllocError>
+        passed: &mut Passed,
+    ) -> Result<(), AllocError>
         requires { WasRead (Some body.now) }
         ensures { let k = cluster setup.now in let come = Arrive node packet refused.now in
             (past : List Said) → length past < 2 ^ 64 → stands setup.now past self.old → let serving = (λ (u : ℕ). Serve node u (newest_on k node past) false) in
-            IfOk result (λ q. AreTold k.judge past come body.now serving q × stands setup.now (with_told past come body.now serving q) self.new) };
+            OnOk result (AreTold k.judge past come body.now serving passed.new × stands setup.now (with_told past come body.now serving passed.new) self.new) };
 
     /// How many workers a node has.
     fn workers(setup: &Self::Setup) -> u16

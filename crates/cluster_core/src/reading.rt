@@ -26,6 +26,7 @@ fn cause_of(fault: IpFault) -> Cause
     }
 }
 
+#[inline(always)]
 fn of_view(datagram: &Ipv4View<'_>, at: u64) -> Packet
     ensures { result ≡ of_flow (view datagram.now).total at (flow_answer (view datagram.now)) }
 {
@@ -45,6 +46,7 @@ fn of_view(datagram: &Ipv4View<'_>, at: u64) -> Packet
     }
 }
 
+#[inline(always)]
 fn of_datagram(bytes: &[u8], at: u64, check: bool) -> Packet
     ensures { result ≡ of_datagram at (ipv4_answer check bytes.now) }
 {
@@ -58,6 +60,7 @@ fn of_datagram(bytes: &[u8], at: u64, check: bool) -> Packet
 /// time, or the first cause for which it can't be balanced (RFC 791, 793, 768). A datagram of more than 65511 bytes is too large to be wrapped. With `check` the
 /// header's checksum is tested. No memory is taken.
 #[tactic(auto, unfolding(crate::specs::Reading::packet_read), using(crate::proofs::Frames::was_read))]
+#[inline(always)]
 pub fn read_packet(link: Link, frame: &[u8], at: u64, check: bool) -> Packet
     ensures packet { result ≡ packet_read link frame.now at check }
     ensures cause { WasRead (Some result) }

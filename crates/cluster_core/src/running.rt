@@ -264,7 +264,8 @@ impl<S: Scheme, T: ConnTable> Run<S, T> {
     }
 
     /// A packet comes to a node, and where it is placed its worker serves at once under the node's newest version. The setup
-    /// is the same in every step. Once memory was refused it is refused from then on.
+    /// is the same in every step. What the packet comes to is written into `passed`, the caller's room. Once memory was
+    /// refused it is refused from then on, and nothing is said of `passed`.
     ///
     /// By the clause `verdict`, for every record for which the run stands, what is told is what the record gives of the
     /// arrival and of the serving behind it, and the run stands for the record with them: it is what two calls of
@@ -277,22 +278,23 @@ impl<S: Scheme, T: ConnTable> Run<S, T> {
         packet: u32,
         refused: &[bool; 16],
         body: &Packet,
-    ) -> Result<Passed, AllocError>
+        passed: &mut Passed,
+    ) -> Result<(), AllocError>
         requires read { WasRead (Some body.now) }
         ensures verdict { (pools : Pools) (past : List Said) → let rules = rules_for (λ s z. S.pick s z) (λ h. H.plain h) setup.now pools in
             RunStands (λ s z. S.pick s z) rules past self.old →
-            IfOk result (λ q. RunPasses (λ s z. S.pick s z) rules past (Arrive node packet refused.now) body.now (λ w. Serve node w (newest_at (slice_get self.old.nodes node)) false) q self.new) }
+            OnOk result (RunPasses (λ s z. S.pick s z) rules past (Arrive node packet refused.now) body.now (λ w. Serve node w (newest_at (slice_get self.old.nodes node)) false) passed.new self.new) }
         ensures refused { OnErr result (IsTrue self.new.failed) }
         ensures failed { IsTrue self.old.failed → IsErr result }
     {
         if self.failed {
             return Err(AllocError);
         }
-        let passed = self.advance_by(setup, node, packet, refused, body);
-        if passed.is_err() {
+        let done = self.advance_by(setup, node, packet, refused, body, passed);
+        if done.is_err() {
             self.failed = true;
         }
-        passed
+        done
     }
 
     // A packet comes to a node.
@@ -304,17 +306,27 @@ impl<S: Scheme, T: ConnTable> Run<S, T> {
         packet: u32,
         refused: &[bool; 16],
         body: &Packet,
-    ) -> Result<Passed, AllocError>
+        passed: &mut Passed,
+    ) -> Result<(), AllocError>
         requires { WasRead (Some body.now) }
         ensures { (pools : Pools) (past : List Said) → let rules = rules_for (λ s z. S.pick s z) (λ h. H.plain h) setup.now pools in
             RunStands (λ s z. S.pick s z) rules past self.old →
-            IfOk result (λ q. RunPasses (λ s z. S.pick s z) rules past (Arrive node packet refused.now) body.now (λ w. Serve node w (newest_at (slice_get self.old.nodes node)) false) q self.new) }
+            OnOk result (RunPasses (λ s z. S.pick s z) rules past (Arrive node packet refused.now) body.now (λ w. Serve node w (newest_at (slice_get self.old.nodes node)) false) passed.new self.new) }
     {
         let at = node as usize;
         if at >= self.nodes.len() {
-            return Ok(Passed::Unplaced(Outcome::Refused(Reason::NoNode)));
+            *passed = Passed::Unplaced(Outcome::Refused(Reason::NoNode));
+            return Ok(());
         }
         let one = &mut self.nodes[at];
-        one.pass(&setup.hash(), &self.versions, node, packet, refused, body)
+        one.pass(
+            &setup.hash(),
+            &self.versions,
+            node,
+            packet,
+            refused,
+            body,
+            passed,
+        )
     }
 }
