@@ -1,9 +1,7 @@
 -- A cluster that places every packet on the first worker, and has no node of which anything is kept.
-use Rattle.std.specs.Prelude.{ℕ, List, Option}
-use Rattle.cluster_node.specs.declared.packets.Packet.{Packet}
+use Rattle.std.specs.Prelude.{ℕ}
 use Rattle.cluster_node.specs.declared.events.Event.{Event}
 use Rattle.cluster_node.specs.declared.events.Event.TheVariants.{Install, Arrive, Serve, Restart}
-use Rattle.cluster_node.specs.declared.events.Said.{Said}
 use Rattle.cluster_node.specs.declared.outcomes.Outcome.{Outcome}
 use Rattle.cluster_node.specs.declared.outcomes.Outcome.TheVariants.{Installed, Placed, Dropped, Restarted}
 use Rattle.cluster_node.specs.declared.outcomes.Cause.TheVariants.{NoService}

@@ -61,20 +61,22 @@ impl Core for FirstWorker {
         packet: u32,
         refused: &[bool; 16],
         body: &Packet,
-    ) -> Result<Passed, AllocError> {
+        passed: &mut Passed,
+    ) -> Result<(), AllocError> {
         let _ = setup;
         let _ = node;
         let _ = packet;
         let _ = refused;
         let _ = body;
-        Ok(Passed::Served {
+        *passed = Passed::Served {
             worker: 0,
             floor: 0,
             outcome: Outcome::Dropped {
                 packet: 0,
                 cause: Cause::NoService,
             },
-        })
+        };
+        Ok(())
     }
 
     fn workers(setup: &u16) -> u16 {
