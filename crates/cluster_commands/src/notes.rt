@@ -59,15 +59,17 @@ impl Core for Notes {
         packet: u32,
         refused: &[bool; 16],
         body: &Packet,
-    ) -> Result<Passed, AllocError> {
+        passed: &mut Passed,
+    ) -> Result<(), AllocError> {
         let _ = setup;
         let _ = node;
         let _ = refused;
         let _ = body;
-        Ok(Passed::Unplaced(Outcome::Dropped {
+        *passed = Passed::Unplaced(Outcome::Dropped {
             packet,
             cause: Cause::RingsFull,
-        }))
+        });
+        Ok(())
     }
 
     fn workers(setup: &()) -> u16 {
