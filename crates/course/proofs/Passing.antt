@@ -12,7 +12,7 @@ use Rattle.cluster_node.specs.Record.{newest_of}
 use Rattle.cluster_node.specs.Records.{Judge, of_node, said, placed_on, AreTold}
 use Rattle.cluster_core.specs.Cluster.{Cluster, newest_on}
 use Rattle.course.specs.Course.{Course}
-use Rattle.course.specs.Steps.{World, marks_at, is_held, say, serve, follow, arrival, arrive, with_passed}
+use Rattle.course.specs.Steps.{World, marks_at, is_held, noted, say, serve, follow, arrival, arrive, with_passed}
 
 -- an arrival leaves each node's newest version
 newest_stays : (k : Cluster) (n i : ℕ) (marks : List Bool) (p : Packet) (past : List Said) → newest_on k n (said k.judge past (Arrive n i marks) (Some p) ∷ past) ≡ newest_on k n past
@@ -48,7 +48,7 @@ module _ (w : World) (n i : ℕ) (p : Packet) (c : Course) where
       ∙ ap (λ (x : Outcome). follow w n (placed_on x) (say w Come (Some p) c)) t.0
 
   -- a packet waits where it is placed on a node that is held
-  pub held_stays : is_held n c ≡ true → say w (arrival n i c) (Some p) c ≡ arrive w n i p c
+  held_stays : is_held n c ≡ true → say w (arrival n i c) (Some p) c ≡ arrive w n i p c
   unfolding arrive follow serve
   held_stays held = go (placed_on (w.cluster.judge c.past Come (Some p)))
     where
@@ -63,3 +63,10 @@ passed_is w k n i p c marks version q same free there new told =
     ∙ subst (λ (j : Cluster). AreTold j.judge c.past (Arrive n i marks) p (λ u. Serve n u (newest_on j n c.past) false) q → with_passed (Arrive n i marks) p (λ u. Serve n u (newest_on j n c.past) false) q c ≡ arrive w n i p c) same
     (subst (λ (ms : List Bool). AreTold w.cluster.judge c.past (Arrive n i ms) p (λ u. Serve n u (newest_on w.cluster n c.past) false) q → with_passed (Arrive n i ms) p (λ u. Serve n u (newest_on w.cluster n c.past) false) q c ≡ arrive w n i p c) (sym there)
     (passed_arrives w n i p c free q)) told
+
+-- at a node that is held its arrival alone is told
+pub held_is : (w : World) (k : Cluster) (n i : ℕ) (p : Packet) (c : Course) (marks : List Bool) (o : Outcome) → w.cluster ≡ k → is_held n c ≡ true → marks ≡ marks_at n c → o ≡ k.judge c.past (Arrive n i marks) (Some p) → noted (record { event = Arrive n i marks; packet = Some p; outcome = o }) c ≡ arrive w n i p c
+held_is w k n i p c marks o same held there told =
+    ap (λ (x : Outcome). noted (record { event = Arrive n i marks; packet = Some p; outcome = x }) c) (told ∙ ap (λ (j : Cluster). j.judge c.past (Arrive n i marks) (Some p)) (sym same))
+    ∙ ap (λ (ms : List Bool). say w (Arrive n i ms) (Some p) c) there
+    ∙ held_stays w n i p c held

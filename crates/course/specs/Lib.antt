@@ -5,3 +5,4 @@ pub mod Tally
 pub mod PrivateStreams
 pub mod Sums
 pub mod Counting
+pub mod Deliveries

@@ -6,10 +6,12 @@
 #![tactic(auto)]
 
 mod counts;
+mod delivery;
 mod laws;
 mod play;
 
 pub use counts::Counts;
+pub use delivery::Delivery;
 pub use laws::courses_add_up;
 pub use play::{Play, Tally, all_live};
 pub use scenario_steps::Step;

@@ -1,14 +1,15 @@
 //! A run of a scenario's steps.
-ghost use Rattle.std.specs.Prelude.{◌≡◌, ◌<◌, ◌≤◌, ◌+◌, ◌-◌, ◌^◌, ◌∷◌, ◌++◌, [], ℕ, List, Option, Some, None, length, take, drop, reverse, IfOk, OnOk, slice_get, slice_set, false};
+ghost use Rattle.std.specs.Prelude.{◌≡◌, ◌<◌, ◌≤◌, ◌+◌, ◌-◌, ◌^◌, ◌∷◌, ◌++◌, [], ℕ, List, Option, Some, None, length, take, drop, reverse, IfOk, OnOk, slice_get, slice_set, true, false};
 ghost use Rattle.cluster_node.specs.declared.events.Event.{Event};
-ghost use Rattle.cluster_node.specs.declared.events.Event.TheVariants.{Serve};
 ghost use Rattle.cluster_core.specs.Cluster.{Cluster, WereRead, flow_of, newest_on, waiting_on, Behind};
 ghost use Rattle.cluster_node.specs.Records.{WasRead, said, placed_on};
 ghost use Rattle.course.specs.Course.{Course};
-ghost use Rattle.course.specs.Steps.{World, SameChoice, world_of, marks_at, is_held, noted, say, serve, arrival, arrive, route, deliver, take_all, repeat, serve_times, drain_from, release, next_ones, names_records, after, run, start, below, with_passed};
+ghost use Rattle.course.specs.Steps.{World, SameChoice, world_of, marks_at, is_held, noted, say, serve, arrival, arrive, route, deliver, take_all, repeat, serve_times, drain_from, release, next_ones, names_records, after, run, start, below};
+ghost use Rattle.course.specs.Deliveries.{events_of, with_delivery};
 ghost use Rattle.course.specs.Tally.{tally_of};
 ghost use Rattle.course.specs.Room.{Room, Counted};
 
+use crate::delivery::Delivery;
 use cluster_core::Core;
 use cluster_node::{Event, Outcome, Packet, Passed, Said};
 use past_log::Log;
@@ -205,38 +206,48 @@ impl Play {
         self.say(core, setup, event, None, events)
     }
 
-    /// What came of an arrival at a node, and of its serving under a version where it was placed, is told.
+    /// What is told of a packet that arrived was said.
     #[inline(always)]
-    fn tell_passed(
-        &mut self,
-        event: Event,
-        packet: Packet,
-        node: u16,
-        version: u32,
-        passed: &Passed,
-        events: &mut Vec<Said>,
-    ) -> Result<(), AllocError>
-        ensures after { OnOk result (self.new ≡ with_passed event packet (λ u. Serve node u version false) passed.now self.old) }
-        ensures told { (before : List Said) → Behind before self.old.past events.old.items → OnOk result (Behind before self.new.past events.new.items) }
+    fn note_delivery(&mut self, packet: &Packet, delivery: &Delivery) -> Result<(), AllocError>
+        ensures { OnOk result (self.new ≡ with_delivery packet.now delivery.now self.old) }
     {
-        match *passed {
-            Passed::Unplaced(outcome) => self.tell(event, Some(packet), outcome, events),
-            Passed::Served {
-                worker,
-                floor,
-                outcome,
-            } => {
-                let placed = Outcome::Placed { worker, floor };
-                self.tell(event, Some(packet), placed, events)?;
-                let serving = Event::Serve {
-                    node,
-                    worker,
-                    version,
-                    refused: false,
-                };
-                self.tell(serving, None, outcome, events)
-            }
+        self.note(&delivery.arrival(packet))?;
+        if let Some(serving) = delivery.serving() {
+            self.note(&serving)?;
         }
+        Ok(())
+    }
+
+    /// An arrival at a node that is held.
+    fn hold<C: Core>(
+        &mut self,
+        core: &mut C,
+        setup: &C::Setup,
+        node: u16,
+        place: u32,
+        packet: &Packet,
+        delivery: &mut Delivery,
+    ) -> Result<(), AllocError>
+        requires stands { C.stands setup.now self.old.past core.old }
+        requires read { WasRead (Some packet.now) }
+        requires held { is_held node self.old ≡ true }
+        ensures stands { OnOk result (C.stands setup.now self.new.past core.new) }
+        ensures live { OnOk result (self.new.live ≡ self.old.live) }
+        ensures after { OnOk result ((w : World) → w.cluster ≡ C.cluster setup.now → self.new ≡ arrive w node place packet.now self.old) }
+        ensures told { OnOk result (Behind (reverse self.old.past) self.new.past (events_of packet.now delivery.new)) }
+    {
+        let _count = self.said_count();
+        let refused = self.marks_at(node);
+        let event = Event::Arrive {
+            node,
+            packet: place,
+            refused,
+        };
+        let outcome = core.step(setup, event, Some(*packet))?;
+        delivery.passed = Passed::Unplaced(outcome);
+        delivery.arrive(node, place, refused, 0);
+        self.note_delivery(packet, delivery)?;
+        Ok(())
     }
 
     /// An arrival at a node that isn't held, and the serving that follows it where it is placed.
@@ -247,27 +258,23 @@ impl Play {
         setup: &C::Setup,
         node: u16,
         place: u32,
-        packet: Packet,
-        events: &mut Vec<Said>,
+        packet: &Packet,
+        delivery: &mut Delivery,
     ) -> Result<(), AllocError>
         requires stands { C.stands setup.now self.old.past core.old }
-        requires read { WasRead (Some packet) }
+        requires read { WasRead (Some packet.now) }
         requires free { is_held node self.old ≡ false }
         ensures stands { OnOk result (C.stands setup.now self.new.past core.new) }
         ensures live { OnOk result (self.new.live ≡ self.old.live) }
-        ensures after { OnOk result ((w : World) → w.cluster ≡ C.cluster setup.now → self.new ≡ arrive w node place packet self.old) }
-        ensures told { (before : List Said) → Behind before self.old.past events.old.items → OnOk result (Behind before self.new.past events.new.items) }
+        ensures after { OnOk result ((w : World) → w.cluster ≡ C.cluster setup.now → self.new ≡ arrive w node place packet.now self.old) }
+        ensures told { OnOk result (Behind (reverse self.old.past) self.new.past (events_of packet.now delivery.new)) }
     {
         let _count = self.said_count();
         let refused = self.marks_at(node);
         let version = core.newest(setup, node);
-        let passed = core.pass(setup, node, place, &refused, &packet)?;
-        let event = Event::Arrive {
-            node,
-            packet: place,
-            refused,
-        };
-        self.tell_passed(event, packet, node, version, &passed, events)?;
+        delivery.passed = core.pass(setup, node, place, &refused, packet)?;
+        delivery.arrive(node, place, refused, version);
+        self.note_delivery(packet, delivery)?;
         Ok(())
     }
 
@@ -279,26 +286,20 @@ impl Play {
         setup: &C::Setup,
         node: u16,
         place: u32,
-        packet: Packet,
-        events: &mut Vec<Said>,
+        packet: &Packet,
+        delivery: &mut Delivery,
     ) -> Result<(), AllocError>
         requires stands { C.stands setup.now self.old.past core.old }
-        requires read { WasRead (Some packet) }
+        requires read { WasRead (Some packet.now) }
         ensures stands { OnOk result (C.stands setup.now self.new.past core.new) }
         ensures live { OnOk result (self.new.live ≡ self.old.live) }
-        ensures after { OnOk result ((w : World) → w.cluster ≡ C.cluster setup.now → self.new ≡ arrive w node place packet self.old) }
-        ensures told { (before : List Said) → Behind before self.old.past events.old.items → OnOk result (Behind before self.new.past events.new.items) }
+        ensures after { OnOk result ((w : World) → w.cluster ≡ C.cluster setup.now → self.new ≡ arrive w node place packet.now self.old) }
+        ensures told { OnOk result (Behind (reverse self.old.past) self.new.past (events_of packet.now delivery.new)) }
     {
         if self.is_held(node) {
-            let event = Event::Arrive {
-                node,
-                packet: place,
-                refused: self.marks_at(node),
-            };
-            self.say(core, setup, event, Some(packet), events)?;
-            return Ok(());
+            return self.hold(core, setup, node, place, packet, delivery);
         }
-        self.pass(core, setup, node, place, packet, events)
+        self.pass(core, setup, node, place, packet, delivery)
     }
 
     #[tactic(auto, unfolding(crate::specs::Steps::route))]
@@ -307,29 +308,31 @@ impl Play {
         &mut self,
         core: &mut C,
         setup: &C::Setup,
-        place: u32,
-        packet: Packet,
         chosen: Option<u16>,
-        events: &mut Vec<Said>,
+        place: u32,
+        packet: &Packet,
+        delivery: &mut Delivery,
     ) -> Result<(), AllocError>
         requires stands { C.stands setup.now self.old.past core.old }
-        requires read { WasRead (Some packet) }
+        requires read { WasRead (Some packet.now) }
         requires room { self.old.unrouted + 1 < 2 ^ 64 }
         ensures stands { OnOk result (C.stands setup.now self.new.past core.new) }
         ensures live { OnOk result (self.new.live ≡ self.old.live) }
-        ensures after { OnOk result ((w : World) → w.cluster ≡ C.cluster setup.now → self.new ≡ route w place packet chosen self.old) }
-        ensures told { (before : List Said) → Behind before self.old.past events.old.items → OnOk result (Behind before self.new.past events.new.items) }
+        ensures after { OnOk result ((w : World) → w.cluster ≡ C.cluster setup.now → self.new ≡ route w place packet.now chosen self.old) }
+        ensures told { OnOk result (Behind (reverse self.old.past) self.new.past (events_of packet.now delivery.new)) }
     {
         match chosen {
-            Some(node) => self.arrive(core, setup, node, place, packet, events),
+            Some(node) => self.arrive(core, setup, node, place, packet, delivery),
             None => {
                 self.unrouted += 1;
+                delivery.arrived = false;
                 Ok(())
             }
         }
     }
 
-    /// A packet is handed to the spreader.
+    /// A packet is handed to the spreader. What is told of it stands in `delivery` then, in place of what was told there of
+    /// another one.
     #[tactic(auto, unfolding(crate::specs::Steps::deliver))]
     #[inline(always)]
     pub fn deliver<C: Core, P: Spread>(
@@ -338,22 +341,48 @@ impl Play {
         setup: &C::Setup,
         spread: &P,
         place: u32,
-        packet: Packet,
-        events: &mut Vec<Said>,
+        packet: &Packet,
+        delivery: &mut Delivery,
     ) -> Result<(), AllocError>
         requires stands { C.stands setup.now self.old.past core.old }
         requires live { P.live spread.now ≡ self.old.live }
-        requires read { WasRead (Some packet) }
+        requires read { WasRead (Some packet.now) }
         requires room { self.old.unrouted + 1 < 2 ^ 64 }
         requires many { self.old.nth + 1 < 2 ^ 64 }
         ensures stands { OnOk result (C.stands setup.now self.new.past core.new) }
         ensures live { OnOk result (self.new.live ≡ self.old.live) }
-        ensures after { OnOk result ((w : World) → w.cluster ≡ C.cluster setup.now → SameChoice w.choice (P.choice spread.now) → self.new ≡ deliver w place packet self.old) }
+        ensures after { OnOk result ((w : World) → w.cluster ≡ C.cluster setup.now → SameChoice w.choice (P.choice spread.now) → self.new ≡ deliver w place packet.now self.old) }
+        ensures told { OnOk result (Behind (reverse self.old.past) self.new.past (events_of packet.now delivery.new)) }
+    {
+        let chosen = choose(spread, packet, self.nth);
+        self.nth += 1;
+        self.route(core, setup, chosen, place, packet, delivery)
+    }
+
+    /// A packet is handed to the spreader, and what is told of it is put behind the events that are told so far.
+    fn deliver_onto<C: Core, P: Spread>(
+        &mut self,
+        core: &mut C,
+        setup: &C::Setup,
+        spread: &P,
+        place: u32,
+        packet: &Packet,
+        events: &mut Vec<Said>,
+    ) -> Result<(), AllocError>
+        requires stands { C.stands setup.now self.old.past core.old }
+        requires live { P.live spread.now ≡ self.old.live }
+        requires read { WasRead (Some packet.now) }
+        requires room { self.old.unrouted + 1 < 2 ^ 64 }
+        requires many { self.old.nth + 1 < 2 ^ 64 }
+        ensures stands { OnOk result (C.stands setup.now self.new.past core.new) }
+        ensures live { OnOk result (self.new.live ≡ self.old.live) }
+        ensures after { OnOk result ((w : World) → w.cluster ≡ C.cluster setup.now → SameChoice w.choice (P.choice spread.now) → self.new ≡ deliver w place packet.now self.old) }
         ensures told { (before : List Said) → Behind before self.old.past events.old.items → OnOk result (Behind before self.new.past events.new.items) }
     {
-        let chosen = choose(spread, &packet, self.nth);
-        self.nth += 1;
-        self.route(core, setup, place, packet, chosen, events)
+        let mut delivery = Delivery::new();
+        self.deliver(core, setup, spread, place, packet, &mut delivery)?;
+        delivery.push_onto(packet, events)?;
+        Ok(())
     }
 
     /// A record is delivered again, or skipped where it isn't there.
@@ -379,7 +408,7 @@ impl Play {
         ensures told { (before : List Said) → Behind before self.old.past events.old.items → OnOk result (Behind before self.new.past events.new.items) }
     {
         match packet {
-            Some(packet) => self.deliver(core, setup, spread, place, packet, events),
+            Some(packet) => self.deliver_onto(core, setup, spread, place, &packet, events),
             None => {
                 self.skipped += 1;
                 Ok(())
@@ -487,7 +516,7 @@ impl Play {
     {
         for packet in packets {
             let place = self.next_place();
-            self.deliver(core, setup, spread, place, *packet, events)?;
+            self.deliver_onto(core, setup, spread, place, packet, events)?;
         }
         Ok(())
     }

@@ -1,6 +1,6 @@
 -- What is sent as events come.
-use Rattle.std.proofs.Common.{◌≡◌, ℕ, ◌+◌, ◌<◌, ◌≤◌, Bool, List, [], ◌∷◌, ◌++◌, length, drop, get_or, Option, Some, Result, Ok, Err, refl, sym, ap, ◌∙◌, subst, arith, append_assoc, drop-cons, add-one, suc, slice_get, append-nil}
-use Rattle.std.specs.Prelude.{OnOk}
+use Rattle.std.proofs.Common.{◌≡◌, ℕ, ◌+◌, ◌<◌, Bool, true, false, List, [], ◌∷◌, ◌++◌, length, drop, get_or, Option, Some, None, Result, Ok, Err, refl, sym, ap, ◌∙◌, subst, arith, append_assoc, drop-cons, add-one, suc, slice_get, append-nil}
+use Rattle.std.specs.Prelude.{OnOk, if◌then◌else◌}
 use Rattle.five_tuple.specs.declared.Flow.{Flow}
 use Rattle.pool_versions.specs.declared.backend.Backend.{Backend}
 use Rattle.pcap_file.specs.Device.{Tape}
@@ -11,14 +11,21 @@ use Rattle.cluster_node.specs.declared.events.Event.{Event}
 use Rattle.cluster_node.specs.declared.events.Event.TheVariants.{Install, Arrive, Serve, Restart}
 use Rattle.cluster_node.specs.declared.events.Said.{Said}
 use Rattle.cluster_node.specs.Records.{Judge, Judged}
+use Rattle.cluster_node.specs.declared.outcomes.Passed.{Passed as Told}
+use Rattle.cluster_node.specs.declared.outcomes.Passed.TheVariants.{Served}
+use Rattle.cluster_node.specs.declared.packets.Packet.{Packet}
 use Rattle.cluster_core.specs.Cluster.{Cluster, TakesFirst, Orderly}
-use Rattle.simulation.specs.PrivateMirrors.{Mirrors, CanFollow, ComesAs}
+use Rattle.course.specs.declared.delivery.Delivery.{Delivery}
+use Rattle.course.specs.Deliveries.{came_to, arrival_of, served_by, serving_of, if_there, events_of}
+use Rattle.simulation.specs.PrivateMirrors.{Mirrors, CanFollow, ComesAs, IsNoArrival}
+use Rattle.simulation.specs.PrivateQueues.{passes}
 use Rattle.simulation.specs.declared.sending.Wire.{Wire}
 use Rattle.simulation.specs.Sent.{Traffic, Sending, sent, sent_by, sent_at, Wrote, WroteUntil}
 use Rattle.simulation.specs.Wires.{traffic}
 use Rattle.simulation.specs.Following.{sent_with, NoArrivals, ArrivesFirst, CanSettle}
 use Rattle.simulation.specs.PrivateGoing.{onto}
 use Rattle.simulation.specs.declared.fault.SimulationFault.{SimulationFault}
+use Rattle.simulation.proofs.Passes.{pass_mirrors, pass_sent}
 use Rattle.simulation.proofs.Sends.{wrote_none, wrote_both, until_more, until_behind}
 
 pub nothing_sent : (t : Traffic) (o : Outcome) → ((n w i : ℕ) (x : Flow) (b : Backend) (v : ℕ) → o ≡ Forward n w i x b v → ⊥) → sent_by t o ≡ []
@@ -118,12 +125,6 @@ can_rest all k past rest s qs ps can e m = record { workers = can.workers; room 
 pub all_sent : (all : List Record) (k : Cluster) (past rest : List Said) (s : Said) (r : Record) (qs : List (List Record)) (t : Traffic) → CanSettle all k past (s ∷ rest) qs → ComesAs all r s.event → sent t (s ∷ rest) ≡ sent t rest
 all_sent all k past rest s r qs t can c = ap (λ (l : List Sending). l ++ sent t rest) (arrival_sends all k past s r t can.orderly (judged_onto k.judge (s ∷ past) rest can.judged) c)
 
--- a list of one item
-pub only_one : (xs : List Said) (s : Said) → 1 ≤ length xs → length xs < 2 → s ≡ get_or xs 0 s → xs ≡ s ∷ []
-only_one [] s a b e = absurd (omega (arith, a))
-only_one (x ∷ []) s a b e = ap (λ (y : Said). y ∷ []) (sym e)
-only_one (x ∷ y ∷ ys) s a b e = absurd (omega (arith, b))
-
 -- an arrival and what takes its packet out at once send what is sent of its record
 pub sent_passed : (w : Wire) (all : List Record) (k : Cluster) (past : List Said) (s t : Said) (r : Record) (qs : List (List Record)) → CanSettle all k past (s ∷ t ∷ []) qs → ComesAs all r s.event
     → ((n u i : ℕ) (x : Flow) (b : Backend) (v : ℕ) → t.outcome ≡ Forward n u i x b v → slice_get all i ≡ Some r) → sent_with (traffic w []) t.outcome r ≡ sent (traffic w all) (s ∷ t ∷ [])
@@ -134,16 +135,66 @@ pub record Passed (w : Wire) (all : List Record) (k : Cluster) (past events : Li
   pub mirrors : Mirrors all k (onto past events) qs
   pub sends : sent_with (traffic w []) t.outcome r ≡ sent (traffic w all) events
 
-pub passed : (w : Wire) (all : List Record) (k : Cluster) (past events rest : List Said) (s t : Said) (r : Record) (qs : List (List Record)) → events ≡ s ∷ rest → 1 ≤ length rest → length rest < 2 → t ≡ get_or rest 0 t
-    → (CanFollow all k past s qs → ComesAs all r s.event → Judged k.judge (t ∷ s ∷ past) → Mirrors all k (t ∷ s ∷ past) qs)
-    → (CanFollow all k past s qs → ComesAs all r s.event → Judged k.judge (t ∷ s ∷ past) → (n u i : ℕ) (x : Flow) (b : Backend) (v : ℕ) → t.outcome ≡ Forward n u i x b v → slice_get all i ≡ Some r)
-    → CanSettle all k past events qs → ArrivesFirst all r events → Passed w all k past events t r qs
-passed w all k past events rest s t r qs e least below item mirrors sends can first =
-    let is : events ≡ s ∷ t ∷ [] = e ∙ ap (λ (l : List Said). s ∷ l) (only_one rest t least below item) in
+pub passed : (w : Wire) (all : List Record) (k : Cluster) (past events : List Said) (s t : Said) (r : Record) (qs : List (List Record)) → events ≡ s ∷ t ∷ [] → passes s t qs ≡ true → CanSettle all k past events qs → ArrivesFirst all r events → Passed w all k past events t r qs
+passed w all k past events s t r qs is alone can first =
     let can' = subst (λ (l : List Said). CanSettle all k past l qs) is can in
     let first' = subst (λ (l : List Said). ArrivesFirst all r l) is first in
     let f = can_first all k past (t ∷ []) s qs can' in
     record {
-      mirrors = subst (λ (l : List Said). Mirrors all k (onto past l) qs) (sym is) (mirrors f first'.0 can'.judged);
-      sends = sent_passed w all k past s t r qs can' first'.0 (sends f first'.0 can'.judged) ∙ ap (sent (traffic w all)) (sym is);
+      mirrors = subst (λ (l : List Said). Mirrors all k (onto past l) qs) (sym is) (pass_mirrors all k past s t r qs alone f first'.0 can'.judged);
+      sends = sent_passed w all k past s t r qs can' first'.0 (pass_sent all k past s t r qs alone f first'.0 can'.judged) ∙ ap (sent (traffic w all)) (sym is);
+    }
+
+-- the events that a delivery tells
+told_arrived : (p : Packet) (d : Delivery) → d.arrived ≡ true → events_of p d ≡ arrival_of p d ∷ if_there (serving_of d)
+told_arrived p d h = ap (λ (b : Bool). if b then arrival_of p d ∷ if_there (serving_of d) else []) h
+
+pub told_one : (p : Packet) (d : Delivery) (s : Said) → d.arrived ≡ true → s ≡ arrival_of p d → serving_of d ≡ None → events_of p d ≡ s ∷ []
+told_one p d s h e none = told_arrived p d h ∙ ap (λ (x : Said). x ∷ if_there (serving_of d)) (sym e) ∙ ap (λ (x : Option Said). s ∷ if_there x) none
+
+pub told_both : (p : Packet) (d : Delivery) (s t : Said) → d.arrived ≡ true → s ≡ arrival_of p d → serving_of d ≡ Some t → events_of p d ≡ s ∷ t ∷ []
+told_both p d s t h e some = told_arrived p d h ∙ ap (λ (x : Said). x ∷ if_there (serving_of d)) (sym e) ∙ ap (λ (x : Option Said). s ∷ if_there x) some
+
+-- the two of a packet that was served at once
+abbrev pub placed_there : Packet → Delivery → ℕ → ℕ → Said
+placed_there p d u floor = record { event = Arrive d.node d.place d.refused; packet = Some p; outcome = Placed u floor }
+
+abbrev pub served_there : Delivery → ℕ → Outcome → Said
+served_there d u o = record { event = Serve d.node u d.version false; packet = None; outcome = o }
+
+pub told_served : (p : Packet) (d : Delivery) (u floor : ℕ) (o : Outcome) → d.arrived ≡ true → d.passed ≡ Served u floor o → events_of p d ≡ placed_there p d u floor ∷ served_there d u o ∷ []
+told_served p d u floor o h e =
+    told_arrived p d h
+    ∙ ap (λ (q : Told). record { event = Arrive d.node d.place d.refused; packet = Some p; outcome = came_to q } ∷ if_there (served_by d.node d.version q)) e
+
+-- the first of the events that a delivery tells can be followed
+pub record First_of (all : List Record) (k : Cluster) (past : List Said) (s : Said) (r : Record) (qs : List (List Record)) : Type 0 where
+  pub can : CanFollow all k past s qs
+  pub comes : ComesAs all r s.event
+
+pub first_of : (all : List Record) (k : Cluster) (past events rest : List Said) (s : Said) (r : Record) (qs : List (List Record)) → events ≡ s ∷ rest → CanSettle all k past events qs → ArrivesFirst all r events → First_of all k past s r qs
+first_of all k past events rest s r qs is can first = record {
+  can = can_first all k past rest s qs (subst (λ (l : List Said). CanSettle all k past l qs) is can);
+  comes = (subst (λ (l : List Said). ArrivesFirst all r l) is first).0;
+}
+
+-- it sends nothing
+pub first_sends : (w : Wire) (all : List Record) (k : Cluster) (past events rest : List Said) (s : Said) (r : Record) (qs : List (List Record)) → events ≡ s ∷ rest → CanSettle all k past events qs → ArrivesFirst all r events → sent (traffic w all) rest ≡ sent (traffic w all) events
+first_sends w all k past events rest s r qs is can first =
+    sym (ap (sent (traffic w all)) is ∙ all_sent all k past rest s r qs (traffic w all) (subst (λ (l : List Said). CanSettle all k past l qs) is can) (first_of all k past events rest s r qs is can first).comes)
+
+-- an arrival was followed, and what stands behind it
+pub record Behind_arrival (w : Wire) (all : List Record) (k : Cluster) (past events : List Said) (s t : Said) (ps : List (List Record)) : Type 0 where
+  pub can : CanFollow all k (s ∷ past) t ps
+  pub quiet : IsNoArrival t.event
+  pub sends : sent_by (traffic w all) t.outcome ≡ sent (traffic w all) events
+
+pub behind_arrival : (w : Wire) (all : List Record) (k : Cluster) (past events : List Said) (s t : Said) (r : Record) (qs ps : List (List Record)) → events ≡ s ∷ t ∷ [] → CanSettle all k past events qs → ArrivesFirst all r events → length ps ≡ length qs → Mirrors all k (s ∷ past) ps → Behind_arrival w all k past events s t ps
+behind_arrival w all k past events s t r qs ps is can first e m =
+    let can' = subst (λ (l : List Said). CanSettle all k past l qs) is can in
+    let first' = subst (λ (l : List Said). ArrivesFirst all r l) is first in
+    record {
+      can = can_first all k (s ∷ past) [] t ps (can_rest all k past (t ∷ []) s qs ps can' e m);
+      quiet = first'.1.0;
+      sends = sym (append-nil (sent_by (traffic w all) t.outcome)) ∙ first_sends w all k past events (t ∷ []) s r qs is can first;
     }

@@ -35,8 +35,8 @@ pub history_moved : (c d : Course) (m : Moved c d) → reverse d.past ≡ revers
 history_moved c d m = ap reverse m.is ∙ reverse-append m.news c.past
 
 -- what stands behind the history of the course that went on
-pub events_of : (c d : Course) (m : Moved c d) (events : List Said) → Behind (reverse c.past) d.past events → events ≡ reverse m.news
-events_of c d m events e =
+pub events_behind : (c d : Course) (m : Moved c d) (events : List Said) → Behind (reverse c.past) d.past events → events ≡ reverse m.news
+events_behind c d m events e =
     let n : ℕ = length (reverse c.past) in
     sym (drop_at (reverse c.past) events n refl) ∙ ap (λ (l : List Said). drop n l) (sym e ∙ history_moved c d m) ∙ drop_at (reverse c.past) (reverse m.news) n refl
 

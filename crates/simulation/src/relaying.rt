@@ -1,8 +1,9 @@
 //! The frames of the packets that wait, and what is sent of them as events come.
-ghost use Rattle.std.specs.Prelude.{◌≡◌, ◌*◌, List, [], ◌∷◌, length, IfOk, IfErr, OnOk};
+ghost use Rattle.std.specs.Prelude.{◌≡◌, true, ◌*◌, List, [], ◌∷◌, length, IfOk, IfErr, OnOk};
 ghost use Rattle.pcap_file.specs.Format.{Packet as Record, packet};
 ghost use Rattle.cluster_node.specs.declared.events.Said.{Said};
 ghost use Rattle.cluster_core.specs.Cluster.{Cluster};
+ghost use Rattle.course.specs.Deliveries.{events_of};
 ghost use Rattle.simulation.specs.PrivateMirrors.{Mirrors, CanFollow, ComesAs, IsNoArrival};
 ghost use Rattle.simulation.specs.Sent.{packet_in, sent, sent_by, Wrote, WroteUntil};
 ghost use Rattle.simulation.specs.Simulated.{IsOfRun};
@@ -14,7 +15,8 @@ use crate::fault::SimulationFault;
 use crate::intake::Intake;
 use crate::sending::Wire;
 use crate::waiting::Waiting;
-use cluster_node::{Outcome, Packet, Said};
+use cluster_node::{Outcome, Packet, Passed, Said};
+use course::Delivery;
 use pcap_file::{Frame, Sink};
 use std::alloc::{AllocError, Global};
 use std::mem;
@@ -148,38 +150,70 @@ impl Relay {
         Ok(())
     }
 
-    // Follows the events of a packet that was delivered, as which the record read last was read: its arrival, if it arrived,
-    // and what came behind it. Where the packet was served at once its frame isn't kept.
+    // Follows what is told of a packet that arrived: its arrival, whose packet has the record that was read last, and the
+    // serving behind it.
+    fn settle_told<O: Sink>(
+        &mut self,
+        wire: &Wire<'_>,
+        read: &Packet,
+        delivery: &Delivery,
+        intake: &mut Intake,
+        output: &mut O,
+    ) -> Result<(), SimulationFault>
+        requires { delivery.now.arrived ≡ true }
+        ensures count { length self.new.waiting ≡ length self.old.waiting }
+        ensures intake { (intake.new.given ≡ intake.old.given) × (intake.new.ended ≡ intake.old.ended) × (intake.new.head ≡ intake.old.head) }
+        ensures settled { let events = events_of read.now delivery.now in
+            (all : List Record) (k : Cluster) (past : List Said) → CanSettle all k past events self.old.waiting → ArrivesFirst all intake.old.record_read events →
+            OnOk result (Mirrors all k (onto past events) self.new.waiting × Wrote (O.tape output.old) (O.tape output.new) (sent (traffic wire.now all) events)) }
+        ensures named { IfErr result IsOfRun }
+        ensures cut { let events = events_of read.now delivery.now in
+            (all : List Record) (k : Cluster) (past : List Said) → CanSettle all k past events self.old.waiting → ArrivesFirst all intake.old.record_read events →
+            IfErr result (λ fault. WroteUntil fault (O.tape output.old) (O.tape output.new) (sent (traffic wire.now all) events)) }
+    {
+        let arrival = delivery.arrival(read);
+        self.take_in(&arrival, intake)?;
+        match delivery.serving() {
+            Some(serving) => self.settle_one(wire, &serving, output),
+            None => Ok(()),
+        }
+    }
+
+    // Follows what is told of a packet that was delivered, as which the record read last was read. Where it was served at
+    // once, and no other waited there, its frame is sent from where it was read.
     #[inline(always)]
     pub(crate) fn settle_delivered<O: Sink>(
         &mut self,
         wire: &Wire<'_>,
         read: &Packet,
-        events: &[Said],
+        delivery: &Delivery,
         intake: &mut Intake,
         output: &mut O,
     ) -> Result<(), SimulationFault>
         requires { read.now ≡ packet_in wire.now.link wire.now.check intake.old.record_read }
         ensures count { length self.new.waiting ≡ length self.old.waiting }
         ensures intake { (intake.new.given ≡ intake.old.given) × (intake.new.ended ≡ intake.old.ended) × (intake.new.head ≡ intake.old.head) }
-        ensures settled { (all : List Record) (k : Cluster) (past : List Said) → CanSettle all k past events.now self.old.waiting → ArrivesFirst all intake.old.record_read events.now →
-            OnOk result (Mirrors all k (onto past events.now) self.new.waiting × Wrote (O.tape output.old) (O.tape output.new) (sent (traffic wire.now all) events.now)) }
+        ensures settled { let events = events_of read.now delivery.now in
+            (all : List Record) (k : Cluster) (past : List Said) → CanSettle all k past events self.old.waiting → ArrivesFirst all intake.old.record_read events →
+            OnOk result (Mirrors all k (onto past events) self.new.waiting × Wrote (O.tape output.old) (O.tape output.new) (sent (traffic wire.now all) events)) }
         ensures named { IfErr result IsOfRun }
-        ensures cut { (all : List Record) (k : Cluster) (past : List Said) → CanSettle all k past events.now self.old.waiting → ArrivesFirst all intake.old.record_read events.now →
-            IfErr result (λ fault. WroteUntil fault (O.tape output.old) (O.tape output.new) (sent (traffic wire.now all) events.now)) }
+        ensures cut { let events = events_of read.now delivery.now in
+            (all : List Record) (k : Cluster) (past : List Said) → CanSettle all k past events self.old.waiting → ArrivesFirst all intake.old.record_read events →
+            IfErr result (λ fault. WroteUntil fault (O.tape output.old) (O.tape output.new) (sent (traffic wire.now all) events)) }
     {
-        let Some((first, rest)) = events.split_first() else {
+        if !delivery.arrived {
             return Ok(());
-        };
-        match rest {
-            [next] if self.waiting.passes(first, next) => {
+        }
+        match &delivery.passed {
+            Passed::Served {
+                worker,
+                outcome,
+                ..
+            } if self.waiting.passes(read, delivery.node, *worker, outcome) => {
                 let frame = intake.frame();
-                send_taken(&mut self.room, output, wire, &next.outcome, frame, read)
+                send_taken(&mut self.room, output, wire, outcome, frame, read)
             }
-            _ => {
-                self.take_in(first, intake)?;
-                self.settle_all(wire, rest, output)
-            }
+            _ => self.settle_told(wire, read, delivery, intake, output),
         }
     }
 }

@@ -25,16 +25,18 @@ use crate::relaying::Relay;
 use crate::sending::Wire;
 use cluster_core::Core;
 use cluster_node::Said;
-use course::Play;
+use course::{Delivery, Play};
 use pcap_file::{Frame, Head, Sink, Source};
 use scenario_steps::Step;
 use spreader::Spread;
 use std::alloc::{AllocError, Global};
 
-/// The course so far, the events of one move, the frames that wait, the records that come again, and those that are read.
+/// The course so far, what one delivery tells and the events of one other step, the frames that wait, the records that come
+/// again, and those that are read.
 #[derive(Drop)]
 pub(crate) struct Stage {
     play: Play,
+    delivery: Delivery,
     events: Vec<Said>,
     relay: Relay,
     kept: Kept,
@@ -54,6 +56,7 @@ impl Stage {
         let nodes = plan.nodes.len() as u16;
         Ok(Stage {
             play: Play::start(alloc, nodes)?,
+            delivery: Delivery::new(),
             events: Vec::new(alloc),
             relay: Relay::new(alloc, nodes)?,
             kept: Kept::of_steps(alloc, plan.steps)?,
@@ -102,12 +105,9 @@ impl Stage {
     {
         let wire = self.wire(run.plan);
         let packet = wire.packet(self.intake.frame());
-        self.events.clear();
-        self.play
-            .deliver(core, run.setup, spread, place, packet, &mut self.events)?;
-        let events = self.events.as_slice();
+        self.play.deliver(core, run.setup, spread, place, &packet, &mut self.delivery)?;
         self.relay
-            .settle_delivered(&wire, &packet, events, &mut self.intake, output)
+            .settle_delivered(&wire, &packet, &self.delivery, &mut self.intake, output)
     }
 
     // A step that names no record.
@@ -422,6 +422,7 @@ impl Stage {
     {
         let Stage {
             play,
+            delivery: _,
             events: _,
             relay: _,
             kept: _,

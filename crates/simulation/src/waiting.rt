@@ -2,14 +2,14 @@
 //!
 //! A cluster's core queues packets by their places in a capture. Where the capture isn't kept, `Waiting` keeps the frames
 //! beside those queues: it follows the record of events, and a frame is there exactly while its packet waits.
-ghost use Rattle.std.specs.Prelude.{◌≡◌, true, ◌*◌, ◌<◌, ◌∷◌, ◌++◌, [], ℕ, List, length, drop, replicate, slice_get, slice_set, option_map, Some, IfOk, OnOk, OnErr, IfSome, IsSomeAnd};
+ghost use Rattle.std.specs.Prelude.{◌≡◌, true, ◌*◌, ◌<◌, ◌∷◌, ◌++◌, [], ℕ, Bool, false, List, length, drop, replicate, slice_get, slice_set, option_map, Some, IfOk, OnOk, OnErr, IfSome, IsSomeAnd};
 ghost use Rattle.pcap_file.specs.Format.{Packet as Record, packet};
 ghost use Rattle.cluster_node.specs.declared.events.Said.{Said};
-ghost use Rattle.cluster_node.specs.declared.outcomes.Outcome.TheVariants.{Forward};
+ghost use Rattle.cluster_node.specs.declared.events.Event.TheVariants.{Arrive, Serve};
+ghost use Rattle.cluster_node.specs.declared.outcomes.Outcome.TheVariants.{Placed, Forward};
 ghost use Rattle.cluster_node.specs.Record.{accepted};
-ghost use Rattle.cluster_node.specs.Records.{Judged};
 ghost use Rattle.cluster_core.specs.Cluster.{Cluster};
-ghost use Rattle.simulation.specs.PrivateQueues.{place_of, Moves, only_at, placed_by, arrived, handed_back, unless_put, settled_by, settled, taken_by, taken_out, changed_at, first_at, emptied, is_free, taken_on, passes};
+ghost use Rattle.simulation.specs.PrivateQueues.{place_of, Moves, only_at, placed_by, arrived, handed_back, unless_put, settled_by, settled, taken_by, taken_out, changed_at, first_at, emptied, is_free, passes};
 ghost use Rattle.simulation.specs.PrivateMirrors.{Mirrors, CanFollow, ComesAs, IsNoArrival};
 
 use crate::queue::Queue;
@@ -66,17 +66,6 @@ fn is_accepted(outcome: &Outcome) -> bool
     ensures { result ≡ accepted outcome.now }
 {
     !matches!(outcome, Outcome::Refused(_))
-}
-
-// The node and the worker whose queue an event takes a packet out of.
-#[inline(always)]
-fn taken_on(said: &Said) -> Option<(u16, u16)>
-    ensures { result ≡ taken_on said.now }
-{
-    match said.event {
-        Event::Serve { node, worker, .. } if is_accepted(&said.outcome) => Some((node, worker)),
-        _ => None,
-    }
 }
 
 fn clear_at(queues: &mut Vec<Queue>, place: usize)
@@ -155,30 +144,14 @@ impl Waiting {
         }
     }
 
+    /// Whether a packet that is placed on a worker waits alone, and a serving of that worker with this outcome takes it out
+    /// again. Then both events are followed as the queues stand, and what is sent is that packet: its frame need not be kept.
     #[inline(always)]
-    fn is_passed(&self, arrival: &Said, next: &Said) -> bool
-        ensures { result ≡ passes arrival.now next.now self.now }
+    pub(crate) fn passes(&self, read: &Packet, node: u16, worker: u16, outcome: &Outcome) -> bool
+        ensures { (place floor version : ℕ) (marks : List Bool) → result ≡ passes (record { event = Arrive node place marks; packet = Some read.now; outcome = Placed worker floor }) (record { event = Serve node worker version false; packet = None; outcome = outcome.now }) self.now }
     {
-        match (placed_by(arrival), taken_on(next)) {
-            (Some((node, worker)), Some(on)) => on.0 == node
-                && on.1 == worker
-                && self.is_free(node, worker),
-            _ => false,
-        }
-    }
-
-    /// Whether the packet of an arrival waits alone, and the event behind takes it out again. Then both are followed as they
-    /// stand, and what is sent is that packet: its frame need not be kept.
-    #[inline(always)]
-    pub(crate) fn passes(&self, arrival: &Said, next: &Said) -> bool
-        ensures is { result ≡ passes arrival.now next.now self.now }
-        ensures mirrors { (all : List Record) (k : Cluster) (past : List Said) (r : Record) → result ≡ true → CanFollow all k past arrival.now self.now → ComesAs all r arrival.now.event →
-            Judged k.judge (next.now ∷ arrival.now ∷ past) → Mirrors all k (next.now ∷ arrival.now ∷ past) self.now }
-        ensures sent { (all : List Record) (k : Cluster) (past : List Said) (r : Record) → result ≡ true → CanFollow all k past arrival.now self.now → ComesAs all r arrival.now.event →
-            Judged k.judge (next.now ∷ arrival.now ∷ past) →
-            (n w i : ℕ) (x : _) (b : _) (v : ℕ) → next.now.outcome ≡ Forward n w i x b v → slice_get all i ≡ Some r }
-    {
-        self.is_passed(arrival, next)
+        let is_good = matches!(read, Packet::Good { .. });
+        is_good && is_accepted(outcome) && self.is_free(node, worker)
     }
 
     // Follows an event that was accepted.

@@ -12,15 +12,15 @@ use Rattle.course.proofs.play.Play.take_all.Goals as goal
 pub loop-packet-preserved : goal.loop-packet-preserved
 loop-packet-preserved g c =
     let w0 = world_of (g.C.Core.cluster c.args.setup.now) (g.P.Spread.choice c.args.spread.now) [] in
-    let moved = handed_next w0 _ c.loop-packet.self _ _ _ c.next_place-place.ensures.after (c.in_ok-deliver.ensures.after w0 refl (λ live flow nth. refl)) in
+    let moved = handed_next w0 _ c.loop-packet.self _ _ _ c.next_place-place.ensures.after (c.in_ok-deliver_onto.ensures.after w0 refl (λ live flow nth. refl)) in
     record {
-      stands = c.in_ok-deliver.ensures.stands;
-      live = c.in_ok-deliver.ensures.live ∙ ap (λ (d : Course). d.live) c.next_place-place.ensures.after ∙ c.loop-packet.invariant.live;
-      told = λ before h. c.in_ok-deliver.ensures.told before (subst (λ (d : Course). Behind before d.past c.loop-packet.events.items) (sym c.next_place-place.ensures.after) (c.loop-packet.invariant.told before h));
+      stands = c.in_ok-deliver_onto.ensures.stands;
+      live = c.in_ok-deliver_onto.ensures.live ∙ ap (λ (d : Course). d.live) c.next_place-place.ensures.after ∙ c.loop-packet.invariant.live;
+      told = λ before h. c.in_ok-deliver_onto.ensures.told before (subst (λ (d : Course). Behind before d.past c.loop-packet.events.items) (sym c.next_place-place.ensures.after) (c.loop-packet.invariant.told before h));
       read = omega (arith, moved.0);
       nth = omega (arith, moved.1);
       unrouted = omega (arith, moved.2);
-      rest = λ w j k. delivered_next w c.args.packets.now c.loop-packet.packet-index _ c.loop-packet.self _ _ _ (omega arith) c.next_place-place.ensures.place c.next_place-place.ensures.after (c.in_ok-deliver.ensures.after w j k)
+      rest = λ w j k. delivered_next w c.args.packets.now c.loop-packet.packet-index _ c.loop-packet.self _ _ _ (omega arith) c.next_place-place.ensures.place c.next_place-place.ensures.after (c.in_ok-deliver_onto.ensures.after w j k)
           ∙ c.loop-packet.invariant.rest w j k;
     }
 
@@ -28,5 +28,5 @@ pub returns-clause-after : goal.returns-clause-after
 returns-clause-after g c = λ w j k.
     sym (take_none w c.loop-packet.self) ∙ ap (λ (l : List Packet). take_all w l c.loop-packet.self) (sym (drop_all c.loop-packet.packet-index c.args.packets.now (omega arith))) ∙ c.loop-packet.invariant.rest w j k
 
-pub deliver-requires-clause-read : goal.deliver-requires-clause-read
-deliver-requires-clause-read g c = read_at c.args.packets.now c.loop-packet.packet-index _ c.requires.read c.loop-packet-test.true
+pub deliver_onto-requires-clause-read : goal.deliver_onto-requires-clause-read
+deliver_onto-requires-clause-read g c = read_at c.args.packets.now c.loop-packet.packet-index _ c.requires.read c.loop-packet-test.true

@@ -48,7 +48,7 @@ returns-in_ok-repeat-in-None-clause-reached g c = λ choice text begun left ss s
     let cluster = g.C.Core.cluster c.args.run.now.setup.now in
     let plan = planned c.args.run.now.plan in
     let old = c.args.self.now in
-    let new : Stage = record { play = c.repeat.new.self; events = c.repeat.new.events; relay = old.relay; kept = c.take.new.self; intake = old.intake } in
+    let new : Stage = record { play = c.repeat.new.self; delivery = old.delivery; events = c.repeat.new.events; relay = old.relay; kept = c.take.new.self; intake = old.intake } in
     let w0 = world_of cluster choice [] in
     let skip = c.in_ok-repeat-in-None.ensures.after w0 refl same ∙ repeat_none w0 c.args.place old.play in
     let none : None ≡ slice_get r.seen c.args.place = sym (ap (λ o. option_map packet o) c.in-None.is) ∙ c.in_ok-frame.ensures.record r.seen ss r.kept in

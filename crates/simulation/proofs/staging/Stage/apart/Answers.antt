@@ -11,7 +11,7 @@ use Rattle.simulation.specs.PrivateGoing.{onto}
 use Rattle.simulation.specs.Following.{NoArrivals}
 use Rattle.simulation.specs.declared.fault.SimulationFault.TheVariants.{Memory}
 use Rattle.simulation.proofs.Exits.{at_exit}
-use Rattle.simulation.proofs.Staged.{Quietly, stepped, stepped_told, events_of, none_behind, can_settle, sound_after, cut_before, cut_after}
+use Rattle.simulation.proofs.Staged.{Quietly, stepped, stepped_told, events_behind, none_behind, can_settle, sound_after, cut_before, cut_after}
 use Rattle.simulation.proofs.staging.Stage.apart.Goals as goal
 
 pub returns-in_err-step_apart-clause-cut : goal.returns-in_err-step_apart-clause-cut
@@ -30,7 +30,7 @@ returns-clause-sound g c = λ all begun q s.
     let e = c.in_ok-step_apart.ensures.after w0 refl q in
     let a : Quietly c0 d = stepped w0 c.args.step.now c0 d q e in
     let told = stepped_told w0 k c.args.step.now c0 d refl e s.judged in
-    let ev = c.as_slice-events.ensures.value ∙ events_of c0 d a.moved c.step_apart.new.events.items (c.in_ok-step_apart.ensures.told (reverse c0.past) (none_behind c0 c.clear.new.self.items c.clear.ensures.items)) in
+    let ev = c.as_slice-events.ensures.value ∙ events_behind c0 d a.moved c.step_apart.new.events.items (c.in_ok-step_apart.ensures.told (reverse c0.past) (none_behind c0 c.clear.new.self.items c.clear.ensures.items)) in
     let can = can_settle k (planned c.args.run.now.plan) c.args.self.now.intake.head.link all c0 d a.moved c.as_slice-events.result.now c.args.self.now.relay.waiting begun _ s told ev in
     let quiet = subst NoArrivals (sym ev) a.quiet in
     sound_after k (planned c.args.run.now.plan) c.args.self.now.intake.head.link all c0 d a.moved c.as_slice-events.result.now c.args.self.now.relay.waiting c.settle_all.new.self.waiting begun _ _ c.settle_all.result s told ev c.settle_all.ensures.count
@@ -46,7 +46,7 @@ returns-clause-cut g c = λ w all begun i q s.
     let e = c.in_ok-step_apart.ensures.after w i q in
     let a : Quietly c0 d = stepped w c.args.step.now c0 d q e in
     let told = stepped_told w k c.args.step.now c0 d i e s.judged in
-    let ev = c.as_slice-events.ensures.value ∙ events_of c0 d a.moved c.step_apart.new.events.items (c.in_ok-step_apart.ensures.told (reverse c0.past) (none_behind c0 c.clear.new.self.items c.clear.ensures.items)) in
+    let ev = c.as_slice-events.ensures.value ∙ events_behind c0 d a.moved c.step_apart.new.events.items (c.in_ok-step_apart.ensures.told (reverse c0.past) (none_behind c0 c.clear.new.self.items c.clear.ensures.items)) in
     let can = can_settle k (planned c.args.run.now.plan) link all c0 d a.moved c.as_slice-events.result.now c.args.self.now.relay.waiting begun _ s told ev in
     let quiet = subst NoArrivals (sym ev) a.quiet in
     subst (λ (x : Course). IfErr c.settle_all.result (λ fault. WroteUntil fault begun (g.O.Sink.tape c.settle_all.new.output) (sent (traffic_of (planned c.args.run.now.plan) link all) (reverse x.past)))) e

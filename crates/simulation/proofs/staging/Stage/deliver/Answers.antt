@@ -6,6 +6,7 @@ use Rattle.cluster_node.specs.Records.{WasRead}
 use Rattle.cluster_core.proofs.Frames.{was_read}
 use Rattle.course.specs.Course.{Course}
 use Rattle.course.specs.Steps.{world_of, deliver}
+use Rattle.course.specs.Deliveries.{events_of}
 use Rattle.simulation.specs.PrivateMirrors.{Mirrors}
 use Rattle.simulation.specs.declared.sending.Wire.{Wire}
 use Rattle.simulation.specs.Plans.{planned}
@@ -16,7 +17,7 @@ use Rattle.simulation.specs.PrivateGoing.{onto}
 use Rattle.simulation.specs.Following.{ArrivesFirst}
 use Rattle.simulation.specs.declared.fault.SimulationFault.TheVariants.{Memory}
 use Rattle.simulation.proofs.Exits.{at_exit}
-use Rattle.simulation.proofs.Staged.{Arriving, delivered, delivered_told, events_of, none_behind, can_settle, sound_after, cut_before, cut_after}
+use Rattle.simulation.proofs.Staged.{Arriving, delivered, delivered_told, events_behind, can_settle, sound_after, cut_before, cut_after}
 use Rattle.simulation.proofs.staging.Stage.deliver.Goals as goal
 
 pub deliver-requires-clause-read : goal.deliver-requires-clause-read
@@ -39,11 +40,12 @@ returns-clause-sound g c = λ all begun s here.
     let e = c.in_ok-deliver.ensures.after w0 refl (λ live flow nth. refl) in
     let a : Arriving all r c0 c.deliver.new.self = delivered w0 c.args.place c.packet-packet.result all r c0 c.deliver.new.self e here in
     let told = delivered_told w0 k c.args.place c.packet-packet.result c0 c.deliver.new.self refl e s.judged in
-    let ev = c.as_slice-events.ensures.value ∙ events_of c0 c.deliver.new.self a.moved c.deliver.new.events.items (c.in_ok-deliver.ensures.told (reverse c0.past) (none_behind c0 c.clear.new.self.items c.clear.ensures.items)) in
-    let can = can_settle k (planned c.args.run.now.plan) c.args.self.now.intake.head.link all c0 c.deliver.new.self a.moved c.as_slice-events.result.now c.args.self.now.relay.waiting begun _ s told ev in
+    let es = events_of c.packet-packet.result c.deliver.new.delivery in
+    let ev = events_behind c0 c.deliver.new.self a.moved es c.in_ok-deliver.ensures.told in
+    let can = can_settle k (planned c.args.run.now.plan) c.args.self.now.intake.head.link all c0 c.deliver.new.self a.moved es c.args.self.now.relay.waiting begun _ s told ev in
     let first = subst (λ (l : List Said). ArrivesFirst all r l) (sym ev) a.first in
-    sound_after k (planned c.args.run.now.plan) c.args.self.now.intake.head.link all c0 c.deliver.new.self a.moved c.as_slice-events.result.now c.args.self.now.relay.waiting c.settle_delivered.new.self.waiting begun _ _ c.settle_delivered.result s told ev c.settle_delivered.ensures.count
-    (subst (λ (x : Wire). OnOk c.settle_delivered.result (Mirrors all k (onto c0.past c.as_slice-events.result.now) c.settle_delivered.new.self.waiting × Wrote (g.O.Sink.tape c.args.output.now) (g.O.Sink.tape c.settle_delivered.new.output) (sent (traffic x all) c.as_slice-events.result.now)))
+    sound_after k (planned c.args.run.now.plan) c.args.self.now.intake.head.link all c0 c.deliver.new.self a.moved es c.args.self.now.relay.waiting c.settle_delivered.new.self.waiting begun _ _ c.settle_delivered.result s told ev c.settle_delivered.ensures.count
+    (subst (λ (x : Wire). OnOk c.settle_delivered.result (Mirrors all k (onto c0.past es) c.settle_delivered.new.self.waiting × Wrote (g.O.Sink.tape c.args.output.now) (g.O.Sink.tape c.settle_delivered.new.output) (sent (traffic x all) es)))
     c.wire-wire.ensures (c.settle_delivered.ensures.settled all k c0.past can first))
 
 pub returns-clause-cut : goal.returns-clause-cut
@@ -55,12 +57,13 @@ returns-clause-cut g c = λ w all begun i j s here.
     let e = c.in_ok-deliver.ensures.after w i j in
     let a : Arriving all r c0 c.deliver.new.self = delivered w c.args.place c.packet-packet.result all r c0 c.deliver.new.self e here in
     let told = delivered_told w k c.args.place c.packet-packet.result c0 c.deliver.new.self i e s.judged in
-    let ev = c.as_slice-events.ensures.value ∙ events_of c0 c.deliver.new.self a.moved c.deliver.new.events.items (c.in_ok-deliver.ensures.told (reverse c0.past) (none_behind c0 c.clear.new.self.items c.clear.ensures.items)) in
-    let can = can_settle k (planned c.args.run.now.plan) link all c0 c.deliver.new.self a.moved c.as_slice-events.result.now c.args.self.now.relay.waiting begun _ s told ev in
+    let es = events_of c.packet-packet.result c.deliver.new.delivery in
+    let ev = events_behind c0 c.deliver.new.self a.moved es c.in_ok-deliver.ensures.told in
+    let can = can_settle k (planned c.args.run.now.plan) link all c0 c.deliver.new.self a.moved es c.args.self.now.relay.waiting begun _ s told ev in
     let first = subst (λ (l : List Said). ArrivesFirst all r l) (sym ev) a.first in
     let pk = c.packet-packet.ensures ∙ ap (λ (x : Wire). packet_in x.link x.check (packet c.frame.result.now)) c.wire-wire.ensures ∙ ap (λ (x : Record). packet_in link c.args.run.now.plan.check x) c.frame.ensures in
     let is = e ∙ ap (λ (p : Packet). deliver w c.args.place p c0) pk in
     subst (λ (d : Course). IfErr c.settle_delivered.result (λ fault. WroteUntil fault begun (g.O.Sink.tape c.settle_delivered.new.output) (sent (traffic_of (planned c.args.run.now.plan) link all) (reverse d.past)))) is
-    (cut_after k (planned c.args.run.now.plan) link all c0 c.deliver.new.self a.moved c.as_slice-events.result.now c.args.self.now.relay.waiting begun _ _ c.settle_delivered.result s ev
-    (subst (λ (x : Wire). IfErr c.settle_delivered.result (λ fault. WroteUntil fault (g.O.Sink.tape c.args.output.now) (g.O.Sink.tape c.settle_delivered.new.output) (sent (traffic x all) c.as_slice-events.result.now)))
+    (cut_after k (planned c.args.run.now.plan) link all c0 c.deliver.new.self a.moved es c.args.self.now.relay.waiting begun _ _ c.settle_delivered.result s ev
+    (subst (λ (x : Wire). IfErr c.settle_delivered.result (λ fault. WroteUntil fault (g.O.Sink.tape c.args.output.now) (g.O.Sink.tape c.settle_delivered.new.output) (sent (traffic x all) es)))
     c.wire-wire.ensures (c.settle_delivered.ensures.cut all k c0.past can first)))
