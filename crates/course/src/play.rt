@@ -272,7 +272,7 @@ impl Play {
         let _count = self.said_count();
         let refused = self.marks_at(node);
         let version = core.newest(setup, node);
-        delivery.passed = core.pass(setup, node, place, &refused, packet)?;
+        core.pass(setup, node, place, &refused, packet, &mut delivery.passed)?;
         delivery.arrive(node, place, refused, version);
         self.note_delivery(packet, delivery)?;
         Ok(())
