@@ -3,13 +3,13 @@ use Rattle.std.proofs.Common.{◌≡◌, ◌≢◌, ℕ, List, length, inl, inr,
 use Rattle.pcap_file.specs.declared.format.PcapFault.{PcapFault}
 use Rattle.pcap_file.specs.declared.format.PcapFault.TheVariants as capture
 use Rattle.pcap_file.specs.Device.{Tape, GivenUp, PutRefused}
-use Rattle.pcap_file.specs.Format.{written_head, written_record_head}
-use Rattle.pcap_file.specs.Writing.{RecordPutRefused}
+use Rattle.pcap_file.specs.Format.{written_head}
 use Rattle.simulation.specs.declared.fault.SimulationFault.{SimulationFault}
 use Rattle.simulation.specs.declared.fault.SimulationFault.TheVariants as run
 use Rattle.spreader.specs.Choices.{Choice}
 use Rattle.cluster_core.specs.Cluster.{Cluster}
 use Rattle.simulation.specs.Plans.{Planned}
+use Rattle.simulation.specs.Sent.{record_text}
 use Rattle.simulation.specs.Simulated.{Stopped}
 use Rattle.maglev_cli.specs.declared.fault.CliFault.{CliFault}
 use Rattle.maglev_cli.specs.declared.fault.CliFault.TheVariants.{Write}
@@ -21,10 +21,6 @@ no_end n calls a e (inr f) = omega (arith, f.2)
 
 no_put : (bytes : List ℕ) (calls : ℕ) (a : Tape) → a.failures ≡ 0 → PutRefused bytes a (unkept calls) → ⊥
 no_put bytes calls a e r = no_end (length bytes) calls a e r.0
-
-no_record : (secs micros calls : ℕ) (bytes : List ℕ) (a : Tape) → a.failures ≡ 0 → RecordPutRefused secs micros bytes a (unkept calls) → ⊥
-no_record secs micros calls bytes a e (inl r) = no_put (written_record_head secs micros (length bytes)) calls a e r
-no_record secs micros calls bytes a e (inr r) = no_put bytes calls r.between (r.unfailed.0 ∙ e) r.refused
 
 no_capture_write : (f : PcapFault) → capture_fault f ≡ Write → ⊥
 no_capture_write capture.ShortHeader e = cc
@@ -42,7 +38,7 @@ not_stopped cluster choice plan input input' m n (inr (inl s)) = s.0
 not_stopped cluster choice plan input input' m n (inr (inr s)) =
     elim (s.wrote) [
       | inl w ↦ no_put written_head n (unkept m) refl w.1
-      | inr w ↦ no_record w.2.next.secs w.2.next.micros n w.2.next.bytes w.2.at (w.2.wrote.unfailed.0 ∙ w.1.1.0) w.2.refused
+      | inr w ↦ no_put (record_text w.2.next) n w.2.at (w.2.wrote.unfailed.0 ∙ w.1.1.0) w.2.refused
     ]
 
 not_written : (why : SimulationFault) (cluster : Cluster) (choice : Choice) (plan : Planned) (input input' : Tape) (m n : ℕ) → run_fault why ≡ Write → Stopped cluster choice plan input input' (unkept m) (unkept n) why → ⊥

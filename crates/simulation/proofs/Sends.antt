@@ -4,9 +4,7 @@ use Rattle.cluster_node.specs.declared.events.Said.{Said}
 use Rattle.std.proofs.Common.{◌≢◌, subst, arith, append-nil}
 use Rattle.std.specs.Io.KnownBytes.{Appends}
 use Rattle.std.proofs.KnownBytes.{Appends-nil, Appends-trans}
-use Rattle.pcap_file.specs.Device.{Tape, Unfailed}
-use Rattle.pcap_file.specs.Format.{written_record}
-use Rattle.pcap_file.specs.Writing.{RecordPutRefused}
+use Rattle.pcap_file.specs.Device.{Tape, Unfailed, PutRefused}
 use Rattle.simulation.specs.declared.fault.SimulationFault.{SimulationFault}
 use Rattle.simulation.specs.declared.fault.SimulationFault.TheVariants.{Capture, Write, Memory}
 use Rattle.simulation.specs.Sent.{Traffic, Sending, sent, sent_by, record_text, records_text, Wrote, WroteFirst, WroteUntil}
@@ -34,12 +32,11 @@ wrote_both a b c xs ys h k = record {
   unfailed = unfailed_both a b c h.unfailed k.unfailed;
 }
 
-pub wrote_one : (a b : Tape) (r : Sending) → Appends a.bytes b.bytes (written_record r.secs r.micros r.bytes) → Unfailed a b → Wrote a b (r ∷ [])
-unfolding record_text
-wrote_one a b r h u = record { bytes = subst (λ (l : List ℕ). Appends a.bytes b.bytes l) (sym (append-nil (record_text r))) h; unfailed = u }
+pub wrote_one : (a b : Tape) (text : List ℕ) (r : Sending) → text ≡ record_text r → Appends a.bytes b.bytes text → Unfailed a b → Wrote a b (r ∷ [])
+wrote_one a b text r e h u = record { bytes = subst (λ (l : List ℕ). Appends a.bytes b.bytes l) (e ∙ sym (append-nil (record_text r))) h; unfailed = u }
 
-pub refused_one : (a b : Tape) (r : Sending) → RecordPutRefused r.secs r.micros r.bytes a b → WroteUntil Write a b (r ∷ [])
-refused_one a b r h = record { first = []; next = r; others = []; all_is = refl; at = a; wrote = wrote_none a; refused = h }
+pub refused_one : (a b : Tape) (text : List ℕ) (r : Sending) → text ≡ record_text r → PutRefused text a b → WroteUntil Write a b (r ∷ [])
+refused_one a b text r e h = record { first = []; next = r; others = []; all_is = refl; at = a; wrote = wrote_none a; refused = subst (λ (l : List ℕ). PutRefused l a b) e h }
 
 pub first_none : (a : Tape) (all : List Sending) → WroteFirst a a all
 first_none a all = record { first = []; others = all; all_is = refl; wrote = wrote_none a }

@@ -6,9 +6,8 @@ use Rattle.ip_headers.specs.declared.IpFault.{IpFault}
 use Rattle.ip_headers.specs.Ipv4.{frame_answer}
 use Rattle.pool_versions.specs.declared.backend.Backend.{Backend}
 use Rattle.gre_tunnel.specs.Gre.{wrapped}
-use Rattle.pcap_file.specs.Device.{Tape, Unfailed}
+use Rattle.pcap_file.specs.Device.{Tape, Unfailed, PutRefused}
 use Rattle.pcap_file.specs.Format.{Packet as Record, written_head, written_record}
-use Rattle.pcap_file.specs.Writing.{RecordPutRefused}
 use Rattle.cluster_node.specs.declared.packets.Packet.{Packet}
 use Rattle.cluster_node.specs.declared.packets.Packet.TheVariants.{Good, Bad}
 use Rattle.cluster_node.specs.declared.outcomes.Outcome.{Outcome}
@@ -51,11 +50,15 @@ pub record Traffic : Type 0 where
   pub check : Bool
   pub records : List Record
 
+-- a datagram that is wrapped from one address to another, with a record's time
+abbrev pub wrapped_at : Record → ℕ → ℕ → List ℕ → Sending
+wrapped_at r node backend inner = record { secs = r.secs; micros = r.micros; bytes = wrapped node backend inner }
+
 -- a record's datagram is wrapped from the node's address to the backend's, and bears the record's time
 abbrev pub wrapped_as : Record → Option ℕ → ℕ → Option (List ℕ) → List Sending
 wrapped_as r None backend d = []
 wrapped_as r (Some node) backend None = []
-wrapped_as r (Some node) backend (Some inner) = record { secs = r.secs; micros = r.micros; bytes = wrapped node backend inner } ∷ []
+wrapped_as r (Some node) backend (Some inner) = wrapped_at r node backend inner ∷ []
 
 abbrev pub sent_at : Traffic → ℕ → Backend → Option Record → List Sending
 sent_at t n b None = []
@@ -105,7 +108,7 @@ pub record WriteFails (before after : Tape) (all : List Sending) : Type 0 where
   pub all_is : all ≡ first ++ next ∷ others
   pub at : Tape
   pub wrote : Wrote before at first
-  pub refused : RecordPutRefused next.secs next.micros next.bytes at after
+  pub refused : PutRefused (record_text next) at after
 
 -- what a device got of these records where a run stopped by this fault
 abbrev pub WroteUntil : SimulationFault → Tape → Tape → List Sending → Type 0

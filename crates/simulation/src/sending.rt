@@ -2,17 +2,16 @@
 ghost use Rattle.std.specs.Prelude.{◌≡◌, ◌≤◌, ◌∷◌, option_map, OnOk, IfErr, IfSome, length, [], Some, None, slice_get};
 ghost use Rattle.ip_headers.specs.Ipv4.{frame_answer};
 ghost use Rattle.pcap_file.specs.Format.{packet};
-ghost use Rattle.gre_tunnel.specs.Gre.{wrapped};
-ghost use Rattle.simulation.specs.Sent.{packet_in, time_of, cut_to, datagram_in, wrapped_as, sent_at, Wrote, WroteUntil};
+ghost use Rattle.simulation.specs.Sent.{packet_in, time_of, cut_to, datagram_in, Sending, wrapped_at, wrapped_as, sent_at, record_text, Wrote, WroteUntil};
 ghost use Rattle.simulation.specs.Simulated.{IsOfRun};
 ghost use Rattle.simulation.specs.Wires.{traffic};
 
 use crate::fault::SimulationFault;
 use cluster_core::read_packet;
 use cluster_node::Packet;
-use gre_tunnel::wrap_into;
+use gre_tunnel::wrap_onto;
 use ip_headers::{Link, read_frame};
-use pcap_file::{Frame, Sink, write_record};
+use pcap_file::{Frame, Sink, push_record_head, put_all};
 use pool_versions::Backend;
 use std::alloc::AllocError;
 
@@ -70,31 +69,36 @@ fn datagram<'a>(link: Link, packet: &Packet, bytes: &'a [u8]) -> Option<&'a [u8]
     }
 }
 
-// A datagram in a tunnel.
-fn tunnelled(room: &mut Vec<u8>, inner: &[u8], node: u32, backend: u32) -> Result<(), AllocError>
+// A record whose bytes are a datagram in a tunnel, and which bears the time of the frame: the text of it, in the room.
+#[inline(always)]
+fn make_record(
+    room: &mut Vec<u8>,
+    frame: &Frame,
+    inner: &[u8],
+    node: u32,
+    backend: u32,
+) -> Result<(), AllocError>
     requires { length inner.now ≤ 65511 }
-    ensures bytes { OnOk result (room.new.items ≡ wrapped node backend inner.now) }
-    ensures short { OnOk result (length room.new.items ≤ 65535) }
+    ensures text { OnOk result (room.new.items ≡ record_text (wrapped_at (packet frame.now) node backend inner.now)) }
+    ensures short { OnOk result (length room.new.items ≤ 65551) }
 {
-    match wrap_into(inner, node, backend, room) {
+    room.clear();
+    push_record_head(room, frame.secs, frame.micros, inner.len() as u32 + 24)?;
+    match wrap_onto(inner, node, backend, room) {
         Ok(()) => Ok(()),
         Err(_) => Err(AllocError),
     }
 }
 
+// Writes the text of a record as one piece.
 #[inline(always)]
-fn put_record<O: Sink>(
-    output: &mut O,
-    secs: u32,
-    micros: u32,
-    bytes: &[u8],
-) -> Result<(), SimulationFault>
-    requires { length bytes.now ≤ 65535 }
-    ensures ok { OnOk result (Wrote (O.tape output.old) (O.tape output.new) (record { secs = secs; micros = micros; bytes = bytes.now } ∷ [])) }
+fn put_record<O: Sink>(output: &mut O, text: &[u8]) -> Result<(), SimulationFault>
+    requires { length text.now ≤ 65551 }
+    ensures ok { (r : Sending) → text.now ≡ record_text r → OnOk result (Wrote (O.tape output.old) (O.tape output.new) (r ∷ [])) }
     ensures named { IfErr result IsOfRun }
-    ensures cut { IfErr result (λ fault. WroteUntil fault (O.tape output.old) (O.tape output.new) (record { secs = secs; micros = micros; bytes = bytes.now } ∷ [])) }
+    ensures cut { (r : Sending) → text.now ≡ record_text r → IfErr result (λ fault. WroteUntil fault (O.tape output.old) (O.tape output.new) (r ∷ [])) }
 {
-    match write_record(output, secs, micros, bytes) {
+    match put_all(output, text) {
         Ok(()) => Ok(()),
         Err(_) => Err(SimulationFault::Write),
     }
@@ -121,8 +125,8 @@ fn put_wrapped<O: Sink>(
     let Some(inner) = inner else {
         return Ok(());
     };
-    tunnelled(room, inner, node, backend)?;
-    put_record(output, frame.secs, frame.micros, room.as_slice())
+    make_record(room, frame, inner, node, backend)?;
+    put_record(output, room.as_slice())
 }
 
 impl Wire<'_> {
