@@ -1,5 +1,6 @@
 // The IPv4 header (RFC 791, 3.1).
 ghost use Rattle.std.specs.Prelude.{◌≡◌, ◌≤◌, length, false, Ok, Err, MatchResult};
+ghost use Rattle.ip_headers.specs.Sum.{word_sum, folded};
 ghost use Rattle.ip_headers.specs.Ipv4.{has, header_len, total_len, header_fault, ipv4_answer, view};
 
 use super::{IpFault, Ipv4View};
@@ -39,12 +40,25 @@ fn is_bad_header(bytes: &[u8]) -> bool
     header_length(bytes) < 20 || total_length(bytes) < header_length(bytes)
 }
 
+// A header without options, as most are, has a branch of its own: there the compiler knows the length
+// and needs no loop.
+#[inline(always)]
+fn header_folded(header: &[u8]) -> u16
+    ensures { result ≡ folded (word_sum header.now) }
+{
+    if header.len() == 20 {
+        folded_sum(&header[..20])
+    } else {
+        folded_sum(header)
+    }
+}
+
 fn is_bad_checksum(bytes: &[u8], check: bool) -> bool
     requires long { 20 ≤ length bytes.now }
     requires header { header_len bytes.now ≤ length bytes.now }
     ensures { result ≡ has check bytes.now IpFault.BadChecksum }
 {
-    check && folded_sum(&bytes[..header_length(bytes)]) != 65535
+    check && header_folded(&bytes[..header_length(bytes)]) != 65535
 }
 
 fn is_fragment(bytes: &[u8]) -> bool

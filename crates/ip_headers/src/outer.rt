@@ -7,6 +7,7 @@ use byteorder::{BigEndian, ByteOrder};
 
 /// Writes the outer header of a datagram that is tunnelled by GRE: 20 bytes, don't fragment, time to
 /// live 64, protocol 47, with its checksum. `total` counts the header's own bytes too.
+#[inline(always)]
 pub fn write_outer(out: &mut [u8; 20], total: u16, src: u32, dst: u32)
     ensures { out.new ≡ outer_header total src dst }
 {

@@ -57,6 +57,44 @@ fn checksums(rt: HostRuntime) {
     assert_eq!(rt; header_sum(&[0xff, 0xff]), 0);
 }
 
+// The example of RFC 1071, 3: the sum is 0xddf2.
+#[test]
+fn the_example_of_the_standard(rt: HostRuntime) {
+    let bytes = [0, 1, 0xf2, 3, 0xf4, 0xf5, 0xf6, 0xf7];
+    assert_eq!(rt; header_sum(&bytes), 0x220d);
+}
+
+// The checksum, byte by byte: each is the upper or the lower half of a word.
+fn plain_sum(bytes: &[u8]) -> u16 {
+    let mut sum = 0u16;
+    for (i, byte) in bytes.iter().enumerate() {
+        let word = u16::from(*byte) * if i % 2 == 0 { 256 } else { 1 };
+        let (next, carries) = sum.overflowing_add(word);
+        sum = if carries { next.wrapping_add(1) } else { next };
+    }
+    u16::MAX - sum
+}
+
+// Each length from 0 to 70, of bytes that differ, of zeros and of ones.
+#[test]
+fn sums_of_all_lengths(rt: HostRuntime) {
+    let mut mixed = [0u8; 70];
+    let mut seed = 1u32;
+    for place in &mut mixed {
+        seed = seed.wrapping_mul(1_103_515_245).wrapping_add(12_345);
+        *place = (seed / 65536 % 256) as u8;
+    }
+    for bytes in [mixed, [0; 70], [0xff; 70]] {
+        for len in 0..=70usize {
+            assert_eq!(rt;
+                header_sum(&bytes[..len]),
+                plain_sum(&bytes[..len]),
+                "{len} bytes"
+            );
+        }
+    }
+}
+
 #[test]
 fn outer_headers(rt: HostRuntime) {
     let mut out = [1u8; 20];
