@@ -94,8 +94,11 @@ def sum_once(crates):
 
 
 def run_rt(words):
-    """Does what `rt` does with these words, and answers its status."""
-    loader = importlib.machinery.SourceFileLoader("rt", os.path.realpath(shutil.which("rt")))
+    """Does what `rt` does with these words, and answers its status. Another `rt` than the kit's is run as it is."""
+    path = pathlib.Path(shutil.which("rt") or "rt").resolve()
+    if not (path.parent / "rtlib.py").is_file():
+        return subprocess.run(["rt", *words], check=False).returncode
+    loader = importlib.machinery.SourceFileLoader("rt", str(path))
     rt = importlib.util.module_from_spec(importlib.util.spec_from_loader("rt", loader))
     loader.exec_module(rt)
     if hasattr(rt.rtlib.Crate, "stamp"):
