@@ -8,7 +8,8 @@ flows=${1:-65536} packets=${2:-200000}
 maglev=$top/crates/maglev/out/maglev
 cc -O2 -o "$work/chosen" "$top/bench/chosen_flows.c"
 "$work/chosen" "$flows" 16 >"$work/clients"
-python3 "$top/bench/many_clients.py" "$work/common.pcap" "$packets" "$flows"
+awk -v n="$flows" 'BEGIN { for (i = 0; i < n; i++) print "10.0." int(i / 250) % 250 "." i % 250, 1024 + int(i / 62500) }' >"$work/others"
+python3 "$top/bench/many_clients.py" "$work/common.pcap" "$packets" "$flows" "$work/others"
 python3 "$top/bench/many_clients.py" "$work/chosen.pcap" "$packets" "$flows" "$work/clients"
 scenario 1 65536 '"10.9.0.1"' "\"install 0 1\", \"take $packets\"" >"$work/scenario.toml"
 for words in "" --splits; do

@@ -1,9 +1,11 @@
 #!/usr/bin/env python3
-"""many_clients.py OUT PACKETS FLOWS [CLIENTS]: writes a capture of TCP packets of so many clients to 192.0.2.1:80, the clients
-in a mixed order that is the same each time. The packets are those of examples/make_capture.py. The file CLIENTS has the
-clients, an address and a port a line, in place of those that are made up.
+"""many_clients.py OUT PACKETS FLOWS [CLIENTS]: writes a capture of TCP packets of so many clients to 192.0.2.1:80, in a
+random order that is the same each time: seven of ten packets are of few clients, by a law like Zipf's, and three are of any.
+The packets are those of examples/make_capture.py. The file CLIENTS has the clients, an address and a port a line, in place of
+those that are made up; then all are as likely.
 """
 import pathlib
+import random
 import sys
 
 sys.path.insert(0, str(pathlib.Path(__file__).resolve().parent.parent / "examples"))
@@ -22,11 +24,19 @@ def clients_of(path):
     return [(address, int(port)) for address, port in lines]
 
 
+def pick(dice, flows, alike):
+    """The place of the client of a packet."""
+    if alike or dice.random() < 0.3:
+        return dice.randrange(flows)
+    return min(int(dice.paretovariate(0.6)) - 1, flows - 1)
+
+
 def main():
-    packets, flows = int(sys.argv[2]), int(sys.argv[3])
-    clients = clients_of(sys.argv[4]) if len(sys.argv) > 4 else map(client, range(flows))
+    packets, flows, alike = int(sys.argv[2]), int(sys.argv[3]), len(sys.argv) > 4
+    clients = clients_of(sys.argv[4]) if alike else map(client, range(flows))
     frames = [frame(one, 80, 0) for one in clients]
-    write(sys.argv[1], ((1_000_000_000 + at, frames[at * 7919 % flows]) for at in range(packets)))
+    dice = random.Random(1)
+    write(sys.argv[1], ((1_000_000_000 + at, frames[pick(dice, flows, alike)]) for at in range(packets)))
 
 
 main()
