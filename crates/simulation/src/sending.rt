@@ -39,12 +39,8 @@ impl<'a> Wire<'a> {
     pub fn packet(&self, frame: &Frame) -> Packet
         ensures { result ≡ packet_in self.now.link self.now.check (packet frame.now) }
     {
-        read_packet(
-            self.link,
-            frame.bytes.as_slice(),
-            time_of(frame),
-            self.check,
-        )
+        let bytes = frame.bytes.as_slice();
+        read_packet(self.link, bytes, time_of(frame), self.check)
     }
 
     #[inline(always)]
@@ -52,6 +48,28 @@ impl<'a> Wire<'a> {
         ensures { result ≡ slice_get self.now.nodes.now node }
     {
         self.nodes.get(node as usize).copied()
+    }
+
+    /// What a node sends to a backend of a record, which was read as this packet. The datagram is wrapped in the room, which
+    /// is used again.
+    #[tactic(auto, unfolding(crate::specs::Sent::datagram_in))]
+    #[inline(always)]
+    pub fn send_record<O: Sink>(
+        &self,
+        room: &mut Vec<u8>,
+        output: &mut O,
+        node: u16,
+        backend: &Backend,
+        frame: &Frame,
+        read: &Packet,
+    ) -> Result<(), SimulationFault>
+        requires { read.now ≡ packet_in self.now.link self.now.check (packet frame.now) }
+        ensures ok { OnOk result (Wrote (O.tape output.old) (O.tape output.new) (sent_at (traffic self.now []) node backend.entry.now (Some (packet frame.now)))) }
+        ensures named { IfErr result IsOfRun }
+        ensures cut { IfErr result (λ fault. WroteUntil fault (O.tape output.old) (O.tape output.new) (sent_at (traffic self.now []) node backend.entry.now (Some (packet frame.now)))) }
+    {
+        let inner = datagram(self.link, read, frame.bytes.as_slice());
+        put_wrapped(room, output, self.address(node), backend.addr, frame, inner)
     }
 }
 
@@ -127,28 +145,4 @@ fn put_wrapped<O: Sink>(
     };
     make_record(room, frame, inner, node, backend)?;
     put_record(output, room.as_slice())
-}
-
-impl Wire<'_> {
-    /// What a node sends to a backend of a record, which was read as this packet. The datagram is wrapped in the room, which
-    /// is used again.
-    #[tactic(auto, unfolding(crate::specs::Sent::datagram_in))]
-    #[inline(always)]
-    pub fn send_record<O: Sink>(
-        &self,
-        room: &mut Vec<u8>,
-        output: &mut O,
-        node: u16,
-        backend: &Backend,
-        frame: &Frame,
-        read: &Packet,
-    ) -> Result<(), SimulationFault>
-        requires { read.now ≡ packet_in self.now.link self.now.check (packet frame.now) }
-        ensures ok { OnOk result (Wrote (O.tape output.old) (O.tape output.new) (sent_at (traffic self.now []) node backend.entry.now (Some (packet frame.now)))) }
-        ensures named { IfErr result IsOfRun }
-        ensures cut { IfErr result (λ fault. WroteUntil fault (O.tape output.old) (O.tape output.new) (sent_at (traffic self.now []) node backend.entry.now (Some (packet frame.now)))) }
-    {
-        let inner = datagram(self.link, read, frame.bytes.as_slice());
-        put_wrapped(room, output, self.address(node), backend.addr, frame, inner)
-    }
 }
