@@ -12,7 +12,7 @@ use Rattle.cluster_node.specs.declared.outcomes.Outcome.{Outcome}
 use Rattle.cluster_node.specs.Rules.{Rules}
 use Rattle.cluster_node.specs.declared.events.Said.{Said}
 use Rattle.cluster_node.specs.Record.{installed_of, lines_of, by_lines, serve_verdict, accepted}
-use Rattle.cluster_core.specs.Apart.{Served, Popped, serving, greatest, puts_on, tooks_on, settled}
+use Rattle.cluster_core.specs.Apart.{Handling, Popped, serving, greatest, puts_on, tooks_on, settled}
 
 puts_placed : (ls : List Line) (is : List Item) → placed (puts_on ls is) ≡ placed ls ++ is
 puts_placed ls [] = append_nil (placed ls)
@@ -34,33 +34,33 @@ puts_greatest : (ls : List Line) (is : List Item) → greatest_used (puts_on ls 
 puts_greatest ls [] = refl
 puts_greatest ls (i ∷ is) = puts_greatest (put i ∷ ls) is
 
-tooks_placed : (ls : List Line) (done : List Served) → placed (tooks_on ls done) ≡ placed ls
+tooks_placed : (ls : List Line) (done : List Handling) → placed (tooks_on ls done) ≡ placed ls
 tooks_placed ls [] = refl
 tooks_placed ls (s ∷ earlier) = tooks_placed ls earlier
 
-settled_placed : (items : List Item) (done : List Served) → placed (settled items done) ≡ items
+settled_placed : (items : List Item) (done : List Handling) → placed (settled items done) ≡ items
 settled_placed items done = tooks_placed (puts_on [] items) done ∙ puts_placed [] items
 
-settled_count : (items : List Item) (done : List Served) → taken_count (settled items done) ≡ length done
+settled_count : (items : List Item) (done : List Handling) → taken_count (settled items done) ≡ length done
 settled_count items [] = puts_count [] items
 settled_count items (s ∷ earlier) = let h : taken_count (settled items earlier) ≡ length earlier = settled_count items earlier in let e : taken_count (settled items earlier) + 1 ≡ suc (length earlier) = omega arith in e
 
-settled_next : (items : List Item) (done : List Served) → next_item (settled items done) ≡ slice_get items (length done)
+settled_next : (items : List Item) (done : List Handling) → next_item (settled items done) ≡ slice_get items (length done)
 settled_next items done = ap (λ (l : List Item). slice_get l (taken_count (settled items done))) (settled_placed items done) ∙ ap (λ (n : ℕ). slice_get items n) (settled_count items done)
 
-pub settled_servings : (rules : Rules) (items : List Item) (done : List Served) → Popped items done → servings rules (settled items done) ≡ map (serving rules) done
+pub settled_servings : (rules : Rules) (items : List Item) (done : List Handling) → Popped items done → servings rules (settled items done) ≡ map (serving rules) done
 settled_servings rules items [] h = puts_servings rules [] items
 settled_servings rules items (s ∷ earlier) h =
     ap (λ (o : Option Item). serving_at rules o s.version s.refused (servings rules (settled items earlier))) (settled_next items earlier ∙ h.0)
     ∙ ap (λ (l : List Serving). serving rules s ∷ l) (settled_servings rules items earlier h.1)
 
-settled_greatest : (items : List Item) (done : List Served) → greatest_used (settled items done) ≡ greatest done
+settled_greatest : (items : List Item) (done : List Handling) → greatest_used (settled items done) ≡ greatest done
 settled_greatest items [] = puts_greatest [] items
 settled_greatest items (s ∷ earlier) = ap (λ (n : ℕ). max s.version n) (settled_greatest items earlier)
 
 -- In a record with all packets placed before all servings, the next serving of a worker that popped the first packets
 -- in order comes to what its forwarder answers after its own servings, whatever stood between them.
-pub taken_apart : (rules : Rules) (items : List Item) (done : List Served) (i : Item) (v : ℕ) (r : Bool) → Popped items done → slice_get items (length done) ≡ Some i
+pub taken_apart : (rules : Rules) (items : List Item) (done : List Handling) (i : Item) (v : ℕ) (r : Bool) → Popped items done → slice_get items (length done) ≡ Some i
     → taken rules (settled items done) v r ≡ (if nat_lt v i.floor || nat_lt v (greatest done) then Behind else Done i (told_after rules.pick rules.capacity rules.idle (told rules.pick rules.capacity rules.idle (map (serving rules) done)) (serving_under (rules.ups v) v i r)).choice)
 taken_apart rules items done i v r h e =
     ap (λ (o : Option Item). taken_of rules (settled items done) o v r) (settled_next items done ∙ e)

@@ -17,7 +17,7 @@ use Rattle.cluster_node.specs.Record.{installed_of, lines_of, by_lines, serve_ve
 use Rattle.cluster_core.specs.Laws.{record_after, LeavesArrivals}
 use Rattle.cluster_core.specs.Runs.{verdict, say, verdicts, packet_of}
 use Rattle.cluster_node.specs.Records.{lines_at, node_of, of_node}
-use Rattle.cluster_core.specs.Blocks.{Ask, serves, lines_after, own, past_after}
+use Rattle.cluster_core.specs.Blocks.{Ask, serves, lines_asked, own, past_after}
 use Rattle.cluster_core.proofs.Apart.{serve_leaves}
 
 -- the record of a node with one more event of it
@@ -34,16 +34,16 @@ module _ (rules : Rules) (n w : ℕ) (there : n < rules.nodes) where
   installed_kept : (past : List Said) (a : Ask) → installed_of (of_node n (say rules past (Serve n w a.version a.refused) None ∷ past)) ≡ installed_of (of_node n past)
   installed_kept past a = ap installed_of (same_node n (say rules past (Serve n w a.version a.refused) None) past refl)
 
-  own_lines : (past : List Said) (a : Ask) → lines_at (say rules past (Serve n w a.version a.refused) None ∷ past) n w ≡ lines_after (lines_at past n w) a (verdict rules past (Serve n w a.version a.refused) None)
+  own_lines : (past : List Said) (a : Ask) → lines_at (say rules past (Serve n w a.version a.refused) None ∷ past) n w ≡ lines_asked (lines_at past n w) a (verdict rules past (Serve n w a.version a.refused) None)
   own_lines past a = ap (λ (l : List Said). lines_of w l) (same_node n (say rules past (Serve n w a.version a.refused) None) past refl)
-      ∙ ap (λ (b : Bool). if b then lines_after (lines_at past n w) a (verdict rules past (Serve n w a.version a.refused) None) else lines_at past n w) (eq-eqb w w refl)
+      ∙ ap (λ (b : Bool). if b then lines_asked (lines_at past n w) a (verdict rules past (Serve n w a.version a.refused) None) else lines_at past n w) (eq-eqb w w refl)
 
   -- a worker's servings come to what its own lines say, and the rest follows the record with them
   pub block : (packets : List Packet) (past : List Said) (asks : List Ask) (rest : List Event) → verdicts rules past packets (serves n w asks ++ rest) ≡ own rules (installed_of (of_node n past)) (lines_at past n w) n w asks ++ verdicts rules (past_after rules past n w asks) packets rest
   block packets past [] rest = refl
   block packets past (a ∷ asks) rest =
       let e : verdict rules past (Serve n w a.version a.refused) None ≡ by_lines rules (installed_of (of_node n past)) (lines_at past n w) n w a.version a.refused = serve_own past a None in
-      let f : lines_at (say rules past (Serve n w a.version a.refused) None ∷ past) n w ≡ lines_after (lines_at past n w) a (by_lines rules (installed_of (of_node n past)) (lines_at past n w) n w a.version a.refused) = own_lines past a ∙ ap (λ (o : Outcome). lines_after (lines_at past n w) a o) e in
+      let f : lines_at (say rules past (Serve n w a.version a.refused) None ∷ past) n w ≡ lines_asked (lines_at past n w) a (by_lines rules (installed_of (of_node n past)) (lines_at past n w) n w a.version a.refused) = own_lines past a ∙ ap (λ (o : Outcome). lines_asked (lines_at past n w) a o) e in
       ap (λ (o : Outcome). o ∷ verdicts rules (say rules past (Serve n w a.version a.refused) None ∷ past) packets (serves n w asks ++ rest)) e
       ∙ ap (λ (os : List Outcome). by_lines rules (installed_of (of_node n past)) (lines_at past n w) n w a.version a.refused ∷ os)
       (block packets (say rules past (Serve n w a.version a.refused) None ∷ past) asks rest

@@ -18,7 +18,7 @@ use Rattle.cluster_core.specs.Histories.{IsSteady, outcomes_of}
 use Rattle.cluster_core.proofs.Order.{sound, verdict_sends}
 use Rattle.cluster_core.proofs.Told.{came_told, went_told, sends_told}
 use Rattle.cluster_core.specs.Cluster.{Orderly}
-use Rattle.cluster_core.specs.Ruling.{Ruling, rules_of, IsBalanced, SendsArePicked}
+use Rattle.cluster_core.specs.Deployed.{Deployed, rules_of, IsBalanced, SendsArePicked}
 
 pub orderly : (rules : Rules) → Orderly (cluster_by rules)
 orderly rules = record {
@@ -36,7 +36,7 @@ pub told_picks : (rules : Rules) → IsSteady rules → SendsArePicked rules
 told_picks rules steady past j = sends_told rules (reverse past) steady (subst (Judged (verdict rules)) (sym (reverse-reverse past)) j)
 
 -- a step, where the setup and the catalogue are those of the rules
-pub stepped : {S H E : Type 0} (pick_of : S → ℕ → Pick) (plain_of : H → List ℕ → ℕ) (r : Ruling S H) (setup : Fixed S H) (pools : Pools) (past : List Said) (e : Event) (x y : Option Packet) (was now : RunView S) (result : Result Outcome E) → setup ≡ r.setup → pools ≡ r.catalogue → x ≡ y
+pub stepped : {S H E : Type 0} (pick_of : S → ℕ → Pick) (plain_of : H → List ℕ → ℕ) (r : Deployed S H) (setup : Fixed S H) (pools : Pools) (past : List Said) (e : Event) (x y : Option Packet) (was now : RunView S) (result : Result Outcome E) → setup ≡ r.setup → pools ≡ r.catalogue → x ≡ y
     → (RunStands pick_of (rules_for pick_of plain_of setup pools) past was → IfOk result (λ o. RunGoes pick_of (rules_for pick_of plain_of setup pools) past e x o now)) → RunStands pick_of (rules_of pick_of plain_of r) past was → IfOk result (λ o. RunGoes pick_of (rules_of pick_of plain_of r) past e y o now)
 stepped {S} {H} pick_of plain_of r setup pools past e x y was now result s p o h =
     subst (λ (z : Option Packet). RunStands pick_of (rules_of pick_of plain_of r) past was → IfOk result (λ o. RunGoes pick_of (rules_of pick_of plain_of r) past e z o now)) o

@@ -13,13 +13,13 @@ use Rattle.cluster_node.specs.declared.outcomes.Outcome.{Outcome}
 use Rattle.cluster_node.specs.declared.outcomes.Outcome.TheVariants.{Placed, Refused}
 use Rattle.cluster_node.specs.declared.outcomes.Reason.TheVariants.{NoNode}
 use Rattle.cluster_node.specs.declared.outcomes.Passed.{Passed}
-use Rattle.cluster_node.specs.declared.outcomes.Passed.TheVariants.{Unplaced, Served}
+use Rattle.cluster_node.specs.declared.outcomes.Passed.TheVariants.{Unplaced, Through}
 use Rattle.cluster_node.specs.Record.{node_verdict, newest_of, installed_of, ArePrepared, NodeStands, NodeGoes}
 use Rattle.cluster_node.specs.Records.{WasRead, of_node, said, with_arrival, NodePasses}
 use Rattle.cluster_node.proofs.Passing.{get_same, set_twice}
 use Rattle.pool_versions.specs.Pool.{Pools}
 use Rattle.cluster_core.specs.Setups.{Fixed, rules_for}
-use Rattle.cluster_core.specs.Ruling.{Ruling, rules_of, cluster_of}
+use Rattle.cluster_core.specs.Deployed.{Deployed, rules_of, cluster_of}
 use Rattle.cluster_core.specs.Cluster.{newest_on}
 use Rattle.cluster_core.proofs.Asked.{newest_is}
 use Rattle.cluster_core.specs.RunView.{RunView}
@@ -44,7 +44,7 @@ module _ {S : Type 0} (pick_of : S → ℕ → Pick) (rules : Rules) (past : Lis
       ap (λ (b : Bool). if b then said (verdict rules) past Come (Some p) ∷ of_node n past else of_node n past) (eq-eqb n n refl)
       ∙ ap (λ (b : Bool). let s : Said = record { event = Come; packet = Some p; outcome = if b then node_verdict rules (of_node n past) Come (Some p) else Refused NoNode } in s ∷ of_node n past) (lt-ltb n rules.nodes (subst (λ (c : ℕ). n < c) st.count (get_below run.nodes n m there)))
 
-  serves : (w f v : ℕ) (o : Outcome) (between : NodeView) → Placed w f ≡ node_verdict rules (of_node n past) Come (Some p) → NodeStands rules (with_arrival (node_verdict rules) (of_node n past) Come p) between → NodeGoes rules (with_arrival (node_verdict rules) (of_node n past) Come p) (Serve n w v false) None o after → RunPasses pick_of rules past Come p (λ u. Serve n u v false) (Served w f o) (with_node after)
+  serves : (w f v : ℕ) (o : Outcome) (between : NodeView) → Placed w f ≡ node_verdict rules (of_node n past) Come (Some p) → NodeStands rules (with_arrival (node_verdict rules) (of_node n past) Come p) between → NodeGoes rules (with_arrival (node_verdict rules) (of_node n past) Come p) (Serve n w v false) None o after → RunPasses pick_of rules past Come p (λ u. Serve n u v false) (Through w f o) (with_node after)
   serves w f v o between placed stands goes =
       let first : RunGoes pick_of rules past Come (Some p) (Placed w f) (with_node between) = arrives (Placed w f) between (placed, stands) in
       let second : RunGoes pick_of rules (with_arrival (verdict rules) past Come p) (Serve n w v false) None o (record { failed = run.failed; nodes = slice_set (slice_set run.nodes n between) n after; versions = run.versions }) =
@@ -62,7 +62,7 @@ module _ {S : Type 0} (pick_of : S → ℕ → Pick) (rules : Rules) (past : Lis
   pass_goes v (Unplaced o) g =
       let r : RunGoes pick_of rules past Come (Some p) o (with_node after) = arrives o after (g.0.1, g.1) in
       ((g.0.0, r.0), subst (λ (x : Outcome). RunStands pick_of rules (record { event = Come; packet = Some p; outcome = x } ∷ past) (with_node after)) (sym r.0) r.1)
-  pass_goes v (Served w f o) g = serves w f v o g.1.0 g.0.0 g.1.1 (g.0.1, g.1.2)
+  pass_goes v (Through w f o) g = serves w f v o g.1.0 g.0.0 g.1.1 (g.0.1, g.1.2)
 
 -- the same where it isn't refused, as the code finds it
 pub pass_said : {S E : Type 0} (pick_of : S → ℕ → Pick) (rules : Rules) (past : List Said) (run : RunView S) (n k : ℕ) (marks : List Bool) (p : Packet) (one after : NodeView) (q : Passed) (r : Result (Unit {0}) E) → WasRead (Some p) → n < length run.nodes → one ≡ get_or run.nodes n one → RunStands pick_of rules past run
@@ -80,7 +80,7 @@ no_node_passes pick_of rules past run n k v marks p le st =
     ((refl, r.0), subst (λ (x : Outcome). RunStands pick_of rules (record { event = Arrive n k marks; packet = Some p; outcome = x } ∷ past) run) (sym r.0) r.1)
 
 -- the same under a setup and a catalogue that fit, by the record's newest version
-pub passed_by : {S H : Type 0} (pick_of : S → ℕ → Pick) (plain_of : H → List ℕ → ℕ) (ruling : Ruling S H) (setup : Fixed S H) (past : List Said) (n k : ℕ) (marks : List Bool) (p : Packet) (run after : RunView S) (q : Passed) → setup ≡ ruling.setup → RunStands pick_of (rules_of pick_of plain_of ruling) past run
+pub passed_by : {S H : Type 0} (pick_of : S → ℕ → Pick) (plain_of : H → List ℕ → ℕ) (ruling : Deployed S H) (setup : Fixed S H) (past : List Said) (n k : ℕ) (marks : List Bool) (p : Packet) (run after : RunView S) (q : Passed) → setup ≡ ruling.setup → RunStands pick_of (rules_of pick_of plain_of ruling) past run
     → ((pools : Pools) (had : List Said) → RunStands pick_of (rules_for pick_of plain_of setup pools) had run → RunPasses pick_of (rules_for pick_of plain_of setup pools) had (Arrive n k marks) p (λ w. Serve n w (newest_at (slice_get run.nodes n)) false) q after)
     → RunPasses pick_of (rules_of pick_of plain_of ruling) past (Arrive n k marks) p (λ w. Serve n w (newest_on (cluster_of pick_of plain_of ruling) n past) false) q after
 passed_by {S} {H} pick_of plain_of ruling setup past n k marks p run after q same st g =

@@ -6,20 +6,20 @@ use Rattle.cluster_node.specs.Rules.{Rules}
 use Rattle.cluster_node.specs.Book.{Line, put, took, serving_under}
 
 -- what a worker did: the packet that it popped, the version, and whether a new entry was refused
-pub record Served : Type 0 where
+pub record Handling : Type 0 where
   pub item : Item
   pub version : ℕ
   pub refused : Bool
 
 -- the packets that were popped are the first ones placed, in order. The newest in front
-abbrev pub Popped : List Item → List Served → Type 0
+abbrev pub Popped : List Item → List Handling → Type 0
 Popped items [] = Unit {0}
 Popped items (s ∷ earlier) = (slice_get items (length earlier) ≡ Some s.item) × Popped items earlier
 
-abbrev pub serving : Rules → Served → Serving
+abbrev pub serving : Rules → Handling → Serving
 serving rules s = serving_under (rules.ups s.version) s.version s.item s.refused
 
-abbrev pub greatest : List Served → ℕ
+abbrev pub greatest : List Handling → ℕ
 greatest [] = 0
 greatest (s ∷ earlier) = max s.version (greatest earlier)
 
@@ -29,10 +29,10 @@ puts_on ls [] = ls
 puts_on ls (i ∷ is) = puts_on (put i ∷ ls) is
 
 -- the worker's servings, as lines after these
-abbrev pub tooks_on : List Line → List Served → List Line
+abbrev pub tooks_on : List Line → List Handling → List Line
 tooks_on ls [] = ls
 tooks_on ls (s ∷ earlier) = took s.version s.refused ∷ tooks_on ls earlier
 
 -- a worker's life, with all packets placed before all servings
-abbrev pub settled : List Item → List Served → List Line
+abbrev pub settled : List Item → List Handling → List Line
 settled items done = tooks_on (puts_on [] items) done

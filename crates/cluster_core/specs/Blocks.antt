@@ -19,14 +19,14 @@ abbrev pub serves : ℕ → ℕ → List Ask → List Event
 serves n w [] = []
 serves n w (a ∷ rest) = Serve n w a.version a.refused ∷ serves n w rest
 
-abbrev pub lines_after : List Line → Ask → Outcome → List Line
-lines_after ls a o = if accepted o then took a.version a.refused ∷ ls else ls
+abbrev pub lines_asked : List Line → Ask → Outcome → List Line
+lines_asked ls a o = if accepted o then took a.version a.refused ∷ ls else ls
 
 -- what they come to by the installed versions and the worker's own lines
 abbrev pub own : Rules → List ℕ → List Line → ℕ → ℕ → List Ask → List Outcome
 own rules installed ls n w [] = []
 own rules installed ls n w (a ∷ rest) = by_lines rules installed ls n w a.version a.refused
-    ∷ own rules installed (lines_after ls a (by_lines rules installed ls n w a.version a.refused)) n w rest
+    ∷ own rules installed (lines_asked ls a (by_lines rules installed ls n w a.version a.refused)) n w rest
 
 -- the record after them
 abbrev pub past_after : Rules → List Said → ℕ → ℕ → List Ask → List Said

@@ -12,7 +12,7 @@ use Rattle.cluster_node.specs.Book.{serving_under, taken}
 use Rattle.cluster_node.specs.Record.{installed_of, lines_of, serve_verdict, newest_of, refusals_of, placed_count}
 use Rattle.cluster_core.specs.Runs.{verdicts, say, packet_of}
 use Rattle.cluster_node.specs.Records.{lines_at, node_of, of_node}
-use Rattle.cluster_core.specs.Apart.{Served, Popped, serving, greatest, settled}
+use Rattle.cluster_core.specs.Apart.{Handling, Popped, serving, greatest, settled}
 use Rattle.cluster_core.specs.Blocks.{Ask, serves, own, past_after}
 
 -- a serving's verdict depends on the worker's own lines and the versions installed on its node alone
@@ -52,5 +52,5 @@ BlocksLeaveArrivals = (rules : Rules) (n w : ℕ) (past : List Said) (asks : Lis
 -- with all packets placed before all servings, the next serving of a worker that popped the first packets in order comes
 -- to what its forwarder answers after its own servings
 abbrev pub ServesFollowPackets : Type 0
-ServesFollowPackets = (rules : Rules) (items : List Item) (done : List Served) (i : Item) (v : ℕ) (r : Bool) → Popped items done → slice_get items (length done) ≡ Some i →
+ServesFollowPackets = (rules : Rules) (items : List Item) (done : List Handling) (i : Item) (v : ℕ) (r : Bool) → Popped items done → slice_get items (length done) ≡ Some i →
     taken rules (settled items done) v r ≡ (if nat_lt v i.floor || nat_lt v (greatest done) then Behind else Done i (told_after rules.pick rules.capacity rules.idle (told rules.pick rules.capacity rules.idle (map (serving rules) done)) (serving_under (rules.ups v) v i r)).choice)

@@ -14,5 +14,5 @@ pub mod Laws
 pub mod Histories
 pub mod PrivateCounting
 pub mod Promises
-pub mod Ruling
+pub mod Deployed
 pub mod Noting

@@ -6,11 +6,11 @@ ghost use Rattle.cluster_node.specs.Records.{with_told};
 ghost use Rattle.cluster_node.specs.declared.events.Said.{Said};
 ghost use Rattle.cluster_core.specs.Runs.{RunStands};
 ghost use Rattle.cluster_core.specs.Totals.{came_of, went_of};
-ghost use Rattle.cluster_core.specs.Ruling.{Ruling, rules_of, cluster_of, IsBalanced};
+ghost use Rattle.cluster_core.specs.Deployed.{Deployed, rules_of, cluster_of, IsBalanced};
 
 use crate::machine::Core;
 use crate::notes::Notes;
-use crate::rules::Rules;
+use crate::deployment::Deployment;
 use crate::running::Run;
 use crate::task::Task;
 use cluster_node::{Event, Outcome, Packet, Passed};
@@ -43,7 +43,7 @@ fn note_passed<N: Notes>(
 {
     match passed {
         Passed::Unplaced(outcome) => notes.note(asked, event, outcome),
-        Passed::Served {
+        Passed::Through {
             worker,
             floor,
             outcome,
@@ -66,11 +66,11 @@ fn note_passed<N: Notes>(
 
 impl<S: Scheme, H: FlowHash, T: ConnTable, N: Notes> Balancers<S, H, T, N> {
     /// Balancers to which nothing has happened, with such notes. They stand for the empty record.
-    pub fn make(alloc: Global, rules: &Rules<S, H>, notes: N) -> Result<Self, AllocError>
-        ensures run { IfOk result (λ b. RunStands (λ s z. S.pick s z) (rules_of (λ s z. S.pick s z) (λ h. H.plain h) rules.now) [] b.run) }
+    pub fn make(alloc: Global, deployment: &Deployment<S, H>, notes: N) -> Result<Self, AllocError>
+        ensures run { IfOk result (λ b. RunStands (λ s z. S.pick s z) (rules_of (λ s z. S.pick s z) (λ h. H.plain h) deployment.now) [] b.run) }
         ensures notes { IfOk result (λ b. b.notes ≡ notes) }
     {
-        let run = Run::make(alloc, rules.setup())?;
+        let run = Run::make(alloc, deployment.setup())?;
         Ok(Balancers {
             run,
             notes,
@@ -92,20 +92,20 @@ impl<S: Scheme, H: FlowHash, T: ConnTable, N: Notes> Balancers<S, H, T, N> {
 
     /// What left the queues is no more than what was placed, by every record for which the balancers stand, and so by its
     /// history, as `Counts::totals` asks. The body does nothing.
-    pub fn keep_balance(&self, rules: &Rules<S, H>)
-        ensures record { (past : List Said) → RunStands (λ s z. S.pick s z) (rules_of (λ s z. S.pick s z) (λ h. H.plain h) rules.now) past self.now.run → went_of past ≤ came_of past }
-        ensures history { (past : List Said) → RunStands (λ s z. S.pick s z) (rules_of (λ s z. S.pick s z) (λ h. H.plain h) rules.now) past self.now.run → IsBalanced (reverse past) }
+    pub fn keep_balance(&self, deployment: &Deployment<S, H>)
+        ensures record { (past : List Said) → RunStands (λ s z. S.pick s z) (rules_of (λ s z. S.pick s z) (λ h. H.plain h) deployment.now) past self.now.run → went_of past ≤ came_of past }
+        ensures history { (past : List Said) → RunStands (λ s z. S.pick s z) (rules_of (λ s z. S.pick s z) (λ h. H.plain h) deployment.now) past self.now.run → IsBalanced (reverse past) }
     {
-        let _ = rules;
+        let _ = deployment;
     }
 }
 
 impl<S: Scheme, H: FlowHash, T: ConnTable, N: Notes> Core for Balancers<S, H, T, N> {
     type Setup = Task<S, H, N::Asked>;
 
-    ghost cluster = { λ task. cluster_of (λ s z. S.pick s z) (λ h. H.plain h) task.rules };
+    ghost cluster = { λ task. cluster_of (λ s z. S.pick s z) (λ h. H.plain h) task.deployment };
 
-    ghost stands = { λ task past balancers. RunStands (λ s z. S.pick s z) (rules_of (λ s z. S.pick s z) (λ h. H.plain h) task.rules) past balancers.run × N.are_of task.asked past balancers.notes };
+    ghost stands = { λ task past balancers. RunStands (λ s z. S.pick s z) (rules_of (λ s z. S.pick s z) (λ h. H.plain h) task.deployment) past balancers.run × N.are_of task.asked past balancers.notes };
 
     #[inline(always)]
     fn step(
@@ -114,10 +114,10 @@ impl<S: Scheme, H: FlowHash, T: ConnTable, N: Notes> Core for Balancers<S, H, T,
         event: Event,
         packet: Option<Packet>,
     ) -> Result<Outcome, AllocError> {
-        let rules = &setup.rules;
+        let deployment = &setup.deployment;
         let outcome = self
             .run
-            .step(rules.setup(), rules.catalogue(), &event, packet.as_ref())?;
+            .step(deployment.setup(), deployment.catalogue(), &event, packet.as_ref())?;
         self.notes.note(&setup.asked, &event, &outcome)?;
         Ok(outcome)
     }
@@ -134,7 +134,7 @@ impl<S: Scheme, H: FlowHash, T: ConnTable, N: Notes> Core for Balancers<S, H, T,
     ) -> Result<(), AllocError> {
         let version = self.newest(setup, node);
         self.run
-            .pass(setup.rules.setup(), node, packet, refused, body, passed)?;
+            .pass(setup.deployment.setup(), node, packet, refused, body, passed)?;
         let event = Event::Arrive {
             node,
             packet,
@@ -144,7 +144,7 @@ impl<S: Scheme, H: FlowHash, T: ConnTable, N: Notes> Core for Balancers<S, H, T,
     }
 
     fn workers(setup: &Task<S, H, N::Asked>) -> u16 {
-        setup.rules.setup().workers()
+        setup.deployment.setup().workers()
     }
 
     #[inline(always)]

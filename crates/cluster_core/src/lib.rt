@@ -21,7 +21,7 @@ mod machine;
 mod notes;
 mod reading;
 mod replaying;
-mod rules;
+mod deployment;
 mod running;
 mod task;
 
@@ -40,6 +40,6 @@ pub use machine::Core;
 pub use notes::Notes;
 pub use reading::read_packet;
 pub use replaying::replay;
-pub use rules::Rules;
+pub use deployment::Deployment;
 pub use running::{Run, prepare_newer};
 pub use task::Task;

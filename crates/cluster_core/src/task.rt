@@ -1,11 +1,11 @@
 //! What is fixed for a run, and what is asked of it.
-use crate::rules::Rules;
+use crate::deployment::Deployment;
 use hash_laws::FlowHash;
 use selection::Scheme;
 
 /// The rules of a run, and what is asked of its record.
 #[derive(Drop)]
 pub struct Task<S: Scheme, H: FlowHash, A> {
-    pub rules: Rules<S, H>,
+    pub deployment: Deployment<S, H>,
     pub asked: A,
 }

@@ -1,7 +1,7 @@
-//! Worked scenarios on balancers with both tables, and what rules refuse.
+//! Worked scenarios on balancers with both tables, and what deployment refuse.
 ghost use Rattle.std.specs.Prelude.{◌≡◌, ◌<◌, ◌^◌, [], length};
 
-use cluster_core::{Balancers, Core, Notes, Rules, Setup, Task, Totals};
+use cluster_core::{Balancers, Core, Notes, Deployment, Setup, Task, Totals};
 use cluster_node::{Event, Outcome, Packet, Said};
 use connection_table::{ConnTable, LruTable, PlainTable};
 use course::{Counts, Play, Step, all_live};
@@ -84,8 +84,8 @@ fn setup(rt: &impl Abort, alloc: Global) -> Setup<Sums, SumHash> {
     Setup::new(SumHash, Maglev { hash: SumHash }, size, nodes, 1, 2, None).expect(rt, "a setup")
 }
 
-fn rules(rt: &impl Abort, alloc: Global) -> Rules<Sums, SumHash> {
-    Rules::new(setup(rt, alloc), catalogue(rt, alloc, 7)).expect(rt, "rules")
+fn deployment(rt: &impl Abort, alloc: Global) -> Deployment<Sums, SumHash> {
+    Deployment::new(setup(rt, alloc), catalogue(rt, alloc, 7)).expect(rt, "deployment")
 }
 
 // What the steps come to under a core that stands for the empty record, over three packets of one flow, from this port.
@@ -131,16 +131,16 @@ fn played<T: ConnTable>(
 ) -> Totals
     requires { length steps.now < 2 ^ 32 }
 {
-    let rules = rules(rt, alloc);
-    let task = Task { rules, asked: () };
+    let deployment = deployment(rt, alloc);
+    let task = Task { deployment, asked: () };
     let kept = Kept {
         counts: Counts::new(),
     };
-    let mut balancers = Balancers::<Sums, SumHash, T, Kept>::make(alloc, &task.rules, kept).expect(
+    let mut balancers = Balancers::<Sums, SumHash, T, Kept>::make(alloc, &task.deployment, kept).expect(
         rt, "memory",
     );
     let _play = played_by(rt, alloc, &mut balancers, &task, port, steps, events);
-    balancers.keep_balance(&task.rules);
+    balancers.keep_balance(&task.deployment);
     balancers.into_notes().counts.totals()
 }
 
@@ -270,21 +270,21 @@ fn scenarios_with_a_table_over_links(rt: HostRuntime) {
 #[test]
 fn what_fits(rt: HostRuntime) {
     let alloc = rt.alloc();
-    assert!(&rt; Rules::new(setup(&rt, alloc), catalogue(&rt, alloc, 13)).is_none());
+    assert!(&rt; Deployment::new(setup(&rt, alloc), catalogue(&rt, alloc, 13)).is_none());
     let task = Task {
-        rules: rules(&rt, alloc),
+        deployment: deployment(&rt, alloc),
         asked: (),
     };
     let workers = <Balancers<Sums, SumHash, LruTable, Kept> as Core>::workers(&task);
-    let rules = &task.rules;
+    let deployment = &task.deployment;
     assert_eq!(&rt;
         (
-            rules.setup().workers(),
-            rules.setup().size().slots(),
-            rules.catalogue().size().slots(),
+            deployment.setup().workers(),
+            deployment.setup().size().slots(),
+            deployment.catalogue().size().slots(),
             workers
         ),
         (1, 7, 7, 1)
     );
-    assert!(&rt; rules.catalogue().get(2).is_some() && rules.catalogue().get(3).is_none());
+    assert!(&rt; deployment.catalogue().get(2).is_some() && deployment.catalogue().get(3).is_none());
 }

@@ -22,7 +22,7 @@ use Rattle.cluster_node.specs.declared.outcomes.Outcome.{Outcome}
 use Rattle.cluster_node.specs.declared.outcomes.Outcome.TheVariants.{Installed, Placed, Forward, Dropped, Restarted, Refused}
 use Rattle.cluster_node.specs.declared.outcomes.Cause.TheVariants.{NoVersion}
 use Rattle.cluster_node.specs.declared.outcomes.Passed.{Passed}
-use Rattle.cluster_node.specs.declared.outcomes.Passed.TheVariants.{Served}
+use Rattle.cluster_node.specs.declared.outcomes.Passed.TheVariants.{Through}
 use Rattle.cluster_node.specs.Record.{ArePrepared, installed_of, node_say, NodeStands, NodeGoes}
 use Rattle.cluster_node.specs.Records.{NodePasses}
 use Rattle.cluster_node.specs.PrivateSteps.{NodeStep, OneStep, PassStep, one_if, one_step, serve_at, serve_step, arrive_step, place_step, put_at, refuse, with_item, served_at, pass_then, pass_after, pass_on, pass_step}
@@ -66,26 +66,26 @@ module _ {S : Type 0} (pick_of : S → ℕ → Pick) (ps : List (Readied S)) (pl
   with_workers ws = record { newest = m.newest; installed = m.installed; cursor = Turned; workers = ws }
 
   -- a packet that is placed changes its worker alone
-  pub placed_is : (m.newest == 0) ≡ false → place_for marks (length m.workers) (home_of plain (length m.workers) x) m.cursor ≡ placings.Worker w → slice_get m.workers w ≡ Some u → pass_on pick_of ps plain m place k marks x t ≡ record { passed = Served w m.newest One.outcome; after = with_workers (slice_set m.workers w One.after) }
+  pub placed_is : (m.newest == 0) ≡ false → place_for marks (length m.workers) (home_of plain (length m.workers) x) m.cursor ≡ placings.Worker w → slice_get m.workers w ≡ Some u → pass_on pick_of ps plain m place k marks x t ≡ record { passed = Through w m.newest One.outcome; after = with_workers (slice_set m.workers w One.after) }
   placed_is b e h =
       ap (λ (d : Bool). pass_after pick_of ps place (if d then refuse (Dropped k NoVersion) m else place_step m k x t Turned (place_for marks (length m.workers) (home_of plain (length m.workers) x) m.cursor))) b
       ∙ ap (λ (o : Placing). pass_after pick_of ps place (place_step m k x t Turned o)) e
       ∙ ap (λ (o : Option WorkerView). served_at w m.newest (serve_step pick_of ps (with_workers (put_at o m.workers w Here)) place w m.newest false)) h
       ∙ ap (λ (o : Option WorkerView). served_at w m.newest (serve_at pick_of ps (with_workers (slice_set m.workers w (with_item u Here))) place w m.newest false o)) (get_same m.workers w u (with_item u Here) h)
-      ∙ ap (λ (ws : List WorkerView). let s : PassStep = record { passed = Served w m.newest One.outcome; after = with_workers ws } in s) (set_twice m.workers w (with_item u Here) One.after)
+      ∙ ap (λ (ws : List WorkerView). let s : PassStep = record { passed = Through w m.newest One.outcome; after = with_workers ws } in s) (set_twice m.workers w (with_item u Here) One.after)
 
   -- the same, as the code finds it
-  pub placed_passes : (z : NodeView) (after : WorkerView) (q : Passed) (has : Bool) (count cursor : ℕ) (r : Result (Unit {0}) AllocError) → m ≡ z → (m.newest == 0) ≡ false → length m.workers ≡ count → place_for marks count (home_of plain count x) m.cursor ≡ placings.Worker w → cursor ≡ cursor_after (refuses marks (home_of plain count x)) count m.cursor → w < length m.workers → u ≡ get_or m.workers w u → has ≡ list_any (λ j. j == m.newest) z.installed → OnOk r (q ≡ Served w m.newest (one_if pick_of ps has place w (with_item u Here) m.newest false).outcome) → OnOk r (after ≡ (one_if pick_of ps has place w (with_item u Here) m.newest false).after) →
+  pub placed_passes : (z : NodeView) (after : WorkerView) (q : Passed) (has : Bool) (count cursor : ℕ) (r : Result (Unit {0}) AllocError) → m ≡ z → (m.newest == 0) ≡ false → length m.workers ≡ count → place_for marks count (home_of plain count x) m.cursor ≡ placings.Worker w → cursor ≡ cursor_after (refuses marks (home_of plain count x)) count m.cursor → w < length m.workers → u ≡ get_or m.workers w u → has ≡ list_any (λ j. j == m.newest) z.installed → OnOk r (q ≡ Through w m.newest (one_if pick_of ps has place w (with_item u Here) m.newest false).outcome) → OnOk r (after ≡ (one_if pick_of ps has place w (with_item u Here) m.newest false).after) →
       OnOk r (q ≡ (pass_on pick_of ps plain z place k marks x t).passed) × OnOk r (◌≡◌ {A = NodeView} (record { newest = m.newest; installed = m.installed; cursor = cursor; workers = slice_set m.workers w after }) (pass_on pick_of ps plain z place k marks x t).after)
   placed_passes z after q has count cursor (Err f) same b many e turned lt at known h j = (tt, tt)
   placed_passes z after q has count cursor (Ok d) same b many e turned lt at known h j =
-      let is : pass_on pick_of ps plain m place k marks x t ≡ record { passed = Served w m.newest One.outcome; after = with_workers (slice_set m.workers w One.after) } =
+      let is : pass_on pick_of ps plain m place k marks x t ≡ record { passed = Through w m.newest One.outcome; after = with_workers (slice_set m.workers w One.after) } =
       placed_is b (subst (λ (n : ℕ). place_for marks n (home_of plain n x) m.cursor ≡ placings.Worker w) (sym many) e) (get_of_or m.workers w u lt ∙ ap Some (sym at)) in
       let there : has ≡ list_any (λ i. i == m.newest) m.installed = known ∙ ap (λ (y : NodeView). list_any (λ i. i == m.newest) y.installed) (sym same) in
       let one : OneStep = one_if pick_of ps has place w (with_item u Here) m.newest false in
       let moved : cursor ≡ Turned = turned ∙ ap (λ (n : ℕ). cursor_after (refuses marks (home_of plain n x)) n m.cursor) (sym many) in (
         h
-            ∙ ap (λ (d : Bool). Served w m.newest (one_if pick_of ps d place w (with_item u Here) m.newest false).outcome) there
+            ∙ ap (λ (d : Bool). Through w m.newest (one_if pick_of ps d place w (with_item u Here) m.newest false).outcome) there
             ∙ ap (λ (s : PassStep). s.passed) (sym is)
             ∙ ap (λ (y : NodeView). (pass_on pick_of ps plain y place k marks x t).passed) same,
         ap (λ (q : ℕ). let y : NodeView = record { newest = m.newest; installed = m.installed; cursor = q; workers = slice_set m.workers w after } in y) moved
@@ -110,7 +110,7 @@ module _ {S : Type 0} (pick_of : S → ℕ → Pick) (rules : Rules) (ps : List 
   serving w f after same g =
       let s : NodeStep = serve_step pick_of ps after n w after.newest false in
       let goes : NodeGoes rules Before (Serve n w after.newest false) None s.outcome s.after = as_said rules Before (Serve n w after.newest false) None s.outcome s.after s refl refl (serve_goes pick_of rules ps Before after n w after.newest false None all g.1) in
-      subst (λ (v : ℕ). NodePasses rules past Come p (λ u. Serve n u v false) (Served w f s.outcome) s.after) same ((g.0, goes.0), (after, g.1, goes.1))
+      subst (λ (v : ℕ). NodePasses rules past Come p (λ u. Serve n u v false) (Through w f s.outcome) s.after) same ((g.0, goes.0), (after, g.1, goes.1))
 
   by_outcome : (o : Outcome) (after : NodeView) → after.newest ≡ m.newest → NodeGoes rules past Come (Some p) o after → PassesAs (pass_then pick_of ps n after o)
   by_outcome Installed after same g = ((refl, g.0), g.1)

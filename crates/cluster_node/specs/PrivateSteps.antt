@@ -16,7 +16,7 @@ use Rattle.cluster_node.specs.declared.packets.Packet.TheVariants.{Good, Bad}
 use Rattle.cluster_node.specs.declared.outcomes.Outcome.{Outcome}
 use Rattle.cluster_node.specs.declared.outcomes.Outcome.TheVariants.{Installed, Placed, Forward, Dropped, Restarted, Refused}
 use Rattle.cluster_node.specs.declared.outcomes.Passed.{Passed}
-use Rattle.cluster_node.specs.declared.outcomes.Passed.TheVariants.{Unplaced, Served}
+use Rattle.cluster_node.specs.declared.outcomes.Passed.TheVariants.{Unplaced, Through}
 use Rattle.cluster_node.specs.declared.outcomes.Reason.TheVariants.{NoWorker, NoPacket, UnknownVersion, NotNewer, Idle}
 use Rattle.cluster_node.specs.declared.outcomes.Cause.TheVariants.{NoVersion, RingsFull}
 use Rattle.cluster_node.specs.Record.{prepared_at, of_taken, cleared}
@@ -105,7 +105,7 @@ pub record PassStep : Type 0 where
   pub after : NodeView
 
 abbrev pub served_at : ℕ → ℕ → NodeStep → PassStep
-served_at w floor s = record { passed = Served w floor s.outcome; after = s.after }
+served_at w floor s = record { passed = Through w floor s.outcome; after = s.after }
 
 abbrev pub pass_then : {S : Type 0} → (S → ℕ → Pick) → List (Readied S) → ℕ → NodeView → Outcome → PassStep
 pass_then pick_of ps place n Installed = record { passed = Unplaced Installed; after = n }

@@ -12,7 +12,7 @@ use Rattle.cluster_node.specs.declared.events.Said.{Said}
 use Rattle.cluster_node.specs.declared.outcomes.Outcome.{Outcome}
 use Rattle.cluster_node.specs.declared.outcomes.Outcome.TheVariants.{Installed, Placed, Forward, Dropped, Restarted, Refused}
 use Rattle.cluster_node.specs.declared.outcomes.Passed.{Passed}
-use Rattle.cluster_node.specs.declared.outcomes.Passed.TheVariants.{Unplaced, Served}
+use Rattle.cluster_node.specs.declared.outcomes.Passed.TheVariants.{Unplaced, Through}
 use Rattle.cluster_node.specs.declared.outcomes.Cause.{Cause}
 use Rattle.cluster_node.specs.declared.outcomes.Cause.TheVariants.{NotIpv4, Truncated, BadHeader, BadChecksum, Fragment, NotTcpUdp, BadTransport, TooLarge, NoService, NoBackend, NoVersion, RingsFull, LostAtRestart}
 
@@ -65,17 +65,17 @@ with_serving judge past e p serving = said judge (with_arrival judge past e p) s
 -- other: serving at once is placing and then serving.
 abbrev pub AreTold : Judge → List Said → Event → Packet → (ℕ → Event) → Passed → Type 0
 AreTold judge past e p serving (Unplaced o) = (placed_on o ≡ None) × (o ≡ judge past e (Some p))
-AreTold judge past e p serving (Served w floor o) = (Placed w floor ≡ judge past e (Some p)) × (o ≡ judge (with_arrival judge past e p) (serving w) None)
+AreTold judge past e p serving (Through w floor o) = (Placed w floor ≡ judge past e (Some p)) × (o ≡ judge (with_arrival judge past e p) (serving w) None)
 
 -- the record with what is told
 abbrev pub with_told : List Said → Event → Packet → (ℕ → Event) → Passed → List Said
 with_told past e p serving (Unplaced o) = record { event = e; packet = Some p; outcome = o } ∷ past
-with_told past e p serving (Served w floor o) = record { event = serving w; packet = None; outcome = o } ∷ record { event = e; packet = Some p; outcome = Placed w floor } ∷ past
+with_told past e p serving (Through w floor o) = record { event = serving w; packet = None; outcome = o } ∷ record { event = e; packet = Some p; outcome = Placed w floor } ∷ past
 
 -- the node stands for the record with what the judge says, and where the packet was placed another one stood for the record between
 abbrev pub StandsThrough : Rules → List Said → Event → Packet → (ℕ → Event) → Passed → NodeView → Type 0
 StandsThrough rules past e p serving (Unplaced o) m = NodeStands rules (with_arrival (node_verdict rules) past e p) m
-StandsThrough rules past e p serving (Served w floor o) m = (between : NodeView) × NodeStands rules (with_arrival (node_verdict rules) past e p) between × NodeStands rules (with_serving (node_verdict rules) past e p (serving w)) m
+StandsThrough rules past e p serving (Through w floor o) m = (between : NodeView) × NodeStands rules (with_arrival (node_verdict rules) past e p) between × NodeStands rules (with_serving (node_verdict rules) past e p (serving w)) m
 
 abbrev pub NodePasses : Rules → List Said → Event → Packet → (ℕ → Event) → Passed → NodeView → Type 0
 NodePasses rules past e p serving q m = AreTold (node_verdict rules) past e p serving q × StandsThrough rules past e p serving q m

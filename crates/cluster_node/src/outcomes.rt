@@ -50,9 +50,9 @@ pub enum Reason {
 pub enum Passed {
     /// It wasn't placed: what its arrival came to.
     Unplaced(Outcome),
-    /// It was placed on a worker, to be served under a version that is not below the floor, and the serving came to this
-    /// outcome.
-    Served {
+    /// It went through: it was placed on a worker, to be served under a version that is not below the floor, and the
+    /// serving came to this outcome.
+    Through {
         worker: u16,
         floor: u32,
         outcome: Outcome,

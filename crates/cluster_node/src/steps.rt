@@ -8,7 +8,7 @@ ghost use Rattle.cluster_node.specs.Record.{of_taken, of_choice, node_verdict, A
 ghost use Rattle.cluster_node.specs.Records.{NodePasses};
 ghost use Rattle.cluster_node.specs.declared.events.Event.TheVariants.{Arrive, Serve};
 ghost use Rattle.cluster_node.specs.declared.events.Said.{Said};
-ghost use Rattle.cluster_node.specs.declared.outcomes.Passed.TheVariants.{Served};
+ghost use Rattle.cluster_node.specs.declared.outcomes.Passed.TheVariants.{Through};
 
 use crate::events::Event;
 use crate::outcomes::{Cause, Outcome, Passed, Reason};
@@ -119,14 +119,14 @@ fn pass_one<S: Scheme, T: ConnTable>(
     item: &Item,
     passed: &mut Passed,
 ) -> Result<(), AllocError>
-    ensures passed { OnOk result (passed.new ≡ Served worker item.now.floor (one_if (λ s z. S.pick s z) versions.now installed node worker (with_item one.old item.now) item.now.floor false).outcome) }
+    ensures passed { OnOk result (passed.new ≡ Through worker item.now.floor (one_if (λ s z. S.pick s z) versions.now installed node worker (with_item one.old item.now) item.now.floor false).outcome) }
     ensures after { OnOk result (one.new ≡ (one_if (λ s z. S.pick s z) versions.now installed node worker (with_item one.old item.now) item.now.floor false).after) }
 {
     let floor = item.floor;
     match versions.find(floor) {
         Some(prepared) if installed && one.is_ready(floor) => {
             let choice = one.pass(prepared, item)?;
-            *passed = Passed::Served {
+            *passed = Passed::Through {
                 worker,
                 floor,
                 outcome: sent(node, worker, item, choice),
@@ -136,7 +136,7 @@ fn pass_one<S: Scheme, T: ConnTable>(
         _ => {
             one.put(*item)?;
             let outcome = serve_one(one, versions, installed, node, worker, floor, false)?;
-            *passed = Passed::Served {
+            *passed = Passed::Through {
                 worker,
                 floor,
                 outcome,

@@ -12,7 +12,7 @@ use Rattle.cluster_core.specs.Totals.{went, came_all, went_all}
 use Rattle.course.specs.declared.counts.Counts.{Counts}
 use Rattle.cluster_core.specs.Histories.{outcomes_of}
 use Rattle.course.specs.Counting.{CountsAre}
-use Rattle.cluster_core.specs.Ruling.{IsBalanced}
+use Rattle.cluster_core.specs.Deployed.{IsBalanced}
 
 -- a count with so many more, at a place
 abbrev pub added : List ℕ → ℕ → ℕ → List ℕ

@@ -7,7 +7,7 @@ use Rattle.cluster_node.specs.declared.events.Event.TheVariants.{Arrive, Serve}
 use Rattle.cluster_node.specs.declared.events.Said.{Said}
 use Rattle.cluster_node.specs.declared.outcomes.Outcome.{Outcome}
 use Rattle.cluster_node.specs.declared.outcomes.Passed.{Passed}
-use Rattle.cluster_node.specs.declared.outcomes.Passed.TheVariants.{Unplaced, Served}
+use Rattle.cluster_node.specs.declared.outcomes.Passed.TheVariants.{Unplaced, Through}
 use Rattle.cluster_node.specs.Record.{newest_of}
 use Rattle.cluster_node.specs.Records.{Judge, of_node, said, placed_on, AreTold}
 use Rattle.cluster_core.specs.Cluster.{Cluster, newest_on}
@@ -39,7 +39,7 @@ module _ (w : World) (n i : ℕ) (p : Packet) (c : Course) where
   passed_arrives free (Unplaced o) t =
       ap (λ (x : Outcome). let d : Course = record c { past = record { event = Come; packet = Some p; outcome = x } ∷ c.past } in d) t.1
       ∙ ap (λ (u : Option ℕ). follow w n u (say w Come (Some p) c)) (sym t.0 ∙ ap placed_on t.1)
-  passed_arrives free (Served u f o) t =
+  passed_arrives free (Through u f o) t =
       let before : List Said = said w.cluster.judge c.past Come (Some p) ∷ c.past in
       ap (λ (x : Outcome). let d : Course = record c { past = record { event = serving u; packet = None; outcome = o } ∷ record { event = Come; packet = Some p; outcome = x } ∷ c.past } in d) t.0
       ∙ ap (λ (x : Outcome). let d : Course = record c { past = record { event = serving u; packet = None; outcome = x } ∷ before } in d) t.1

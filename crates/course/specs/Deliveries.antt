@@ -6,7 +6,7 @@ use Rattle.cluster_node.specs.declared.events.Said.{Said}
 use Rattle.cluster_node.specs.declared.outcomes.Outcome.{Outcome}
 use Rattle.cluster_node.specs.declared.outcomes.Outcome.TheVariants.{Placed}
 use Rattle.cluster_node.specs.declared.outcomes.Passed.{Passed}
-use Rattle.cluster_node.specs.declared.outcomes.Passed.TheVariants.{Unplaced, Served}
+use Rattle.cluster_node.specs.declared.outcomes.Passed.TheVariants.{Unplaced, Through}
 use Rattle.course.specs.declared.delivery.Delivery.{Delivery}
 use Rattle.course.specs.Course.{Course}
 use Rattle.course.specs.Steps.{with_passed}
@@ -14,19 +14,19 @@ use Rattle.course.specs.Steps.{with_passed}
 -- what the packet's arrival came to
 abbrev pub came_to : Passed → Outcome
 came_to (Unplaced o) = o
-came_to (Served w floor o) = Placed w floor
+came_to (Through w floor o) = Placed w floor
 
 -- its arrival
 abbrev pub arrival_of : Packet → Delivery → Said
 arrival_of p d = record { event = Arrive d.node d.place d.refused; packet = Some p; outcome = came_to d.passed }
 
 -- the serving behind it, where it was served at once
-abbrev pub served_by : ℕ → ℕ → Passed → Option Said
-served_by n v (Unplaced o) = None
-served_by n v (Served w floor o) = Some (record { event = Serve n w v false; packet = None; outcome = o })
+abbrev pub serving_passed : ℕ → ℕ → Passed → Option Said
+serving_passed n v (Unplaced o) = None
+serving_passed n v (Through w floor o) = Some (record { event = Serve n w v false; packet = None; outcome = o })
 
 abbrev pub serving_of : Delivery → Option Said
-serving_of d = served_by d.node d.version d.passed
+serving_of d = serving_passed d.node d.version d.passed
 
 abbrev pub if_there : Option Said → List Said
 if_there None = []

@@ -80,7 +80,7 @@ impl Delivery {
         };
         let outcome = match self.passed {
             Passed::Unplaced(outcome) => outcome,
-            Passed::Served { worker, floor, .. } => Outcome::Placed { worker, floor },
+            Passed::Through { worker, floor, .. } => Outcome::Placed { worker, floor },
         };
         Said {
             event,
@@ -96,7 +96,7 @@ impl Delivery {
     {
         match self.passed {
             Passed::Unplaced(_) => None,
-            Passed::Served {
+            Passed::Through {
                 worker,
                 outcome,
                 ..

@@ -68,7 +68,7 @@ impl Core for FirstWorker {
         let _ = packet;
         let _ = refused;
         let _ = body;
-        *passed = Passed::Served {
+        *passed = Passed::Through {
             worker: 0,
             floor: 0,
             outcome: Outcome::Dropped {

@@ -71,9 +71,9 @@ fault_of c v =
     services_fault c v.services.items
 
 -- the answer is the fault, if there is one, and else Ok or want of memory
-abbrev pub Judged : {E : Type 0} → Result E PoolFault → Option PoolFault → Type 0
-Judged (Ok _) f = f ≡ None
-Judged (Err e) f = (f ≡ Some e) ⊎ ((e ≡ fault.Memory) × (f ≡ None))
+abbrev pub RefusedAs : {E : Type 0} → Result E PoolFault → Option PoolFault → Type 0
+RefusedAs (Ok _) f = f ≡ None
+RefusedAs (Err e) f = (f ≡ Some e) ⊎ ((e ≡ fault.Memory) × (f ≡ None))
 
 -- a service has no more members than it may have, and no more than there are slots
 pub record HasFewMembers (size : ℕ) (s : Service) : Type 0 where

@@ -1,7 +1,7 @@
 //! The catalogue of versions.
 ghost use Rattle.std.specs.Prelude.{◌≡◌, ◌++◌, ◌∷◌, [], OnOk, OnErr, IfOk, IfSome, option_map, option_copied};
 ghost use Rattle.std.specs.List.{list_any};
-ghost use Rattle.pool_versions.specs.Pool.{Pools, services_fault, fault_of, Judged, version_at, up_of, weights_of, is_over, has_too_many, has_double_name, HasUps, HasWeights, IsWithinLimits, AreSound};
+ghost use Rattle.pool_versions.specs.Pool.{Pools, services_fault, fault_of, RefusedAs, version_at, up_of, weights_of, is_over, has_too_many, has_double_name, HasUps, HasWeights, IsWithinLimits, AreSound};
 
 use crate::backend::Backend;
 use crate::doubles::{has_double_name, has_double_service};
@@ -147,7 +147,7 @@ impl Catalogue {
 
     /// Takes a version in, unless it has a fault. The first fault in the order of `PoolFault` is the answer.
     pub fn add(&mut self, version: Version) -> Result<(), PoolFault>
-        ensures judged { Judged result (fault_of self.old version) }
+        ensures judged { RefusedAs result (fault_of self.old version) }
         ensures ok { OnOk result (self.new ≡ record self.old { versions = self.old.versions ++ version ∷ [] }) }
         ensures err { OnErr result (self.new ≡ self.old) }
     {

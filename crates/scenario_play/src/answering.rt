@@ -5,7 +5,7 @@ ghost use Rattle.selection.specs.Picks.{slot_of_flow};
 ghost use Rattle.cluster_node.specs.Records.{Judged};
 ghost use Rattle.cluster_core.specs.Histories.{outcomes_of};
 ghost use Rattle.cluster_core.specs.Explain.{send_of, explained, PickedSend};
-ghost use Rattle.cluster_core.specs.Ruling.{rules_of, cluster_of, IsBalanced};
+ghost use Rattle.cluster_core.specs.Deployed.{rules_of, cluster_of, IsBalanced};
 ghost use Rattle.course.specs.Counting.{CountsAre};
 ghost use Rattle.scenario_play.specs.declared.asking.Asked.TheVariants.{Report};
 ghost use Rattle.listing.specs.Verdicts.{verdict_text};
@@ -16,7 +16,7 @@ ghost use Rattle.scenario_play.specs.Notebooks.{BookIf, AreOf};
 
 use crate::asking::{Asked, Wanted};
 use crate::notes::Notebook;
-use cluster_core::{Rules, Task, Verdict, explain};
+use cluster_core::{Deployment, Task, Verdict, explain};
 use cluster_node::Outcome;
 use course::Counts;
 use flow_splits::{SplitBook, push_splits};
@@ -51,14 +51,14 @@ fn plain_report(alloc: Global, played: &Played, counts: &Counts) -> Result<Strin
 // What is told of the splits, where it is asked for.
 fn push_splits_if<S: Scheme, H: FlowHash>(
     text: &mut String,
-    rules: &Rules<S, H>,
+    deployment: &Deployment<S, H>,
     splits: bool,
     book: &SplitBook,
 ) -> Result<(), AllocError>
-    ensures { (course : Course) → BookIf splits course.past book.now → OnOk result (string_bytes text.new ≡ string_bytes text.old ++ splits_if splits (lookups_of (H.plain rules.now.setup.hash) rules.now.setup.size rules.now.catalogue) course) }
+    ensures { (course : Course) → BookIf splits course.past book.now → OnOk result (string_bytes text.new ≡ string_bytes text.old ++ splits_if splits (lookups_of (H.plain deployment.now.setup.hash) deployment.now.setup.size deployment.now.catalogue) course) }
 {
     if splits {
-        push_splits(text, &rules.setup().hash(), rules.catalogue(), book)
+        push_splits(text, &deployment.setup().hash(), deployment.catalogue(), book)
     } else {
         Ok(())
     }
@@ -66,7 +66,7 @@ fn push_splits_if<S: Scheme, H: FlowHash>(
 
 fn report<S: Scheme, H: FlowHash>(
     alloc: Global,
-    rules: &Rules<S, H>,
+    deployment: &Deployment<S, H>,
     played: &Played,
     notes: Notebook,
     wanted: Wanted,
@@ -74,24 +74,24 @@ fn report<S: Scheme, H: FlowHash>(
     requires read { played.now.play.read ≤ played.now.packets }
     requires balance { IsBalanced (reverse played.now.play.past) }
     requires notes { AreOf (Report wanted) played.now.play.past notes }
-    ensures { IfOk result (λ s. string_bytes s ≡ report_of (lookups_of (H.plain rules.now.setup.hash) rules.now.setup.size rules.now.catalogue) wanted played.now.play played.now.packets played.now.ending) }
+    ensures { IfOk result (λ s. string_bytes s ≡ report_of (lookups_of (H.plain deployment.now.setup.hash) deployment.now.setup.size deployment.now.catalogue) wanted played.now.play played.now.packets played.now.ending) }
 {
     let report = plain_report(alloc, played, &notes.counts)?;
     let mut text = notes.lines;
-    push_splits_if(&mut text, rules, wanted.splits, &notes.book)?;
+    push_splits_if(&mut text, deployment, wanted.splits, &notes.book)?;
     text.push_str(report.as_str())?;
     Ok(text)
 }
 
 // Why the packets of two events went where they went.
 fn verdict<S: Scheme, H: FlowHash>(
-    rules: &Rules<S, H>,
+    deployment: &Deployment<S, H>,
     one: Option<Outcome>,
     other: Option<Outcome>,
 ) -> Verdict
-    requires one { S.STEADY ≡ true → IfSome one (λ o. PickedSend (rules_of (λ s z. S.pick s z) (λ h. H.plain h) rules.now) (send_of o)) }
-    requires other { S.STEADY ≡ true → IfSome other (λ o. PickedSend (rules_of (λ s z. S.pick s z) (λ h. H.plain h) rules.now) (send_of o)) }
-    ensures { result ≡ explained (λ x. slot_of_flow (H.plain rules.now.setup.hash) rules.now.setup.size x) (option_and_then (λ o. send_of o) one) (option_and_then (λ o. send_of o) other) }
+    requires one { S.STEADY ≡ true → IfSome one (λ o. PickedSend (rules_of (λ s z. S.pick s z) (λ h. H.plain h) deployment.now) (send_of o)) }
+    requires other { S.STEADY ≡ true → IfSome other (λ o. PickedSend (rules_of (λ s z. S.pick s z) (λ h. H.plain h) deployment.now) (send_of o)) }
+    ensures { result ≡ explained (λ x. slot_of_flow (H.plain deployment.now.setup.hash) deployment.now.setup.size x) (option_and_then (λ o. send_of o) one) (option_and_then (λ o. send_of o) other) }
 {
     let Some(one) = one else {
         return Verdict::NotSent;
@@ -99,19 +99,19 @@ fn verdict<S: Scheme, H: FlowHash>(
     let Some(other) = other else {
         return Verdict::NotSent;
     };
-    explain(rules.setup(), rules.catalogue(), &one, &other)
+    explain(deployment.setup(), deployment.catalogue(), &one, &other)
 }
 
 fn line<S: Scheme, H: FlowHash>(
     alloc: Global,
-    rules: &Rules<S, H>,
+    deployment: &Deployment<S, H>,
     notes: &Notebook,
 ) -> Result<String, AllocError>
-    requires one { S.STEADY ≡ true → IfSome notes.now.one (λ o. PickedSend (rules_of (λ s z. S.pick s z) (λ h. H.plain h) rules.now) (send_of o)) }
-    requires other { S.STEADY ≡ true → IfSome notes.now.other (λ o. PickedSend (rules_of (λ s z. S.pick s z) (λ h. H.plain h) rules.now) (send_of o)) }
-    ensures { IfOk result (λ s. string_bytes s ≡ verdict_text (explained (λ x. slot_of_flow (H.plain rules.now.setup.hash) rules.now.setup.size x) (option_and_then (λ o. send_of o) notes.now.one) (option_and_then (λ o. send_of o) notes.now.other))) }
+    requires one { S.STEADY ≡ true → IfSome notes.now.one (λ o. PickedSend (rules_of (λ s z. S.pick s z) (λ h. H.plain h) deployment.now) (send_of o)) }
+    requires other { S.STEADY ≡ true → IfSome notes.now.other (λ o. PickedSend (rules_of (λ s z. S.pick s z) (λ h. H.plain h) deployment.now) (send_of o)) }
+    ensures { IfOk result (λ s. string_bytes s ≡ verdict_text (explained (λ x. slot_of_flow (H.plain deployment.now.setup.hash) deployment.now.setup.size x) (option_and_then (λ o. send_of o) notes.now.one) (option_and_then (λ o. send_of o) notes.now.other))) }
 {
-    let verdict = verdict(rules, notes.one, notes.other);
+    let verdict = verdict(deployment, notes.one, notes.other);
     verdict_text(alloc, &verdict)
 }
 
@@ -124,15 +124,15 @@ pub(crate) fn answer<S: Scheme, H: FlowHash>(
 ) -> Result<String, AllocError>
     requires read { played.now.play.read ≤ played.now.packets }
     requires balance { IsBalanced (reverse played.now.play.past) }
-    requires judged { Judged (cluster_of (λ s z. S.pick s z) (λ h. H.plain h) task.now.rules).judge played.now.play.past }
+    requires judged { Judged (cluster_of (λ s z. S.pick s z) (λ h. H.plain h) task.now.deployment).judge played.now.play.past }
     requires notes { AreOf task.now.asked played.now.play.past notes }
-    ensures { IfOk result (λ s. string_bytes s ≡ answer_of (lookups_of (H.plain task.now.rules.setup.hash) task.now.rules.setup.size task.now.rules.catalogue) task.now.asked played.now.play played.now.packets played.now.ending) }
+    ensures { IfOk result (λ s. string_bytes s ≡ answer_of (lookups_of (H.plain task.now.deployment.setup.hash) task.now.deployment.setup.size task.now.deployment.catalogue) task.now.asked played.now.play played.now.packets played.now.ending) }
 {
     match task.asked {
-        Asked::Report(wanted) => report(alloc, &task.rules, played, notes, wanted),
+        Asked::Report(wanted) => report(alloc, &task.deployment, played, notes, wanted),
         Asked::Events { one: _, other: _ } => {
-            task.rules.send_by_picks();
-            line(alloc, &task.rules, &notes)
+            task.deployment.send_by_picks();
+            line(alloc, &task.deployment, &notes)
         }
     }
 }

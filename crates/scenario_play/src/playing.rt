@@ -2,7 +2,7 @@
 ghost use Rattle.std.specs.Prelude.{◌≡◌, ◌≤◌, [], IfOk, IfErr, string_bytes, length, reverse};
 ghost use Rattle.hash_laws.specs.Any.{plain_of};
 ghost use Rattle.course.specs.Steps.{below};
-ghost use Rattle.cluster_core.specs.Ruling.{cluster_of};
+ghost use Rattle.cluster_core.specs.Deployed.{cluster_of};
 ghost use Rattle.scenario.specs.Meaning.{HasLimits};
 ghost use Rattle.simulation.specs.Plans.{planned};
 ghost use Rattle.simulation.specs.Simulated.{Stopped};
@@ -14,7 +14,7 @@ ghost use Rattle.scenario_play.specs.Kept.{KeepsPromises};
 use crate::answering::answer;
 use crate::asking::Asked;
 use crate::notes::Notebook;
-use cluster_core::{Balancers, Rules, Setup, Task};
+use cluster_core::{Balancers, Deployment, Setup, Task};
 use connection_table::{LruTable, TableKey};
 use course::all_live;
 use hash_laws::AnyHash;
@@ -37,15 +37,15 @@ fn play_with<S: Scheme, P: Spread, I: Source, O: Sink>(
     requires live { P.live spread.old ≡ below (length plan.nodes.now) }
     requires nodes { length plan.nodes.now ≤ 64 }
     requires steps { length plan.steps.now ≤ 100000 }
-    requires cluster { length task.now.rules.setup.nodes ≡ length plan.nodes.now }
-    requires workers { task.now.rules.setup.workers ≤ 16 }
-    ensures ok { IfOk result (λ s. Answers (cluster_of (λ s z. S.pick s z) (λ h. plain_of h) task.now.rules) (P.choice spread.old) (planned plan.entry) (lookups_of (plain_of task.now.rules.setup.hash) task.now.rules.setup.size task.now.rules.catalogue) task.now.asked (I.tape input.old) (I.tape input.new) (O.tape output.old) (O.tape output.new) (string_bytes s)) }
-    ensures stopped { IfErr result (Stopped (cluster_of (λ s z. S.pick s z) (λ h. plain_of h) task.now.rules) (P.choice spread.old) (planned plan.entry) (I.tape input.old) (I.tape input.new) (O.tape output.old) (O.tape output.new)) }
+    requires cluster { length task.now.deployment.setup.nodes ≡ length plan.nodes.now }
+    requires workers { task.now.deployment.setup.workers ≤ 16 }
+    ensures ok { IfOk result (λ s. Answers (cluster_of (λ s z. S.pick s z) (λ h. plain_of h) task.now.deployment) (P.choice spread.old) (planned plan.entry) (lookups_of (plain_of task.now.deployment.setup.hash) task.now.deployment.setup.size task.now.deployment.catalogue) task.now.asked (I.tape input.old) (I.tape input.new) (O.tape output.old) (O.tape output.new) (string_bytes s)) }
+    ensures stopped { IfErr result (Stopped (cluster_of (λ s z. S.pick s z) (λ h. plain_of h) task.now.deployment) (P.choice spread.old) (planned plan.entry) (I.tape input.old) (I.tape input.new) (O.tape output.old) (O.tape output.new)) }
 {
-    let rules = &task.rules;
-    let notes = Notebook::new(alloc, rules.setup().key());
-    let mut balancers = Balancers::<S, AnyHash, LruTable, Notebook>::make(alloc, rules, notes)?;
-    rules.keep_order();
+    let deployment = &task.deployment;
+    let notes = Notebook::new(alloc, deployment.setup().key());
+    let mut balancers = Balancers::<S, AnyHash, LruTable, Notebook>::make(alloc, deployment, notes)?;
+    deployment.keep_order();
     let run = Run {
         alloc,
         plan,
@@ -53,7 +53,7 @@ fn play_with<S: Scheme, P: Spread, I: Source, O: Sink>(
     };
     match play_capture(&run, &mut balancers, spread, input, output) {
         Ok(played) => {
-            balancers.keep_balance(rules);
+            balancers.keep_balance(deployment);
             match answer(alloc, task, &played, balancers.into_notes()) {
                 Ok(text) => Ok(text),
                 Err(_) => Err(SimulationFault::Memory),
@@ -74,15 +74,15 @@ fn play_over<S: Scheme, I: Source, O: Sink>(
 ) -> Result<String, SimulationFault>
     requires nodes { length plan.nodes.now ≤ 64 }
     requires steps { length plan.steps.now ≤ 100000 }
-    requires cluster { length task.now.rules.setup.nodes ≡ length plan.nodes.now }
-    requires workers { task.now.rules.setup.workers ≤ 16 }
-    ensures ok { IfOk result (λ s. Answers (cluster_of (λ s z. S.pick s z) (λ h. plain_of h) task.now.rules) (choice_by spread (plain_of task.now.rules.setup.hash)) (planned plan.entry) (lookups_of (plain_of task.now.rules.setup.hash) task.now.rules.setup.size task.now.rules.catalogue) task.now.asked (I.tape input.old) (I.tape input.new) (O.tape output.old) (O.tape output.new) (string_bytes s)) }
-    ensures stopped { IfErr result (Stopped (cluster_of (λ s z. S.pick s z) (λ h. plain_of h) task.now.rules) (choice_by spread (plain_of task.now.rules.setup.hash)) (planned plan.entry) (I.tape input.old) (I.tape input.new) (O.tape output.old) (O.tape output.new)) }
+    requires cluster { length task.now.deployment.setup.nodes ≡ length plan.nodes.now }
+    requires workers { task.now.deployment.setup.workers ≤ 16 }
+    ensures ok { IfOk result (λ s. Answers (cluster_of (λ s z. S.pick s z) (λ h. plain_of h) task.now.deployment) (choice_by spread (plain_of task.now.deployment.setup.hash)) (planned plan.entry) (lookups_of (plain_of task.now.deployment.setup.hash) task.now.deployment.setup.size task.now.deployment.catalogue) task.now.asked (I.tape input.old) (I.tape input.new) (O.tape output.old) (O.tape output.new) (string_bytes s)) }
+    ensures stopped { IfErr result (Stopped (cluster_of (λ s z. S.pick s z) (λ h. plain_of h) task.now.deployment) (choice_by spread (plain_of task.now.deployment.setup.hash)) (planned plan.entry) (I.tape input.old) (I.tape input.new) (O.tape output.old) (O.tape output.new)) }
 {
     let live = all_live(alloc, plan.nodes.len() as u16)?;
     match spread {
         SpreadKind::Hash => {
-            let mut spread = HashSpread::new(task.rules.setup().hash(), live);
+            let mut spread = HashSpread::new(task.deployment.setup().hash(), live);
             play_with(alloc, task, &mut spread, plan, input, output)
         }
         SpreadKind::Turn => {
@@ -125,12 +125,12 @@ fn play_by<S: Scheme, I: Source, O: Sink>(
     let Ok(setup) = Setup::new(hash, scheme, size, nodes, workers, capacity, idle) else {
         unreachable!()
     };
-    let Some(rules) = Rules::new(setup.keyed(key), catalogue) else {
+    let Some(deployment) = Deployment::new(setup.keyed(key), catalogue) else {
         unreachable!()
     };
-    let task = Task { rules, asked };
+    let task = Task { deployment, asked };
     let plan = Plan {
-        nodes: task.rules.setup().nodes(),
+        nodes: task.deployment.setup().nodes(),
         check,
         steps: steps.as_slice(),
     };

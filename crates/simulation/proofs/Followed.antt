@@ -12,7 +12,7 @@ use Rattle.cluster_node.specs.declared.events.Event.TheVariants.{Install, Arrive
 use Rattle.cluster_node.specs.declared.events.Said.{Said}
 use Rattle.cluster_node.specs.Records.{Judge, Judged}
 use Rattle.cluster_node.specs.declared.outcomes.Passed.{Passed as Told}
-use Rattle.cluster_node.specs.declared.outcomes.Passed.TheVariants.{Served}
+use Rattle.cluster_node.specs.declared.outcomes.Passed.TheVariants.{Through}
 use Rattle.cluster_node.specs.declared.packets.Packet.{Packet}
 use Rattle.cluster_core.specs.Cluster.{Cluster, TakesFirst, Orderly}
 use Rattle.course.specs.declared.delivery.Delivery.{Delivery}
@@ -162,7 +162,7 @@ placed_there p d u floor = record { event = Arrive d.node d.place d.refused; pac
 abbrev pub served_there : Delivery → ℕ → Outcome → Said
 served_there d u o = record { event = Serve d.node u d.version false; packet = None; outcome = o }
 
-pub told_served : (p : Packet) (d : Delivery) (u floor : ℕ) (o : Outcome) → d.arrived ≡ true → d.passed ≡ Served u floor o → events_of p d ≡ placed_there p d u floor ∷ served_there d u o ∷ []
+pub told_served : (p : Packet) (d : Delivery) (u floor : ℕ) (o : Outcome) → d.arrived ≡ true → d.passed ≡ Through u floor o → events_of p d ≡ placed_there p d u floor ∷ served_there d u o ∷ []
 told_served p d u floor o h e =
     told_arrived p d h
     ∙ ap (λ (q : Told). record { event = Arrive d.node d.place d.refused; packet = Some p; outcome = came_to q } ∷ if_there (served_by d.node d.version q)) e

@@ -205,7 +205,7 @@ impl Relay {
             return Ok(());
         }
         match &delivery.passed {
-            Passed::Served {
+            Passed::Through {
                 worker,
                 outcome,
                 ..

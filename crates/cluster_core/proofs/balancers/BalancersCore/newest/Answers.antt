@@ -1,4 +1,4 @@
-use Rattle.cluster_core.specs.Ruling.{rules_of}
+use Rattle.cluster_core.specs.Deployed.{rules_of}
 use Rattle.cluster_core.proofs.balancers.BalancersCore.newest.Goals as goal
 
 pub returns : goal.returns

@@ -1,7 +1,7 @@
 //! What is fixed for a run.
 ghost use Rattle.std.specs.Prelude.{◌≡◌, true, MatchOption};
 ghost use Rattle.cluster_core.specs.Cluster.{Orderly};
-ghost use Rattle.cluster_core.specs.Ruling.{Ruling, rules_of, cluster_of, SendsArePicked};
+ghost use Rattle.cluster_core.specs.Deployed.{Deployed, rules_of, cluster_of, SendsArePicked};
 
 use crate::fixed::Setup;
 use hash_laws::FlowHash;
@@ -11,23 +11,23 @@ use std::marker::Model;
 
 /// A cluster's setup, and the catalogue of its versions, which has tables of the setup's size.
 #[derive(Drop)]
-pub struct Rules<S: Scheme, H: FlowHash> {
+pub struct Deployment<S: Scheme, H: FlowHash> {
     setup: Setup<S, H>,
     catalogue: Catalogue,
 }
 
-impl<S: Scheme, H: FlowHash> Model for Rules<S, H> {
+impl<S: Scheme, H: FlowHash> Model for Deployment<S, H> {
     ghost use Rattle.std.specs.Prelude.{◌≡◌};
-    ghost use Rattle.cluster_core.specs.Ruling.{Ruling};
+    ghost use Rattle.cluster_core.specs.Deployed.{Deployed};
 
-    ghost Value = { Ruling S H };
+    ghost Value = { Deployed S H };
 
     ghost view = { λ r. record { setup = r.setup; catalogue = r.catalogue } };
 
     ghost invariant = { λ r. r.catalogue.size ≡ r.setup.size };
 }
 
-impl<S: Scheme, H: FlowHash> Rules<S, H> {
+impl<S: Scheme, H: FlowHash> Deployment<S, H> {
     /// A setup with a catalogue. None exactly where their tables' sizes differ.
     pub fn new(setup: Setup<S, H>, catalogue: Catalogue) -> Option<Self>
         ensures { MatchOption result
@@ -35,7 +35,7 @@ impl<S: Scheme, H: FlowHash> Rules<S, H> {
             (λ r. (catalogue.size ≡ setup.size) × (r ≡ record { setup = setup; catalogue = catalogue })) }
     {
         if catalogue.size().slots() == setup.size().slots() {
-            Some(Rules { setup, catalogue })
+            Some(Deployment { setup, catalogue })
         } else {
             None
         }

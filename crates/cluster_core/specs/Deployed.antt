@@ -13,15 +13,15 @@ use Rattle.cluster_core.specs.Histories.{outcomes_of}
 use Rattle.cluster_core.specs.Cluster.{Cluster}
 
 -- what is fixed for a run
-pub record Ruling (S H : Type 0) : Type 0 where
+pub record Deployed (S H : Type 0) : Type 0 where
   pub setup : Fixed S H
   pub catalogue : Pools
 
-abbrev pub rules_of : {S H : Type 0} → (S → ℕ → Pick) → (H → List ℕ → ℕ) → Ruling S H → Rules
+abbrev pub rules_of : {S H : Type 0} → (S → ℕ → Pick) → (H → List ℕ → ℕ) → Deployed S H → Rules
 rules_of pick_of plain_of r = rules_for pick_of plain_of r.setup r.catalogue
 
 -- the cluster of its rules
-abbrev pub cluster_of : {S H : Type 0} → (S → ℕ → Pick) → (H → List ℕ → ℕ) → Ruling S H → Cluster
+abbrev pub cluster_of : {S H : Type 0} → (S → ℕ → Pick) → (H → List ℕ → ℕ) → Deployed S H → Cluster
 cluster_of pick_of plain_of r = cluster_by (rules_of pick_of plain_of r)
 
 -- by a history, which has the oldest event in front, what left the queues is no more than what was placed
