@@ -8,9 +8,9 @@ ghost use Rattle.cluster_core.specs.Runs.{RunStands};
 ghost use Rattle.cluster_core.specs.Totals.{came_of, went_of};
 ghost use Rattle.cluster_core.specs.Deployed.{Deployed, rules_of, cluster_of, IsBalanced};
 
+use crate::deployment::Deployment;
 use crate::machine::Core;
 use crate::notes::Notes;
-use crate::deployment::Deployment;
 use crate::running::Run;
 use crate::task::Task;
 use cluster_node::{Event, Outcome, Packet, Passed};
@@ -114,10 +114,10 @@ impl<S: Scheme, H: FlowHash, T: ConnTable, N: Notes> Core for Balancers<S, H, T,
         event: Event,
         packet: Option<Packet>,
     ) -> Result<Outcome, AllocError> {
-        let deployment = &setup.deployment;
+        let fixed = &setup.deployment;
         let outcome = self
             .run
-            .step(deployment.setup(), deployment.catalogue(), &event, packet.as_ref())?;
+            .step(fixed.setup(), fixed.catalogue(), &event, packet.as_ref())?;
         self.notes.note(&setup.asked, &event, &outcome)?;
         Ok(outcome)
     }
@@ -133,8 +133,9 @@ impl<S: Scheme, H: FlowHash, T: ConnTable, N: Notes> Core for Balancers<S, H, T,
         passed: &mut Passed,
     ) -> Result<(), AllocError> {
         let version = self.newest(setup, node);
+        let fixed = &setup.deployment;
         self.run
-            .pass(setup.deployment.setup(), node, packet, refused, body, passed)?;
+            .pass(fixed.setup(), node, packet, refused, body, passed)?;
         let event = Event::Arrive {
             node,
             packet,
