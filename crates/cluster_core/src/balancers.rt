@@ -1,4 +1,4 @@
-//! A cluster's run under rules.
+//! The run of a cluster as it is deployed.
 ghost use Rattle.std.specs.Prelude.{◌≡◌, ◌≤◌, [], ℕ, List, reverse, false, IfOk, OnOk};
 ghost use Rattle.cluster_node.specs.declared.packets.Packet.{Packet};
 ghost use Rattle.cluster_node.specs.declared.events.Event.TheVariants.{Serve};
@@ -20,8 +20,8 @@ use selection::Scheme;
 use std::alloc::{AllocError, Global};
 use std::marker::PhantomData;
 
-/// The balancers of a cluster, under events that are learnt one by one, and what is kept of these. The rules, and what is
-/// asked, are the same in every step.
+/// The balancers of a cluster, under events that are learnt one by one, and what is kept of these. The deployment, and what
+/// is asked, are the same in every step.
 #[derive(Drop)]
 pub struct Balancers<S: Scheme, H: FlowHash, T: ConnTable, N: Notes> {
     run: Run<S, T>,

@@ -3,7 +3,7 @@ use crate::deployment::Deployment;
 use hash_laws::FlowHash;
 use selection::Scheme;
 
-/// The rules of a run, and what is asked of its record.
+/// The cluster of a run, and what is asked of its record.
 #[derive(Drop)]
 pub struct Task<S: Scheme, H: FlowHash, A> {
     pub deployment: Deployment<S, H>,
