@@ -8,7 +8,7 @@ use crate::holding::holds;
 use crate::key::Key;
 use crate::lookup::{has_only, items_at};
 use maglev_texts::address;
-use scenario::{Format, has_root_keys};
+use scenario::{Format, MOST_STEPS, has_root_keys};
 use std::alloc::{AllocError, Global};
 use toml::{Table, Value};
 
@@ -228,7 +228,7 @@ fn steps_flaw(table: &Table) -> Option<Flaw>
     if let Some(n) = first_no_text(values) {
         return Some(Flaw::Item(Key::Steps, n));
     }
-    if is_at_most(count(values), 100_000) {
+    if is_at_most(count(values), MOST_STEPS) {
         None
     } else {
         Some(Flaw::Value(Key::Steps))

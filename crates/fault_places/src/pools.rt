@@ -8,7 +8,7 @@ use crate::doubles::{double_name, double_service};
 use crate::key::Key;
 use crate::place::{Flaw, Place};
 use maglev_table::TableSize;
-use pool_versions::{Service, Version};
+use pool_versions::{MOST_MEMBERS, MOST_SERVICES, MOST_VERSIONS, Service, Version};
 use std::alloc::{AllocError, Global};
 
 // The first service of a version that is for the flows of an earlier one.
@@ -43,15 +43,19 @@ fn double_name_place(
 fn most_members(size: TableSize) -> usize
     ensures { result ≡ most_members size }
 {
-    let slots = size.slots();
-    if slots < 4096 { slots as usize } else { 4096 }
+    let slots = size.slots() as usize;
+    if slots < MOST_MEMBERS {
+        slots
+    } else {
+        MOST_MEMBERS
+    }
 }
 
 fn is_long(size: TableSize, service: &Service) -> bool
     ensures { result ≡ is_long size (plain_service service.now) }
 {
     let members = service.members.len();
-    members > 4096 || members > size.slots() as usize
+    members > MOST_MEMBERS || members > size.slots() as usize
 }
 
 // The first member of a version that passes the limit of its service.
@@ -70,10 +74,10 @@ fn long_place(size: TableSize, version: usize, services: &[Service]) -> Option<P
 fn over_place(size: TableSize, version: usize, services: &[Service]) -> Option<Place>
     ensures { result ≡ over_place size version (map plain_service services.now) }
 {
-    if version > 1023 {
+    if version >= MOST_VERSIONS {
         Some(Place::Root(Flaw::Item(Key::Versions, version)))
-    } else if services.len() > 256 {
-        Some(Place::Version(version, Flaw::Item(Key::Services, 256)))
+    } else if services.len() > MOST_SERVICES {
+        Some(Place::Version(version, Flaw::Item(Key::Services, MOST_SERVICES)))
     } else {
         long_place(size, version, services)
     }

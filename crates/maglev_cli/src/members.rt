@@ -5,11 +5,8 @@ ghost use Rattle.maglev_cli.specs.Compare.{AreMembers, AreLists, AreGood, WordsA
 use super::fault::CliFault;
 use maglev_table::TableSize;
 use maglev_texts::{pieces, weighed_member};
-use pool_versions::{Member, has_double_name};
+use pool_versions::{MOST_MEMBERS, Member, has_double_name};
 use std::alloc::Global;
-
-/// The most members of a list.
-const MOST_MEMBERS: usize = 4096;
 
 /// The members before and after a change.
 #[derive(Drop)]

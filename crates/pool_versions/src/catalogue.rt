@@ -11,10 +11,11 @@ use maglev_table::{TableSize, Weight};
 use std::alloc::{AllocError, Global};
 use std::marker::Model;
 
-// The most versions of a catalogue, and the most services of a version.
-const MOST_VERSIONS: usize = 1024;
+/// The most versions of a catalogue.
+pub const MOST_VERSIONS: usize = 1024;
 
-const MOST_SERVICES: usize = 256;
+/// The most services of a version.
+pub const MOST_SERVICES: usize = 256;
 
 /// Why a version was not taken. They are tested in this order.
 #[derive(Clone, Copy, Debug, PartialEq, Eq)]

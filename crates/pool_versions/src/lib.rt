@@ -11,6 +11,6 @@ mod same;
 mod service;
 
 pub use backend::{Backend, Member};
-pub use catalogue::{Catalogue, PoolFault};
+pub use catalogue::{Catalogue, MOST_SERVICES, MOST_VERSIONS, PoolFault};
 pub use doubles::has_double_name;
-pub use service::{Service, Version, backends_of, weights_of};
+pub use service::{MOST_MEMBERS, Service, Version, backends_of, weights_of};

@@ -8,8 +8,8 @@ use five_tuple::Flow;
 use maglev_table::{TableSize, Weight};
 use std::alloc::{AllocError, Global};
 
-// The most members of a service.
-const MOST_MEMBERS: usize = 4096;
+/// The most members of a service. There may be no more of them than slots either.
+pub const MOST_MEMBERS: usize = 4096;
 
 /// A service: an IPv4 address, a protocol number, a destination port, and the members that stand behind them.
 #[derive(Drop)]

@@ -91,6 +91,9 @@ fn versions_at(
     }
 }
 
+/// The most steps of a scenario.
+pub const MOST_STEPS: usize = 100_000;
+
 fn steps_at(alloc: Global, table: &Table) -> Result<Option<Vec<String>>, AllocError>
     ensures value { IfOk result (λ o. option_map (λ v. map string_bytes v.items) o ≡ steps_in (table_view table.now)) }
     ensures few { IfOk result (λ o. IfSome o (λ v. length v.items ≤ 100000)) }
@@ -101,7 +104,7 @@ fn steps_at(alloc: Global, table: &Table) -> Result<Option<Vec<String>>, AllocEr
     let Some(steps) = texts(alloc, values)? else {
         return Ok(None);
     };
-    if steps.len() > 100_000 {
+    if steps.len() > MOST_STEPS {
         return Ok(None);
     }
     Ok(Some(steps))

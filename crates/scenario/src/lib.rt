@@ -17,7 +17,7 @@ mod step;
 mod versions;
 mod words;
 
-pub use draft::{ROOT_KEYS, has_root_keys, is_root_key};
+pub use draft::{MOST_STEPS, ROOT_KEYS, has_root_keys, is_root_key};
 pub use fault::ScenarioFault;
 pub use formats::{Format, format_of, member_in};
 pub use laws::formats_mean_the_same;
