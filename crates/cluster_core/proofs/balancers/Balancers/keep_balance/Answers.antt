@@ -4,4 +4,4 @@ use Rattle.cluster_core.proofs.Ordered.{told_balance}
 use Rattle.cluster_core.proofs.balancers.Balancers.keep_balance.Goals as goal
 
 pub returns-clause-history : goal.returns-clause-history
-returns-clause-history g c = λ past st. told_balance past (balanced_run (λ s z. g.S.Scheme.pick s z) (rules_of (λ s z. g.S.Scheme.pick s z) (λ h. g.H.FlowHash.plain h) c.args.rules.now) past c.args.self.now.run st)
+returns-clause-history g c = λ past st. told_balance past (balanced_run (λ s z. g.S.Scheme.pick s z) (rules_of (λ s z. g.S.Scheme.pick s z) (λ h. g.H.FlowHash.plain h) c.args.deployment.now) past c.args.self.now.run st)
