@@ -1,7 +1,7 @@
 //! Worked scenarios on balancers with both tables, and what deployment refuse.
 ghost use Rattle.std.specs.Prelude.{◌≡◌, ◌<◌, ◌^◌, [], length};
 
-use cluster_core::{Balancers, Core, Notes, Deployment, Setup, Task, Totals};
+use cluster_core::{Balancers, Core, Deployment, Notes, Setup, Task, Totals};
 use cluster_node::{Event, Outcome, Packet, Said};
 use connection_table::{ConnTable, LruTable, PlainTable};
 use course::{Counts, Play, Step, all_live};
@@ -132,13 +132,18 @@ fn played<T: ConnTable>(
     requires { length steps.now < 2 ^ 32 }
 {
     let deployment = deployment(rt, alloc);
-    let task = Task { deployment, asked: () };
+    let task = Task {
+        deployment,
+        asked: (),
+    };
     let kept = Kept {
         counts: Counts::new(),
     };
-    let mut balancers = Balancers::<Sums, SumHash, T, Kept>::make(alloc, &task.deployment, kept).expect(
-        rt, "memory",
-    );
+    let mut balancers = Balancers::<Sums, SumHash, T, Kept>::make(
+        alloc,
+        &task.deployment,
+        kept,
+    ).expect(rt, "memory");
     let _play = played_by(rt, alloc, &mut balancers, &task, port, steps, events);
     balancers.keep_balance(&task.deployment);
     balancers.into_notes().counts.totals()
@@ -286,5 +291,7 @@ fn what_fits(rt: HostRuntime) {
         ),
         (1, 7, 7, 1)
     );
-    assert!(&rt; deployment.catalogue().get(2).is_some() && deployment.catalogue().get(3).is_none());
+    assert!(&rt;
+        deployment.catalogue().get(2).is_some() && deployment.catalogue().get(3).is_none()
+    );
 }

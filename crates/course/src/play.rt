@@ -52,8 +52,8 @@ impl<P: Spread> Model for Play<P> {
     ghost Value = { Playing P };
 
     ghost view = { λ p. record {
-        course = record { past = p.past.items; read = p.read; live = P.live p.spread; marks = p.marks.items; held = p.held.items; nth = p.nth; unrouted = p.unrouted; lost = p.lost; skipped = p.skipped };
-        spread = p.spread;
+      course = record { past = p.past.items; read = p.read; live = P.live p.spread; marks = p.marks.items; held = p.held.items; nth = p.nth; unrouted = p.unrouted; lost = p.lost; skipped = p.skipped };
+      spread = p.spread;
     } };
 
     ghost invariant = { λ p. p.count ≡ length p.past.items };

@@ -9,7 +9,12 @@ use std::alloc::Global;
 use std::process::Abort;
 
 // The run of steps over four packets of one flow, on two nodes, with packets in turn, and its events.
-fn played(rt: &impl Abort, alloc: Global, steps: &[Step], events: &mut Vec<Said>) -> Play<TurnSpread>
+fn played(
+    rt: &impl Abort,
+    alloc: Global,
+    steps: &[Step],
+    events: &mut Vec<Said>,
+) -> Play<TurnSpread>
     requires { length steps.now < 2 ^ 32 }
     ensures { result.course.read ≤ 4 }
 {
@@ -27,15 +32,8 @@ fn played(rt: &impl Abort, alloc: Global, steps: &[Step], events: &mut Vec<Said>
     }; 4];
     let spread = TurnSpread::new(all_live(alloc, 2).expect(rt, "memory"));
     let mut play = Play::start(alloc, spread, 2).expect(rt, "memory");
-    play.run(
-        alloc,
-        &mut FirstWorker,
-        &1,
-        &packets,
-        steps,
-        events,
-    )
-    .expect(rt, "memory");
+    play.run(alloc, &mut FirstWorker, &1, &packets, steps, events)
+        .expect(rt, "memory");
     play
 }
 

@@ -63,7 +63,12 @@ fn push_splits_if<S: Scheme, H: FlowHash>(
     ensures { (course : Course) → BookIf splits course.past book.now → OnOk result (string_bytes text.new ≡ string_bytes text.old ++ splits_if splits (lookups_of (H.plain deployment.now.setup.hash) deployment.now.setup.size deployment.now.catalogue) course) }
 {
     if splits {
-        push_splits(text, &deployment.setup().hash(), deployment.catalogue(), book)
+        push_splits(
+            text,
+            &deployment.setup().hash(),
+            deployment.catalogue(),
+            book,
+        )
     } else {
         Ok(())
     }

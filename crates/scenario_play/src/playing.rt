@@ -44,7 +44,9 @@ fn play_with<S: Scheme, P: Spread, I: Source, O: Sink>(
 {
     let deployment = &task.deployment;
     let notes = Notebook::new(alloc, deployment.setup().key());
-    let mut balancers = Balancers::<S, AnyHash, LruTable, Notebook>::make(alloc, deployment, notes)?;
+    let mut balancers = Balancers::<S, AnyHash, LruTable, Notebook>::make(
+        alloc, deployment, notes,
+    )?;
     deployment.keep_order();
     let run = Run {
         alloc,

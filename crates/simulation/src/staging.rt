@@ -45,12 +45,7 @@ pub(crate) struct Stage<P: Spread> {
 
 impl<P: Spread> Stage<P> {
     // Nothing was read, and nothing has happened.
-    fn make(
-        alloc: Global,
-        plan: Plan<'_>,
-        spread: P,
-        head: Head,
-    ) -> Result<Stage<P>, AllocError>
+    fn make(alloc: Global, plan: Plan<'_>, spread: P, head: Head) -> Result<Stage<P>, AllocError>
         requires live { P.live spread ≡ below (length plan.nodes.now) }
         requires nodes { length plan.nodes.now ≤ 64 }
         ensures fresh { IfOk result (λ s. Counted s.intake.given 0 s.play.course) }
@@ -110,7 +105,8 @@ impl<P: Spread> Stage<P> {
     {
         let wire = self.wire(run.plan);
         let packet = wire.packet(self.intake.frame());
-        self.play.deliver(core, run.setup, place, &packet, &mut self.delivery)?;
+        self.play
+            .deliver(core, run.setup, place, &packet, &mut self.delivery)?;
         self.relay
             .settle_delivered(&wire, &packet, &self.delivery, &mut self.intake, output)
     }
