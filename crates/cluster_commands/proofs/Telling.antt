@@ -11,8 +11,13 @@ use Rattle.cluster_node.specs.Records.{node_of}
 use Rattle.node_records.specs.declared.command.Command.{Command}
 use Rattle.node_records.specs.Histories.{commands_of}
 use Rattle.node_records.proofs.Histories.{commands_append}
-use Rattle.course.specs.Steps.{below}
-use Rattle.cluster_commands.specs.Orders.{commands_on, orders_in}
+use Rattle.cluster_node.specs.declared.packets.Packet.{Packet}
+use Rattle.scenario_steps.specs.declared.Step.{Step}
+use Rattle.spreader.specs.Choices.{Choice}
+use Rattle.course.specs.Course.{Course}
+use Rattle.course.specs.Steps.{world_of, run, start, below}
+use Rattle.cluster_commands.specs.Noting.{noting}
+use Rattle.cluster_commands.specs.Orders.{commands_on, orders_in, plan_of}
 use Rattle.cluster_commands.specs.PrivateTelling.{pushed, Follows}
 
 pub commands_more : (n : ℕ) (es fs : List Event) → commands_on n (es ++ fs) ≡ commands_on n es ++ commands_on n fs
@@ -93,3 +98,8 @@ history_more nodes history i s old new h is so_far f =
     orders_more nodes (map (λ (x : Said). x.event) (take i history)) s.event new (subst (λ (l : List (List Command)). Follows s.event l new) so_far f)
     ∙ ap (λ (e : Event). orders_in nodes (map (λ (x : Said). x.event) (take i history) ++ e ∷ [])) (ap (λ (x : Said). x.event) is)
     ∙ ap (orders_in nodes) (sym (map_more (λ (x : Said). x.event) history i s h))
+
+-- a run from the start, with the spreader that it was given, is the plan
+pub played : {P : Type 0} (choice : P → Choice) (s t : P) (c d : Course) (packets : List Packet) (steps : List Step) (nodes : ℕ) → d ≡ run (world_of noting (choice s) packets) steps c → s ≡ t → c ≡ start nodes → d ≡ plan_of (choice t) packets steps nodes
+played choice s t c d packets steps nodes e f h =
+    e ∙ ap (λ x. run (world_of noting (choice x) packets) steps c) f ∙ ap (λ (x : Course). run (world_of noting (choice t) packets) steps x) h

@@ -81,28 +81,27 @@ fn commands_by(alloc: Global, nodes: u16, history: &[Said]) -> Result<Vec<Vec<Co
 pub fn orders<P: Spread>(
     alloc: Global,
     nodes: u16,
-    spread: &mut P,
+    spread: P,
     packets: &[Packet],
     steps: &[Step],
 ) -> Result<Orders, AllocError>
     requires read { WereRead packets.now }
-    requires live { P.live spread.old ≡ below nodes }
+    requires live { P.live spread ≡ below nodes }
     requires places { length packets.now < 2 ^ 32 }
     requires steps { length steps.now < 2 ^ 32 }
-    ensures commands { IfOk result (λ o. map (λ c. c.items) o.commands.items ≡ orders_of (P.choice spread.old) packets.now steps.now nodes) }
-    ensures tally { IfOk result (λ o. o.tally ≡ tally_of (length packets.now) (plan_of (P.choice spread.old) packets.now steps.now nodes)) }
+    ensures commands { IfOk result (λ o. map (λ c. c.items) o.commands.items ≡ orders_of (P.choice spread) packets.now steps.now nodes) }
+    ensures tally { IfOk result (λ o. o.tally ≡ tally_of (length packets.now) (plan_of (P.choice spread) packets.now steps.now nodes)) }
     ensures anywhere { IfOk result (λ o. (cluster : Cluster) →
-        (map (λ c. map as_written c.items) o.commands.items ≡ orders_in nodes (events_of (course_on cluster (P.choice spread.old) packets.now steps.now nodes)))
-        × (o.tally ≡ tally_of (length packets.now) (course_on cluster (P.choice spread.old) packets.now steps.now nodes))) }
+        (map (λ c. map as_written c.items) o.commands.items ≡ orders_in nodes (events_of (course_on cluster (P.choice spread) packets.now steps.now nodes)))
+        × (o.tally ≡ tally_of (length packets.now) (course_on cluster (P.choice spread) packets.now steps.now nodes))) }
     // each life that the steps end is ended, in their order, and drained unless they stop it
     ensures ends { IfOk result (λ o. map (λ c. drained_lives c.items) o.commands.items ≡ map (λ n. ends_on n steps.now) (below nodes)) }
     // each packet that is offered is one of a record that was read
-    ensures there { IfOk result (λ o. All (λ c. All (IsThere (plan_of (P.choice spread.old) packets.now steps.now nodes).read) c.items) o.commands.items) }
-    ensures live { OnOk result (P.live spread.new ≡ (plan_of (P.choice spread.old) packets.now steps.now nodes).live) }
+    ensures there { IfOk result (λ o. All (λ c. All (IsThere (plan_of (P.choice spread) packets.now steps.now nodes).read) c.items) o.commands.items) }
 {
-    let mut play = Play::start(alloc, nodes)?;
+    let mut play = Play::start(alloc, spread, nodes)?;
     let mut events = Vec::new(alloc);
-    play.run(alloc, &mut Notes, &(), spread, packets, steps, &mut events)?;
+    play.run(alloc, &mut Notes, &(), packets, steps, &mut events)?;
     let mut commands = commands_by(alloc, nodes, events.as_slice())?;
     end_as(alloc, nodes, steps, &mut commands)?;
     Ok(Orders {

@@ -97,10 +97,10 @@ fn played_by<C: Core>(
     port: u16,
     steps: &[Step],
     events: &mut Vec<Said>,
-) -> Play
+) -> Play<TurnSpread>
     requires stands { C.stands setup.now [] core.old }
     requires few { length steps.now < 2 ^ 32 }
-    ensures { C.stands setup.now result.past core.new }
+    ensures { C.stands setup.now result.course.past core.new }
 {
     let flow = Flow {
         src: 0x0a00_0001,
@@ -114,9 +114,9 @@ fn played_by<C: Core>(
         len: 40,
         at: 0,
     }; 3];
-    let mut spread = TurnSpread::new(all_live(alloc, 2).expect(rt, "memory"));
-    let mut play = Play::start(alloc, 2).expect(rt, "memory");
-    play.run(alloc, core, setup, &mut spread, &packets, steps, events)
+    let spread = TurnSpread::new(all_live(alloc, 2).expect(rt, "memory"));
+    let mut play = Play::start(alloc, spread, 2).expect(rt, "memory");
+    play.run(alloc, core, setup, &packets, steps, events)
         .expect(rt, "memory");
     play
 }

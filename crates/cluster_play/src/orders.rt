@@ -30,12 +30,12 @@ pub(crate) fn orders_of(
     let live = all_live(alloc, nodes)?;
     match scenario.spread {
         SpreadKind::Hash => {
-            let mut spread = HashSpread::new(scenario.hash, live);
-            orders(alloc, nodes, &mut spread, packets, steps)
+            let spread = HashSpread::new(scenario.hash, live);
+            orders(alloc, nodes, spread, packets, steps)
         }
         SpreadKind::Turn => {
-            let mut spread = TurnSpread::new(live);
-            orders(alloc, nodes, &mut spread, packets, steps)
+            let spread = TurnSpread::new(live);
+            orders(alloc, nodes, spread, packets, steps)
         }
     }
 }

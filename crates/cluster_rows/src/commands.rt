@@ -26,8 +26,8 @@ fn told(rt: &impl Abort, alloc: Global, nodes: u16, steps: &[Step]) -> Orders
         len: 40,
         at: 0,
     }; 8];
-    let mut spread = TurnSpread::new(all_live(alloc, nodes).expect(rt, "memory"));
-    orders(alloc, nodes, &mut spread, &packets, steps).expect(rt, "memory")
+    let spread = TurnSpread::new(all_live(alloc, nodes).expect(rt, "memory"));
+    orders(alloc, nodes, spread, &packets, steps).expect(rt, "memory")
 }
 
 // A node's driver is told this.

@@ -9,3 +9,4 @@ pub mod Adding
 pub mod Behind
 pub mod Passing
 pub mod Counted
+pub mod Choosing

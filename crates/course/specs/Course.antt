@@ -19,3 +19,8 @@ pub record Course : Type 0 where
   -- how many records were lost, and how many repeats skipped
   pub lost : ℕ
   pub skipped : ℕ
+
+-- a run that goes on: its course so far, and the spreader that it asks
+pub record Playing (P : Type 0) : Type 0 where
+  pub course : Course
+  pub spread : P

@@ -18,17 +18,6 @@ use spreader::Spread;
 use std::alloc::{AllocError, Global};
 use std::marker::Model;
 
-/// The node that a spreader chooses for a packet, after so many packets.
-#[inline(always)]
-fn choose<P: Spread>(spread: &P, packet: &Packet, nth: u64) -> Option<u16>
-    ensures { result ≡ P.choice spread.now (P.live spread.now) (flow_of packet.now) nth }
-{
-    match packet {
-        Packet::Good { flow, .. } => spread.node(Some(flow), nth),
-        Packet::Bad(_) => spread.node(None, nth),
-    }
-}
-
 /// All nodes of a cluster of so many, ascending: the live ones at the start.
 pub fn all_live(alloc: Global, nodes: u16) -> Result<Vec<u16>, AllocError>
     ensures { IfOk result (λ live. live.items ≡ below nodes) }
@@ -40,14 +29,14 @@ pub fn all_live(alloc: Global, nodes: u16) -> Result<Vec<u16>, AllocError>
     Ok(live)
 }
 
-/// A run so far: the events that the steps defined, with what each came to, and what the steps fixed. Of the events only
-/// their number is kept; the record of them is there for contracts alone.
+/// A run so far: the events that the steps defined, with what each came to, and what the steps fixed, with the spreader, which
+/// has the live nodes. Of the events only their number is kept; the record of them is there for contracts alone.
 #[derive(Drop)]
-pub struct Play {
+pub struct Play<P: Spread> {
+    spread: P,
     past: Log<Said>,
     count: u64,
     read: u32,
-    live: Vec<u16>,
     marks: Vec<[bool; 16]>,
     held: Vec<bool>,
     nth: u64,
@@ -56,22 +45,36 @@ pub struct Play {
     skipped: u64,
 }
 
-impl Model for Play {
+impl<P: Spread> Model for Play<P> {
     ghost use Rattle.std.specs.Prelude.{◌≡◌, length};
-    ghost use Rattle.course.specs.Course.{Course};
+    ghost use Rattle.course.specs.Course.{Playing};
 
-    ghost Value = { Course };
+    ghost Value = { Playing P };
 
-    ghost view = { λ p. record { past = p.past.items; read = p.read; live = p.live.items; marks = p.marks.items; held = p.held.items; nth = p.nth; unrouted = p.unrouted; lost = p.lost; skipped = p.skipped } };
+    ghost view = { λ p. record {
+      course = record { past = p.past.items; read = p.read; live = P.live p.spread; marks = p.marks.items; held = p.held.items; nth = p.nth; unrouted = p.unrouted; lost = p.lost; skipped = p.skipped };
+      spread = p.spread;
+    } };
 
     ghost invariant = { λ p. p.count ≡ length p.past.items };
 }
 
-impl Play {
+impl<P: Spread> Play<P> {
+    /// The node that the spreader chooses for a packet, behind those that were handed to it.
+    #[inline(always)]
+    fn choose(&self, packet: &Packet) -> Option<u16>
+        ensures { result ≡ P.choice self.now.spread self.now.course.live (flow_of packet.now) self.now.course.nth }
+    {
+        match packet {
+            Packet::Good { flow, .. } => self.spread.node(Some(flow), self.nth),
+            Packet::Bad(_) => self.spread.node(None, self.nth),
+        }
+    }
+
     /// The workers of a node that refuse.
     #[inline(always)]
     fn marks_at(&self, node: u16) -> [bool; 16]
-        ensures { result ≡ marks_at node self.now }
+        ensures { result ≡ marks_at node self.now.course }
     {
         match self.marks.get(node as usize) {
             Some(marks) => *marks,
@@ -81,7 +84,7 @@ impl Play {
 
     #[inline(always)]
     fn is_held(&self, node: u16) -> bool
-        ensures { result ≡ is_held node self.now }
+        ensures { result ≡ is_held node self.now.course }
     {
         match self.held.get(node as usize) {
             Some(is_held) => *is_held,
@@ -90,7 +93,8 @@ impl Play {
     }
 
     fn set_held(&mut self, node: u16, is_held: bool)
-        ensures { self.new ≡ record self.old { held = slice_set self.old.held node is_held } }
+        ensures course { self.new.course ≡ record self.old.course { held = slice_set self.old.course.held node is_held } }
+        ensures spread { self.new.spread ≡ self.old.spread }
     {
         let at = node as usize;
         if at < self.held.len() {
@@ -99,7 +103,8 @@ impl Play {
     }
 
     fn set_marks(&mut self, node: u16, marks: [bool; 16])
-        ensures { self.new ≡ record self.old { marks = slice_set self.old.marks node marks } }
+        ensures course { self.new.course ≡ record self.old.course { marks = slice_set self.old.course.marks node marks } }
+        ensures spread { self.new.spread ≡ self.old.spread }
     {
         let at = node as usize;
         if at < self.marks.len() {
@@ -108,7 +113,8 @@ impl Play {
     }
 
     fn release(&mut self, node: u16)
-        ensures { self.new ≡ release node self.old }
+        ensures course { self.new.course ≡ release node self.old.course }
+        ensures spread { self.new.spread ≡ self.old.spread }
     {
         self.set_held(node, false);
     }
@@ -116,7 +122,7 @@ impl Play {
     /// How many events there were.
     #[inline(always)]
     fn said_count(&self) -> u64
-        ensures { result ≡ length self.now.past }
+        ensures { result ≡ length self.now.course.past }
     {
         self.count
     }
@@ -124,7 +130,8 @@ impl Play {
     /// An event was said. Where their number has no room it is refused, as memory is.
     #[inline(always)]
     fn note(&mut self, said: &Said) -> Result<(), AllocError>
-        ensures { OnOk result (self.new ≡ noted said.now self.old) }
+        ensures spread { self.new.spread ≡ self.old.spread }
+        ensures after { OnOk result (self.new.course ≡ noted said.now self.old.course) }
     {
         let Some(count) = self.count.checked_add(1) else {
             return Err(AllocError);
@@ -143,8 +150,9 @@ impl Play {
         outcome: Outcome,
         events: &mut Vec<Said>,
     ) -> Result<(), AllocError>
-        ensures after { OnOk result (self.new ≡ noted (record { event = event; packet = packet; outcome = outcome }) self.old) }
-        ensures told { (before : List Said) → Behind before self.old.past events.old.items → OnOk result (Behind before self.new.past events.new.items) }
+        ensures spread { self.new.spread ≡ self.old.spread }
+        ensures after { OnOk result (self.new.course ≡ noted (record { event = event; packet = packet; outcome = outcome }) self.old.course) }
+        ensures told { (before : List Said) → Behind before self.old.course.past events.old.items → OnOk result (Behind before self.new.course.past events.new.items) }
     {
         let said = Said {
             event,
@@ -166,12 +174,12 @@ impl Play {
         packet: Option<Packet>,
         events: &mut Vec<Said>,
     ) -> Result<(), AllocError>
-        requires stands { C.stands setup.now self.old.past core.old }
+        requires stands { C.stands setup.now self.old.course.past core.old }
         requires read { WasRead packet }
-        ensures stands { OnOk result (C.stands setup.now self.new.past core.new) }
-        ensures live { OnOk result (self.new.live ≡ self.old.live) }
-        ensures after { OnOk result ((w : World) → w.cluster ≡ C.cluster setup.now → self.new ≡ say w event packet self.old) }
-        ensures told { (before : List Said) → Behind before self.old.past events.old.items → OnOk result (Behind before self.new.past events.new.items) }
+        ensures stands { OnOk result (C.stands setup.now self.new.course.past core.new) }
+        ensures spread { self.new.spread ≡ self.old.spread }
+        ensures after { OnOk result ((w : World) → w.cluster ≡ C.cluster setup.now → self.new.course ≡ say w event packet self.old.course) }
+        ensures told { (before : List Said) → Behind before self.old.course.past events.old.items → OnOk result (Behind before self.new.course.past events.new.items) }
     {
         let _count = self.said_count();
         let outcome = core.step(setup, event, packet)?;
@@ -190,11 +198,11 @@ impl Play {
         worker: u16,
         events: &mut Vec<Said>,
     ) -> Result<(), AllocError>
-        requires { C.stands setup.now self.old.past core.old }
-        ensures stands { OnOk result (C.stands setup.now self.new.past core.new) }
-        ensures live { OnOk result (self.new.live ≡ self.old.live) }
-        ensures after { OnOk result ((w : World) → w.cluster ≡ C.cluster setup.now → self.new ≡ serve w node worker self.old) }
-        ensures told { (before : List Said) → Behind before self.old.past events.old.items → OnOk result (Behind before self.new.past events.new.items) }
+        requires { C.stands setup.now self.old.course.past core.old }
+        ensures stands { OnOk result (C.stands setup.now self.new.course.past core.new) }
+        ensures spread { self.new.spread ≡ self.old.spread }
+        ensures after { OnOk result ((w : World) → w.cluster ≡ C.cluster setup.now → self.new.course ≡ serve w node worker self.old.course) }
+        ensures told { (before : List Said) → Behind before self.old.course.past events.old.items → OnOk result (Behind before self.new.course.past events.new.items) }
     {
         let version = core.newest(setup, node);
         let event = Event::Serve {
@@ -209,7 +217,8 @@ impl Play {
     /// What is told of a packet that arrived was said.
     #[inline(always)]
     fn note_delivery(&mut self, packet: &Packet, delivery: &Delivery) -> Result<(), AllocError>
-        ensures { OnOk result (self.new ≡ with_delivery packet.now delivery.now self.old) }
+        ensures spread { self.new.spread ≡ self.old.spread }
+        ensures after { OnOk result (self.new.course ≡ with_delivery packet.now delivery.now self.old.course) }
     {
         self.note(&delivery.arrival(packet))?;
         if let Some(serving) = delivery.serving() {
@@ -228,13 +237,13 @@ impl Play {
         packet: &Packet,
         delivery: &mut Delivery,
     ) -> Result<(), AllocError>
-        requires stands { C.stands setup.now self.old.past core.old }
+        requires stands { C.stands setup.now self.old.course.past core.old }
         requires read { WasRead (Some packet.now) }
-        requires held { is_held node self.old ≡ true }
-        ensures stands { OnOk result (C.stands setup.now self.new.past core.new) }
-        ensures live { OnOk result (self.new.live ≡ self.old.live) }
-        ensures after { OnOk result ((w : World) → w.cluster ≡ C.cluster setup.now → self.new ≡ arrive w node place packet.now self.old) }
-        ensures told { OnOk result (Behind (reverse self.old.past) self.new.past (events_of packet.now delivery.new)) }
+        requires held { is_held node self.old.course ≡ true }
+        ensures stands { OnOk result (C.stands setup.now self.new.course.past core.new) }
+        ensures spread { self.new.spread ≡ self.old.spread }
+        ensures after { OnOk result ((w : World) → w.cluster ≡ C.cluster setup.now → self.new.course ≡ arrive w node place packet.now self.old.course) }
+        ensures told { OnOk result (Behind (reverse self.old.course.past) self.new.course.past (events_of packet.now delivery.new)) }
     {
         let _count = self.said_count();
         let refused = self.marks_at(node);
@@ -261,13 +270,13 @@ impl Play {
         packet: &Packet,
         delivery: &mut Delivery,
     ) -> Result<(), AllocError>
-        requires stands { C.stands setup.now self.old.past core.old }
+        requires stands { C.stands setup.now self.old.course.past core.old }
         requires read { WasRead (Some packet.now) }
-        requires free { is_held node self.old ≡ false }
-        ensures stands { OnOk result (C.stands setup.now self.new.past core.new) }
-        ensures live { OnOk result (self.new.live ≡ self.old.live) }
-        ensures after { OnOk result ((w : World) → w.cluster ≡ C.cluster setup.now → self.new ≡ arrive w node place packet.now self.old) }
-        ensures told { OnOk result (Behind (reverse self.old.past) self.new.past (events_of packet.now delivery.new)) }
+        requires free { is_held node self.old.course ≡ false }
+        ensures stands { OnOk result (C.stands setup.now self.new.course.past core.new) }
+        ensures spread { self.new.spread ≡ self.old.spread }
+        ensures after { OnOk result ((w : World) → w.cluster ≡ C.cluster setup.now → self.new.course ≡ arrive w node place packet.now self.old.course) }
+        ensures told { OnOk result (Behind (reverse self.old.course.past) self.new.course.past (events_of packet.now delivery.new)) }
     {
         let _count = self.said_count();
         let refused = self.marks_at(node);
@@ -289,12 +298,12 @@ impl Play {
         packet: &Packet,
         delivery: &mut Delivery,
     ) -> Result<(), AllocError>
-        requires stands { C.stands setup.now self.old.past core.old }
+        requires stands { C.stands setup.now self.old.course.past core.old }
         requires read { WasRead (Some packet.now) }
-        ensures stands { OnOk result (C.stands setup.now self.new.past core.new) }
-        ensures live { OnOk result (self.new.live ≡ self.old.live) }
-        ensures after { OnOk result ((w : World) → w.cluster ≡ C.cluster setup.now → self.new ≡ arrive w node place packet.now self.old) }
-        ensures told { OnOk result (Behind (reverse self.old.past) self.new.past (events_of packet.now delivery.new)) }
+        ensures stands { OnOk result (C.stands setup.now self.new.course.past core.new) }
+        ensures spread { self.new.spread ≡ self.old.spread }
+        ensures after { OnOk result ((w : World) → w.cluster ≡ C.cluster setup.now → self.new.course ≡ arrive w node place packet.now self.old.course) }
+        ensures told { OnOk result (Behind (reverse self.old.course.past) self.new.course.past (events_of packet.now delivery.new)) }
     {
         if self.is_held(node) {
             return self.hold(core, setup, node, place, packet, delivery);
@@ -313,13 +322,13 @@ impl Play {
         packet: &Packet,
         delivery: &mut Delivery,
     ) -> Result<(), AllocError>
-        requires stands { C.stands setup.now self.old.past core.old }
+        requires stands { C.stands setup.now self.old.course.past core.old }
         requires read { WasRead (Some packet.now) }
-        requires room { self.old.unrouted + 1 < 2 ^ 64 }
-        ensures stands { OnOk result (C.stands setup.now self.new.past core.new) }
-        ensures live { OnOk result (self.new.live ≡ self.old.live) }
-        ensures after { OnOk result ((w : World) → w.cluster ≡ C.cluster setup.now → self.new ≡ route w place packet.now chosen self.old) }
-        ensures told { OnOk result (Behind (reverse self.old.past) self.new.past (events_of packet.now delivery.new)) }
+        requires room { self.old.course.unrouted + 1 < 2 ^ 64 }
+        ensures stands { OnOk result (C.stands setup.now self.new.course.past core.new) }
+        ensures spread { self.new.spread ≡ self.old.spread }
+        ensures after { OnOk result ((w : World) → w.cluster ≡ C.cluster setup.now → self.new.course ≡ route w place packet.now chosen self.old.course) }
+        ensures told { OnOk result (Behind (reverse self.old.course.past) self.new.course.past (events_of packet.now delivery.new)) }
     {
         match chosen {
             Some(node) => self.arrive(core, setup, node, place, packet, delivery),
@@ -335,80 +344,74 @@ impl Play {
     /// another one.
     #[tactic(auto, unfolding(crate::specs::Steps::deliver))]
     #[inline(always)]
-    pub fn deliver<C: Core, P: Spread>(
+    pub fn deliver<C: Core>(
         &mut self,
         core: &mut C,
         setup: &C::Setup,
-        spread: &P,
         place: u32,
         packet: &Packet,
         delivery: &mut Delivery,
     ) -> Result<(), AllocError>
-        requires stands { C.stands setup.now self.old.past core.old }
-        requires live { P.live spread.now ≡ self.old.live }
+        requires stands { C.stands setup.now self.old.course.past core.old }
         requires read { WasRead (Some packet.now) }
-        requires room { self.old.unrouted + 1 < 2 ^ 64 }
-        requires many { self.old.nth + 1 < 2 ^ 64 }
-        ensures stands { OnOk result (C.stands setup.now self.new.past core.new) }
-        ensures live { OnOk result (self.new.live ≡ self.old.live) }
-        ensures after { OnOk result ((w : World) → w.cluster ≡ C.cluster setup.now → SameChoice w.choice (P.choice spread.now) → self.new ≡ deliver w place packet.now self.old) }
-        ensures told { OnOk result (Behind (reverse self.old.past) self.new.past (events_of packet.now delivery.new)) }
+        requires room { self.old.course.unrouted + 1 < 2 ^ 64 }
+        requires many { self.old.course.nth + 1 < 2 ^ 64 }
+        ensures stands { OnOk result (C.stands setup.now self.new.course.past core.new) }
+        ensures spread { self.new.spread ≡ self.old.spread }
+        ensures after { OnOk result ((w : World) → w.cluster ≡ C.cluster setup.now → SameChoice w.choice (P.choice self.old.spread) → self.new.course ≡ deliver w place packet.now self.old.course) }
+        ensures told { OnOk result (Behind (reverse self.old.course.past) self.new.course.past (events_of packet.now delivery.new)) }
     {
-        let chosen = choose(spread, packet, self.nth);
+        let chosen = self.choose(packet);
         self.nth += 1;
         self.route(core, setup, chosen, place, packet, delivery)
     }
 
     /// A packet is handed to the spreader, and what is told of it is put behind the events that are told so far.
-    fn deliver_onto<C: Core, P: Spread>(
+    fn deliver_onto<C: Core>(
         &mut self,
         core: &mut C,
         setup: &C::Setup,
-        spread: &P,
         place: u32,
         packet: &Packet,
         events: &mut Vec<Said>,
     ) -> Result<(), AllocError>
-        requires stands { C.stands setup.now self.old.past core.old }
-        requires live { P.live spread.now ≡ self.old.live }
+        requires stands { C.stands setup.now self.old.course.past core.old }
         requires read { WasRead (Some packet.now) }
-        requires room { self.old.unrouted + 1 < 2 ^ 64 }
-        requires many { self.old.nth + 1 < 2 ^ 64 }
-        ensures stands { OnOk result (C.stands setup.now self.new.past core.new) }
-        ensures live { OnOk result (self.new.live ≡ self.old.live) }
-        ensures after { OnOk result ((w : World) → w.cluster ≡ C.cluster setup.now → SameChoice w.choice (P.choice spread.now) → self.new ≡ deliver w place packet.now self.old) }
-        ensures told { (before : List Said) → Behind before self.old.past events.old.items → OnOk result (Behind before self.new.past events.new.items) }
+        requires room { self.old.course.unrouted + 1 < 2 ^ 64 }
+        requires many { self.old.course.nth + 1 < 2 ^ 64 }
+        ensures stands { OnOk result (C.stands setup.now self.new.course.past core.new) }
+        ensures spread { self.new.spread ≡ self.old.spread }
+        ensures after { OnOk result ((w : World) → w.cluster ≡ C.cluster setup.now → SameChoice w.choice (P.choice self.old.spread) → self.new.course ≡ deliver w place packet.now self.old.course) }
+        ensures told { (before : List Said) → Behind before self.old.course.past events.old.items → OnOk result (Behind before self.new.course.past events.new.items) }
     {
         let mut delivery = Delivery::new();
-        self.deliver(core, setup, spread, place, packet, &mut delivery)?;
+        self.deliver(core, setup, place, packet, &mut delivery)?;
         delivery.push_onto(packet, events)?;
         Ok(())
     }
 
     /// A record is delivered again, or skipped where it isn't there.
     #[tactic(auto, unfolding(crate::specs::Steps::repeat))]
-    pub fn repeat<C: Core, P: Spread>(
+    pub fn repeat<C: Core>(
         &mut self,
         core: &mut C,
         setup: &C::Setup,
-        spread: &P,
         place: u32,
         packet: Option<Packet>,
         events: &mut Vec<Said>,
     ) -> Result<(), AllocError>
-        requires stands { C.stands setup.now self.old.past core.old }
-        requires live { P.live spread.now ≡ self.old.live }
+        requires stands { C.stands setup.now self.old.course.past core.old }
         requires read { WasRead packet }
-        requires room { self.old.unrouted + 1 < 2 ^ 64 }
-        requires many { self.old.nth + 1 < 2 ^ 64 }
-        requires skips { self.old.skipped + 1 < 2 ^ 64 }
-        ensures stands { OnOk result (C.stands setup.now self.new.past core.new) }
-        ensures live { OnOk result (self.new.live ≡ self.old.live) }
-        ensures after { OnOk result ((w : World) → w.cluster ≡ C.cluster setup.now → SameChoice w.choice (P.choice spread.now) → self.new ≡ repeat w place packet self.old) }
-        ensures told { (before : List Said) → Behind before self.old.past events.old.items → OnOk result (Behind before self.new.past events.new.items) }
+        requires room { self.old.course.unrouted + 1 < 2 ^ 64 }
+        requires many { self.old.course.nth + 1 < 2 ^ 64 }
+        requires skips { self.old.course.skipped + 1 < 2 ^ 64 }
+        ensures stands { OnOk result (C.stands setup.now self.new.course.past core.new) }
+        ensures spread { self.new.spread ≡ self.old.spread }
+        ensures after { OnOk result ((w : World) → w.cluster ≡ C.cluster setup.now → SameChoice w.choice (P.choice self.old.spread) → self.new.course ≡ repeat w place packet self.old.course) }
+        ensures told { (before : List Said) → Behind before self.old.course.past events.old.items → OnOk result (Behind before self.new.course.past events.new.items) }
     {
         match packet {
-            Some(packet) => self.deliver_onto(core, setup, spread, place, &packet, events),
+            Some(packet) => self.deliver_onto(core, setup, place, &packet, events),
             None => {
                 self.skipped += 1;
                 Ok(())
@@ -427,11 +430,11 @@ impl Play {
         times: u64,
         events: &mut Vec<Said>,
     ) -> Result<(), AllocError>
-        requires { C.stands setup.now self.old.past core.old }
-        ensures stands { OnOk result (C.stands setup.now self.new.past core.new) }
-        ensures live { OnOk result (self.new.live ≡ self.old.live) }
-        ensures after { OnOk result ((w : World) → w.cluster ≡ C.cluster setup.now → self.new ≡ serve_times w node worker times self.old) }
-        ensures told { (before : List Said) → Behind before self.old.past events.old.items → OnOk result (Behind before self.new.past events.new.items) }
+        requires { C.stands setup.now self.old.course.past core.old }
+        ensures stands { OnOk result (C.stands setup.now self.new.course.past core.new) }
+        ensures spread { self.new.spread ≡ self.old.spread }
+        ensures after { OnOk result ((w : World) → w.cluster ≡ C.cluster setup.now → self.new.course ≡ serve_times w node worker times self.old.course) }
+        ensures told { (before : List Said) → Behind before self.old.course.past events.old.items → OnOk result (Behind before self.new.course.past events.new.items) }
     {
         for _ in 0..times {
             self.serve(core, setup, node, worker, events)?;
@@ -448,11 +451,11 @@ impl Play {
         workers: u16,
         events: &mut Vec<Said>,
     ) -> Result<(), AllocError>
-        requires { C.stands setup.now self.old.past core.old }
-        ensures stands { OnOk result (C.stands setup.now self.new.past core.new) }
-        ensures live { OnOk result (self.new.live ≡ self.old.live) }
-        ensures after { OnOk result ((w : World) → w.cluster ≡ C.cluster setup.now → self.new ≡ drain_from w node 0 workers self.old) }
-        ensures told { (before : List Said) → Behind before self.old.past events.old.items → OnOk result (Behind before self.new.past events.new.items) }
+        requires { C.stands setup.now self.old.course.past core.old }
+        ensures stands { OnOk result (C.stands setup.now self.new.course.past core.new) }
+        ensures spread { self.new.spread ≡ self.old.spread }
+        ensures after { OnOk result ((w : World) → w.cluster ≡ C.cluster setup.now → self.new.course ≡ drain_from w node 0 workers self.old.course) }
+        ensures told { (before : List Said) → Behind before self.old.course.past events.old.items → OnOk result (Behind before self.new.course.past events.new.items) }
     {
         for worker in 0..workers {
             let times = core.waiting(setup, node, worker);
@@ -463,7 +466,7 @@ impl Play {
 
     /// The next records, or those that remain.
     fn next_ones<'a>(&self, packets: &'a [Packet], count: u32) -> &'a [Packet]
-        ensures is { result.now ≡ take count (drop self.now.read packets.entry.now) }
+        ensures is { result.now ≡ take count (drop self.now.course.read packets.entry.now) }
         ensures read { WereRead packets.entry.now → WereRead result.now }
     {
         let from = (self.read as usize).min(packets.len());
@@ -473,7 +476,7 @@ impl Play {
 
     /// The record of a place, where it was read.
     fn seen_one(&self, packets: &[Packet], place: u32) -> Option<Packet>
-        ensures is { result ≡ slice_get (take self.now.read packets.now) place }
+        ensures is { result ≡ slice_get (take self.now.course.read packets.now) place }
         ensures read { WereRead packets.now → WasRead result }
     {
         if place < self.read {
@@ -485,9 +488,10 @@ impl Play {
 
     /// The place of the next record, which is read now.
     pub fn next_place(&mut self) -> u32
-        requires { self.old.read + 1 < 2 ^ 32 }
-        ensures place { result ≡ self.old.read }
-        ensures after { self.new ≡ record self.old { read = self.old.read + 1 } }
+        requires { self.old.course.read + 1 < 2 ^ 32 }
+        ensures place { result ≡ self.old.course.read }
+        ensures after { self.new.course ≡ record self.old.course { read = self.old.course.read + 1 } }
+        ensures spread { self.new.spread ≡ self.old.spread }
     {
         let place = self.read;
         self.read += 1;
@@ -495,37 +499,36 @@ impl Play {
     }
 
     /// Packets are read and delivered.
-    fn take_all<C: Core, P: Spread>(
+    fn take_all<C: Core>(
         &mut self,
         core: &mut C,
         setup: &C::Setup,
-        spread: &P,
         packets: &[Packet],
         events: &mut Vec<Said>,
     ) -> Result<(), AllocError>
-        requires stands { C.stands setup.now self.old.past core.old }
+        requires stands { C.stands setup.now self.old.course.past core.old }
         requires read { WereRead packets.now }
-        requires live { P.live spread.now ≡ self.old.live }
-        requires places { self.old.read + length packets.now < 2 ^ 32 }
-        requires room { self.old.unrouted + length packets.now < 2 ^ 64 }
-        requires many { self.old.nth + length packets.now < 2 ^ 64 }
-        ensures stands { OnOk result (C.stands setup.now self.new.past core.new) }
-        ensures live { OnOk result (self.new.live ≡ self.old.live) }
-        ensures after { OnOk result ((w : World) → w.cluster ≡ C.cluster setup.now → SameChoice w.choice (P.choice spread.now) → self.new ≡ take_all w packets.now self.old) }
-        ensures told { (before : List Said) → Behind before self.old.past events.old.items → OnOk result (Behind before self.new.past events.new.items) }
+        requires places { self.old.course.read + length packets.now < 2 ^ 32 }
+        requires room { self.old.course.unrouted + length packets.now < 2 ^ 64 }
+        requires many { self.old.course.nth + length packets.now < 2 ^ 64 }
+        ensures stands { OnOk result (C.stands setup.now self.new.course.past core.new) }
+        ensures spread { self.new.spread ≡ self.old.spread }
+        ensures after { OnOk result ((w : World) → w.cluster ≡ C.cluster setup.now → SameChoice w.choice (P.choice self.old.spread) → self.new.course ≡ take_all w packets.now self.old.course) }
+        ensures told { (before : List Said) → Behind before self.old.course.past events.old.items → OnOk result (Behind before self.new.course.past events.new.items) }
     {
         for packet in packets {
             let place = self.next_place();
-            self.deliver_onto(core, setup, spread, place, packet, events)?;
+            self.deliver_onto(core, setup, place, packet, events)?;
         }
         Ok(())
     }
 
     /// So many records are read and lost.
     pub fn lose(&mut self, count: u32)
-        requires places { self.old.read + count < 2 ^ 32 }
-        requires room { self.old.lost + count < 2 ^ 64 }
-        ensures { self.new ≡ record self.old { read = self.old.read + count; lost = self.old.lost + count } }
+        requires places { self.old.course.read + count < 2 ^ 32 }
+        requires room { self.old.course.lost + count < 2 ^ 64 }
+        ensures after { self.new.course ≡ record self.old.course { read = self.old.course.read + count; lost = self.old.course.lost + count } }
+        ensures spread { self.new.spread ≡ self.old.spread }
     {
         self.read += count;
         self.lost += count as u64;
@@ -533,22 +536,19 @@ impl Play {
 
     /// A step that names no record: all but `Take`, `Lose` and `Again`, at which nothing is done.
     #[tactic(auto, unfolding(crate::specs::Steps::after))]
-    pub fn step_apart<C: Core, P: Spread>(
+    pub fn step_apart<C: Core>(
         &mut self,
         alloc: Global,
         core: &mut C,
         setup: &C::Setup,
-        spread: &mut P,
         step: &Step,
         events: &mut Vec<Said>,
     ) -> Result<(), AllocError>
-        requires stands { C.stands setup.now self.old.past core.old }
-        requires live { P.live spread.old ≡ self.old.live }
-        ensures live { OnOk result (P.live spread.new ≡ self.new.live) }
-        ensures choice { SameChoice (P.choice spread.old) (P.choice spread.new) }
-        ensures stands { OnOk result (C.stands setup.now self.new.past core.new) }
-        ensures after { OnOk result ((w : World) → w.cluster ≡ C.cluster setup.now → names_records step.now ≡ false → self.new ≡ after w step.now self.old) }
-        ensures told { (before : List Said) → Behind before self.old.past events.old.items → OnOk result (Behind before self.new.past events.new.items) }
+        requires stands { C.stands setup.now self.old.course.past core.old }
+        ensures choice { SameChoice (P.choice self.old.spread) (P.choice self.new.spread) }
+        ensures stands { OnOk result (C.stands setup.now self.new.course.past core.new) }
+        ensures after { OnOk result ((w : World) → w.cluster ≡ C.cluster setup.now → names_records step.now ≡ false → self.new.course ≡ after w step.now self.old.course) }
+        ensures told { (before : List Said) → Behind before self.old.course.past events.old.items → OnOk result (Behind before self.new.course.past events.new.items) }
     {
         match step {
             Step::Install { node, version } => {
@@ -560,8 +560,8 @@ impl Play {
                 Ok(())
             }
             Step::Live(nodes) => {
-                self.live = Vec::from_slice(alloc, nodes.as_slice())?;
-                spread.set_live(Vec::from_slice(alloc, nodes.as_slice())?);
+                self.spread
+                    .set_live(Vec::from_slice(alloc, nodes.as_slice())?);
                 Ok(())
             }
             Step::Full { node, marks } => {
@@ -589,31 +589,28 @@ impl Play {
 
     /// A step.
     #[tactic(auto, unfolding(crate::specs::Steps::after))]
-    pub fn step<C: Core, P: Spread>(
+    pub fn step<C: Core>(
         &mut self,
         alloc: Global,
         core: &mut C,
         setup: &C::Setup,
-        spread: &mut P,
         packets: &[Packet],
         step: &Step,
         events: &mut Vec<Said>,
     ) -> Result<(), AllocError>
-        requires stands { C.stands setup.now self.old.past core.old }
+        requires stands { C.stands setup.now self.old.course.past core.old }
         requires read { WereRead packets.now }
-        requires live { P.live spread.old ≡ self.old.live }
         requires places { length packets.now < 2 ^ 32 }
-        requires room { Room (length packets.now) self.old }
-        ensures live { OnOk result (P.live spread.new ≡ self.new.live) }
-        ensures choice { SameChoice (P.choice spread.old) (P.choice spread.new) }
-        ensures stands { OnOk result (C.stands setup.now self.new.past core.new) }
-        ensures after { OnOk result ((w : World) → w.cluster ≡ C.cluster setup.now → SameChoice w.choice (P.choice spread.old) → w.packets ≡ packets.now → self.new ≡ after w step.now self.old) }
-        ensures told { (before : List Said) → Behind before self.old.past events.old.items → OnOk result (Behind before self.new.past events.new.items) }
+        requires room { Room (length packets.now) self.old.course }
+        ensures choice { SameChoice (P.choice self.old.spread) (P.choice self.new.spread) }
+        ensures stands { OnOk result (C.stands setup.now self.new.course.past core.new) }
+        ensures after { OnOk result ((w : World) → w.cluster ≡ C.cluster setup.now → SameChoice w.choice (P.choice self.old.spread) → w.packets ≡ packets.now → self.new.course ≡ after w step.now self.old.course) }
+        ensures told { (before : List Said) → Behind before self.old.course.past events.old.items → OnOk result (Behind before self.new.course.past events.new.items) }
     {
         match step {
             Step::Take(count) => {
                 let ones = self.next_ones(packets, *count);
-                self.take_all(core, setup, spread, ones, events)
+                self.take_all(core, setup, ones, events)
             }
             Step::Lose(count) => {
                 let lost = self.next_ones(packets, *count).len() as u32;
@@ -622,17 +619,18 @@ impl Play {
             }
             Step::Again(place) => {
                 let packet = self.seen_one(packets, *place);
-                self.repeat(core, setup, spread, *place, packet, events)
+                self.repeat(core, setup, *place, packet, events)
             }
-            _ => self.step_apart(alloc, core, setup, spread, step, events),
+            _ => self.step_apart(alloc, core, setup, step, events),
         }
     }
 
     /// All nodes are live, no worker refuses, and nothing is held.
-    pub fn start(alloc: Global, nodes: u16) -> Result<Play, AllocError>
-        ensures { IfOk result (λ p. p ≡ start nodes) }
+    pub fn start(alloc: Global, spread: P, nodes: u16) -> Result<Play<P>, AllocError>
+        requires { P.live spread ≡ below nodes }
+        ensures course { IfOk result (λ p. p.course ≡ start nodes) }
+        ensures spread { IfOk result (λ p. p.spread ≡ spread) }
     {
-        let live = all_live(alloc, nodes)?;
         let mut marks = Vec::new(alloc);
         let mut held = Vec::new(alloc);
         for _ in 0..nodes {
@@ -640,10 +638,10 @@ impl Play {
             held.push(false)?;
         }
         Ok(Play {
+            spread,
             past: Log::new(),
             count: 0,
             read: 0,
-            live,
             marks,
             held,
             nth: 0,
@@ -654,38 +652,36 @@ impl Play {
     }
 
     /// All steps.
-    pub fn run<C: Core, P: Spread>(
+    pub fn run<C: Core>(
         &mut self,
         alloc: Global,
         core: &mut C,
         setup: &C::Setup,
-        spread: &mut P,
         packets: &[Packet],
         steps: &[Step],
         events: &mut Vec<Said>,
     ) -> Result<(), AllocError>
-        requires stands { C.stands setup.now self.old.past core.old }
+        requires stands { C.stands setup.now self.old.course.past core.old }
         requires read { WereRead packets.now }
-        requires live { P.live spread.old ≡ self.old.live }
         requires places { length packets.now < 2 ^ 32 }
         requires steps { length steps.now < 2 ^ 32 }
-        requires fresh { Counted (length packets.now) 0 self.old }
-        ensures run { OnOk result (self.new ≡ run (world_of (C.cluster setup.now) (P.choice spread.old) packets.now) steps.now self.old) }
-        ensures counted { OnOk result (Counted (length packets.now) (length steps.now) self.new) }
-        ensures stands { OnOk result (C.stands setup.now self.new.past core.new) }
-        ensures live { OnOk result (P.live spread.new ≡ self.new.live) }
-        ensures told { (before : List Said) → Behind before self.old.past events.old.items → OnOk result (Behind before self.new.past events.new.items) }
+        requires fresh { Counted (length packets.now) 0 self.old.course }
+        ensures choice { SameChoice (P.choice self.old.spread) (P.choice self.new.spread) }
+        ensures run { OnOk result (self.new.course ≡ run (world_of (C.cluster setup.now) (P.choice self.old.spread) packets.now) steps.now self.old.course) }
+        ensures counted { OnOk result (Counted (length packets.now) (length steps.now) self.new.course) }
+        ensures stands { OnOk result (C.stands setup.now self.new.course.past core.new) }
+        ensures told { (before : List Said) → Behind before self.old.course.past events.old.items → OnOk result (Behind before self.new.course.past events.new.items) }
     {
         for step in steps {
-            self.step(alloc, core, setup, spread, packets, step, events)?;
+            self.step(alloc, core, setup, packets, step, events)?;
         }
         Ok(())
     }
 
     /// What a report says of the records, where the capture has so many.
     pub fn tally(&self, packets: u32) -> Tally
-        requires { self.now.read ≤ packets }
-        ensures { result ≡ tally_of packets self.now }
+        requires { self.now.course.read ≤ packets }
+        ensures { result ≡ tally_of packets self.now.course }
     {
         Tally {
             packets,

@@ -9,9 +9,14 @@ use std::alloc::Global;
 use std::process::Abort;
 
 // The run of steps over four packets of one flow, on two nodes, with packets in turn, and its events.
-fn played(rt: &impl Abort, alloc: Global, steps: &[Step], events: &mut Vec<Said>) -> Play
+fn played(
+    rt: &impl Abort,
+    alloc: Global,
+    steps: &[Step],
+    events: &mut Vec<Said>,
+) -> Play<TurnSpread>
     requires { length steps.now < 2 ^ 32 }
-    ensures { result.read ≤ 4 }
+    ensures { result.course.read ≤ 4 }
 {
     let flow = Flow {
         src: 0x0a00_0001,
@@ -25,18 +30,10 @@ fn played(rt: &impl Abort, alloc: Global, steps: &[Step], events: &mut Vec<Said>
         len: 40,
         at: 0,
     }; 4];
-    let mut spread = TurnSpread::new(all_live(alloc, 2).expect(rt, "memory"));
-    let mut play = Play::start(alloc, 2).expect(rt, "memory");
-    play.run(
-        alloc,
-        &mut FirstWorker,
-        &1,
-        &mut spread,
-        &packets,
-        steps,
-        events,
-    )
-    .expect(rt, "memory");
+    let spread = TurnSpread::new(all_live(alloc, 2).expect(rt, "memory"));
+    let mut play = Play::start(alloc, spread, 2).expect(rt, "memory");
+    play.run(alloc, &mut FirstWorker, &1, &packets, steps, events)
+        .expect(rt, "memory");
     play
 }
 

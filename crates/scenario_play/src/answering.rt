@@ -25,6 +25,7 @@ use listing::{report_text, verdict_text};
 use pcap_file::InputEnd;
 use selection::Scheme;
 use simulation::Played;
+use spreader::Spread;
 use std::alloc::{AllocError, Global};
 
 /// Whether a capture ended inside a record.
@@ -37,11 +38,15 @@ pub fn is_cut(ending: InputEnd) -> bool
     }
 }
 
-fn plain_report(alloc: Global, played: &Played, counts: &Counts) -> Result<String, AllocError>
-    requires read { played.now.play.read ≤ played.now.packets }
-    requires balance { IsBalanced (reverse played.now.play.past) }
-    requires counts { CountsAre (outcomes_of played.now.play.past) counts.now }
-    ensures { IfOk result (λ s. string_bytes s ≡ plain_report played.now.play played.now.packets played.now.ending) }
+fn plain_report<P: Spread>(
+    alloc: Global,
+    played: &Played<P>,
+    counts: &Counts,
+) -> Result<String, AllocError>
+    requires read { played.now.play.course.read ≤ played.now.packets }
+    requires balance { IsBalanced (reverse played.now.play.course.past) }
+    requires counts { CountsAre (outcomes_of played.now.play.course.past) counts.now }
+    ensures { IfOk result (λ s. string_bytes s ≡ plain_report played.now.play.course played.now.packets played.now.ending) }
 {
     let tally = played.play.tally(played.packets);
     let totals = counts.totals();
@@ -69,17 +74,17 @@ fn push_splits_if<S: Scheme, H: FlowHash>(
     }
 }
 
-fn report<S: Scheme, H: FlowHash>(
+fn report<S: Scheme, H: FlowHash, P: Spread>(
     alloc: Global,
     deployment: &Deployment<S, H>,
-    played: &Played,
+    played: &Played<P>,
     notes: Notebook,
     wanted: Wanted,
 ) -> Result<String, AllocError>
-    requires read { played.now.play.read ≤ played.now.packets }
-    requires balance { IsBalanced (reverse played.now.play.past) }
-    requires notes { AreOf (Report wanted) played.now.play.past notes }
-    ensures { IfOk result (λ s. string_bytes s ≡ report_of (lookups_of (H.plain deployment.now.setup.hash) deployment.now.setup.size deployment.now.catalogue) wanted played.now.play played.now.packets played.now.ending) }
+    requires read { played.now.play.course.read ≤ played.now.packets }
+    requires balance { IsBalanced (reverse played.now.play.course.past) }
+    requires notes { AreOf (Report wanted) played.now.play.course.past notes }
+    ensures { IfOk result (λ s. string_bytes s ≡ report_of (lookups_of (H.plain deployment.now.setup.hash) deployment.now.setup.size deployment.now.catalogue) wanted played.now.play.course played.now.packets played.now.ending) }
 {
     let report = plain_report(alloc, played, &notes.counts)?;
     let mut text = notes.lines;
@@ -121,17 +126,17 @@ fn line<S: Scheme, H: FlowHash>(
 }
 
 /// The text that answers what is asked of a run, of whose events these are the notes.
-pub(crate) fn answer<S: Scheme, H: FlowHash>(
+pub(crate) fn answer<S: Scheme, H: FlowHash, P: Spread>(
     alloc: Global,
     task: &Task<S, H, Asked>,
-    played: &Played,
+    played: &Played<P>,
     notes: Notebook,
 ) -> Result<String, AllocError>
-    requires read { played.now.play.read ≤ played.now.packets }
-    requires balance { IsBalanced (reverse played.now.play.past) }
-    requires judged { Judged (cluster_of (λ s z. S.pick s z) (λ h. H.plain h) task.now.deployment).judge played.now.play.past }
-    requires notes { AreOf task.now.asked played.now.play.past notes }
-    ensures { IfOk result (λ s. string_bytes s ≡ answer_of (lookups_of (H.plain task.now.deployment.setup.hash) task.now.deployment.setup.size task.now.deployment.catalogue) task.now.asked played.now.play played.now.packets played.now.ending) }
+    requires read { played.now.play.course.read ≤ played.now.packets }
+    requires balance { IsBalanced (reverse played.now.play.course.past) }
+    requires judged { Judged (cluster_of (λ s z. S.pick s z) (λ h. H.plain h) task.now.deployment).judge played.now.play.course.past }
+    requires notes { AreOf task.now.asked played.now.play.course.past notes }
+    ensures { IfOk result (λ s. string_bytes s ≡ answer_of (lookups_of (H.plain task.now.deployment.setup.hash) task.now.deployment.setup.size task.now.deployment.catalogue) task.now.asked played.now.play.course played.now.packets played.now.ending) }
 {
     match task.asked {
         Asked::Report(wanted) => report(alloc, &task.deployment, played, notes, wanted),

@@ -29,18 +29,18 @@ use std::alloc::Global;
 fn play_with<S: Scheme, P: Spread, I: Source, O: Sink>(
     alloc: Global,
     task: &Task<S, AnyHash, Asked>,
-    spread: &mut P,
+    spread: P,
     plan: Plan<'_>,
     input: &mut I,
     output: &mut O,
 ) -> Result<String, SimulationFault>
-    requires live { P.live spread.old ≡ below (length plan.nodes.now) }
+    requires live { P.live spread ≡ below (length plan.nodes.now) }
     requires nodes { length plan.nodes.now ≤ 64 }
     requires steps { length plan.steps.now ≤ 100000 }
     requires cluster { length task.now.deployment.setup.nodes ≡ length plan.nodes.now }
     requires workers { task.now.deployment.setup.workers ≤ 16 }
-    ensures ok { IfOk result (λ s. Answers (cluster_of (λ s z. S.pick s z) (λ h. plain_of h) task.now.deployment) (P.choice spread.old) (planned plan.entry) (lookups_of (plain_of task.now.deployment.setup.hash) task.now.deployment.setup.size task.now.deployment.catalogue) task.now.asked (I.tape input.old) (I.tape input.new) (O.tape output.old) (O.tape output.new) (string_bytes s)) }
-    ensures stopped { IfErr result (Stopped (cluster_of (λ s z. S.pick s z) (λ h. plain_of h) task.now.deployment) (P.choice spread.old) (planned plan.entry) (I.tape input.old) (I.tape input.new) (O.tape output.old) (O.tape output.new)) }
+    ensures ok { IfOk result (λ s. Answers (cluster_of (λ s z. S.pick s z) (λ h. plain_of h) task.now.deployment) (P.choice spread) (planned plan.entry) (lookups_of (plain_of task.now.deployment.setup.hash) task.now.deployment.setup.size task.now.deployment.catalogue) task.now.asked (I.tape input.old) (I.tape input.new) (O.tape output.old) (O.tape output.new) (string_bytes s)) }
+    ensures stopped { IfErr result (Stopped (cluster_of (λ s z. S.pick s z) (λ h. plain_of h) task.now.deployment) (P.choice spread) (planned plan.entry) (I.tape input.old) (I.tape input.new) (O.tape output.old) (O.tape output.new)) }
 {
     let deployment = &task.deployment;
     let notes = Notebook::new(alloc, deployment.setup().key());
@@ -84,12 +84,12 @@ fn play_over<S: Scheme, I: Source, O: Sink>(
     let live = all_live(alloc, plan.nodes.len() as u16)?;
     match spread {
         SpreadKind::Hash => {
-            let mut spread = HashSpread::new(task.deployment.setup().hash(), live);
-            play_with(alloc, task, &mut spread, plan, input, output)
+            let spread = HashSpread::new(task.deployment.setup().hash(), live);
+            play_with(alloc, task, spread, plan, input, output)
         }
         SpreadKind::Turn => {
-            let mut spread = TurnSpread::new(live);
-            play_with(alloc, task, &mut spread, plan, input, output)
+            let spread = TurnSpread::new(live);
+            play_with(alloc, task, spread, plan, input, output)
         }
     }
 }

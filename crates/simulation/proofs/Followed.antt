@@ -16,7 +16,7 @@ use Rattle.cluster_node.specs.declared.outcomes.Passed.TheVariants.{Through}
 use Rattle.cluster_node.specs.declared.packets.Packet.{Packet}
 use Rattle.cluster_core.specs.Cluster.{Cluster, TakesFirst, Orderly}
 use Rattle.course.specs.declared.delivery.Delivery.{Delivery}
-use Rattle.course.specs.Deliveries.{came_to, arrival_of, served_by, serving_of, if_there, events_of}
+use Rattle.course.specs.Deliveries.{came_to, arrival_of, serving_passed, serving_of, if_there, events_of}
 use Rattle.simulation.specs.PrivateMirrors.{Mirrors, CanFollow, ComesAs, IsNoArrival}
 use Rattle.simulation.specs.PrivateQueues.{passes}
 use Rattle.simulation.specs.declared.sending.Wire.{Wire}
@@ -165,7 +165,7 @@ served_there d u o = record { event = Serve d.node u d.version false; packet = N
 pub told_served : (p : Packet) (d : Delivery) (u floor : ℕ) (o : Outcome) → d.arrived ≡ true → d.passed ≡ Through u floor o → events_of p d ≡ placed_there p d u floor ∷ served_there d u o ∷ []
 told_served p d u floor o h e =
     told_arrived p d h
-    ∙ ap (λ (q : Told). record { event = Arrive d.node d.place d.refused; packet = Some p; outcome = came_to q } ∷ if_there (served_by d.node d.version q)) e
+    ∙ ap (λ (q : Told). record { event = Arrive d.node d.place d.refused; packet = Some p; outcome = came_to q } ∷ if_there (serving_passed d.node d.version q)) e
 
 -- the first of the events that a delivery tells can be followed
 pub record First_of (all : List Record) (k : Cluster) (past : List Said) (s : Said) (r : Record) (qs : List (List Record)) : Type 0 where

@@ -16,7 +16,7 @@ use Rattle.cluster_node.specs.declared.events.Said.{Said}
 use Rattle.cluster_node.specs.Records.{Judged}
 use Rattle.simulation.specs.PrivateMirrors.{Mirrors}
 use Rattle.cluster_core.specs.Cluster.{Cluster, Orderly}
-use Rattle.course.specs.Course.{Course}
+use Rattle.course.specs.Course.{Course, Playing}
 use Rattle.course.specs.Steps.{World, world_of, run, deliver, repeat, after, names_records, start}
 use Rattle.course.specs.PrivateStreams.{take_of, lose_of, again_of}
 use Rattle.course.specs.Room.{Counted}
@@ -98,17 +98,17 @@ lost_all cluster choice plan link seen k ss c e l =
     sym (lose_ended cluster choice (packets_of link plan.check seen) k ss c (e ∙ sym (packets_count link plan.check seen)) w (ap (λ (l : List Packet). world_of cluster choice l) (map-append (packet_in link plan.check) seen []))) ∙ l
 
 -- where a run that reached a record is refused memory there, the output is a beginning
-pub short_of : (cluster : Cluster) (choice : Choice) (plan : Planned) (text begun : Tape) (ss : List Step) (stage : Stage) (left out : Tape) → Reached cluster choice plan text begun ss stage left out → Shortened cluster choice plan stage.intake.head text left begun out Memory
+pub short_of : {P : Type 0} (cluster : Cluster) (choice : Choice) (plan : Planned) (text begun : Tape) (ss : List Step) (stage : Stage P) (left out : Tape) → Reached cluster choice plan text begun ss stage left out → Shortened cluster choice plan stage.intake.head text left begun out Memory
 short_of cluster choice plan text begun ss stage left out r =
     let g = subst (λ (l : List Record). Going cluster choice plan stage.intake.head.link l ss stage begun out) (append-nil r.seen) (r.going [] (λ _. refl)) in
-    shortened cluster choice plan stage.intake.head text left begun out Memory r.seen ss stage.play (stands stage.intake text left r.seen r.read) g.left (first_all begun out _ g.sound.sent)
+    shortened cluster choice plan stage.intake.head text left begun out Memory r.seen ss stage.play.course (stands stage.intake text left r.seen r.read) g.left (first_all begun out _ g.sound.sent)
 
 -- where reading on stops it
-pub short_read : (cluster : Cluster) (choice : Choice) (plan : Planned) (text begun : Tape) (ss : List Step) (stage : Stage) (left left' out : Tape) (fault : SimulationFault) → (r : Reached cluster choice plan text begun ss stage left out) → fault ≢ Write → ReadStops stage.intake text r.seen left' fault
+pub short_read : {P : Type 0} (cluster : Cluster) (choice : Choice) (plan : Planned) (text begun : Tape) (ss : List Step) (stage : Stage P) (left left' out : Tape) (fault : SimulationFault) → (r : Reached cluster choice plan text begun ss stage left out) → fault ≢ Write → ReadStops stage.intake text r.seen left' fault
     → Shortened cluster choice plan stage.intake.head text left' begun out fault
 short_read cluster choice plan text begun ss stage left left' out fault r n o =
     let g : Going cluster choice plan stage.intake.head.link (r.seen ++ o.more) ss stage begun out = r.going o.more o.none in
-    shortened cluster choice plan stage.intake.head text left' begun out fault (r.seen ++ o.more) ss stage.play o.stops g.left (until_all fault begun out _ n g.sound.sent)
+    shortened cluster choice plan stage.intake.head text left' begun out fault (r.seen ++ o.more) ss stage.play.course o.stops g.left (until_all fault begun out _ n g.sound.sent)
 
 -- a course whose past is the same is as sound
 pub sound_same : (cluster : Cluster) (plan : Planned) (link : Link) (all : List Record) (c d : Course) (qs ps : List (List Record)) (begun out : Tape) → d.past ≡ c.past → ps ≡ qs → Sound cluster plan link all c qs begun out → Sound cluster plan link all d ps begun out
@@ -122,9 +122,9 @@ sound_same cluster plan link all c d qs ps begun out e f s = record {
 }
 
 -- no record came: the input has ended, and the step is over
-pub reached_end : (cluster : Cluster) (choice : Choice) (plan : Planned) (text begun : Tape) (step : Step) (ss : List Step) (old new : Stage) (left left' out : Tape) → (r : Reached cluster choice plan text begun (step ∷ ss) old left out)
-    → Seen text r.seen left' new.intake × (is_some new.intake.ended ≡ true) → new.play ≡ old.play → new.relay ≡ old.relay → KeepsNamed r.seen ss new.kept → new.intake.head ≡ old.intake.head
-    → ((link : Link) → Left cluster choice plan link (r.seen ++ []) (step ∷ ss) old.play → Left cluster choice plan link (r.seen ++ []) ss old.play)
+pub reached_end : {P : Type 0} (cluster : Cluster) (choice : Choice) (plan : Planned) (text begun : Tape) (step : Step) (ss : List Step) (old new : Stage P) (left left' out : Tape) → (r : Reached cluster choice plan text begun (step ∷ ss) old left out)
+    → Seen text r.seen left' new.intake × (is_some new.intake.ended ≡ true) → new.play.course ≡ old.play.course → new.relay ≡ old.relay → KeepsNamed r.seen ss new.kept → new.intake.head ≡ old.intake.head
+    → ((link : Link) → Left cluster choice plan link (r.seen ++ []) (step ∷ ss) old.play.course → Left cluster choice plan link (r.seen ++ []) ss old.play.course)
     → Reached cluster choice plan text begun ss new left' out
 reached_end cluster choice plan text begun step ss old new left left' out r s p q k h turn = record {
   seen = r.seen;
@@ -136,12 +136,15 @@ reached_end cluster choice plan text begun step ss old new left left' out r s p 
       subst (λ (l : List Record). Going cluster choice plan new.intake.head.link (r.seen ++ l) ss new begun out) (sym (cond s.1))
       (subst (λ (x : Head). Going cluster choice plan x.link (r.seen ++ []) ss new begun out) (sym h) (record {
         left = subst (λ (c : Course). Left cluster choice plan old.intake.head.link (r.seen ++ []) ss c) (sym p) (turn old.intake.head.link g.left);
-        sound = sound_same cluster plan old.intake.head.link (r.seen ++ []) old.play new.play old.relay.waiting new.relay.waiting begun out (ap (λ (c : Course). c.past) p) (ap (λ x. x.waiting) q) g.sound;
+        sound = sound_same cluster plan old.intake.head.link (r.seen ++ []) old.play.course new.play.course old.relay.waiting new.relay.waiting begun out (ap (λ (c : Course). c.past) p) (ap (λ x. x.waiting) q) g.sound;
       }));
 }
 
+pub same_course : {P : Type 0} {a b : Playing P} → a ≡ b → a.course ≡ b.course
+same_course e = ap (λ x. x.course) e
+
 -- what is fixed for a move over a further record
-pub record OneMore (text : Tape) (seen : List Record) (r : Record) (old new : Stage) (left' : Tape) : Type 0 where
+pub record OneMore {P : Type 0} (text : Tape) (seen : List Record) (r : Record) (old new : Stage P) (left' : Tape) : Type 0 where
   pub read : Seen text (seen ++ r ∷ []) left' new.intake
   pub going : old.intake.ended ≡ None
   pub head : new.intake.head ≡ old.intake.head
@@ -150,10 +153,10 @@ not_ended : (o : Option InputEnd) (X : Type 0) → o ≡ None → is_some o ≡ 
 not_ended o X e f = let bad : false ≡ true = ap is_some (sym e) ∙ f in cc
 
 -- a further record: what is left, and how sound it is, with that record and more behind it
-pub reached_more : (cluster : Cluster) (choice : Choice) (plan : Planned) (text begun : Tape) (ss ts : List Step) (old new : Stage) (left left' out out' : Tape) (x : Record) → (r : Reached cluster choice plan text begun ss old left out)
-    → OneMore text r.seen x old new left' → new.play.read ≡ old.play.read + 1 → KeepsNamed (r.seen ++ x ∷ []) ts new.kept
-    → ((more : List Record) → Left cluster choice plan old.intake.head.link (r.seen ++ x ∷ more) ss old.play → Left cluster choice plan old.intake.head.link (r.seen ++ x ∷ more) ts new.play)
-    → ((more : List Record) → Sound cluster plan old.intake.head.link (r.seen ++ x ∷ more) old.play old.relay.waiting begun out → Sound cluster plan old.intake.head.link (r.seen ++ x ∷ more) new.play new.relay.waiting begun out')
+pub reached_more : {P : Type 0} (cluster : Cluster) (choice : Choice) (plan : Planned) (text begun : Tape) (ss ts : List Step) (old new : Stage P) (left left' out out' : Tape) (x : Record) → (r : Reached cluster choice plan text begun ss old left out)
+    → OneMore text r.seen x old new left' → new.play.course.read ≡ old.play.course.read + 1 → KeepsNamed (r.seen ++ x ∷ []) ts new.kept
+    → ((more : List Record) → Left cluster choice plan old.intake.head.link (r.seen ++ x ∷ more) ss old.play.course → Left cluster choice plan old.intake.head.link (r.seen ++ x ∷ more) ts new.play.course)
+    → ((more : List Record) → Sound cluster plan old.intake.head.link (r.seen ++ x ∷ more) old.play.course old.relay.waiting begun out → Sound cluster plan old.intake.head.link (r.seen ++ x ∷ more) new.play.course new.relay.waiting begun out')
     → Reached cluster choice plan text begun ts new left' out'
 reached_more cluster choice plan text begun ss ts old new left left' out out' x r m n k turn sound = record {
   seen = r.seen ++ x ∷ [];
@@ -170,10 +173,10 @@ reached_more cluster choice plan text begun ss ts old new left left' out out' x 
 }
 
 -- a further record was read, and the move over it stopped
-pub short_more : (cluster : Cluster) (choice : Choice) (plan : Planned) (text begun : Tape) (ss ts : List Step) (old mid : Stage) (left left' out out' : Tape) (x : Record) (d : Course) (fault : SimulationFault) → (r : Reached cluster choice plan text begun ss old left out)
+pub short_more : {P : Type 0} (cluster : Cluster) (choice : Choice) (plan : Planned) (text begun : Tape) (ss ts : List Step) (old mid : Stage P) (left left' out out' : Tape) (x : Record) (d : Course) (fault : SimulationFault) → (r : Reached cluster choice plan text begun ss old left out)
     → OneMore text r.seen x old mid left' → IsOfRun fault
-    → (Left cluster choice plan old.intake.head.link (r.seen ++ x ∷ []) ss old.play → Left cluster choice plan old.intake.head.link (r.seen ++ x ∷ []) ts d)
-    → (Sound cluster plan old.intake.head.link (r.seen ++ x ∷ []) old.play old.relay.waiting begun out → WroteUntil fault begun out' (sent (traffic_of plan old.intake.head.link (r.seen ++ x ∷ [])) (reverse d.past)))
+    → (Left cluster choice plan old.intake.head.link (r.seen ++ x ∷ []) ss old.play.course → Left cluster choice plan old.intake.head.link (r.seen ++ x ∷ []) ts d)
+    → (Sound cluster plan old.intake.head.link (r.seen ++ x ∷ []) old.play.course old.relay.waiting begun out → WroteUntil fault begun out' (sent (traffic_of plan old.intake.head.link (r.seen ++ x ∷ [])) (reverse d.past)))
     → Shortened cluster choice plan old.intake.head text left' begun out' fault
 short_more cluster choice plan text begun ss ts old mid left left' out out' x d fault r m named turn cut =
     let g : Going cluster choice plan old.intake.head.link (r.seen ++ x ∷ []) ss old begun out = r.going (x ∷ []) (λ e. not_ended old.intake.ended (x ∷ [] ≡ []) m.going e) in
@@ -191,8 +194,8 @@ delivered_same w check x h i m n s t e f k =
     ap (λ (y : Head). deliver w m (packet_in y.link check x) s) e ∙ ap (λ (j : ℕ). deliver w j (packet_in i.link check x) s) f ∙ ap (λ (y : Course). deliver w n (packet_in i.link check x) y) k
 
 -- a step that has nothing left to do is over
-pub reached_turn : (cluster : Cluster) (choice : Choice) (plan : Planned) (text begun : Tape) (step : Step) (ss : List Step) (stage : Stage) (left out : Tape) → Reached cluster choice plan text begun (step ∷ ss) stage left out
-    → ((k : Kept) (seen : List Record) → KeepsNamed seen (step ∷ ss) k → KeepsNamed seen ss k) → ((link : Link) (all : List Record) → Left cluster choice plan link all (step ∷ ss) stage.play → Left cluster choice plan link all ss stage.play) → Reached cluster choice plan text begun ss stage left out
+pub reached_turn : {P : Type 0} (cluster : Cluster) (choice : Choice) (plan : Planned) (text begun : Tape) (step : Step) (ss : List Step) (stage : Stage P) (left out : Tape) → Reached cluster choice plan text begun (step ∷ ss) stage left out
+    → ((k : Kept) (seen : List Record) → KeepsNamed seen (step ∷ ss) k → KeepsNamed seen ss k) → ((link : Link) (all : List Record) → Left cluster choice plan link all (step ∷ ss) stage.play.course → Left cluster choice plan link all ss stage.play.course) → Reached cluster choice plan text begun ss stage left out
 reached_turn cluster choice plan text begun step ss stage left out r keeps turn = record {
   seen = r.seen;
   read = r.read;
@@ -254,10 +257,10 @@ repeated cluster choice plan link all place ss c d p h e l =
     ap (λ (x : Course). run w ss x) (e ∙ ap (λ (o : Option Packet). repeat w place o c) (sym h) ∙ sym (again_is w place c)) ∙ sym (run_cons w (again_of place) ss c) ∙ l
 
 -- no further record was read
-pub reached_same : (cluster : Cluster) (choice : Choice) (plan : Planned) (text begun : Tape) (ss ts : List Step) (old new : Stage) (left out out' : Tape) → (r : Reached cluster choice plan text begun ss old left out)
-    → (new.intake.given ≡ old.intake.given) × (new.intake.ended ≡ old.intake.ended) × (new.intake.head ≡ old.intake.head) → new.play.read ≡ old.play.read → KeepsNamed r.seen ts new.kept
-    → ((more : List Record) → Left cluster choice plan old.intake.head.link (r.seen ++ more) ss old.play → Left cluster choice plan old.intake.head.link (r.seen ++ more) ts new.play)
-    → ((more : List Record) → Sound cluster plan old.intake.head.link (r.seen ++ more) old.play old.relay.waiting begun out → Sound cluster plan old.intake.head.link (r.seen ++ more) new.play new.relay.waiting begun out')
+pub reached_same : {P : Type 0} (cluster : Cluster) (choice : Choice) (plan : Planned) (text begun : Tape) (ss ts : List Step) (old new : Stage P) (left out out' : Tape) → (r : Reached cluster choice plan text begun ss old left out)
+    → (new.intake.given ≡ old.intake.given) × (new.intake.ended ≡ old.intake.ended) × (new.intake.head ≡ old.intake.head) → new.play.course.read ≡ old.play.course.read → KeepsNamed r.seen ts new.kept
+    → ((more : List Record) → Left cluster choice plan old.intake.head.link (r.seen ++ more) ss old.play.course → Left cluster choice plan old.intake.head.link (r.seen ++ more) ts new.play.course)
+    → ((more : List Record) → Sound cluster plan old.intake.head.link (r.seen ++ more) old.play.course old.relay.waiting begun out → Sound cluster plan old.intake.head.link (r.seen ++ more) new.play.course new.relay.waiting begun out')
     → Reached cluster choice plan text begun ts new left out'
 reached_same cluster choice plan text begun ss ts old new left out out' r i n k turn sound = record {
   seen = r.seen;
@@ -272,9 +275,9 @@ reached_same cluster choice plan text begun ss ts old new left out out' r i n k 
       });
 }
 
-pub short_same : (cluster : Cluster) (choice : Choice) (plan : Planned) (text begun : Tape) (ss ts : List Step) (old : Stage) (left out out' : Tape) (d : Course) (fault : SimulationFault) → (r : Reached cluster choice plan text begun ss old left out) → IsOfRun fault
-    → (Left cluster choice plan old.intake.head.link r.seen ss old.play → Left cluster choice plan old.intake.head.link r.seen ts d)
-    → (Sound cluster plan old.intake.head.link r.seen old.play old.relay.waiting begun out → WroteUntil fault begun out' (sent (traffic_of plan old.intake.head.link r.seen) (reverse d.past)))
+pub short_same : {P : Type 0} (cluster : Cluster) (choice : Choice) (plan : Planned) (text begun : Tape) (ss ts : List Step) (old : Stage P) (left out out' : Tape) (d : Course) (fault : SimulationFault) → (r : Reached cluster choice plan text begun ss old left out) → IsOfRun fault
+    → (Left cluster choice plan old.intake.head.link r.seen ss old.play.course → Left cluster choice plan old.intake.head.link r.seen ts d)
+    → (Sound cluster plan old.intake.head.link r.seen old.play.course old.relay.waiting begun out → WroteUntil fault begun out' (sent (traffic_of plan old.intake.head.link r.seen) (reverse d.past)))
     → Shortened cluster choice plan old.intake.head text left begun out' fault
 short_same cluster choice plan text begun ss ts old left out out' d fault r named turn cut =
     let g = subst (λ (l : List Record). Going cluster choice plan old.intake.head.link l ss old begun out) (append-nil r.seen) (r.going [] (λ _. refl)) in
@@ -323,8 +326,8 @@ unfolding course_of
 begun_left cluster choice plan link all c e = ap (λ (x : Course). run (world_of cluster choice (packets_of link plan.check all)) plan.steps x) e
 
 -- at the start everything is to be done
-pub reached_start : (cluster : Cluster) (choice : Choice) (plan : Planned) (text out : Tape) (stage : Stage) → cluster.workers ≤ 16 → cluster.nodes ≡ length plan.nodes → length stage.relay.waiting ≡ length plan.nodes * 16 → Orderly cluster
-    → stage.play ≡ start (length plan.nodes) → stage.intake.ended ≡ None → stage.intake.given ≡ 0 → KeepsNamed [] plan.steps stage.kept → ((all : List Record) (k : Cluster) → Mirrors all k [] stage.relay.waiting)
+pub reached_start : {P : Type 0} (cluster : Cluster) (choice : Choice) (plan : Planned) (text out : Tape) (stage : Stage P) → cluster.workers ≤ 16 → cluster.nodes ≡ length plan.nodes → length stage.relay.waiting ≡ length plan.nodes * 16 → Orderly cluster
+    → stage.play.course ≡ start (length plan.nodes) → stage.intake.ended ≡ None → stage.intake.given ≡ 0 → KeepsNamed [] plan.steps stage.kept → ((all : List Record) (k : Cluster) → Mirrors all k [] stage.relay.waiting)
     → Reached cluster choice plan text out plan.steps stage text out
 reached_start cluster choice plan text out stage few nodes room orderly play ended given kept mirrors = record {
   seen = [];
@@ -337,7 +340,7 @@ reached_start cluster choice plan text out stage few nodes room orderly play end
   place = ap (λ (c : Course). c.read) play;
   kept = kept;
   going = λ more cond. record {
-    left = begun_left cluster choice plan stage.intake.head.link more stage.play play;
+    left = begun_left cluster choice plan stage.intake.head.link more stage.play.course play;
     sound = record {
       workers = few;
       room = omega (arith, room, nodes);
@@ -350,11 +353,11 @@ reached_start cluster choice plan text out stage few nodes room orderly play end
 }
 
 -- at the end all is done
-pub over_of : (cluster : Cluster) (choice : Choice) (plan : Planned) (text begun : Tape) (stage : Stage) (left left' out : Tape) (ending : InputEnd) (new : Taking) → (r : Reached cluster choice plan text begun [] stage left out) → ReadOn text r.seen left' ending stage.intake new
-    → IsOver cluster choice plan stage.intake.head text left' begun out stage.play new.given ending
+pub over_of : {P : Type 0} (cluster : Cluster) (choice : Choice) (plan : Planned) (text begun : Tape) (stage : Stage P) (left left' out : Tape) (ending : InputEnd) (new : Taking) → (r : Reached cluster choice plan text begun [] stage left out) → ReadOn text r.seen left' ending stage.intake new
+    → IsOver cluster choice plan stage.intake.head text left' begun out stage.play.course new.given ending
 over_of cluster choice plan text begun stage left left' out ending new r o =
     let g : Going cluster choice plan stage.intake.head.link (r.seen ++ o.more) [] stage begun out = r.going o.more o.none in
-    let is : stage.play ≡ course_of cluster choice plan stage.intake.head.link (r.seen ++ o.more) = sym (run_none (world_of cluster choice (packets_of stage.intake.head.link plan.check (r.seen ++ o.more))) stage.play) ∙ g.left in
+    let is : stage.play.course ≡ course_of cluster choice plan stage.intake.head.link (r.seen ++ o.more) = sym (run_none (world_of cluster choice (packets_of stage.intake.head.link plan.check (r.seen ++ o.more))) stage.play.course) ∙ g.left in
     record {
       records = r.seen ++ o.more;
       told = o.told;

@@ -32,16 +32,16 @@ pub record Sound (cluster : Cluster) (plan : Planned) (link : Link) (all : List 
   pub sent : SentSoFar plan link all course begun out
 
 -- where all the records are these: what is left to be done leads to the course of the whole plan
-pub record Going (cluster : Cluster) (choice : Choice) (plan : Planned) (link : Link) (all : List Record) (ss : List Step) (stage : Stage) (begun out : Tape) : Type 0 where
-  pub left : Left cluster choice plan link all ss stage.play
-  pub sound : Sound cluster plan link all stage.play stage.relay.waiting begun out
+pub record Going {P : Type 0} (cluster : Cluster) (choice : Choice) (plan : Planned) (link : Link) (all : List Record) (ss : List Step) (stage : Stage P) (begun out : Tape) : Type 0 where
+  pub left : Left cluster choice plan link all ss stage.play.course
+  pub sound : Sound cluster plan link all stage.play.course stage.relay.waiting begun out
 
 -- with these steps left: some records were read, just those of them are kept that a step left names, and whatever comes
 -- behind them, the run is going
-pub record Reached (cluster : Cluster) (choice : Choice) (plan : Planned) (text begun : Tape) (ss : List Step) (stage : Stage) (left out : Tape) : Type 0 where
+pub record Reached {P : Type 0} (cluster : Cluster) (choice : Choice) (plan : Planned) (text begun : Tape) (ss : List Step) (stage : Stage P) (left out : Tape) : Type 0 where
   pub seen : List Record
   pub read : Seen text seen left stage.intake
-  pub place : stage.play.read ≡ length seen
+  pub place : stage.play.course.read ≡ length seen
   pub kept : KeepsNamed seen ss stage.kept
   pub going : (more : List Record) → (is_some stage.intake.ended ≡ true → more ≡ []) → Going cluster choice plan stage.intake.head.link (seen ++ more) ss stage begun out
 

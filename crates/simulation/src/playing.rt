@@ -17,8 +17,8 @@ use spreader::Spread;
 
 /// A run over a capture: the course of its steps, how many records the capture has, and how it ends.
 #[derive(Drop)]
-pub struct Played {
-    pub play: Play,
+pub struct Played<P: Spread> {
+    pub play: Play<P>,
     pub packets: u32,
     pub ending: InputEnd,
 }
@@ -39,21 +39,21 @@ fn begin<O: Sink>(output: &mut O) -> Result<(), SimulationFault>
 pub fn play_capture<C: Core, P: Spread, I: Source, O: Sink>(
     run: &Run<'_, C::Setup>,
     core: &mut C,
-    spread: &mut P,
+    spread: P,
     input: &mut I,
     output: &mut O,
-) -> Result<Played, SimulationFault>
+) -> Result<Played<P>, SimulationFault>
     requires fresh { C.stands run.now.setup.now [] core.old }
-    requires live { P.live spread.old ≡ below (length run.now.plan.nodes.now) }
+    requires live { P.live spread ≡ below (length run.now.plan.nodes.now) }
     requires nodes { length run.now.plan.nodes.now ≤ 64 }
     requires steps { length run.now.plan.steps.now ≤ 100000 }
     requires workers { (C.cluster run.now.setup.now).workers ≤ 16 }
     requires cluster { (C.cluster run.now.setup.now).nodes ≡ length run.now.plan.nodes.now }
     requires orderly { Orderly (C.cluster run.now.setup.now) }
-    ensures ok { IfOk result (λ p. Simulated (C.cluster run.now.setup.now) (P.choice spread.old) (planned run.now.plan) (I.tape input.old) (I.tape input.new) (O.tape output.old) (O.tape output.new) p.play p.packets p.ending) }
-    ensures read { IfOk result (λ p. p.play.read ≤ p.packets) }
-    ensures stands { IfOk result (λ p. C.stands run.now.setup.now p.play.past core.new) }
-    ensures stopped { IfErr result (Stopped (C.cluster run.now.setup.now) (P.choice spread.old) (planned run.now.plan) (I.tape input.old) (I.tape input.new) (O.tape output.old) (O.tape output.new)) }
+    ensures ok { IfOk result (λ p. Simulated (C.cluster run.now.setup.now) (P.choice spread) (planned run.now.plan) (I.tape input.old) (I.tape input.new) (O.tape output.old) (O.tape output.new) p.play.course p.packets p.ending) }
+    ensures read { IfOk result (λ p. p.play.course.read ≤ p.packets) }
+    ensures stands { IfOk result (λ p. C.stands run.now.setup.now p.play.course.past core.new) }
+    ensures stopped { IfErr result (Stopped (C.cluster run.now.setup.now) (P.choice spread) (planned run.now.plan) (I.tape input.old) (I.tape input.new) (O.tape output.old) (O.tape output.new)) }
 {
     let head = read_start(input)?;
     begin(output)?;

@@ -34,8 +34,8 @@ use std::alloc::{AllocError, Global};
 /// The course so far, what one delivery tells and the events of one other step, the frames that wait, the records that come
 /// again, and those that are read.
 #[derive(Drop)]
-pub(crate) struct Stage {
-    play: Play,
+pub(crate) struct Stage<P: Spread> {
+    play: Play<P>,
     delivery: Delivery,
     events: Vec<Said>,
     relay: Relay,
@@ -43,19 +43,21 @@ pub(crate) struct Stage {
     intake: Intake,
 }
 
-impl Stage {
+impl<P: Spread> Stage<P> {
     // Nothing was read, and nothing has happened.
-    fn make(alloc: Global, plan: Plan<'_>, head: Head) -> Result<Stage, AllocError>
-        requires { length plan.nodes.now ≤ 64 }
-        ensures fresh { IfOk result (λ s. Counted s.intake.given 0 s.play) }
-        ensures play { IfOk result (λ s. s.play ≡ start (length plan.entry.nodes.now)) }
+    fn make(alloc: Global, plan: Plan<'_>, spread: P, head: Head) -> Result<Stage<P>, AllocError>
+        requires live { P.live spread ≡ below (length plan.nodes.now) }
+        requires nodes { length plan.nodes.now ≤ 64 }
+        ensures fresh { IfOk result (λ s. Counted s.intake.given 0 s.play.course) }
+        ensures play { IfOk result (λ s. s.play.course ≡ start (length plan.entry.nodes.now)) }
+        ensures spread { IfOk result (λ s. s.play.spread ≡ spread) }
         ensures head { IfOk result (λ s. s.intake.head ≡ head) }
         ensures reached { (cluster : Cluster) (choice : Choice) (text out : Tape) → cluster.workers ≤ 16 → cluster.nodes ≡ length plan.entry.nodes.now → Orderly cluster →
             IfOk result (λ s. Reached cluster choice (planned plan.entry) text out plan.entry.steps.now s text out) }
     {
         let nodes = plan.nodes.len() as u16;
         Ok(Stage {
-            play: Play::start(alloc, nodes)?,
+            play: Play::start(alloc, spread, nodes)?,
             delivery: Delivery::new(),
             events: Vec::new(alloc),
             relay: Relay::new(alloc, nodes)?,
@@ -78,67 +80,63 @@ impl Stage {
 
     // Delivers the record that was read last, and sends what is sent then.
     #[inline(always)]
-    fn deliver<C: Core, P: Spread, O: Sink>(
+    fn deliver<C: Core, O: Sink>(
         &mut self,
         run: &Run<'_, C::Setup>,
         core: &mut C,
-        spread: &P,
         place: u32,
         output: &mut O,
     ) -> Result<(), SimulationFault>
-        requires stands { C.stands run.now.setup.now self.old.play.past core.old }
-        requires live { P.live spread.now ≡ self.old.play.live }
-        requires room { self.old.play.unrouted + 1 < 2 ^ 64 }
-        requires many { self.old.play.nth + 1 < 2 ^ 64 }
-        ensures stands { OnOk result (C.stands run.now.setup.now self.new.play.past core.new) }
-        ensures live { OnOk result (self.new.play.live ≡ self.old.play.live) }
+        requires stands { C.stands run.now.setup.now self.old.play.course.past core.old }
+        requires room { self.old.play.course.unrouted + 1 < 2 ^ 64 }
+        requires many { self.old.play.course.nth + 1 < 2 ^ 64 }
+        ensures stands { OnOk result (C.stands run.now.setup.now self.new.play.course.past core.new) }
+        ensures spread { self.new.play.spread ≡ self.old.play.spread }
         ensures kept { self.new.kept ≡ self.old.kept }
         ensures intake { (self.new.intake.given ≡ self.old.intake.given) × (self.new.intake.ended ≡ self.old.intake.ended) × (self.new.intake.head ≡ self.old.intake.head) }
-        ensures play { OnOk result ((w : World) → w.cluster ≡ C.cluster run.now.setup.now → SameChoice w.choice (P.choice spread.now) → self.new.play ≡ deliver w place (packet_in self.old.intake.head.link run.now.plan.check self.old.intake.record_read) self.old.play) }
+        ensures play { OnOk result ((w : World) → w.cluster ≡ C.cluster run.now.setup.now → SameChoice w.choice (P.choice self.old.play.spread) → self.new.play.course ≡ deliver w place (packet_in self.old.intake.head.link run.now.plan.check self.old.intake.record_read) self.old.play.course) }
         ensures sound { (all : List Record) (begun : Tape) →
-            Sound (C.cluster run.now.setup.now) (planned run.now.plan) self.old.intake.head.link all self.old.play self.old.relay.waiting begun (O.tape output.old) → slice_get all place ≡ Some self.old.intake.record_read →
-            OnOk result (Sound (C.cluster run.now.setup.now) (planned run.now.plan) self.old.intake.head.link all self.new.play self.new.relay.waiting begun (O.tape output.new)) }
+            Sound (C.cluster run.now.setup.now) (planned run.now.plan) self.old.intake.head.link all self.old.play.course self.old.relay.waiting begun (O.tape output.old) → slice_get all place ≡ Some self.old.intake.record_read →
+            OnOk result (Sound (C.cluster run.now.setup.now) (planned run.now.plan) self.old.intake.head.link all self.new.play.course self.new.relay.waiting begun (O.tape output.new)) }
         ensures named { IfErr result IsOfRun }
-        ensures cut { (w : World) (all : List Record) (begun : Tape) → w.cluster ≡ C.cluster run.now.setup.now → SameChoice w.choice (P.choice spread.now) →
-            Sound (C.cluster run.now.setup.now) (planned run.now.plan) self.old.intake.head.link all self.old.play self.old.relay.waiting begun (O.tape output.old) → slice_get all place ≡ Some self.old.intake.record_read →
-            IfErr result (λ fault. WroteUntil fault begun (O.tape output.new) (sent (traffic_of (planned run.now.plan) self.old.intake.head.link all) (reverse (deliver w place (packet_in self.old.intake.head.link run.now.plan.check self.old.intake.record_read) self.old.play).past))) }
+        ensures cut { (w : World) (all : List Record) (begun : Tape) → w.cluster ≡ C.cluster run.now.setup.now → SameChoice w.choice (P.choice self.old.play.spread) →
+            Sound (C.cluster run.now.setup.now) (planned run.now.plan) self.old.intake.head.link all self.old.play.course self.old.relay.waiting begun (O.tape output.old) → slice_get all place ≡ Some self.old.intake.record_read →
+            IfErr result (λ fault. WroteUntil fault begun (O.tape output.new) (sent (traffic_of (planned run.now.plan) self.old.intake.head.link all) (reverse (deliver w place (packet_in self.old.intake.head.link run.now.plan.check self.old.intake.record_read) self.old.play.course).past))) }
     {
         let wire = self.wire(run.plan);
         let packet = wire.packet(self.intake.frame());
-        self.play.deliver(core, run.setup, spread, place, &packet, &mut self.delivery)?;
+        self.play
+            .deliver(core, run.setup, place, &packet, &mut self.delivery)?;
         self.relay
             .settle_delivered(&wire, &packet, &self.delivery, &mut self.intake, output)
     }
 
     // A step that names no record.
-    fn apart<C: Core, P: Spread, O: Sink>(
+    fn apart<C: Core, O: Sink>(
         &mut self,
         run: &Run<'_, C::Setup>,
         core: &mut C,
-        spread: &mut P,
         step: &Step,
         output: &mut O,
     ) -> Result<(), SimulationFault>
-        requires stands { C.stands run.now.setup.now self.old.play.past core.old }
-        requires live { P.live spread.old ≡ self.old.play.live }
-        ensures stands { OnOk result (C.stands run.now.setup.now self.new.play.past core.new) }
-        ensures live { OnOk result (P.live spread.new ≡ self.new.play.live) }
-        ensures choice { SameChoice (P.choice spread.old) (P.choice spread.new) }
+        requires stands { C.stands run.now.setup.now self.old.play.course.past core.old }
+        ensures stands { OnOk result (C.stands run.now.setup.now self.new.play.course.past core.new) }
+        ensures choice { SameChoice (P.choice self.old.play.spread) (P.choice self.new.play.spread) }
         ensures kept { self.new.kept ≡ self.old.kept }
         ensures intake { self.new.intake ≡ self.old.intake }
-        ensures play { OnOk result ((w : World) → w.cluster ≡ C.cluster run.now.setup.now → names_records step.now ≡ false → self.new.play ≡ after w step.now self.old.play) }
+        ensures play { OnOk result ((w : World) → w.cluster ≡ C.cluster run.now.setup.now → names_records step.now ≡ false → self.new.play.course ≡ after w step.now self.old.play.course) }
         ensures sound { (all : List Record) (begun : Tape) → names_records step.now ≡ false →
-            Sound (C.cluster run.now.setup.now) (planned run.now.plan) self.old.intake.head.link all self.old.play self.old.relay.waiting begun (O.tape output.old) →
-            OnOk result (Sound (C.cluster run.now.setup.now) (planned run.now.plan) self.old.intake.head.link all self.new.play self.new.relay.waiting begun (O.tape output.new)) }
+            Sound (C.cluster run.now.setup.now) (planned run.now.plan) self.old.intake.head.link all self.old.play.course self.old.relay.waiting begun (O.tape output.old) →
+            OnOk result (Sound (C.cluster run.now.setup.now) (planned run.now.plan) self.old.intake.head.link all self.new.play.course self.new.relay.waiting begun (O.tape output.new)) }
         ensures named { IfErr result IsOfRun }
         ensures cut { (w : World) (all : List Record) (begun : Tape) → w.cluster ≡ C.cluster run.now.setup.now → names_records step.now ≡ false →
-            Sound (C.cluster run.now.setup.now) (planned run.now.plan) self.old.intake.head.link all self.old.play self.old.relay.waiting begun (O.tape output.old) →
-            IfErr result (λ fault. WroteUntil fault begun (O.tape output.new) (sent (traffic_of (planned run.now.plan) self.old.intake.head.link all) (reverse (after w step.now self.old.play).past))) }
+            Sound (C.cluster run.now.setup.now) (planned run.now.plan) self.old.intake.head.link all self.old.play.course self.old.relay.waiting begun (O.tape output.old) →
+            IfErr result (λ fault. WroteUntil fault begun (O.tape output.new) (sent (traffic_of (planned run.now.plan) self.old.intake.head.link all) (reverse (after w step.now self.old.play.course).past))) }
     {
         let wire = self.wire(run.plan);
         self.events.clear();
         self.play
-            .step_apart(run.alloc, core, run.setup, spread, step, &mut self.events)?;
+            .step_apart(run.alloc, core, run.setup, step, &mut self.events)?;
         let events = self.events.as_slice();
         self.relay.settle_all(&wire, events, output)
     }
@@ -169,25 +167,23 @@ impl Stage {
 
     // Takes the next record: reads it and delivers it. Says whether there was one.
     #[inline(always)]
-    fn take_one<C: Core, P: Spread, I: Source, O: Sink>(
+    fn take_one<C: Core, I: Source, O: Sink>(
         &mut self,
         run: &Run<'_, C::Setup>,
         core: &mut C,
-        spread: &P,
         input: &mut I,
         output: &mut O,
     ) -> Result<bool, SimulationFault>
-        requires stands { C.stands run.now.setup.now self.old.play.past core.old }
-        requires live { P.live spread.now ≡ self.old.play.live }
-        requires few { (n : ℕ) × (n < 2 ^ 32) × Counted self.old.intake.given n self.old.play }
-        ensures stands { OnOk result (C.stands run.now.setup.now self.new.play.past core.new) }
-        ensures live { OnOk result (self.new.play.live ≡ self.old.play.live) }
-        ensures few { (n : ℕ) → Counted self.old.intake.given n self.old.play → OnOk result (Counted self.new.intake.given n self.new.play) }
+        requires stands { C.stands run.now.setup.now self.old.play.course.past core.old }
+        requires few { (n : ℕ) × (n < 2 ^ 32) × Counted self.old.intake.given n self.old.play.course }
+        ensures stands { OnOk result (C.stands run.now.setup.now self.new.play.course.past core.new) }
+        ensures spread { self.new.play.spread ≡ self.old.play.spread }
+        ensures few { (n : ℕ) → Counted self.old.intake.given n self.old.play.course → OnOk result (Counted self.new.intake.given n self.new.play.course) }
         ensures head { self.new.intake.head ≡ self.old.intake.head }
-        ensures reached { (choice : Choice) (text begun : Tape) (ss : List Step) (k : ℕ) → SameChoice choice (P.choice spread.now) →
+        ensures reached { (choice : Choice) (text begun : Tape) (ss : List Step) (k : ℕ) → SameChoice choice (P.choice self.old.play.spread) →
             Reached (C.cluster run.now.setup.now) choice (planned run.now.plan) text begun (take_of (k + 1) ∷ ss) self.old (I.tape input.old) (O.tape output.old) →
             IfOk result (λ more. Reached (C.cluster run.now.setup.now) choice (planned run.now.plan) text begun (still_to_take more k ss) self.new (I.tape input.new) (O.tape output.new)) }
-        ensures short { (choice : Choice) (text begun : Tape) (ss : List Step) (k : ℕ) → SameChoice choice (P.choice spread.now) →
+        ensures short { (choice : Choice) (text begun : Tape) (ss : List Step) (k : ℕ) → SameChoice choice (P.choice self.old.play.spread) →
             Reached (C.cluster run.now.setup.now) choice (planned run.now.plan) text begun (take_of (k + 1) ∷ ss) self.old (I.tape input.old) (O.tape output.old) →
             IfErr result (λ fault. Shortened (C.cluster run.now.setup.now) choice (planned run.now.plan) self.old.intake.head text (I.tape input.new) begun (O.tape output.new) fault) }
     {
@@ -196,36 +192,34 @@ impl Stage {
             return Ok(false);
         }
         let place = self.play.next_place();
-        self.deliver(run, core, spread, place, output)?;
+        self.deliver(run, core, place, output)?;
         Ok(true)
     }
 
     // Takes so many records, or those that remain.
-    fn take<C: Core, P: Spread, I: Source, O: Sink>(
+    fn take<C: Core, I: Source, O: Sink>(
         &mut self,
         run: &Run<'_, C::Setup>,
         core: &mut C,
-        spread: &P,
         count: u32,
         input: &mut I,
         output: &mut O,
     ) -> Result<(), SimulationFault>
-        requires stands { C.stands run.now.setup.now self.old.play.past core.old }
-        requires live { P.live spread.now ≡ self.old.play.live }
-        requires few { (n : ℕ) × (n < 2 ^ 32) × Counted self.old.intake.given n self.old.play }
-        ensures stands { OnOk result (C.stands run.now.setup.now self.new.play.past core.new) }
-        ensures live { OnOk result (self.new.play.live ≡ self.old.play.live) }
-        ensures few { (n : ℕ) → Counted self.old.intake.given n self.old.play → OnOk result (Counted self.new.intake.given n self.new.play) }
+        requires stands { C.stands run.now.setup.now self.old.play.course.past core.old }
+        requires few { (n : ℕ) × (n < 2 ^ 32) × Counted self.old.intake.given n self.old.play.course }
+        ensures stands { OnOk result (C.stands run.now.setup.now self.new.play.course.past core.new) }
+        ensures spread { self.new.play.spread ≡ self.old.play.spread }
+        ensures few { (n : ℕ) → Counted self.old.intake.given n self.old.play.course → OnOk result (Counted self.new.intake.given n self.new.play.course) }
         ensures head { self.new.intake.head ≡ self.old.intake.head }
-        ensures reached { (choice : Choice) (text begun : Tape) (ss : List Step) → SameChoice choice (P.choice spread.now) →
+        ensures reached { (choice : Choice) (text begun : Tape) (ss : List Step) → SameChoice choice (P.choice self.old.play.spread) →
             Reached (C.cluster run.now.setup.now) choice (planned run.now.plan) text begun (take_of count ∷ ss) self.old (I.tape input.old) (O.tape output.old) →
             OnOk result (Reached (C.cluster run.now.setup.now) choice (planned run.now.plan) text begun ss self.new (I.tape input.new) (O.tape output.new)) }
-        ensures short { (choice : Choice) (text begun : Tape) (ss : List Step) → SameChoice choice (P.choice spread.now) →
+        ensures short { (choice : Choice) (text begun : Tape) (ss : List Step) → SameChoice choice (P.choice self.old.play.spread) →
             Reached (C.cluster run.now.setup.now) choice (planned run.now.plan) text begun (take_of count ∷ ss) self.old (I.tape input.old) (O.tape output.old) →
             IfErr result (λ fault. Shortened (C.cluster run.now.setup.now) choice (planned run.now.plan) self.old.intake.head text (I.tape input.new) begun (O.tape output.new) fault) }
     {
         for _ in 0..count {
-            let more = self.take_one(run, core, spread, input, output)?;
+            let more = self.take_one(run, core, input, output)?;
             if !more {
                 return Ok(());
             }
@@ -235,9 +229,10 @@ impl Stage {
 
     // Reads the next record and loses it. Says whether there was one.
     fn lose_one<I: Source>(&mut self, alloc: Global, input: &mut I) -> Result<bool, SimulationFault>
-        requires few { (n : ℕ) × (n < 2 ^ 32) × Counted self.old.intake.given n self.old.play }
-        ensures play { OnOk result ((self.new.play.past ≡ self.old.play.past) × (self.new.play.live ≡ self.old.play.live)) }
-        ensures few { (n : ℕ) → Counted self.old.intake.given n self.old.play → OnOk result (Counted self.new.intake.given n self.new.play) }
+        requires few { (n : ℕ) × (n < 2 ^ 32) × Counted self.old.intake.given n self.old.play.course }
+        ensures past { OnOk result (self.new.play.course.past ≡ self.old.play.course.past) }
+        ensures spread { self.new.play.spread ≡ self.old.play.spread }
+        ensures few { (n : ℕ) → Counted self.old.intake.given n self.old.play.course → OnOk result (Counted self.new.intake.given n self.new.play.course) }
         ensures head { self.new.intake.head ≡ self.old.intake.head }
         ensures reached { (cluster : Cluster) (choice : Choice) (plan : Planned) (text begun out : Tape) (ss : List Step) (k : ℕ) →
             Reached cluster choice plan text begun (lose_of (k + 1) ∷ ss) self.old (I.tape input.old) out →
@@ -260,9 +255,10 @@ impl Stage {
         count: u32,
         input: &mut I,
     ) -> Result<(), SimulationFault>
-        requires few { (n : ℕ) × (n < 2 ^ 32) × Counted self.old.intake.given n self.old.play }
-        ensures play { OnOk result ((self.new.play.past ≡ self.old.play.past) × (self.new.play.live ≡ self.old.play.live)) }
-        ensures few { (n : ℕ) → Counted self.old.intake.given n self.old.play → OnOk result (Counted self.new.intake.given n self.new.play) }
+        requires few { (n : ℕ) × (n < 2 ^ 32) × Counted self.old.intake.given n self.old.play.course }
+        ensures past { OnOk result (self.new.play.course.past ≡ self.old.play.course.past) }
+        ensures spread { self.new.play.spread ≡ self.old.play.spread }
+        ensures few { (n : ℕ) → Counted self.old.intake.given n self.old.play.course → OnOk result (Counted self.new.intake.given n self.new.play.course) }
         ensures head { self.new.intake.head ≡ self.old.intake.head }
         ensures reached { (cluster : Cluster) (choice : Choice) (plan : Planned) (text begun out : Tape) (ss : List Step) →
             Reached cluster choice plan text begun (lose_of count ∷ ss) self.old (I.tape input.old) out →
@@ -280,26 +276,24 @@ impl Stage {
     }
 
     // Delivers a record again, or skips it where it wasn't read.
-    fn again<C: Core, P: Spread, O: Sink>(
+    fn again<C: Core, O: Sink>(
         &mut self,
         run: &Run<'_, C::Setup>,
         core: &mut C,
-        spread: &P,
         place: u32,
         output: &mut O,
     ) -> Result<(), SimulationFault>
-        requires stands { C.stands run.now.setup.now self.old.play.past core.old }
-        requires live { P.live spread.now ≡ self.old.play.live }
-        requires few { (n : ℕ) × (n < 2 ^ 32) × Counted self.old.intake.given n self.old.play }
-        ensures stands { OnOk result (C.stands run.now.setup.now self.new.play.past core.new) }
-        ensures live { OnOk result (self.new.play.live ≡ self.old.play.live) }
-        ensures few { (n : ℕ) → Counted self.old.intake.given n self.old.play → OnOk result (Counted self.new.intake.given (n + 1) self.new.play) }
+        requires stands { C.stands run.now.setup.now self.old.play.course.past core.old }
+        requires few { (n : ℕ) × (n < 2 ^ 32) × Counted self.old.intake.given n self.old.play.course }
+        ensures stands { OnOk result (C.stands run.now.setup.now self.new.play.course.past core.new) }
+        ensures spread { self.new.play.spread ≡ self.old.play.spread }
+        ensures few { (n : ℕ) → Counted self.old.intake.given n self.old.play.course → OnOk result (Counted self.new.intake.given (n + 1) self.new.play.course) }
         ensures head { self.new.intake.head ≡ self.old.intake.head }
         ensures named { IfErr result IsOfRun }
-        ensures reached { (choice : Choice) (text begun left : Tape) (ss : List Step) → SameChoice choice (P.choice spread.now) →
+        ensures reached { (choice : Choice) (text begun left : Tape) (ss : List Step) → SameChoice choice (P.choice self.old.play.spread) →
             Reached (C.cluster run.now.setup.now) choice (planned run.now.plan) text begun (again_of place ∷ ss) self.old left (O.tape output.old) →
             OnOk result (Reached (C.cluster run.now.setup.now) choice (planned run.now.plan) text begun ss self.new left (O.tape output.new)) }
-        ensures short { (choice : Choice) (text begun left : Tape) (ss : List Step) → SameChoice choice (P.choice spread.now) →
+        ensures short { (choice : Choice) (text begun left : Tape) (ss : List Step) → SameChoice choice (P.choice self.old.play.spread) →
             Reached (C.cluster run.now.setup.now) choice (planned run.now.plan) text begun (again_of place ∷ ss) self.old left (O.tape output.old) →
             IfErr result (λ fault. Shortened (C.cluster run.now.setup.now) choice (planned run.now.plan) self.old.intake.head text left begun (O.tape output.new) fault) }
     {
@@ -308,32 +302,29 @@ impl Stage {
         match self.kept.take(run.alloc, place)? {
             Some(frame) => {
                 let _ = self.intake.exchange(frame);
-                self.deliver(run, core, spread, place, output)
+                self.deliver(run, core, place, output)
             }
             None => {
                 self.play
-                    .repeat(core, run.setup, spread, place, None, &mut self.events)?;
+                    .repeat(core, run.setup, place, None, &mut self.events)?;
                 Ok(())
             }
         }
     }
 
     // A step that names no record, among the others.
-    fn aside<C: Core, P: Spread, O: Sink>(
+    fn aside<C: Core, O: Sink>(
         &mut self,
         run: &Run<'_, C::Setup>,
         core: &mut C,
-        spread: &mut P,
         step: &Step,
         output: &mut O,
     ) -> Result<(), SimulationFault>
-        requires stands { C.stands run.now.setup.now self.old.play.past core.old }
-        requires live { P.live spread.old ≡ self.old.play.live }
+        requires stands { C.stands run.now.setup.now self.old.play.course.past core.old }
         requires apart { names_records step.now ≡ false }
-        ensures stands { OnOk result (C.stands run.now.setup.now self.new.play.past core.new) }
-        ensures live { OnOk result (P.live spread.new ≡ self.new.play.live) }
-        ensures choice { SameChoice (P.choice spread.old) (P.choice spread.new) }
-        ensures few { (n : ℕ) → Counted self.old.intake.given n self.old.play → OnOk result (Counted self.new.intake.given (n + 1) self.new.play) }
+        ensures stands { OnOk result (C.stands run.now.setup.now self.new.play.course.past core.new) }
+        ensures choice { SameChoice (P.choice self.old.play.spread) (P.choice self.new.play.spread) }
+        ensures few { (n : ℕ) → Counted self.old.intake.given n self.old.play.course → OnOk result (Counted self.new.intake.given (n + 1) self.new.play.course) }
         ensures head { self.new.intake.head ≡ self.old.intake.head }
         ensures named { IfErr result IsOfRun }
         ensures reached { (choice : Choice) (text begun left : Tape) (ss : List Step) →
@@ -343,79 +334,74 @@ impl Stage {
             Reached (C.cluster run.now.setup.now) choice (planned run.now.plan) text begun (step.now ∷ ss) self.old left (O.tape output.old) →
             IfErr result (λ fault. Shortened (C.cluster run.now.setup.now) choice (planned run.now.plan) self.old.intake.head text left begun (O.tape output.new) fault) }
     {
-        self.apart(run, core, spread, step, output)
+        self.apart(run, core, step, output)
     }
 
     // A step.
-    fn step<C: Core, P: Spread, I: Source, O: Sink>(
+    fn step<C: Core, I: Source, O: Sink>(
         &mut self,
         run: &Run<'_, C::Setup>,
         core: &mut C,
-        spread: &mut P,
         step: &Step,
         input: &mut I,
         output: &mut O,
     ) -> Result<(), SimulationFault>
-        requires stands { C.stands run.now.setup.now self.old.play.past core.old }
-        requires live { P.live spread.old ≡ self.old.play.live }
-        requires few { (n : ℕ) × (n < 2 ^ 32) × Counted self.old.intake.given n self.old.play }
-        ensures stands { OnOk result (C.stands run.now.setup.now self.new.play.past core.new) }
-        ensures live { OnOk result (P.live spread.new ≡ self.new.play.live) }
-        ensures choice { SameChoice (P.choice spread.old) (P.choice spread.new) }
-        ensures few { (n : ℕ) → Counted self.old.intake.given n self.old.play → OnOk result (Counted self.new.intake.given (n + 1) self.new.play) }
+        requires stands { C.stands run.now.setup.now self.old.play.course.past core.old }
+        requires few { (n : ℕ) × (n < 2 ^ 32) × Counted self.old.intake.given n self.old.play.course }
+        ensures stands { OnOk result (C.stands run.now.setup.now self.new.play.course.past core.new) }
+        ensures choice { SameChoice (P.choice self.old.play.spread) (P.choice self.new.play.spread) }
+        ensures few { (n : ℕ) → Counted self.old.intake.given n self.old.play.course → OnOk result (Counted self.new.intake.given (n + 1) self.new.play.course) }
         ensures head { self.new.intake.head ≡ self.old.intake.head }
-        ensures reached { (choice : Choice) (text begun : Tape) (ss : List Step) → SameChoice choice (P.choice spread.old) →
+        ensures reached { (choice : Choice) (text begun : Tape) (ss : List Step) → SameChoice choice (P.choice self.old.play.spread) →
             Reached (C.cluster run.now.setup.now) choice (planned run.now.plan) text begun (step.now ∷ ss) self.old (I.tape input.old) (O.tape output.old) →
             OnOk result (Reached (C.cluster run.now.setup.now) choice (planned run.now.plan) text begun ss self.new (I.tape input.new) (O.tape output.new)) }
-        ensures short { (choice : Choice) (text begun : Tape) (ss : List Step) → SameChoice choice (P.choice spread.old) →
+        ensures short { (choice : Choice) (text begun : Tape) (ss : List Step) → SameChoice choice (P.choice self.old.play.spread) →
             Reached (C.cluster run.now.setup.now) choice (planned run.now.plan) text begun (step.now ∷ ss) self.old (I.tape input.old) (O.tape output.old) →
             IfErr result (λ fault. Shortened (C.cluster run.now.setup.now) choice (planned run.now.plan) self.old.intake.head text (I.tape input.new) begun (O.tape output.new) fault) }
     {
         match step {
-            Step::Take(count) => self.take(run, core, spread, *count, input, output),
+            Step::Take(count) => self.take(run, core, *count, input, output),
             Step::Lose(count) => self.lose(run.alloc, *count, input),
-            Step::Again(place) => self.again(run, core, spread, *place, output),
-            _ => self.aside(run, core, spread, step, output),
+            Step::Again(place) => self.again(run, core, *place, output),
+            _ => self.aside(run, core, step, output),
         }
     }
 
     // All steps.
-    fn steps<C: Core, P: Spread, I: Source, O: Sink>(
+    fn steps<C: Core, I: Source, O: Sink>(
         &mut self,
         run: &Run<'_, C::Setup>,
         core: &mut C,
-        spread: &mut P,
         input: &mut I,
         output: &mut O,
     ) -> Result<(), SimulationFault>
-        requires stands { C.stands run.now.setup.now self.old.play.past core.old }
-        requires live { P.live spread.old ≡ self.old.play.live }
-        requires fresh { Counted self.old.intake.given 0 self.old.play }
+        requires stands { C.stands run.now.setup.now self.old.play.course.past core.old }
+        requires fresh { Counted self.old.intake.given 0 self.old.play.course }
         requires some { length run.now.plan.steps.now ≤ 100000 }
-        ensures stands { OnOk result (C.stands run.now.setup.now self.new.play.past core.new) }
+        ensures stands { OnOk result (C.stands run.now.setup.now self.new.play.course.past core.new) }
         ensures head { self.new.intake.head ≡ self.old.intake.head }
-        ensures read { OnOk result (self.new.play.read ≤ self.new.intake.given) }
-        ensures reached { (text begun : Tape) →
-            Reached (C.cluster run.now.setup.now) (P.choice spread.old) (planned run.now.plan) text begun run.now.plan.steps.now self.old (I.tape input.old) (O.tape output.old) →
-            OnOk result (Reached (C.cluster run.now.setup.now) (P.choice spread.old) (planned run.now.plan) text begun [] self.new (I.tape input.new) (O.tape output.new)) }
-        ensures short { (text begun : Tape) →
-            Reached (C.cluster run.now.setup.now) (P.choice spread.old) (planned run.now.plan) text begun run.now.plan.steps.now self.old (I.tape input.old) (O.tape output.old) →
-            IfErr result (λ fault. Shortened (C.cluster run.now.setup.now) (P.choice spread.old) (planned run.now.plan) self.old.intake.head text (I.tape input.new) begun (O.tape output.new) fault) }
+        ensures read { OnOk result (self.new.play.course.read ≤ self.new.intake.given) }
+        ensures reached { (choice : Choice) (text begun : Tape) → SameChoice choice (P.choice self.old.play.spread) →
+            Reached (C.cluster run.now.setup.now) choice (planned run.now.plan) text begun run.now.plan.steps.now self.old (I.tape input.old) (O.tape output.old) →
+            OnOk result (Reached (C.cluster run.now.setup.now) choice (planned run.now.plan) text begun [] self.new (I.tape input.new) (O.tape output.new)) }
+        ensures short { (choice : Choice) (text begun : Tape) → SameChoice choice (P.choice self.old.play.spread) →
+            Reached (C.cluster run.now.setup.now) choice (planned run.now.plan) text begun run.now.plan.steps.now self.old (I.tape input.old) (O.tape output.old) →
+            IfErr result (λ fault. Shortened (C.cluster run.now.setup.now) choice (planned run.now.plan) self.old.intake.head text (I.tape input.new) begun (O.tape output.new) fault) }
     {
         for step in run.plan.steps {
-            self.step(run, core, spread, step, input, output)?;
+            self.step(run, core, step, input, output)?;
         }
         Ok(())
     }
 
     // Reads what is left of the input. The run is over then.
-    fn finish<I: Source>(self, input: &mut I) -> Result<Played, SimulationFault>
-        requires { self.play.read ≤ self.intake.given }
+    fn finish<I: Source>(self, input: &mut I) -> Result<Played<P>, SimulationFault>
+        requires { self.play.course.read ≤ self.intake.given }
         ensures play { IfOk result (λ p. p.play ≡ self.play) }
-        ensures read { IfOk result (λ p. p.play.read ≤ p.packets) }
+        ensures read { IfOk result (λ p. p.play.course.read ≤ p.packets) }
         ensures over { (cluster : Cluster) (choice : Choice) (plan : Planned) (text begun out : Tape) →
             Reached cluster choice plan text begun [] self (I.tape input.old) out →
-            IfOk result (λ p. IsOver cluster choice plan self.intake.head text (I.tape input.new) begun out p.play p.packets p.ending) }
+            IfOk result (λ p. IsOver cluster choice plan self.intake.head text (I.tape input.new) begun out p.play.course p.packets p.ending) }
         ensures short { (cluster : Cluster) (choice : Choice) (plan : Planned) (text begun out : Tape) →
             Reached cluster choice plan text begun [] self (I.tape input.old) out →
             IfErr result (λ fault. Shortened cluster choice plan self.intake.head text (I.tape input.new) begun out fault) }
@@ -441,24 +427,24 @@ impl Stage {
 pub(crate) fn play_records<C: Core, P: Spread, I: Source, O: Sink>(
     run: &Run<'_, C::Setup>,
     core: &mut C,
-    spread: &mut P,
+    spread: P,
     head: Head,
     input: &mut I,
     output: &mut O,
-) -> Result<Played, SimulationFault>
+) -> Result<Played<P>, SimulationFault>
     requires fresh { C.stands run.now.setup.now [] core.old }
-    requires live { P.live spread.old ≡ below (length run.now.plan.nodes.now) }
+    requires live { P.live spread ≡ below (length run.now.plan.nodes.now) }
     requires nodes { length run.now.plan.nodes.now ≤ 64 }
     requires steps { length run.now.plan.steps.now ≤ 100000 }
     requires workers { (C.cluster run.now.setup.now).workers ≤ 16 }
     requires cluster { (C.cluster run.now.setup.now).nodes ≡ length run.now.plan.nodes.now }
     requires orderly { Orderly (C.cluster run.now.setup.now) }
-    ensures over { IfOk result (λ p. IsOver (C.cluster run.now.setup.now) (P.choice spread.old) (planned run.now.plan) head (I.tape input.old) (I.tape input.new) (O.tape output.old) (O.tape output.new) p.play p.packets p.ending) }
-    ensures read { IfOk result (λ p. p.play.read ≤ p.packets) }
-    ensures stands { IfOk result (λ p. C.stands run.now.setup.now p.play.past core.new) }
-    ensures short { IfErr result (λ fault. Shortened (C.cluster run.now.setup.now) (P.choice spread.old) (planned run.now.plan) head (I.tape input.old) (I.tape input.new) (O.tape output.old) (O.tape output.new) fault) }
+    ensures over { IfOk result (λ p. IsOver (C.cluster run.now.setup.now) (P.choice spread) (planned run.now.plan) head (I.tape input.old) (I.tape input.new) (O.tape output.old) (O.tape output.new) p.play.course p.packets p.ending) }
+    ensures read { IfOk result (λ p. p.play.course.read ≤ p.packets) }
+    ensures stands { IfOk result (λ p. C.stands run.now.setup.now p.play.course.past core.new) }
+    ensures short { IfErr result (λ fault. Shortened (C.cluster run.now.setup.now) (P.choice spread) (planned run.now.plan) head (I.tape input.old) (I.tape input.new) (O.tape output.old) (O.tape output.new) fault) }
 {
-    let mut stage = Stage::make(run.alloc, run.plan, head)?;
-    stage.steps(run, core, spread, input, output)?;
+    let mut stage = Stage::make(run.alloc, run.plan, spread, head)?;
+    stage.steps(run, core, input, output)?;
     stage.finish(input)
 }

@@ -17,7 +17,7 @@ use std::marker::Model;
 /// Chooses a node for each packet, from a list of live nodes.
 ///
 /// An answer is a live node, and there is one exactly where a node is live.
-pub trait Spread {
+pub trait Spread: Drop {
     /// The live nodes.
     ghost live: { Self → List ℕ };
 

@@ -3,10 +3,9 @@ use Rattle.std.proofs.lemmas.List.{length-map}
 use Rattle.cluster_node.specs.declared.events.Said.{Said}
 use Rattle.node_records.specs.declared.command.Command.{Command}
 use Rattle.course.specs.Course.{Course}
-use Rattle.course.specs.Steps.{world_of, run}
-use Rattle.cluster_commands.specs.Noting.{noting}
+use Rattle.course.specs.Tally.{tally_of}
 use Rattle.cluster_commands.specs.Orders.{events_of, orders_in, plan_of}
-use Rattle.cluster_commands.proofs.Telling.{orders_long}
+use Rattle.cluster_commands.proofs.Telling.{orders_long, played}
 use Rattle.cluster_commands.proofs.Alike.{told_anywhere}
 use Rattle.cluster_commands.proofs.Ending.{end_all}
 use Rattle.cluster_commands.proofs.Lives.{all_ends_told}
@@ -21,19 +20,24 @@ end_as-requires g c =
 
 pub returns-clause-commands : goal.returns-clause-commands
 returns-clause-commands g c =
-    let none = ap (λ (d : Course). reverse d.past) c.in_ok-play.ensures ∙ sym c.new-events.ensures.items in
-    let told : map (λ v. v.items) c.in_ok-commands.commands.items ≡ orders_in c.args.nodes (events_of (plan_of (g.P.Spread.choice c.args.spread.now) c.args.packets.now c.args.steps.now c.args.nodes)) =
+    let none = ap (λ (d : Course). reverse d.past) c.in_ok-play.ensures.course ∙ sym c.new-events.ensures.items in
+    let told : map (λ v. v.items) c.in_ok-commands.commands.items ≡ orders_in c.args.nodes (events_of (plan_of (g.P.Spread.choice c.args.spread) c.args.packets.now c.args.steps.now c.args.nodes)) =
     c.in_ok-commands.ensures
     ∙ ap (λ (es : List Said). orders_in c.args.nodes (map (λ s. s.event) es)) (c.as_slice.ensures.value ∙ sym (c.in_ok-run.ensures.told [] none)
-    ∙ ap (λ (d : Course). reverse d.past) (c.in_ok-run.ensures.run ∙ ap (λ (d : Course). run (world_of noting (g.P.Spread.choice c.args.spread.now) c.args.packets.now) c.args.steps.now d) c.in_ok-play.ensures)) in
-    end_all c.args.steps.now c.args.nodes (events_of (plan_of (g.P.Spread.choice c.args.spread.now) c.args.packets.now c.args.steps.now c.args.nodes)) (map (λ v. v.items) c.in_ok-commands.commands.items) (map (λ v. v.items) c.end_as.new.commands.items) told c.in_ok-end_as.ensures
+    ∙ ap (λ (d : Course). reverse d.past) (played (λ s. g.P.Spread.choice s) c.in_ok-play.play.spread c.args.spread c.in_ok-play.play.course c.run.new.self.course c.args.packets.now c.args.steps.now c.args.nodes c.in_ok-run.ensures.run c.in_ok-play.ensures.spread c.in_ok-play.ensures.course)) in
+    end_all c.args.steps.now c.args.nodes (events_of (plan_of (g.P.Spread.choice c.args.spread) c.args.packets.now c.args.steps.now c.args.nodes)) (map (λ v. v.items) c.in_ok-commands.commands.items) (map (λ v. v.items) c.end_as.new.commands.items) told c.in_ok-end_as.ensures
+
+pub returns-clause-tally : goal.returns-clause-tally
+returns-clause-tally g c =
+    c.tally.ensures
+    ∙ ap (λ (d : Course). tally_of (length c.args.packets.now) d) (played (λ s. g.P.Spread.choice s) c.in_ok-play.play.spread c.args.spread c.in_ok-play.play.course c.run.new.self.course c.args.packets.now c.args.steps.now c.args.nodes c.in_ok-run.ensures.run c.in_ok-play.ensures.spread c.in_ok-play.ensures.course)
 
 pub returns-clause-anywhere : goal.returns-clause-anywhere
 returns-clause-anywhere g c =
-    λ cluster. told_anywhere (λ v. v.items) (g.P.Spread.choice c.args.spread.now) c.args.packets.now c.args.steps.now c.args.nodes c.end_as.new.commands.items c.tally.result cluster (returns-clause-commands g c) (search rules)
+    λ cluster. told_anywhere (λ v. v.items) (g.P.Spread.choice c.args.spread) c.args.packets.now c.args.steps.now c.args.nodes c.end_as.new.commands.items c.tally.result cluster (returns-clause-commands g c) (search rules)
 
 pub returns-clause-ends : goal.returns-clause-ends
-returns-clause-ends g c = all_ends_told (λ v. v.items) (g.P.Spread.choice c.args.spread.now) c.args.packets.now c.args.steps.now c.args.nodes c.end_as.new.commands.items (returns-clause-commands g c)
+returns-clause-ends g c = all_ends_told (λ v. v.items) (g.P.Spread.choice c.args.spread) c.args.packets.now c.args.steps.now c.args.nodes c.end_as.new.commands.items (returns-clause-commands g c)
 
 pub returns-clause-there : goal.returns-clause-there
-returns-clause-there g c = told_are_there (λ v. v.items) (g.P.Spread.choice c.args.spread.now) c.args.packets.now c.args.steps.now c.args.nodes c.end_as.new.commands.items (returns-clause-commands g c)
+returns-clause-there g c = told_are_there (λ v. v.items) (g.P.Spread.choice c.args.spread) c.args.packets.now c.args.steps.now c.args.nodes c.end_as.new.commands.items (returns-clause-commands g c)

@@ -8,9 +8,9 @@ use Rattle.course.proofs.play.Play.drain.Goals as goal
 pub loop-worker-preserved : goal.loop-worker-preserved
 loop-worker-preserved g c = record {
   stands = c.in_ok-serve_times.ensures.stands;
-  live = c.in_ok-serve_times.ensures.live ∙ c.loop-worker.invariant.live;
+  spread = c.serve_times.ensures.spread ∙ c.loop-worker.invariant.spread;
   told = λ before h. c.in_ok-serve_times.ensures.told before (c.loop-worker.invariant.told before h);
   rest = λ w j. ap (λ (d : Course). drain_from w c.args.node (c.loop-worker.worker + 1) (c.args.workers - (c.loop-worker.worker + 1)) d) (c.in_ok-serve_times.ensures.after w j
-      ∙ ap (λ (m : ℕ). serve_times w c.args.node c.loop-worker.worker m c.loop-worker.self) (c.waiting-times.ensures c.loop-worker.self.past c.loop-worker.invariant.stands ∙ ap (λ (k : Cluster). waiting_on k c.args.node c.loop-worker.worker c.loop-worker.self.past) (sym j)))
-      ∙ sym (drain_next w c.args.node c.args.workers c.loop-worker.worker c.loop-worker.self (omega arith)) ∙ c.loop-worker.invariant.rest w j;
+      ∙ ap (λ (m : ℕ). serve_times w c.args.node c.loop-worker.worker m c.loop-worker.self.course) (c.waiting-times.ensures c.loop-worker.self.course.past c.loop-worker.invariant.stands ∙ ap (λ (k : Cluster). waiting_on k c.args.node c.loop-worker.worker c.loop-worker.self.course.past) (sym j)))
+      ∙ sym (drain_next w c.args.node c.args.workers c.loop-worker.worker c.loop-worker.self.course (omega arith)) ∙ c.loop-worker.invariant.rest w j;
 }

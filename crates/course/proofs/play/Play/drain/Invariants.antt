@@ -6,8 +6,8 @@ use Rattle.course.proofs.play.Play.drain.Given as goal
 
 abbrev pub invariant-loop-worker : goal.invariant-loop-worker
 invariant-loop-worker g l = record {
-  stands : g.C.Core.stands l.setup l.self.past l.core;
-  live : l.self.live ≡ l.initial.self.live;
-  told : (before : List Said) → Behind before l.initial.self.past l.initial.events.items → Behind before l.self.past l.events.items;
-  rest : (w : World) → w.cluster ≡ g.C.Core.cluster l.setup → drain_from w l.node l.worker (l.workers - l.worker) l.self ≡ drain_from w l.node 0 l.workers l.initial.self;
+  stands : g.C.Core.stands l.setup l.self.course.past l.core;
+  spread : l.self.spread ≡ l.initial.self.spread;
+  told : (before : List Said) → Behind before l.initial.self.course.past l.initial.events.items → Behind before l.self.course.past l.events.items;
+  rest : (w : World) → w.cluster ≡ g.C.Core.cluster l.setup → drain_from w l.node l.worker (l.workers - l.worker) l.self.course ≡ drain_from w l.node 0 l.workers l.initial.self.course;
 }

@@ -6,8 +6,8 @@ use Rattle.course.proofs.play.Play.hold.Goals as goal
 
 pub returns-clause-after : goal.returns-clause-after
 returns-clause-after g c = λ w j.
-    let few : length c.args.self.now.past < 2 ^ 64 = omega (arith, c.said_count-count.ensures) in
-    let goes = c.in_ok-outcome.ensures c.args.self.now.past few c.requires.stands in
-    c.in_ok-note_delivery.ensures
-    ∙ ap (λ (d : Delivery). with_delivery c.args.packet.now d c.args.self.now) c.arrive.ensures
-    ∙ held_is w (g.C.Core.cluster c.args.setup.now) c.args.node c.args.place c.args.packet.now c.args.self.now c.marks_at-refused.result c.in_ok-outcome.outcome j c.requires.held c.marks_at-refused.ensures goes.0
+    let few : length c.args.self.now.course.past < 2 ^ 64 = omega (arith, c.said_count-count.ensures) in
+    let goes = c.in_ok-outcome.ensures c.args.self.now.course.past few c.requires.stands in
+    c.in_ok-note_delivery.ensures.after
+    ∙ ap (λ (d : Delivery). with_delivery c.args.packet.now d c.args.self.now.course) c.arrive.ensures
+    ∙ held_is w (g.C.Core.cluster c.args.setup.now) c.args.node c.args.place c.args.packet.now c.args.self.now.course c.marks_at-refused.result c.in_ok-outcome.outcome j c.requires.held c.marks_at-refused.ensures goes.0

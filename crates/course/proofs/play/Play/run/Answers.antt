@@ -9,18 +9,17 @@ use Rattle.course.proofs.play.Play.run.Goals as goal
 
 pub loop-step-preserved : goal.loop-step-preserved
 loop-step-preserved g c =
-    let w = world_of (g.C.Core.cluster c.args.setup.now) (g.P.Spread.choice c.args.spread.now) c.args.packets.now in
+    let w = world_of (g.C.Core.cluster c.args.setup.now) (g.P.Spread.choice c.args.self.now.spread) c.args.packets.now in
     let e = c.in_ok-step.ensures.after w refl c.loop-step.invariant.choice refl in
     record {
       stands = c.in_ok-step.ensures.stands;
-      live = c.in_ok-step.ensures.live;
       told = λ before h. c.in_ok-step.ensures.told before (c.loop-step.invariant.told before h);
-      choice = λ live flow nth. c.loop-step.invariant.choice live flow nth ∙ c.in_ok-step.ensures.choice live flow nth;
-      counted = subst (λ (d : Course). Counted (length c.args.packets.now) (c.loop-step.step-index + 1) d) (sym e) (counted_after w c.loop-step.step-index _ c.loop-step.self c.loop-step.invariant.counted);
-      rest = run_next w c.args.steps.now c.loop-step.step-index _ c.loop-step.self _ (omega arith) c.step-item.is e ∙ c.loop-step.invariant.rest;
+      choice = λ live flow nth. c.loop-step.invariant.choice live flow nth ∙ c.step.ensures.choice live flow nth;
+      counted = subst (λ (d : Course). Counted (length c.args.packets.now) (c.loop-step.step-index + 1) d) (sym e) (counted_after w c.loop-step.step-index _ c.loop-step.self.course c.loop-step.invariant.counted);
+      rest = run_next w c.args.steps.now c.loop-step.step-index _ c.loop-step.self.course _ (omega arith) c.step-item.is e ∙ c.loop-step.invariant.rest;
     }
 
 pub returns-clause-run : goal.returns-clause-run
 returns-clause-run g c =
-    let w = world_of (g.C.Core.cluster c.args.setup.now) (g.P.Spread.choice c.args.spread.now) c.args.packets.now in
-    sym (run_none w c.loop-step.self) ∙ ap (λ (l : List Step). run w l c.loop-step.self) (sym (drop_all c.loop-step.step-index c.args.steps.now (omega arith))) ∙ c.loop-step.invariant.rest
+    let w = world_of (g.C.Core.cluster c.args.setup.now) (g.P.Spread.choice c.args.self.now.spread) c.args.packets.now in
+    sym (run_none w c.loop-step.self.course) ∙ ap (λ (l : List Step). run w l c.loop-step.self.course) (sym (drop_all c.loop-step.step-index c.args.steps.now (omega arith))) ∙ c.loop-step.invariant.rest

@@ -7,11 +7,10 @@ use Rattle.course.proofs.play.Play.run.Given as goal
 
 abbrev pub invariant-loop-step : goal.invariant-loop-step
 invariant-loop-step g l = record {
-  stands : g.C.Core.stands l.setup l.self.past l.core;
-  live : g.P.Spread.live l.spread ≡ l.self.live;
-  told : (before : List Said) → Behind before l.initial.self.past l.initial.events.items → Behind before l.self.past l.events.items;
-  choice : SameChoice (g.P.Spread.choice l.initial.spread) (g.P.Spread.choice l.spread);
-  counted : Counted (length l.packets) l.step-index l.self;
-  rest : run (world_of (g.C.Core.cluster l.setup) (g.P.Spread.choice l.initial.spread) l.packets) (drop l.step-index l.steps) l.self
-      ≡ run (world_of (g.C.Core.cluster l.setup) (g.P.Spread.choice l.initial.spread) l.packets) l.steps l.initial.self;
+  stands : g.C.Core.stands l.setup l.self.course.past l.core;
+  told : (before : List Said) → Behind before l.initial.self.course.past l.initial.events.items → Behind before l.self.course.past l.events.items;
+  choice : SameChoice (g.P.Spread.choice l.initial.self.spread) (g.P.Spread.choice l.self.spread);
+  counted : Counted (length l.packets) l.step-index l.self.course;
+  rest : run (world_of (g.C.Core.cluster l.setup) (g.P.Spread.choice l.initial.self.spread) l.packets) (drop l.step-index l.steps) l.self.course
+      ≡ run (world_of (g.C.Core.cluster l.setup) (g.P.Spread.choice l.initial.self.spread) l.packets) l.steps l.initial.self.course;
 }

@@ -8,14 +8,14 @@ use Rattle.course.proofs.play.Play.say.Goals as goal
 
 pub returns-clause-stands : goal.returns-clause-stands
 returns-clause-stands g c =
-    let few : length c.args.self.now.past < 2 ^ 64 = omega (arith, c.said_count-count.ensures) in
-    let goes = c.in_ok-outcome.ensures c.args.self.now.past few c.requires.stands in
+    let few : length c.args.self.now.course.past < 2 ^ 64 = omega (arith, c.said_count-count.ensures) in
+    let goes = c.in_ok-outcome.ensures c.args.self.now.course.past few c.requires.stands in
     subst (λ (l : List Said). g.C.Core.stands c.args.setup.now l c.step.new.self)
-    (sym (ap (λ (d : Course). d.past) c.in_ok-tell.ensures.after ∙ ap (λ (o : Outcome). (noted (record { event = c.args.event; packet = c.args.packet; outcome = o }) c.args.self.now).past) goes.0))
+    (sym (ap (λ (d : Course). d.past) c.in_ok-tell.ensures.after ∙ ap (λ (o : Outcome). (noted (record { event = c.args.event; packet = c.args.packet; outcome = o }) c.args.self.now.course).past) goes.0))
     goes.1
 
 pub returns-clause-after : goal.returns-clause-after
 returns-clause-after g c = λ w j.
-    let few : length c.args.self.now.past < 2 ^ 64 = omega (arith, c.said_count-count.ensures) in
-    let goes = c.in_ok-outcome.ensures c.args.self.now.past few c.requires.stands in
-    c.in_ok-tell.ensures.after ∙ ap (λ (o : Outcome). noted (record { event = c.args.event; packet = c.args.packet; outcome = o }) c.args.self.now) (goes.0 ∙ ap (λ (k : Cluster). k.judge c.args.self.now.past c.args.event c.args.packet) (sym j))
+    let few : length c.args.self.now.course.past < 2 ^ 64 = omega (arith, c.said_count-count.ensures) in
+    let goes = c.in_ok-outcome.ensures c.args.self.now.course.past few c.requires.stands in
+    c.in_ok-tell.ensures.after ∙ ap (λ (o : Outcome). noted (record { event = c.args.event; packet = c.args.packet; outcome = o }) c.args.self.now.course) (goes.0 ∙ ap (λ (k : Cluster). k.judge c.args.self.now.course.past c.args.event c.args.packet) (sym j))

@@ -6,8 +6,8 @@ use Rattle.course.proofs.play.Play.serve_times.Given as goal
 
 abbrev pub invariant-loop : goal.invariant-loop
 invariant-loop g l = record {
-  stands : g.C.Core.stands l.setup l.self.past l.core;
-  live : l.self.live ≡ l.initial.self.live;
-  told : (before : List Said) → Behind before l.initial.self.past l.initial.events.items → Behind before l.self.past l.events.items;
-  rest : (w : World) → w.cluster ≡ g.C.Core.cluster l.setup → serve_times w l.node l.worker (l.times - l.counter) l.self ≡ serve_times w l.node l.worker l.times l.initial.self;
+  stands : g.C.Core.stands l.setup l.self.course.past l.core;
+  spread : l.self.spread ≡ l.initial.self.spread;
+  told : (before : List Said) → Behind before l.initial.self.course.past l.initial.events.items → Behind before l.self.course.past l.events.items;
+  rest : (w : World) → w.cluster ≡ g.C.Core.cluster l.setup → serve_times w l.node l.worker (l.times - l.counter) l.self.course ≡ serve_times w l.node l.worker l.times l.initial.self.course;
 }

@@ -3,4 +3,4 @@ use Rattle.course.specs.Steps.{none_marked}
 use Rattle.course.proofs.play.Play.start.Given as goal
 
 abbrev pub invariant-loop : goal.invariant-loop
-invariant-loop l = (l.marks.items ≡ replicate l.counter none_marked) × (l.held.items ≡ replicate l.counter false)
+invariant-loop g l = (l.marks.items ≡ replicate l.counter none_marked) × (l.held.items ≡ replicate l.counter false)

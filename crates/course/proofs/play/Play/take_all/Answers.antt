@@ -7,26 +7,27 @@ use Rattle.course.specs.Steps.{world_of, take_all}
 use Rattle.course.proofs.Repeats.{delivered_next, take_none}
 use Rattle.course.proofs.Readings.{read_at}
 use Rattle.course.proofs.Moves.{handed_next}
+use Rattle.course.proofs.Choosing.{same_choice, chosen_still}
 use Rattle.course.proofs.play.Play.take_all.Goals as goal
 
 pub loop-packet-preserved : goal.loop-packet-preserved
 loop-packet-preserved g c =
-    let w0 = world_of (g.C.Core.cluster c.args.setup.now) (g.P.Spread.choice c.args.spread.now) [] in
-    let moved = handed_next w0 _ c.loop-packet.self _ _ _ c.next_place-place.ensures.after (c.in_ok-deliver_onto.ensures.after w0 refl (λ live flow nth. refl)) in
+    let w0 = world_of (g.C.Core.cluster c.args.setup.now) (g.P.Spread.choice c.loop-packet.self.spread) [] in
+    let moved = handed_next w0 _ c.loop-packet.self.course _ _ _ c.next_place-place.ensures.after (c.in_ok-deliver_onto.ensures.after w0 refl (same_choice (λ s. g.P.Spread.choice s) (sym c.next_place-place.ensures.spread))) in
     record {
       stands = c.in_ok-deliver_onto.ensures.stands;
-      live = c.in_ok-deliver_onto.ensures.live ∙ ap (λ (d : Course). d.live) c.next_place-place.ensures.after ∙ c.loop-packet.invariant.live;
+      spread = c.deliver_onto.ensures.spread ∙ c.next_place-place.ensures.spread ∙ c.loop-packet.invariant.spread;
       told = λ before h. c.in_ok-deliver_onto.ensures.told before (subst (λ (d : Course). Behind before d.past c.loop-packet.events.items) (sym c.next_place-place.ensures.after) (c.loop-packet.invariant.told before h));
       read = omega (arith, moved.0);
       nth = omega (arith, moved.1);
       unrouted = omega (arith, moved.2);
-      rest = λ w j k. delivered_next w c.args.packets.now c.loop-packet.packet-index _ c.loop-packet.self _ _ _ (omega arith) c.next_place-place.ensures.place c.next_place-place.ensures.after (c.in_ok-deliver_onto.ensures.after w j k)
+      rest = λ w j k. delivered_next w c.args.packets.now c.loop-packet.packet-index _ c.loop-packet.self.course _ _ _ (omega arith) c.next_place-place.ensures.place c.next_place-place.ensures.after (c.in_ok-deliver_onto.ensures.after w j (chosen_still (λ s. g.P.Spread.choice s) k (c.next_place-place.ensures.spread ∙ c.loop-packet.invariant.spread)))
           ∙ c.loop-packet.invariant.rest w j k;
     }
 
 pub returns-clause-after : goal.returns-clause-after
 returns-clause-after g c = λ w j k.
-    sym (take_none w c.loop-packet.self) ∙ ap (λ (l : List Packet). take_all w l c.loop-packet.self) (sym (drop_all c.loop-packet.packet-index c.args.packets.now (omega arith))) ∙ c.loop-packet.invariant.rest w j k
+    sym (take_none w c.loop-packet.self.course) ∙ ap (λ (l : List Packet). take_all w l c.loop-packet.self.course) (sym (drop_all c.loop-packet.packet-index c.args.packets.now (omega arith))) ∙ c.loop-packet.invariant.rest w j k
 
 pub deliver_onto-requires-clause-read : goal.deliver_onto-requires-clause-read
 deliver_onto-requires-clause-read g c = read_at c.args.packets.now c.loop-packet.packet-index _ c.requires.read c.loop-packet-test.true

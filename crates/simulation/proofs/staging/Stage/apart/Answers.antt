@@ -16,7 +16,7 @@ use Rattle.simulation.proofs.staging.Stage.apart.Goals as goal
 
 pub returns-in_err-step_apart-clause-cut : goal.returns-in_err-step_apart-clause-cut
 returns-in_err-step_apart-clause-cut g c = λ w all begun i q s.
-    let c0 = c.args.self.now.play in
+    let c0 = c.args.self.now.play.course in
     let a : Quietly c0 (after w c.args.step.now c0) = stepped w c.args.step.now c0 (after w c.args.step.now c0) q refl in
     at_exit c.from_residual.result Memory _ c.from_residual.ensures.1
     (cut_before (g.C.Core.cluster c.args.run.now.setup.now) (planned c.args.run.now.plan) c.args.self.now.intake.head.link all c0 (after w c.args.step.now c0) a.moved c.args.self.now.relay.waiting begun _ s)
@@ -24,9 +24,9 @@ returns-in_err-step_apart-clause-cut g c = λ w all begun i q s.
 pub returns-clause-sound : goal.returns-clause-sound
 returns-clause-sound g c = λ all begun q s.
     let k = g.C.Core.cluster c.args.run.now.setup.now in
-    let w0 = world_of k (g.P.Spread.choice c.args.spread.now) [] in
-    let c0 = c.args.self.now.play in
-    let d = c.step_apart.new.self in
+    let w0 = world_of k (g.P.Spread.choice c.args.self.now.play.spread) [] in
+    let c0 = c.args.self.now.play.course in
+    let d = c.step_apart.new.self.course in
     let e = c.in_ok-step_apart.ensures.after w0 refl q in
     let a : Quietly c0 d = stepped w0 c.args.step.now c0 d q e in
     let told = stepped_told w0 k c.args.step.now c0 d refl e s.judged in
@@ -40,8 +40,8 @@ returns-clause-sound g c = λ all begun q s.
 pub returns-clause-cut : goal.returns-clause-cut
 returns-clause-cut g c = λ w all begun i q s.
     let k = g.C.Core.cluster c.args.run.now.setup.now in
-    let c0 = c.args.self.now.play in
-    let d = c.step_apart.new.self in
+    let c0 = c.args.self.now.play.course in
+    let d = c.step_apart.new.self.course in
     let link = c.args.self.now.intake.head.link in
     let e = c.in_ok-step_apart.ensures.after w i q in
     let a : Quietly c0 d = stepped w c.args.step.now c0 d q e in

@@ -12,9 +12,9 @@ use Rattle.simulation.proofs.staging.Stage.aside.Goals as goal
 
 pub returns-clause-few : goal.returns-clause-few
 returns-clause-few g c = λ n h. where_done c.apart.result _ (λ got.
-    let w0 = world_of (g.C.Core.cluster c.args.run.now.setup.now) (g.P.Spread.choice c.args.spread.now) [] in
-    subst (λ (t : Taking). Counted t.given (n + 1) c.apart.new.self.play) (sym c.apart.ensures.intake)
-    (counted_apart c.args.self.now.intake.given n w0 c.args.step.now c.args.self.now.play c.apart.new.self.play c.requires.apart (got _ c.apart.ensures.play w0 refl c.requires.apart) h))
+    let w0 = world_of (g.C.Core.cluster c.args.run.now.setup.now) (g.P.Spread.choice c.args.self.now.play.spread) [] in
+    subst (λ (t : Taking). Counted t.given (n + 1) c.apart.new.self.play.course) (sym c.apart.ensures.intake)
+    (counted_apart c.args.self.now.intake.given n w0 c.args.step.now c.args.self.now.play.course c.apart.new.self.play.course c.requires.apart (got _ c.apart.ensures.play w0 refl c.requires.apart) h))
 
 pub returns-clause-reached : goal.returns-clause-reached
 returns-clause-reached g c = λ choice text begun left ss r. where_done c.apart.result _ (λ got.
@@ -27,9 +27,9 @@ returns-clause-reached g c = λ choice text begun left ss r. where_done c.apart.
     let after = got _ c.apart.ensures.play in
     reached_same cluster choice plan text begun (c.args.step.now ∷ ss) ss old new left _ _ r
     (ap (λ (t : Taking). t.given) same, ap (λ (t : Taking). t.ended) same, ap (λ (t : Taking). t.head) same)
-    (read_apart w0 c.args.step.now old.play new.play c.requires.apart (after w0 refl c.requires.apart))
+    (read_apart w0 c.args.step.now old.play.course new.play.course c.requires.apart (after w0 refl c.requires.apart))
     (subst (KeepsNamed r.seen ss) (sym c.apart.ensures.kept) (kept_apart r.seen c.args.step.now ss old.kept c.requires.apart r.kept))
-    (λ more l. stepped_left cluster choice plan old.intake.head.link (r.seen ++ more) c.args.step.now ss old.play new.play (after (world_of cluster choice (packets_of old.intake.head.link plan.check (r.seen ++ more))) refl c.requires.apart) l)
+    (λ more l. stepped_left cluster choice plan old.intake.head.link (r.seen ++ more) c.args.step.now ss old.play.course new.play.course (after (world_of cluster choice (packets_of old.intake.head.link plan.check (r.seen ++ more))) refl c.requires.apart) l)
     (λ more s. got _ (c.apart.ensures.sound (r.seen ++ more) begun c.requires.apart s)))
 
 pub returns-clause-short : goal.returns-clause-short
@@ -38,7 +38,7 @@ returns-clause-short g c = λ choice text begun left ss r. where_failed c.apart.
     let plan = planned c.args.run.now.plan in
     let old = c.args.self.now in
     let w = world_of cluster choice (packets_of old.intake.head.link plan.check r.seen) in
-    let d : Course = after w c.args.step.now old.play in
+    let d : Course = after w c.args.step.now old.play.course in
     short_same cluster choice plan text begun (c.args.step.now ∷ ss) ss old left _ _ d fault r (got _ c.apart.ensures.named)
-    (λ l. stepped_left cluster choice plan old.intake.head.link r.seen c.args.step.now ss old.play d refl l)
+    (λ l. stepped_left cluster choice plan old.intake.head.link r.seen c.args.step.now ss old.play.course d refl l)
     (λ s. got _ (c.apart.ensures.cut w r.seen begun refl c.requires.apart s)))

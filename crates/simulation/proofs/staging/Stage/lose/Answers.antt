@@ -21,8 +21,8 @@ returns-then-not-more-clause-reached g c = λ cluster choice plan text begun out
 
 pub loop-preserved : goal.loop-preserved
 loop-preserved g c = record {
-  past = c.in_ok-more.ensures.play.0 ∙ c.loop.invariant.past;
-  live = c.in_ok-more.ensures.play.1 ∙ c.loop.invariant.live;
+  past = c.in_ok-more.ensures.past ∙ c.loop.invariant.past;
+  spread = c.lose_one.ensures.spread ∙ c.loop.invariant.spread;
   few = λ n h. c.in_ok-more.ensures.few n (c.loop.invariant.few n h);
   head = c.in_ok-more.ensures.head ∙ c.loop.invariant.head;
   reached = λ cluster choice plan text begun out ss r.
@@ -34,7 +34,7 @@ loop-preserved g c = record {
 pub returns-clause-reached : goal.returns-clause-reached
 returns-clause-reached g c = λ cluster choice plan text begun out ss r.
     reached_turn cluster choice plan text begun (lose_of (c.args.count - c.loop.counter)) ss c.loop.self _ _ (c.loop.invariant.reached cluster choice plan text begun out ss r)
-    (λ k seen h. h) (no_more_lost cluster choice plan (c.args.count - c.loop.counter) ss c.loop.self.play (omega arith))
+    (λ k seen h. h) (no_more_lost cluster choice plan (c.args.count - c.loop.counter) ss c.loop.self.play.course (omega arith))
 
 pub returns-in_err-more-clause-short : goal.returns-in_err-more-clause-short
 returns-in_err-more-clause-short g c = λ cluster choice plan text begun out ss r.

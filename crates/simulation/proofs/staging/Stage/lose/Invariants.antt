@@ -11,9 +11,9 @@ use Rattle.simulation.proofs.staging.Stage.lose.Given as goal
 
 abbrev pub invariant-loop : goal.invariant-loop
 invariant-loop g l = record {
-  past : l.self.play.past ≡ l.initial.self.play.past;
-  live : l.self.play.live ≡ l.initial.self.play.live;
-  few : (n : ℕ) → Counted l.initial.self.intake.given n l.initial.self.play → Counted l.self.intake.given n l.self.play;
+  past : l.self.play.course.past ≡ l.initial.self.play.course.past;
+  spread : l.self.play.spread ≡ l.initial.self.play.spread;
+  few : (n : ℕ) → Counted l.initial.self.intake.given n l.initial.self.play.course → Counted l.self.intake.given n l.self.play.course;
   head : l.self.intake.head ≡ l.initial.self.intake.head;
   reached : (cluster : Cluster) (choice : Choice) (plan : Planned) (text begun out : Tape) (ss : List Step) →
       Reached cluster choice plan text begun (lose_of l.count ∷ ss) l.initial.self (g.I.Source.tape l.initial.input) out →

@@ -1,5 +1,6 @@
-use Rattle.std.proofs.Common.{◌∷◌, subst}
+use Rattle.std.proofs.Common.{◌∷◌, sym, subst}
 use Rattle.scenario_steps.specs.declared.Step.{Step}
+use Rattle.course.proofs.Choosing.{same_choice}
 use Rattle.simulation.specs.Plans.{planned}
 use Rattle.simulation.specs.PrivateStages.{Reached}
 use Rattle.simulation.proofs.staging.Stage.step.Goals as goal
@@ -19,10 +20,18 @@ returns-in-Again-clause-short g c = λ choice text begun ss same r.
     c.again.ensures.short choice text begun _ ss same
     (subst (λ (s : Step). Reached (g.C.Core.cluster c.args.run.now.setup.now) choice (planned c.args.run.now.plan) text begun (s ∷ ss) c.args.self.now (g.I.Source.tape c.args.input.now) (g.O.Sink.tape c.args.output.now)) c.in-Again.is r)
 
+pub returns-in-Take-clause-choice : goal.returns-in-Take-clause-choice
+returns-in-Take-clause-choice g c = same_choice (λ s. g.P.Spread.choice s) (sym c.take.ensures.spread)
+
+pub returns-in-Lose-clause-choice : goal.returns-in-Lose-clause-choice
+returns-in-Lose-clause-choice g c = same_choice (λ s. g.P.Spread.choice s) (sym c.lose.ensures.spread)
+
+pub returns-in-Again-clause-choice : goal.returns-in-Again-clause-choice
+returns-in-Again-clause-choice g c = same_choice (λ s. g.P.Spread.choice s) (sym c.again.ensures.spread)
+
 pub returns-in_default : goal.returns-in_default
 returns-in_default g c = record {
   stands = c.aside.ensures.stands;
-  live = c.aside.ensures.live;
   choice = c.aside.ensures.choice;
   few = c.aside.ensures.few;
   head = c.aside.ensures.head;

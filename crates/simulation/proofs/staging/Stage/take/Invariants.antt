@@ -11,11 +11,11 @@ use Rattle.simulation.proofs.staging.Stage.take.Given as goal
 
 abbrev pub invariant-loop : goal.invariant-loop
 invariant-loop g l = record {
-  stands : g.C.Core.stands l.run.setup.now l.self.play.past l.core;
-  live : l.self.play.live ≡ l.initial.self.play.live;
-  few : (n : ℕ) → Counted l.initial.self.intake.given n l.initial.self.play → Counted l.self.intake.given n l.self.play;
+  stands : g.C.Core.stands l.run.setup.now l.self.play.course.past l.core;
+  spread : l.self.play.spread ≡ l.initial.self.play.spread;
+  few : (n : ℕ) → Counted l.initial.self.intake.given n l.initial.self.play.course → Counted l.self.intake.given n l.self.play.course;
   head : l.self.intake.head ≡ l.initial.self.intake.head;
-  reached : (choice : Choice) (text begun : Tape) (ss : List Step) → SameChoice choice (g.P.Spread.choice l.spread) →
+  reached : (choice : Choice) (text begun : Tape) (ss : List Step) → SameChoice choice (g.P.Spread.choice l.initial.self.play.spread) →
       Reached (g.C.Core.cluster l.run.setup.now) choice (planned l.run.plan) text begun (take_of l.count ∷ ss) l.initial.self (g.I.Source.tape l.initial.input) (g.O.Sink.tape l.initial.output) →
       Reached (g.C.Core.cluster l.run.setup.now) choice (planned l.run.plan) text begun (take_of (l.count - l.counter) ∷ ss) l.self (g.I.Source.tape l.input) (g.O.Sink.tape l.output);
 }
