@@ -6,7 +6,7 @@ use Rattle.scenario_play.proofs.Runs.{told}
 use Rattle.scenario_play.proofs.answering.plain_report.Goals as goal
 
 pub totals-totals-requires : goal.totals-totals-requires
-totals-totals-requires c = (outcomes_of c.args.played.now.play.course.past, c.requires.counts, balanced_record c.args.played.now.play.course.past c.requires.balance)
+totals-totals-requires g c = (outcomes_of c.args.played.now.play.course.past, c.requires.counts, balanced_record c.args.played.now.play.course.past c.requires.balance)
 
 pub returns : goal.returns
 returns g c = told string_bytes c.report_text.result _ _ _ _ _ _ c.tally-tally.ensures (c.totals-totals.ensures ∙ totals_told c.args.played.now.play.course.past c.args.counts.now c.requires.counts) c.is_cut.ensures c.report_text.ensures
