@@ -57,10 +57,7 @@ fn send_life<O: Sink>(
     ensures cut { IfErr result (λ fault. WroteUntil fault (O.tape output.old) (O.tape output.new) (sent_of (traffic wire.now (map packet frames.now)) life.now)) }
 {
     for outcome in life {
-        match send_outcome(room, output, wire, frames, outcome) {
-            Ok(()) => {}
-            Err(fault) => return Err(fault),
-        }
+        send_outcome(room, output, wire, frames, outcome)?;
     }
     Ok(())
 }
@@ -78,10 +75,7 @@ fn send_lives<O: Sink>(
     ensures cut { IfErr result (λ fault. WroteUntil fault (O.tape output.old) (O.tape output.new) (sent_by_lives (traffic wire.now (map packet frames.now)) lives.now)) }
 {
     for life in lives {
-        match send_life(room, output, wire, frames, life.as_slice()) {
-            Ok(()) => {}
-            Err(fault) => return Err(fault),
-        }
+        send_life(room, output, wire, frames, life.as_slice())?;
     }
     Ok(())
 }
@@ -99,10 +93,7 @@ fn send_nodes<O: Sink>(
     ensures cut { IfErr result (λ fault. WroteUntil fault (O.tape output.old) (O.tape output.new) (sent_by_nodes (traffic wire.now (map packet frames.now)) nodes.now)) }
 {
     for node in nodes {
-        match send_lives(room, output, wire, frames, node.sent.as_slice()) {
-            Ok(()) => {}
-            Err(fault) => return Err(fault),
-        }
+        send_lives(room, output, wire, frames, node.sent.as_slice())?;
     }
     Ok(())
 }
