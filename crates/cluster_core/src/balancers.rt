@@ -78,16 +78,17 @@ impl<S: Scheme, H: FlowHash, T: ConnTable, N: Notes> Balancers<S, H, T, N> {
         })
     }
 
-    /// What was kept of the events.
-    pub fn into_notes(self) -> N
-        ensures { result ≡ self.notes }
+    /// The run, and what was kept of its events.
+    pub fn into_parts(self) -> (Run<S, T>, N)
+        ensures run { result.0 ≡ self.run }
+        ensures notes { result.1 ≡ self.notes }
     {
         let Balancers {
-            run: _,
+            run,
             notes,
             hash: _,
         } = self;
-        notes
+        (run, notes)
     }
 
     /// What left the queues is no more than what was placed, by every record for which the balancers stand, and so by its

@@ -146,7 +146,8 @@ fn played<T: ConnTable>(
     ).expect(rt, "memory");
     let _play = played_by(rt, alloc, &mut balancers, &task, port, steps, events);
     balancers.keep_balance(&task.deployment);
-    balancers.into_notes().counts.totals()
+    let (_, notes) = balancers.into_parts();
+    notes.counts.totals()
 }
 
 // Of a Forward the last byte of the backend's address and the origin.

@@ -24,6 +24,7 @@ use selection::{Maglev, PlainHash, RoundRobin, Scheme};
 use simulation::{Plan, Run, SimulationFault, play_capture};
 use spreader::{HashSpread, Spread, TurnSpread};
 use std::alloc::Global;
+use std::mem;
 
 // Plays the steps with this spreader, and answers.
 fn play_with<S: Scheme, P: Spread, I: Source, O: Sink>(
@@ -56,7 +57,10 @@ fn play_with<S: Scheme, P: Spread, I: Source, O: Sink>(
     match play_capture(&run, &mut balancers, spread, input, output) {
         Ok(played) => {
             balancers.keep_balance(deployment);
-            match answer(alloc, task, &played, balancers.into_notes()) {
+            let (run, notes) = balancers.into_parts();
+            // To free the tables entry by entry takes a twentieth of a run, and the program is about to end.
+            mem::forget(run);
+            match answer(alloc, task, &played, notes) {
                 Ok(text) => Ok(text),
                 Err(_) => Err(SimulationFault::Memory),
             }
@@ -174,7 +178,8 @@ fn play_named<I: Source, O: Sink>(
 
 /// Plays a scenario over a capture, and answers what is asked of the run. What the cluster sends is written as another
 /// capture, which is begun once the input's header was accepted. Whatever goes wrong but a write, the output is cut between
-/// records. The connection tables and the book of splits hash by the key.
+/// records. The connection tables and the book of splits hash by the key. The memory of a run that succeeds stays taken until
+/// the program ends: to give it back entry by entry takes a twentieth of a run.
 ///
 /// By the clause `kept` the run keeps the promises: for a scheme to which the turn doesn't matter two packets of one flow
 /// that were sent to different backends were chosen under versions that pick these backends, for Maglev under versions whose

@@ -9,6 +9,6 @@ pub totals-requires : goal.totals-requires
 totals-requires g c =
     let past = c.played_by-play.result.course.past in (
       outcomes_of past,
-      subst (λ (x : Kept). CountsAre (outcomes_of past) x.counts) (sym c.into_notes.ensures) c.played_by-play.ensures.1,
+      subst (λ (x : Kept). CountsAre (outcomes_of past) x.counts) (sym c.into_parts.ensures.notes) c.played_by-play.ensures.1,
       balanced_record past (c.keep_balance.ensures.history past c.played_by-play.ensures.0),
     )
