@@ -3,9 +3,9 @@ use std::hash::{BuildHasher, FoldHasher, Hasher};
 use std::io;
 use std::random::RandomSource;
 
-/// What the hash of a table's map begins with. The hash is std's fast one, a product of the flow's two halves with the key in
-/// it; it is no cipher, but who doesn't know the key can't tell which flows fall into one group of the map, and so can't choose
-/// some that make each search as long as the table. No answer of a table depends on it.
+/// What the hash of a table's map begins with. The hash is std's fast one with the key in it: flows that were chosen before the
+/// key was drawn fall into the groups of the map as others do, and don't make each search as long as the table. It is no
+/// cipher, and holds off nobody who learns of the key by timing many searches. No answer of a table depends on it.
 #[derive(Clone, Copy)]
 pub struct TableKey {
     seed: FoldHasher,
