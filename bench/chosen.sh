@@ -1,7 +1,7 @@
 #!/usr/bin/env bash
 # chosen.sh [FLOWS PACKETS]: times `simulate`, also with `--splits`, over packets of flows that were chosen to fall into one
-# group of the kit's map, beside as many of common flows, and prints the ratio of the best runs. Choosing 65,536 flows takes
-# some seconds.
+# group of a map by the key that everybody knows, beside as many of common flows, and prints the ratio of the best runs; then
+# how evenly such flows, and others in patterns, are spread under 200 drawn keys. Choosing 65,536 flows takes some seconds.
 source "$(dirname "$(readlink -f "${BASH_SOURCE[0]}")")/common.sh"
 flows=${1:-65536} packets=${2:-200000}
 "$top/bin/maglev" --help >/dev/null # builds it
@@ -18,3 +18,5 @@ for words in "" --splits; do
     awk -v a="$a" -v b="$b" -v p="$packets" -v f="$flows" -v w="$words" \
         'BEGIN { printf "%d packets of %d flows, simulate %s: chosen %.3f s, common %.3f s, ratio %.2f\n", p, f, w, a, b, a / b }'
 done
+cc -O2 -o "$work/loads" "$top/bench/key_loads.c"
+"$work/loads" 200
