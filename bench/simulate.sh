@@ -1,7 +1,8 @@
 #!/usr/bin/env bash
 # simulate.sh: times `simulate` of 1,000,000 packets of 100,000 flows, with 100 servers and tables of 65,536 entries, beside a C
 # program that does the same by hand (bench/simulate.c), and `explain` and `simulate --list` beside `simulate`. Of nine whole
-# runs each, in turns, the fastest counts. Then the most memory that each takes, also for 4,000,000 packets.
+# runs each, in turns, the fastest counts; of the first two also the medians. Then the most memory that each takes, also for
+# 4,000,000 packets.
 source "$(dirname "$(readlink -f "${BASH_SOURCE[0]}")")/common.sh"
 "$top/bin/maglev" --help >/dev/null # builds it
 maglev=$top/crates/maglev/out/maglev
@@ -25,8 +26,10 @@ for _ in 1 2 3 4 5 6 7 8 9; do
     seconds "${listed[@]}" >>"$work/times.listed"
 done
 least() { sort -g "$work/times.$1" | head -n 1; }
+median() { sort -g "$work/times.$1" | sed -n 5p; }
 cmp -s "$work/ours.pcap" "$work/theirs.pcap" && same=equal || same=DIFFERENT
 awk -v a="$(least ours)" -v b="$(least theirs)" -v s="$same" 'BEGIN { printf "simulate %.3f s, C %.3f s, ratio %.2f, outputs %s\n", a, b, a / b, s }'
+awk -v a="$(median ours)" -v b="$(median theirs)" 'BEGIN { printf "medians: simulate %.3f s, C %.3f s, ratio %.2f\n", a, b, a / b }'
 awk -v a="$(least explained)" -v b="$(least ours)" 'BEGIN { printf "explain %.3f s, simulate %.3f s, ratio %.2f\n", a, b, a / b }'
 awk -v a="$(least listed)" -v b="$(least ours)" 'BEGIN { printf "simulate --list %.3f s, without %.3f s, ratio %.2f\n", a, b, a / b }'
 
