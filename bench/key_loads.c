@@ -1,6 +1,6 @@
 /* key_loads KEYS: how evenly flows are spread over 8,192 groups of a map by a drawn key, as random flows are and as flows are
  * that follow a pattern or were chosen for the key that everybody knows: of each kind the fullest group under any of so many
- * keys, where eight flows a group are the mean, and the most flows that a flow shares its group with on an average. */
+ * keys, where eight flows a group are the mean, and how many others a flow shares its group with on an average, at most. */
 #include <stdio.h>
 #include <stdlib.h>
 #include <string.h>
@@ -31,9 +31,9 @@ static void judge(const char *kind, int keys) {
             if (loads[i] > fullest) fullest = loads[i];
             squares += (double)loads[i] * loads[i];
         }
-        if (squares / FLOWS > shared) shared = squares / FLOWS;
+        if (squares / FLOWS - 1 > shared) shared = squares / FLOWS - 1;
     }
-    printf("%-32s fullest group %u, shared with %.1f\n", kind, fullest, shared);
+    printf("%-32s fullest group %u, shared with %.1f others\n", kind, fullest, shared);
 }
 
 static void set(uint32_t i, uint32_t client, uint32_t port) {

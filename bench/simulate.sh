@@ -26,7 +26,7 @@ for _ in 1 2 3 4 5 6 7 8 9; do
     seconds "${listed[@]}" >>"$work/times.listed"
 done
 least() { sort -g "$work/times.$1" | head -n 1; }
-median() { sort -g "$work/times.$1" | sed -n 5p; }
+median() { sort -g "$work/times.$1" | sed -n 5p; } # of nine
 cmp -s "$work/ours.pcap" "$work/theirs.pcap" && same=equal || same=DIFFERENT
 awk -v a="$(least ours)" -v b="$(least theirs)" -v s="$same" 'BEGIN { printf "simulate %.3f s, C %.3f s, ratio %.2f, outputs %s\n", a, b, a / b, s }'
 awk -v a="$(median ours)" -v b="$(median theirs)" 'BEGIN { printf "medians: simulate %.3f s, C %.3f s, ratio %.2f\n", a, b, a / b }'
