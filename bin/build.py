@@ -164,19 +164,34 @@ class Progress:
         return True
 
 
+def shares(ready, unproved, way, free):
+    """The crates that are begun now, each with its jobs: two for the one on the longest way of all that isn't proved yet, since the
+    others wait for it, and where fewer crates are ready than processors are free, more for each."""
+    found, longest = {}, max(way[one] for one in unproved)
+    for number, one in enumerate(ready):
+        even = free // (len(ready) - number)
+        at_once = min(free, max(even, 2 if way[one] == longest else 1))
+        if at_once:
+            found[one] = at_once
+            free -= at_once
+    return found
+
+
 def prove_libraries(crates, below, trees, progress):
     """Proves libraries, each once those below it are. Whether that worked."""
     way = ways(crates, below)
-    waiting, running, places = set(crates), {}, jobs()
-    with concurrent.futures.ThreadPoolExecutor(places) as pool:
+    waiting, running, free = set(crates), {}, jobs()
+    with concurrent.futures.ThreadPoolExecutor(free) as pool:
         while waiting or running:
             ready = sorted((one for one in waiting if progress.proved.issuperset(below[one])), key=lambda one: -way[one])
-            at_once = max(1, places // max(1, len(running) + len(ready)))
-            for one in ready[: places - len(running)]:
+            for one, at_once in shares(ready, waiting | {name for name, _ in running.values()}, way, free).items():
                 waiting.remove(one)
-                running[pool.submit(prove_library, one, below, trees, at_once)] = one
+                free -= at_once
+                running[pool.submit(prove_library, one, below, trees, at_once)] = one, at_once
             for future in concurrent.futures.wait(running, return_when=concurrent.futures.FIRST_COMPLETED).done:
-                if not progress.takes(running.pop(future), *future.result()):
+                one, at_once = running.pop(future)
+                free += at_once
+                if not progress.takes(one, *future.result()):
                     return False
     return True
 
