@@ -29,7 +29,7 @@ impl<'a> Paths<'a> {
 /// The most bytes of a scenario that are read: one more than it may have.
 const MOST: u64 = 1_048_577;
 
-/// The text of a scenario's file, up to the bytes that show that it is too long, and what became of reading it: where it was
+/// The text of a scenario's file, up to the bytes that show that it is too long, and what became of reading it. Where it was
 /// refused the text is what came before.
 pub fn read_scenario(rt: &HostRuntime, path: &str) -> (Vec<u8>, Result<(), Trouble>) {
     let mut text = Vec::new(rt.alloc());
@@ -55,7 +55,7 @@ fn text_into<R: Read + Drop>(file: R, text: &mut Vec<u8>) -> Result<(), Trouble>
     }
 }
 
-// A key that nobody else knows; where the system has none, the one that everybody knows. No answer depends on it.
+// A key that nobody else knows; where the system has none, the fixed key. No answer depends on it.
 fn table_key(rt: &HostRuntime) -> TableKey {
     match TableKey::drawn(rt) {
         Ok(key) => key,
@@ -124,7 +124,7 @@ fn printed(rt: &HostRuntime, text: &[u8], to_error: bool) -> Result<(), CliFault
     }
 }
 
-// The end of a command that wrote an output: it is written out, and then the report is printed, or the fault is told.
+// The end of a command that wrote an output: it is written out, and then the report is printed, or the fault is reported.
 fn ended(
     rt: &HostRuntime,
     outcome: Result<(), CliFault>,
@@ -212,7 +212,7 @@ pub fn explain_files(
     }
 }
 
-/// How many whole records stand in front of the one at which reading a capture stops. Standard input can't be read again.
+/// How many whole records are before the one at which reading a capture stops. Standard input can't be read again.
 pub fn records_before(rt: &HostRuntime, path: &str) -> Option<u32> {
     if is_standard(path) {
         return None;
