@@ -10,9 +10,9 @@ use Rattle.cluster_play.specs.declared.stop.RunStop.{RunStop}
 use Rattle.cluster_play.specs.declared.stop.RunStop.TheVariants.{UnknownStep, Simulation, Threads}
 use Rattle.cluster_play.specs.Runs.{Ran, Halted}
 use Rattle.cluster_play.specs.Kept.{KeepsPromises}
-use Rattle.maglev_cli.specs.Scenarios.{run_fault, ScenarioFails}
-use Rattle.maglev_cli.specs.declared.fault.CliFault.{CliFault}
-use Rattle.maglev_cli.specs.declared.fault.CliFault.TheVariants.{BadStep, Write, Foreign, RingLost, ThreadLost, BookLost, Memory}
+use Rattle.scenario_commands.specs.Scenarios.{run_fault, ScenarioFails}
+use Rattle.command_faults.specs.declared.fault.CliFault.{CliFault}
+use Rattle.command_faults.specs.declared.fault.CliFault.TheVariants.{BadStep, Write, Foreign, RingLost, ThreadLost, BookLost, Memory}
 
 abbrev pub threads_fault : RunFault → CliFault
 threads_fault threads.Foreign = Foreign

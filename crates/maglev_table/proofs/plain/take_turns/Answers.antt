@@ -7,6 +7,7 @@ use Rattle.maglev_table.proofs.Steps.{TurnFacts, turn_facts, read_items}
 use Rattle.maglev_table.proofs.Counts.{claims-zero, taken_at}
 use Rattle.maglev_table.proofs.Claims.{takers-none}
 use Rattle.maglev_table.proofs.plain.take_turns.Goals as goal
+use Rattle.std.proofs.lemmas.Grind.{common_steps}
 
 pub loop-turn-init : goal.loop-turn-init
 loop-turn-init c = c.in_ok-slots.ensures.items_if_clones_equal (search rules) ∙ rw claims-zero (takers-none c.args.size)
@@ -50,3 +51,9 @@ loop-turn-preserved c =
     g ∙ rw (c.as_slice.ensures.value, c.as_slice-in-loop-turn.ensures.value) f.found in
     let slot : c.unwrap-slot.result ≡ taken_at (map (λ w. w.items) c.args.lists.now) (one_turn_each (length c.args.lists.now)) c.loop-turn.turn = cc (c.unwrap-slot.ensures) in
     rw slot f.step
+
+pub returns-in_err-slots : goal.returns-in_err-slots
+returns-in_err-slots c = grind (arith, common_steps)
+
+pub returns : goal.returns
+returns c = grind (arith, common_steps)

@@ -2,6 +2,8 @@ use Rattle.std.proofs.Common.{length, ◌∙◌, ap, sym}
 use Rattle.maglev_table.specs.Weights.{or_next_round}
 use Rattle.maglev_table.proofs.Passes.{next_round_not, round_is}
 use Rattle.maglev_table.proofs.rounds.turn_after.Goals as goal
+use Rattle.std.proofs.Common.{arith}
+use Rattle.std.proofs.lemmas.Grind.{common_steps}
 
 pub returns-in-Some-clause-next : goal.returns-in-Some-clause-next
 returns-in-Some-clause-next c =
@@ -11,3 +13,9 @@ returns-in-Some-clause-next c =
 pub returns-in-None-clause-next : goal.returns-in-None-clause-next
 returns-in-None-clause-next c =
     sym (round_is (length c.args.weights.now) c.args.weights.now) ∙ ap (or_next_round (length c.args.weights.now) c.args.weights.now) (sym (c.turn_from.ensures.none c.in-None.is))
+
+pub returns-in-Some-clause-turn : goal.returns-in-Some-clause-turn
+returns-in-Some-clause-turn c = grind (arith, common_steps)
+
+pub returns-in-None-clause-turn : goal.returns-in-None-clause-turn
+returns-in-None-clause-turn c = grind (arith, common_steps)

@@ -1,7 +1,0 @@
-use Rattle.std.proofs.Common.{◌≡◌, ◌++◌, take, string_bytes}
-use Rattle.std.specs.List.{flat_map}
-use Rattle.maglev_cli.specs.Compare.{moved_line}
-use Rattle.maglev_cli.proofs.compare_text.push_moved_lines.Given as goal
-
-abbrev pub invariant-loop-slot : goal.invariant-loop-slot
-invariant-loop-slot l = string_bytes l.text ≡ string_bytes l.initial.text ++ flat_map (moved_line l.old l.new) (take l.slot-index l.slots)

@@ -1,6 +1,0 @@
-use Rattle.std.proofs.Common.{◌∙◌, sym, rules}
-use Rattle.maglev_cli.proofs.Entrants.{read_as}
-use Rattle.maglev_cli.proofs.names.name_of.Goals as goal
-
-pub returns : goal.returns
-returns c = read_as c.args.word.now c.unwrap.result (search rules)

@@ -1,0 +1,88 @@
+//! The command that runs a scenario's cluster on threads.
+ghost use Rattle.std.specs.Prelude.{◌≡◌, IfErr, OnOk};
+ghost use Rattle.maglev_cli.specs.Runs.{Runs, RunCommandFails, stop_fault, threads_fault};
+
+use command_faults::{CliFault, put_text};
+use scenario_commands::{run_fault, scenario_fault};
+use cluster_play::{RunStop, run_scenario};
+use connection_table::TableKey;
+use node_threads::RunFault;
+use pcap_file::{Sink, Source};
+use scenario::read;
+use std::alloc::Global;
+use std::sync::Wait;
+use std::thread::Threads;
+
+fn threads_fault(fault: RunFault) -> CliFault
+    ensures { result ≡ threads_fault fault }
+{
+    match fault {
+        RunFault::Foreign => CliFault::Foreign,
+        RunFault::RingLost => CliFault::RingLost,
+        RunFault::ThreadLost => CliFault::ThreadLost,
+        RunFault::BookLost => CliFault::BookLost,
+        RunFault::Memory => CliFault::Memory,
+    }
+}
+
+fn stop_fault(stop: RunStop) -> CliFault
+    ensures { result ≡ stop_fault stop }
+{
+    match stop {
+        RunStop::UnknownStep(step) => CliFault::BadStep(step),
+        RunStop::Simulation(fault) => run_fault(fault),
+        RunStop::Threads(fault) => threads_fault(fault),
+    }
+}
+
+/// The command `run`: runs a scenario's cluster on threads over a capture, writes what the nodes sent as another capture,
+/// node by node, and then the report, which ends in `audit agrees`, with what is told of its splits before it where `splits`
+/// holds.
+///
+/// The devices aren't called before the scenario was accepted and none of its steps is `full`, `hold` or `drain`. After a
+/// fault that isn't `Write` nothing stands in the report, and the output is as it was, unless memory was refused while it was
+/// written: then it is cut between records.
+pub fn run<T: Threads + Wait + Sync, I: Source, O: Sink, R: Sink>(
+    rt: &T,
+    alloc: Global,
+    scenario: &[u8],
+    input: &mut I,
+    output: &mut O,
+    report: &mut R,
+    splits: bool,
+) -> Result<(), CliFault>
+    ensures ran { OnOk result (Runs splits scenario.now (I.tape input.old) (I.tape input.new) (O.tape output.old) (O.tape output.new) (R.tape report.old) (R.tape report.new)) }
+    ensures stopped { IfErr result (λ fault. RunCommandFails fault splits scenario.now (I.tape input.old) (I.tape input.new) (O.tape output.old) (O.tape output.new) (R.tape report.old) (R.tape report.new)
+        ((input.new ≡ input.old) × (output.new ≡ output.old) × (report.new ≡ report.old)) (report.new ≡ report.old)) }
+{
+    let key = TableKey::fixed();
+    match run_keyed(rt, alloc, key, scenario, input, output, report, splits) {
+        Ok(()) => Ok(()),
+        Err(fault) => Err(fault),
+    }
+}
+
+/// The same, with a key for the hash of the connection tables.
+pub fn run_keyed<T: Threads + Wait + Sync, I: Source, O: Sink, R: Sink>(
+    rt: &T,
+    alloc: Global,
+    key: TableKey,
+    scenario: &[u8],
+    input: &mut I,
+    output: &mut O,
+    report: &mut R,
+    splits: bool,
+) -> Result<(), CliFault>
+    ensures ran { OnOk result (Runs splits scenario.now (I.tape input.old) (I.tape input.new) (O.tape output.old) (O.tape output.new) (R.tape report.old) (R.tape report.new)) }
+    ensures stopped { IfErr result (λ fault. RunCommandFails fault splits scenario.now (I.tape input.old) (I.tape input.new) (O.tape output.old) (O.tape output.new) (R.tape report.old) (R.tape report.new)
+        ((input.new ≡ input.old) × (output.new ≡ output.old) × (report.new ≡ report.old)) (report.new ≡ report.old)) }
+{
+    let scenario = match read(alloc, scenario) {
+        Ok(scenario) => scenario,
+        Err(fault) => return Err(scenario_fault(fault)),
+    };
+    match run_scenario(rt, alloc, key, &scenario, splits, input, output) {
+        Ok(text) => put_text(report, text.as_str()),
+        Err(stop) => Err(stop_fault(stop)),
+    }
+}

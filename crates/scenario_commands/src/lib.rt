@@ -1,0 +1,7 @@
+//! The commands that play a scenario over a capture on one thread: `simulate` and `explain`, over any devices.
+#![tactic(auto)]
+
+mod nowhere;
+mod playing;
+
+pub use playing::{explain_keyed, explain_run, run_fault, scenario_fault, simulate, simulate_keyed};

@@ -1,0 +1,175 @@
+//! The commands that play a scenario over a capture.
+ghost use Rattle.std.specs.Prelude.{◌≡◌, ℕ, IfErr, OnOk};
+ghost use Rattle.scenario_commands.specs.Scenarios.{Plays, PlayFails, ExplainFails, unkept, pool_fault, capture_fault, scenario_fault, run_fault};
+
+use command_faults::{CliFault, put_text};
+use super::nowhere::Nowhere;
+use connection_table::TableKey;
+use pcap_file::{PcapFault, Sink, Source};
+use pool_versions::PoolFault;
+use scenario::{ScenarioFault, read};
+use scenario_play::{Asked, Wanted, first_stop, play_scenario};
+use simulation::SimulationFault;
+use std::alloc::Global;
+
+fn pool_fault(fault: PoolFault) -> CliFault
+    ensures { result ≡ pool_fault fault }
+{
+    match fault {
+        PoolFault::Memory => CliFault::Memory,
+        fault => CliFault::Pool(fault),
+    }
+}
+
+fn capture_fault(fault: PcapFault) -> CliFault
+    ensures { result ≡ capture_fault fault }
+{
+    match fault {
+        PcapFault::Memory => CliFault::Memory,
+        fault => CliFault::Capture(fault),
+    }
+}
+
+/// The fault of a command whose scenario was refused.
+pub fn scenario_fault(fault: ScenarioFault) -> CliFault
+    ensures { result ≡ scenario_fault fault }
+{
+    match fault {
+        ScenarioFault::TooLong => CliFault::TooLong,
+        ScenarioFault::BadToml => CliFault::BadToml,
+        ScenarioFault::BadFormat => CliFault::BadFormat,
+        ScenarioFault::BadKey => CliFault::BadKey,
+        ScenarioFault::BadMember => CliFault::BadMember,
+        ScenarioFault::Pool(fault) => pool_fault(fault),
+        ScenarioFault::BadStep(step) => CliFault::BadStep(step),
+        ScenarioFault::Memory => CliFault::Memory,
+    }
+}
+
+/// The fault of a command whose run over a capture stopped.
+pub fn run_fault(fault: SimulationFault) -> CliFault
+    ensures { result ≡ run_fault fault }
+{
+    match fault {
+        SimulationFault::Capture(fault) => capture_fault(fault),
+        SimulationFault::Write => CliFault::Write,
+        SimulationFault::Memory => CliFault::Memory,
+    }
+}
+
+// Plays the scenario that a text means, and writes what was asked of it.
+fn play<I: Source, O: Sink, R: Sink>(
+    alloc: Global,
+    key: TableKey,
+    scenario: &[u8],
+    asked: Asked,
+    input: &mut I,
+    output: &mut O,
+    report: &mut R,
+) -> Result<(), CliFault>
+    ensures played { OnOk result (Plays asked scenario.now (I.tape input.old) (I.tape input.new) (O.tape output.old) (O.tape output.new) (R.tape report.old) (R.tape report.new)) }
+    ensures stopped { IfErr result (λ fault. PlayFails fault asked scenario.now (I.tape input.old) (I.tape input.new) (O.tape output.old) (O.tape output.new) (R.tape report.old) (R.tape report.new)
+        ((input.new ≡ input.old) × (output.new ≡ output.old) × (report.new ≡ report.old)) (report.new ≡ report.old)) }
+{
+    let scenario = match read(alloc, scenario) {
+        Ok(scenario) => scenario,
+        Err(fault) => return Err(scenario_fault(fault)),
+    };
+    match first_stop(scenario.steps.as_slice()) {
+        Some(step) => return Err(CliFault::BadStep(step)),
+        None => {}
+    }
+    match play_scenario(alloc, key, scenario, asked, input, output) {
+        Ok(text) => put_text(report, text.as_str()),
+        Err(fault) => Err(run_fault(fault)),
+    }
+}
+
+/// The command `simulate`: plays a scenario over a capture, writes what the cluster sends as another capture, and then the
+/// report, with what is wanted before it: a line for each event, and then a line for each flow that was split, and how many
+/// there were.
+///
+/// The devices aren't called before the scenario was accepted and none of its steps is `stop`, and the output isn't before the
+/// input's header was. After a fault that isn't `Write` nothing stands in the report, and the output is cut between records.
+pub fn simulate<I: Source, O: Sink, R: Sink>(
+    alloc: Global,
+    scenario: &[u8],
+    input: &mut I,
+    output: &mut O,
+    report: &mut R,
+    wanted: Wanted,
+) -> Result<(), CliFault>
+    ensures played { OnOk result (Plays (Asked.Report wanted) scenario.now (I.tape input.old) (I.tape input.new) (O.tape output.old) (O.tape output.new) (R.tape report.old) (R.tape report.new)) }
+    ensures stopped { IfErr result (λ fault. PlayFails fault (Asked.Report wanted) scenario.now (I.tape input.old) (I.tape input.new) (O.tape output.old) (O.tape output.new) (R.tape report.old) (R.tape report.new)
+        ((input.new ≡ input.old) × (output.new ≡ output.old) × (report.new ≡ report.old)) (report.new ≡ report.old)) }
+{
+    let key = TableKey::fixed();
+    match simulate_keyed(alloc, key, scenario, input, output, report, wanted) {
+        Ok(()) => Ok(()),
+        Err(fault) => Err(fault),
+    }
+}
+
+/// The same, with a key for the hash of the connection tables.
+pub fn simulate_keyed<I: Source, O: Sink, R: Sink>(
+    alloc: Global,
+    key: TableKey,
+    scenario: &[u8],
+    input: &mut I,
+    output: &mut O,
+    report: &mut R,
+    wanted: Wanted,
+) -> Result<(), CliFault>
+    ensures played { OnOk result (Plays (Asked.Report wanted) scenario.now (I.tape input.old) (I.tape input.new) (O.tape output.old) (O.tape output.new) (R.tape report.old) (R.tape report.new)) }
+    ensures stopped { IfErr result (λ fault. PlayFails fault (Asked.Report wanted) scenario.now (I.tape input.old) (I.tape input.new) (O.tape output.old) (O.tape output.new) (R.tape report.old) (R.tape report.new)
+        ((input.new ≡ input.old) × (output.new ≡ output.old) × (report.new ≡ report.old)) (report.new ≡ report.old)) }
+{
+    let asked = Asked::Report(wanted);
+    match play(alloc, key, scenario, asked, input, output, report) {
+        Ok(()) => Ok(()),
+        Err(fault) => Err(fault),
+    }
+}
+
+/// The command `explain`: plays a scenario over a capture, and writes why the packets of two of its events, counted from 0,
+/// went where they went. What the cluster sends is kept nowhere. A step `stop` is refused as in [`simulate`].
+pub fn explain_run<I: Source, R: Sink>(
+    alloc: Global,
+    scenario: &[u8],
+    input: &mut I,
+    one: u64,
+    other: u64,
+    report: &mut R,
+) -> Result<(), CliFault>
+    ensures played { OnOk result ((calls : ℕ) × Plays (Asked.Events one other) scenario.now (I.tape input.old) (I.tape input.new) (unkept 0) (unkept calls) (R.tape report.old) (R.tape report.new)) }
+    ensures stopped { IfErr result (λ fault. ExplainFails fault one other scenario.now (I.tape input.old) (I.tape input.new) (R.tape report.old) (R.tape report.new)
+        ((input.new ≡ input.old) × (report.new ≡ report.old)) (report.new ≡ report.old)) }
+{
+    let key = TableKey::fixed();
+    match explain_keyed(alloc, key, scenario, input, one, other, report) {
+        Ok(()) => Ok(()),
+        Err(fault) => Err(fault),
+    }
+}
+
+/// The same, with a key for the hash of the connection tables.
+pub fn explain_keyed<I: Source, R: Sink>(
+    alloc: Global,
+    key: TableKey,
+    scenario: &[u8],
+    input: &mut I,
+    one: u64,
+    other: u64,
+    report: &mut R,
+) -> Result<(), CliFault>
+    ensures played { OnOk result ((calls : ℕ) × Plays (Asked.Events one other) scenario.now (I.tape input.old) (I.tape input.new) (unkept 0) (unkept calls) (R.tape report.old) (R.tape report.new)) }
+    ensures stopped { IfErr result (λ fault. ExplainFails fault one other scenario.now (I.tape input.old) (I.tape input.new) (R.tape report.old) (R.tape report.new)
+        ((input.new ≡ input.old) × (report.new ≡ report.old)) (report.new ≡ report.old)) }
+{
+    let asked = Asked::Events { one, other };
+    let mut output = Nowhere::new();
+    match play(alloc, key, scenario, asked, input, &mut output, report) {
+        Ok(()) => Ok(()),
+        Err(fault) => Err(fault),
+    }
+}

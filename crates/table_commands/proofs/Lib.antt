@@ -1,0 +1,3 @@
+pub mod Lines
+pub mod OtherWords
+pub mod Entrants

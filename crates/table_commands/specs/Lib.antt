@@ -1,0 +1,4 @@
+pub mod Text
+pub mod Refusals
+pub mod Compare
+pub mod Pick

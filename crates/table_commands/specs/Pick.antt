@@ -1,0 +1,108 @@
+-- The command `pick`: the flow of a datagram, its slot and its backend, or why it is dropped.
+use Rattle.std.specs.Prelude.{◌≡◌, ◌<◌, ◌≤◌, ℕ, ◌-◌, ◌++◌, Bool, true, false, ◌==◌, if◌then◌else◌, List, [], map, take, length, slice_index, slice_index_or, Option, Some, None, Ok, Err, IfSome, codes}
+use Rattle.std.specs.Fmt.{decimal}
+use Rattle.hash_laws.specs.declared.any.AnyHash.{AnyHash}
+use Rattle.hash_laws.specs.Any.{hash_of_word, plain_of}
+use Rattle.hex.specs.Hex.{decode_of}
+use Rattle.hex.specs.declared.FromHexError.{FromHexError}
+use Rattle.maglev_table.specs.Sizes.{is_table_size}
+use Rattle.ip_headers.specs.declared.Link.TheVariants.{Ipv4}
+use Rattle.five_tuple.specs.declared.Flow.{Flow}
+use Rattle.cluster_node.specs.declared.packets.Packet.{Packet}
+use Rattle.cluster_node.specs.declared.packets.Packet.TheVariants.{Good, Bad}
+use Rattle.cluster_core.specs.Reading.{packet_read}
+use Rattle.listing.specs.Names.{cause_name}
+use Rattle.selection.specs.Picks.{slot_of_flow}
+use Rattle.maglev_texts.specs.Printing.{flow_text}
+use Rattle.table_commands.specs.Text.{owners_of_names, AreInOrder}
+use Rattle.table_commands.specs.Refusals.{AreListed, AreFew, WordsFail}
+use Rattle.command_faults.specs.declared.fault.CliFault.{CliFault}
+use Rattle.command_faults.specs.declared.fault.CliFault.TheVariants.{BadSize, BadHash, BadName, DoubleName, TooMany, Write, BadHex, TooLong, Read, Memory}
+
+-- the text without one newline at its end
+abbrev pub without_newline : List ℕ → List ℕ
+without_newline text = if slice_index text (length text - 1) == 10 then take (length text - 1) text else text
+
+-- what the bytes of a datagram come to, with the test of the checksum or without
+abbrev pub packet_of : Bool → List ℕ → Packet
+packet_of check bytes = packet_read Ipv4 bytes 0 check
+
+-- the name that a slot of a table names
+abbrev pub name_at : List (List ℕ) → List ℕ → ℕ → List ℕ
+name_at names owners slot = slice_index_or names (slice_index owners slot) []
+
+-- `FLOW slot I backend NAME`
+abbrev pub flow_line : Flow → ℕ → List ℕ → List ℕ
+flow_line x slot name = flow_text x ++ (codes " slot " ++ (decimal slot ++ (codes " backend " ++ (name ++ codes "\n"))))
+
+-- `drop CAUSE`
+abbrev pub drop_line : List ℕ → List ℕ
+drop_line cause = codes "drop " ++ (cause ++ codes "\n")
+
+-- the line of a flow over some names in ascending order, of these weights
+abbrev pub found_line : (List ℕ → ℕ) → ℕ → List (List ℕ) → List ℕ → Flow → List ℕ
+found_line plain size names weights x =
+    flow_line x (slot_of_flow plain size x) (name_at names (owners_of_names plain size names weights) (slot_of_flow plain size x))
+
+-- the line of the command `pick`
+abbrev pub pick_line : (List ℕ → ℕ) → ℕ → List (List ℕ) → List ℕ → Packet → List ℕ
+pick_line plain size names weights (Good x _ _) = found_line plain size names weights x
+pick_line plain size names weights (Bad cause) = drop_line (cause_name cause)
+
+-- the text is hexadecimal digits and at most one newline, and they are these bytes
+abbrev pub IsHexOf : List ℕ → List ℕ → Type 0
+IsHexOf bytes text = decode_of (without_newline text) ≡ Ok bytes
+
+-- the text is no hexadecimal digits
+abbrev pub IsNoHex : List ℕ → Type 0
+IsNoHex text = (e : FromHexError) × (decode_of (without_newline text) ≡ Err e)
+
+-- the longest input: two digits for each byte of the longest piece, and a newline
+abbrev pub longest : ℕ
+longest = 524289
+
+-- the line of a datagram, where the input tells it
+abbrev pub IsPickLine : (List ℕ → ℕ) → ℕ → List (List ℕ) → Bool → Option (List ℕ) → List ℕ → Type 0
+IsPickLine plain size words check input line =
+    (names : List (List ℕ)) × (weights : List ℕ) × AreInOrder words names weights × (bytes : List ℕ) × IfSome input (IsHexOf bytes) × (line ≡ pick_line plain size names weights (packet_of check bytes))
+
+-- the same, for the hash that a word names
+abbrev pub IsPickLineOf : List ℕ → ℕ → List (List ℕ) → Bool → Option (List ℕ) → List ℕ → Type 0
+IsPickLineOf word size words check input line = (hash : AnyHash) × (hash_of_word word ≡ Some hash) × IsPickLine (plain_of hash) size words check input line
+
+-- an input that isn't too long
+abbrev pub IsShort : Option (List ℕ) → Type 0
+IsShort input = IfSome input (λ text. length text ≤ longest)
+
+-- what the text is where decoding it ends by a fault
+abbrev pub HexFails : CliFault → List ℕ → Type 0
+HexFails BadHex text = IsNoHex text
+HexFails Memory text = Unit {0}
+HexFails _ text = ⊥
+
+-- what the input is where reading it ends by a fault
+abbrev pub InputFails : CliFault → Option (List ℕ) → Type 0
+InputFails TooLong input = IfSome input (λ text. longest < length text)
+InputFails Read input = Unit {0}
+InputFails BadHex input = IfSome input (λ text. (length text ≤ longest) × IsNoHex text)
+InputFails Write input = IsShort input
+InputFails Memory input = Unit {0}
+InputFails _ input = ⊥
+
+-- the same with the names' faults before
+abbrev pub PickFailsWith : CliFault → ℕ → List (List ℕ) → Option (List ℕ) → Type 0
+PickFailsWith BadName size words input = WordsFail BadName size words
+PickFailsWith DoubleName size words input = WordsFail DoubleName size words
+PickFailsWith TooMany size words input = WordsFail TooMany size words
+PickFailsWith Memory size words input = WordsFail Memory size words
+PickFailsWith TooLong size words input = AreFew size words × InputFails TooLong input
+PickFailsWith Read size words input = AreFew size words
+PickFailsWith BadHex size words input = AreFew size words × InputFails BadHex input
+PickFailsWith Write size words input = AreFew size words × InputFails Write input
+PickFailsWith _ size words input = ⊥
+
+-- when `pick` gives up, and by which fault: the first that holds in their order
+abbrev pub PickFails : CliFault → ℕ → List ℕ → List (List ℕ) → Option (List ℕ) → Type 0
+PickFails BadSize size hash words input = is_table_size size ≡ false
+PickFails BadHash size hash words input = (is_table_size size ≡ true) × (hash_of_word hash ≡ None)
+PickFails fault size hash words input = AreListed size hash × PickFailsWith fault size words input

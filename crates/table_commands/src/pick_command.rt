@@ -1,0 +1,214 @@
+ghost use Rattle.std.specs.Prelude.{◌≡◌, ◌+◌, ◌<◌, ◌≤◌, ◌≢◌, map, length, IfOk, IfErr, IfSome, OnOk, string_bytes, All, Ok};
+ghost use Rattle.pcap_file.specs.Device.{Unfailed, ReadRefused};
+ghost use Rattle.command_faults.specs.Printing.{Prints, BreaksOff};
+ghost use Rattle.table_commands.specs.Refusals.{AreFew, IsTableWork};
+ghost use Rattle.table_commands.specs.Pick.{longest, without_newline, IsHexOf, found_line, pick_line, HexFails, InputFails, IsPickLine, IsPickLineOf, IsShort, PickFailsWith, PickFails};
+
+use command_faults::{CliFault, put_text};
+use super::names::{Entrants, lists_of, names_for};
+use cluster_core::{Packet, read_packet};
+use five_tuple::Flow;
+use hash_laws::{AnyHash, FlowHash};
+use hex::FromHexError;
+use ip_headers::Link;
+use listing::CauseText;
+use maglev_table::{Name, TableSize, Weight, populate};
+use maglev_texts::FlowText;
+use pcap_file::{Sink, Source, fill};
+use std::alloc::{AllocError, Global};
+
+/// The longest input: two digits for each byte of 262,144, and a newline.
+const LONGEST: usize = 524_289;
+
+// So many bytes. What they are isn't said.
+fn room_for(alloc: Global, size: usize) -> Result<Vec<u8>, AllocError>
+    ensures { IfOk result (λ v. length v.items ≡ size) }
+{
+    vec![in alloc; 0u8; size]
+}
+
+// All bytes of the input, of which there are no more than the longest.
+fn input_of<R: Source>(alloc: Global, input: &mut R) -> Result<Vec<u8>, CliFault>
+    ensures bytes { IfOk result (λ v. IfSome (R.tape input.old).bytes (λ text. v.items ≡ text)) }
+    ensures short { IfOk result (λ v. length v.items ≤ longest) }
+    ensures unfailed { OnOk result (Unfailed (R.tape input.old) (R.tape input.new)) }
+    ensures fault { IfErr result (λ fault. InputFails fault (R.tape input.old).bytes) }
+    ensures read { IfErr result (λ fault. fault ≡ CliFault.Read → ReadRefused (longest + 1) (R.tape input.old) (R.tape input.new)) }
+    ensures unwritten { IfErr result (λ fault. fault ≢ CliFault.Write) }
+{
+    let mut bytes = room_for(alloc, LONGEST + 1)?;
+    let Ok(count) = fill(input, bytes.as_mut_slice()) else {
+        return Err(CliFault::Read);
+    };
+    if count > LONGEST {
+        return Err(CliFault::TooLong);
+    }
+    bytes.truncate(count);
+    Ok(bytes)
+}
+
+fn without_newline(text: &[u8]) -> &[u8]
+    ensures { result.now ≡ without_newline text.entry.now }
+{
+    let length = text.len();
+    if length > 0 && text[length - 1] == b'\n' {
+        &text[..length - 1]
+    } else {
+        text
+    }
+}
+
+// The bytes that the text of the input is.
+fn bytes_of(alloc: Global, text: &[u8]) -> Result<Vec<u8>, CliFault>
+    ensures bytes { IfOk result (λ v. IsHexOf v.items text.now) }
+    ensures fault { IfErr result (λ fault. HexFails fault text.now) }
+{
+    match hex::decode(alloc, without_newline(text)) {
+        Ok(bytes) => Ok(bytes),
+        Err(FromHexError::OutOfMemory) => Err(CliFault::Memory),
+        Err(_) => Err(CliFault::BadHex),
+    }
+}
+
+// The name that the flow's slot names in the table of some names, and the slot.
+fn found_line<H: FlowHash>(
+    alloc: Global,
+    size: TableSize,
+    hash: &H,
+    names: &[Name],
+    weights: &[Weight],
+    flow: Flow,
+) -> Result<String, CliFault>
+    requires some { 0 < length names.now }
+    requires few { length names.now ≤ size }
+    requires weighed { length weights.now ≡ length names.now }
+    ensures line { IfOk result (λ s. string_bytes s ≡ found_line (H.plain hash.now) size names.now weights.now flow) }
+    ensures fault { IfErr result (λ fault. fault ≡ CliFault.Memory) }
+{
+    let lists = lists_of(alloc, size, hash, names)?;
+    let table = match populate(alloc, size, lists.as_slice(), weights) {
+        Ok(table) => table,
+        Err(_) => return Err(CliFault::Memory),
+    };
+    let slot = (hash.hash(b'f', &flow.bytes()) % u64::from(size.slots())) as u32;
+    let name = &names[table.slot(slot) as usize];
+    let text = FlowText(flow);
+    match format!(in alloc; "{text} slot {slot} backend {name}\n") {
+        Ok(line) => Ok(line),
+        Err(_) => Err(CliFault::Memory),
+    }
+}
+
+// The line of what a datagram comes to.
+fn line_of<H: FlowHash>(
+    alloc: Global,
+    size: TableSize,
+    hash: &H,
+    names: &[Name],
+    weights: &[Weight],
+    packet: Packet,
+) -> Result<String, CliFault>
+    requires some { 0 < length names.now }
+    requires few { length names.now ≤ size }
+    requires weighed { length weights.now ≡ length names.now }
+    ensures line { IfOk result (λ s. string_bytes s ≡ pick_line (H.plain hash.now) size names.now weights.now packet) }
+    ensures fault { IfErr result (λ fault. fault ≡ CliFault.Memory) }
+{
+    let cause = match packet {
+        Packet::Good { flow, .. } => return found_line(alloc, size, hash, names, weights, flow),
+        Packet::Bad(cause) => CauseText(cause),
+    };
+    match format!(in alloc; "drop {cause}\n") {
+        Ok(line) => Ok(line),
+        Err(_) => Err(CliFault::Memory),
+    }
+}
+
+// Reads a datagram as hexadecimal text.
+fn datagram_of<R: Source>(alloc: Global, input: &mut R) -> Result<Vec<u8>, CliFault>
+    ensures bytes { IfOk result (λ v. IfSome (R.tape input.old).bytes (λ text. IsHexOf v.items text)) }
+    ensures short { OnOk result (IsShort (R.tape input.old).bytes) }
+    ensures unfailed { OnOk result (Unfailed (R.tape input.old) (R.tape input.new)) }
+    ensures fault { IfErr result (λ fault. InputFails fault (R.tape input.old).bytes) }
+    ensures read { IfErr result (λ fault. fault ≡ CliFault.Read → ReadRefused (longest + 1) (R.tape input.old) (R.tape input.new)) }
+    ensures unwritten { IfErr result (λ fault. fault ≢ CliFault.Write) }
+{
+    let text = input_of(alloc, input)?;
+    match bytes_of(alloc, text.as_slice()) {
+        Ok(bytes) => Ok(bytes),
+        Err(fault) => Err(fault),
+    }
+}
+
+fn pick_with<H: FlowHash, R: Source, S: Sink>(
+    alloc: Global,
+    size: TableSize,
+    hash: &H,
+    check: bool,
+    words: &[&str],
+    input: &mut R,
+    out: &mut S,
+) -> Result<(), CliFault>
+    requires { 0 < length words.now }
+    ensures written { OnOk result (Prints (IsPickLine (H.plain hash.now) size (map (λ w. w.now) words.now) check (R.tape input.old).bytes) (S.tape out.old) (S.tape out.new)) }
+    ensures broken { IfErr result (λ fault. fault ≡ CliFault.Write → BreaksOff (IsPickLine (H.plain hash.now) size (map (λ w. w.now) words.now) check (R.tape input.old).bytes) (S.tape out.old) (S.tape out.new)) }
+    ensures accepted { OnOk result (AreFew size (map (λ w. w.now) words.now) × IsShort (R.tape input.old).bytes) }
+    ensures unfailed { OnOk result (Unfailed (R.tape input.old) (R.tape input.new)) }
+    ensures read { IfErr result (λ fault. fault ≡ CliFault.Read → ReadRefused (longest + 1) (R.tape input.old) (R.tape input.new)) }
+    ensures silent { IfErr result (λ fault. fault ≢ CliFault.Write → out.new ≡ out.old) }
+    ensures fault { IfErr result (λ fault. PickFailsWith fault size (map (λ w. w.now) words.now) (R.tape input.old).bytes) }
+{
+    let Entrants { names, weights } = names_for(alloc, size, words)?;
+    let bytes = match datagram_of(alloc, input) {
+        Ok(bytes) => bytes,
+        Err(fault) => return Err(fault),
+    };
+    let packet = read_packet(Link::Ipv4, bytes.as_slice(), 0, check);
+    let line = line_of(
+        alloc,
+        size,
+        hash,
+        names.as_slice(),
+        weights.as_slice(),
+        packet,
+    )?;
+    match put_text(out, line.as_str()) {
+        Ok(()) => Ok(()),
+        Err(fault) => Err(fault),
+    }
+}
+
+/// The command `pick`: reads one IPv4 datagram as hexadecimal text, and writes its flow, the flow's slot and the backend
+/// that the slot names, or why the datagram is dropped.
+///
+/// The input is hexadecimal digits of either case, two a byte, and at most one newline behind them. The header checksum is
+/// tested where `check` holds. The line is written in one piece, so after any fault but `Write` nothing was written.
+pub fn pick<R: Source, S: Sink>(
+    alloc: Global,
+    size: u32,
+    hash: &str,
+    check: bool,
+    words: &[&str],
+    input: &mut R,
+    out: &mut S,
+) -> Result<(), CliFault>
+    requires { 0 < length words.now }
+    ensures written { OnOk result (Prints (IsPickLineOf hash.now size (map (λ w. w.now) words.now) check (R.tape input.old).bytes) (S.tape out.old) (S.tape out.new)) }
+    ensures broken { IfErr result (λ fault. fault ≡ CliFault.Write → BreaksOff (IsPickLineOf hash.now size (map (λ w. w.now) words.now) check (R.tape input.old).bytes) (S.tape out.old) (S.tape out.new)) }
+    ensures accepted { OnOk result (IsTableWork size hash.now (map (λ w. w.now) words.now) × IsShort (R.tape input.old).bytes) }
+    ensures unfailed { OnOk result (Unfailed (R.tape input.old) (R.tape input.new)) }
+    ensures read { IfErr result (λ fault. fault ≡ CliFault.Read → ReadRefused (longest + 1) (R.tape input.old) (R.tape input.new)) }
+    ensures silent { IfErr result (λ fault. fault ≢ CliFault.Write → out.new ≡ out.old) }
+    ensures fault { IfErr result (λ fault. PickFails fault size hash.now (map (λ w. w.now) words.now) (R.tape input.old).bytes) }
+{
+    let Some(size) = TableSize::new(size) else {
+        return Err(CliFault::BadSize);
+    };
+    let Some(hash) = AnyHash::of_word(hash) else {
+        return Err(CliFault::BadHash);
+    };
+    match pick_with(alloc, size, &hash, check, words, input, out) {
+        Ok(()) => Ok(()),
+        Err(fault) => Err(fault),
+    }
+}

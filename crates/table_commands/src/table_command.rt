@@ -1,0 +1,74 @@
+ghost use Rattle.std.specs.Prelude.{◌≡◌, ◌<◌, ◌≤◌, ◌≢◌, map, length, IfErr, OnOk};
+ghost use Rattle.table_commands.specs.Text.{IsTableText, IsTableTextOf};
+ghost use Rattle.command_faults.specs.Printing.{Prints, BreaksOff};
+ghost use Rattle.table_commands.specs.Refusals.{TableFails, WordsFail, AreNames, IsTableWork};
+
+use command_faults::{CliFault, put_text};
+use super::names::{Entrants, lists_of, names_for};
+use super::table_text::table_text_of;
+use hash_laws::{AnyHash, FlowHash};
+use maglev_table::{TableSize, populate};
+use pcap_file::Sink;
+use std::alloc::Global;
+
+fn table_with<H: FlowHash, S: Sink>(
+    alloc: Global,
+    size: TableSize,
+    hash: &H,
+    words: &[&str],
+    out: &mut S,
+) -> Result<(), CliFault>
+    requires { 0 < length words.now }
+    ensures written { OnOk result (Prints (IsTableText (H.plain hash.now) size (map (λ w. w.now) words.now)) (S.tape out.old) (S.tape out.new)) }
+    ensures broken { IfErr result (λ fault. fault ≡ CliFault.Write → BreaksOff (IsTableText (H.plain hash.now) size (map (λ w. w.now) words.now)) (S.tape out.old) (S.tape out.new)) }
+    ensures silent { IfErr result (λ fault. fault ≢ CliFault.Write → out.new ≡ out.old) }
+    ensures names { OnOk result (AreNames (map (λ w. w.now) words.now)) }
+    ensures few { OnOk result (length (map (λ w. w.now) words.now) ≤ size) }
+    ensures fault { IfErr result (λ fault. WordsFail fault size (map (λ w. w.now) words.now)) }
+{
+    let Entrants { names, weights } = names_for(alloc, size, words)?;
+    let lists = lists_of(alloc, size, hash, names.as_slice())?;
+    let table = match populate(alloc, size, lists.as_slice(), weights.as_slice()) {
+        Ok(table) => table,
+        Err(_) => return Err(CliFault::Memory),
+    };
+    let text = table_text_of(alloc, size, names.as_slice(), &table)?;
+    match put_text(out, text.as_str()) {
+        Ok(()) => Ok(()),
+        Err(fault) => Err(fault),
+    }
+}
+
+/// The command `table`: writes which backend each slot of a table names, and how many slots each backend has.
+///
+/// The words are the backends' names, each `NAME`, or `NAME*W` with a weight from 1 to 16, in any order: they take their turns
+/// in ascending order of bytes. The text is written
+/// in one piece once it is whole, so after any fault but `Write` nothing was written.
+pub fn table<S: Sink>(
+    alloc: Global,
+    size: u32,
+    hash: &str,
+    words: &[&str],
+    out: &mut S,
+) -> Result<(), CliFault>
+    requires { 0 < length words.now }
+    ensures written { OnOk result (Prints (IsTableTextOf hash.now size (map (λ w. w.now) words.now)) (S.tape out.old) (S.tape out.new)) }
+    ensures broken { IfErr result (λ fault. fault ≡ CliFault.Write → BreaksOff (IsTableTextOf hash.now size (map (λ w. w.now) words.now)) (S.tape out.old) (S.tape out.new)) }
+    ensures silent { IfErr result (λ fault. fault ≢ CliFault.Write → out.new ≡ out.old) }
+
+    // Each fault comes exactly when its reason is the first that holds, and none where nothing is wrong; only Memory may
+    // come where a growth was refused.
+    ensures accepted { OnOk result (IsTableWork size hash.now (map (λ w. w.now) words.now)) }
+    ensures fault { IfErr result (λ fault. TableFails fault size hash.now (map (λ w. w.now) words.now)) }
+{
+    let Some(size) = TableSize::new(size) else {
+        return Err(CliFault::BadSize);
+    };
+    let Some(hash) = AnyHash::of_word(hash) else {
+        return Err(CliFault::BadHash);
+    };
+    match table_with(alloc, size, &hash, words, out) {
+        Ok(()) => Ok(()),
+        Err(fault) => Err(fault),
+    }
+}

@@ -1,0 +1,241 @@
+#!/usr/bin/env python3
+"""answers.py CRATE: writes general tactics as answers for the goals on which the prover searches long, and for those that an
+edit's function owes; keeps what proves and saves time, and prints the seconds before and after.
+
+answers.py --times CRATE      lists the functions of a crate by the seconds that their goals took in the last check
+answers.py --without EDIT ..  tries must-fail edits (paths) with the answers of the edited functions taken out
+
+Without an answer the prover tries `search` first, and again to print proof files that nobody reads where a goal breaks. An answer
+names one tactic and no term of the code, so that an edit of the code breaks no name in it. Each goal of a loop or of a return gets
+`grind (arith, common_steps)`; where that doesn't prove, the goal stays without an answer.
+
+It works in the crate's folder, over what earlier checks kept; times are those between the files that a check with one job saves.
+"""
+import collections
+import os
+import pathlib
+import re
+import shutil
+import subprocess
+import sys
+import tempfile
+
+TOP = pathlib.Path(__file__).resolve().parent.parent
+CRATES = TOP / "crates"
+TACTIC = "grind (arith, common_steps)"
+USES = {
+    "arith": "use Rattle.std.proofs.Common.{arith}",
+    "common_steps": "use Rattle.std.proofs.lemmas.Grind.{common_steps}",
+}
+# Seconds of search above which a function's goals are answered, and what an answer has to save.
+LONG, SAVES = 1.0, 0.3
+GOAL = re.compile(r"^(returns|loop-\S+-(init|preserved)$|\S+-init$|\S+-preserved$)")
+
+
+def saved(crate):
+    """The modules that checks of a crate saved, each with its time, in the order in which they were saved."""
+    found = []
+    for at, _, names in os.walk(crate / "out" / "incremental"):
+        if not at.endswith("records"):
+            found += [(os.stat(f"{at}/{name}").st_mtime, name[: -len(".oantt")]) for name in names if name.endswith(".oantt")]
+    return sorted(found)
+
+
+def searched(crate):
+    """From each function to the seconds that its goals took, read off the times at which a check saved its modules."""
+    times, files = collections.Counter(), saved(crate)
+    head = f"Rattle-{crate.name}-proofs."
+    for (before, _), (after, module) in zip(files, files[1:]):
+        function, _, part = module.rpartition(".")
+        if part in ("Proof", "Answers") and function.startswith(head):
+            times[function[len(head) :].replace(".", "/")] += after - before
+    return times
+
+
+def run_rt(crate, *words):
+    command = [sys.executable, str(TOP / "bin" / "build.py"), "--rt", *words]
+    done = subprocess.run(command, cwd=crate, stdout=subprocess.PIPE, stderr=subprocess.STDOUT, text=True, errors="replace", check=False)
+    return done.returncode, done.stdout
+
+
+def edited(crate):
+    """The functions of a crate that its edits change, as paths below proofs/."""
+    found = set()
+    for edit in (crate / "must-fail").glob("*.edit"):
+        text = edit.read_text()
+        file = re.search(r"^file: (\S+)", text, re.M)
+        for old in re.findall(r"^old: ?(.*)$", text, re.M):
+            found |= enclosing(crate, file[1], old) if file and file[1].startswith("src/") else set()
+    return found
+
+
+def enclosing(crate, file, old):
+    """The names of the functions around a text of a file, without the module's path."""
+    text = (crate / file).read_text()
+    before = [it for it in re.finditer(r"^\s*(?:pub(?:\([a-z]+\))?\s+)?(?:const\s+)?fn\s+(\w+)", text, re.M) if it.start() <= text.find(old)]
+    return {before[-1][1]} if before else set()
+
+
+def proved_by_goals(crate):
+    """The functions of a crate whose proofs the check generates, as paths below proofs/, closures left out."""
+    head = f"Rattle-{crate.name}-proofs."
+    paths = {module[len(head) :].rpartition(".")[0].replace(".", "/") for _, module in saved(crate) if module.startswith(head) and module.endswith(".Tie")}
+    return {path for path in paths if "/fn/" not in path and not path.startswith("fn/") and "+" not in path}
+
+
+def offered(crate, functions):
+    """For each function the file that the check offers for all its goals: its lines of use, and each goal's head."""
+    found = {}
+    with tempfile.TemporaryDirectory() as room:
+        words = [word for path in functions for word in ("--start", path.replace("/", "::"))]
+        run_rt(crate, "check", "--jobs", "1", *words, "--generated", room)
+        for path in functions:
+            file = pathlib.Path(room) / f"Rattle-{crate.name}-proofs" / path / "AnswersOffered.antt"
+            if file.exists():
+                found[path] = file.read_text()
+    return found
+
+
+def goals_in(text):
+    """From each goal of an answers file to its block of lines."""
+    return {it[1]: it[0] for it in re.finditer(r"^pub (\S+) : goal\.\S+\n(?:(?!\n|pub |--).+\n|\n(?=[ \t]))*", text, re.M)}
+
+
+def covers(one, other):
+    """Whether two goals are one, or one a clause of the other."""
+    return one == other or one.startswith(f"{other}-clause-") or other.startswith(f"{one}-clause-")
+
+
+def heads(offer, known):
+    """The goals of an offer that want an answer, each with the head of its definition."""
+    found = {}
+    for name, block in goals_in(offer).items():
+        if GOAL.match(name) and not any(covers(name, other) for other in known):
+            found[name] = block.rstrip("\n").replace(" = ?", "")
+    return found
+
+
+def with_uses(text, path, crate):
+    """The text with the lines of use that the tactic and the goals need."""
+    lines = []
+    imported = " ".join(re.findall(r"^use [^\n]*", text, re.M))
+    for word, line in USES.items():
+        if not re.search(rf"[{{ ,]{word}[,}}]", imported):
+            lines.append(line)
+    if " as goal" not in imported:
+        lines.append(f"use Rattle.{crate.name}.proofs.{path.replace('/', '.')}.Goals as goal")
+    uses = re.findall(r"^use [^\n]*\n", text, re.M)
+    body = text
+    for line in uses:
+        body = body.replace(line, "", 1)
+    return "".join(uses) + "".join(f"{line}\n" for line in lines) + "\n" + body.lstrip("\n")
+
+
+def write(crate, path, before, answers):
+    """Writes a function's answers behind those that it has."""
+    file = crate / "proofs" / path / "Answers.antt"
+    if not answers:
+        if before is None:
+            file.unlink(missing_ok=True)
+        else:
+            file.write_text(before)
+        return
+    file.parent.mkdir(parents=True, exist_ok=True)
+    blocks = "\n".join(f"{head} = {TACTIC}\n" for head in answers.values())
+    file.write_text(with_uses(before or "", path, crate).rstrip("\n") + "\n\n" + blocks)
+
+
+def refused(crate, said, path):
+    """The goals of a function's answers that a check refused."""
+    text = (crate / "proofs" / path / "Answers.antt").read_text().split("\n")
+    found = set()
+    for line in re.findall(rf"proofs/{re.escape(path)}/Answers\.antt:(\d+):\d+: error", said):
+        for at in range(int(line) - 1, -1, -1):
+            named = re.match(r"pub (\S+) : goal\.", text[at])
+            if named:
+                found.add(named[1])
+                break
+    return found
+
+
+def answer(crate):
+    """Writes answers, and keeps what proves and saves."""
+    before = searched(crate)
+    touched = edited(crate)
+    known = proved_by_goals(crate)
+    chosen = sorted(path for path in known if before[path] >= LONG or path.rpartition("/")[2] in touched)
+    files = {path: (crate / "proofs" / path / "Answers.antt") for path in chosen}
+    texts = {path: file.read_text() if file.exists() else None for path, file in files.items()}
+    offers = offered(crate, chosen)
+    answers = {path: heads(offers[path], goals_in(texts[path] or "")) for path in chosen if path in offers}
+    print(f"{crate.name}: {len(chosen)} functions, {sum(map(len, answers.values()))} goals", flush=True)
+    for path, given in answers.items():
+        write(crate, path, texts[path], given)
+    for turn in range(4):
+        status, said = run_rt(crate, "check", "--jobs", os.environ.get("JOBS", "1"))
+        if status == 0:
+            break
+        lost = {path: refused(crate, said, path) & set(given) for path, given in answers.items() if given}
+        if not any(lost.values()):
+            print(said[-3000:])
+            print(f"{crate.name}: not proved for another reason")
+            return 1
+        for path, names in lost.items():
+            for name in names:
+                del answers[path][name]
+            if names:
+                write(crate, path, texts[path], answers[path])
+        print(f"{crate.name}: turn {turn + 1}: {sum(map(len, lost.values()))} goals stay without an answer", flush=True)
+    after = searched(crate)
+    total, back = 0.0, False
+    for path, given in sorted(answers.items(), key=lambda it: -before[it[0]]):
+        spared = before[path] - after[path]
+        is_edited = path.rpartition("/")[2] in touched
+        keeps = given and (spared >= SAVES or is_edited and spared > -SAVES)
+        if given and not keeps:
+            write(crate, path, texts[path], {})
+            back = True
+        total += spared if keeps else 0
+        if given or before[path] >= LONG:
+            print(f"{path}: {len(given)} answers, {before[path]:.1f} s, then {after[path]:.1f} s{'' if keeps else ', left as it was'}")
+    print(f"{crate.name}: saves {total:.1f} s", flush=True)
+    return run_rt(crate, "check", "--jobs", "1")[0] if back else 0
+
+
+def without(edits):
+    """Tries edits with the answers of this tool taken out of the files of the functions that they change."""
+    missed = 0
+    for edit in map(pathlib.Path, edits):
+        crate = edit.resolve().parent.parent
+        with tempfile.TemporaryDirectory() as room:
+            tree = pathlib.Path(room) / "crates"
+            shutil.copytree(CRATES, tree, copy_function=os.link, ignore=shutil.ignore_patterns("must-fail", "trees"))
+            shutil.copy(TOP / "crates.txt", room)
+            shutil.copy(TOP / "HANDLES", room)
+            (tree / crate.name / "must-fail").mkdir()
+            shutil.copy(edit, tree / crate.name / "must-fail")
+            for file in (tree / crate.name / "proofs").rglob("Answers.antt"):
+                text = file.read_text()
+                left = re.sub(rf"\n?pub \S+ : goal\.\S+\n\S+[^=\n]* = {re.escape(TACTIC)}\n", "", text)
+                if left != text:
+                    file.unlink()
+                    if goals_in(left):
+                        file.write_text(left)
+            done = subprocess.run(["rt", "must-fail", crate.name], cwd=room, stdout=subprocess.PIPE, stderr=subprocess.STDOUT, text=True, check=False)
+            missed += done.returncode != 0
+            print(f"{edit.name}: {done.stdout.strip().splitlines()[-1][:200]}", flush=True)
+    return 1 if missed else 0
+
+
+def main(words):
+    if words[:1] == ["--times"]:
+        for path, seconds in searched(CRATES / words[1]).most_common(40):
+            print(f"{seconds:6.1f} {path}")
+        return 0
+    if words[:1] == ["--without"]:
+        return without(words[1:])
+    return max(answer(CRATES / name) for name in words)
+
+
+if __name__ == "__main__":
+    sys.exit(main(sys.argv[1:]))
