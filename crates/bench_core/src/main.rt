@@ -1,9 +1,9 @@
 //! A benchmark: one node of the cluster judges packets of many flows, one event after another. `bench/core.sh` and
 //! `bench/versions.sh` time it.
 //!
-//! Arguments: how many packets, how many flows, how many versions, how many services a version, how many members a service,
-//! and 1 where each version has other addresses in one service than the version before, 0 where all versions are alike;
-//! without them 1000, 100, 1, 1, 100 and 0. All versions are installed on another node, the first one on the node that
+//! Arguments: how many packets, flows and versions, how many services a version has, how many members a service has, and 1
+//! or 0. With 1 each version has other addresses in one service than the version before; with 0 all versions are alike.
+//! Without arguments: 1000, 100, 1, 1, 100 and 0. All versions are installed on another node, the first one on the node that
 //! judges: so it is the one that was prepared longest ago. Each packet is two events, its arrival and its serving. Prints
 //! how many packets were forwarded: all of them.
 #![tactic(auto)]

@@ -1,11 +1,11 @@
 //! A benchmark: one node on threads forwards packets while versions are published, in each of which one service has other
 //! addresses than before. `bench/publish.sh` runs it.
 //!
-//! Arguments: how many offers, how many workers, how many versions, how many services a version, how many members a service,
-//! and `times` where the times are to be printed; without them 1000, 2, 3, 2 and 4. The first version is published before all
-//! offers, the others are spread among them, and the last stands behind them. Without `times` one line tells how many offers
-//! there were. With it, in nanoseconds: the time from the first version to the last, all that workers took between the calls
-//! of the gate round each serving, and behind it how many servings those were.
+//! Arguments: how many offers, workers and versions, how many services a version has, how many members a service has, and
+//! `times` where the times are to be printed. Without them: 1000, 2, 3, 2 and 4. The first version is published before all
+//! offers, the last one after them, and the others are spread among them. Without `times` one line says how many offers
+//! there were. With it the line has nanoseconds: first the time from the first version to the last. Then comes what all
+//! workers took between the calls of the gate round each serving, and how many servings those were.
 #![tactic(auto)]
 
 ghost use Rattle.std.specs.Prelude.{◌≡◌, ◌<◌, IfOk, length};

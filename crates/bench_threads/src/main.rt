@@ -1,8 +1,8 @@
-//! A benchmark: one node on threads forwards packets of many flows, and the core's run judges the same events on one
-//! thread. `bench/threads.sh` runs it.
+//! A benchmark: one node on threads forwards packets of many flows, and the core's run judges the same events on one thread.
+//! `bench/threads.sh` runs it.
 //!
 //! Arguments: how many offers, how many workers, how many flows, and `times` where the times are to be printed. Without it
-//! one line tells how many offers there were: all else depends on the schedule.
+//! one line says how many offers there were: all else depends on the schedule.
 #![tactic(auto)]
 
 ghost use Rattle.std.specs.Prelude.{◌≡◌, ◌<◌, IfOk, length, Some};

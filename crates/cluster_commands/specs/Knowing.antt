@@ -3,7 +3,7 @@ use Rattle.std.specs.Prelude.{ℕ, Bool, true, false, not, List, Option, positio
 use Rattle.scenario_steps.specs.declared.Step.{Step}
 use Rattle.scenario_steps.specs.declared.Step.TheVariants as steps
 
--- what a driver can be told: workers that refuse, or serve nothing for a while, it can't
+-- which steps can be a driver's command: none by which workers refuse, or serve nothing for a while
 abbrev pub is_known : Step → Bool
 is_known (steps.Install n v) = true
 is_known (steps.Live ns) = true

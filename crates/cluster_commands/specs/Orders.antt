@@ -22,11 +22,11 @@ use Rattle.cluster_commands.specs.Noting.{noting}
 abbrev pub events_of : Course → List Event
 events_of c = map (λ s. s.event) (reverse c.past)
 
--- what a node's driver is told of these events: those of the node, without the servings
+-- a node's driver's part of these events: those of the node, without the servings
 abbrev pub commands_on : ℕ → List Event → List Command
 commands_on n es = commands_of (filter (λ e. node_of e == n) es)
 
--- what the drivers of so many nodes are told, in order
+-- the parts of the drivers of so many nodes, in order
 abbrev pub orders_in : ℕ → List Event → List (List Command)
 orders_in nodes es = map (λ n. commands_on n es) (below nodes)
 
@@ -63,7 +63,7 @@ ended_by ds (Offer k ∷ cs) = Offer k ∷ ended_by ds cs
 ended_by ds (commands.Restart ∷ cs) = ending (slice_index_or ds 0 true) ∷ ended_by (drop 1 ds) cs
 ended_by ds (commands.Stop ∷ cs) = ending (slice_index_or ds 0 true) ∷ ended_by (drop 1 ds) cs
 
--- what a node's driver is told of the steps: what their course says of the node, each life ended as its step ends it
+-- what the steps tell a node's driver: what their course says of the node, each life ended as its step ends it
 abbrev pub orders_on : Choice → List Packet → List Step → ℕ → ℕ → List Command
 orders_on choice packets steps nodes n = ended_by (ends_on n steps) (commands_on n (events_of (plan_of choice packets steps nodes)))
 
@@ -90,7 +90,8 @@ event_of n (Offer k) = Arrive n k none_marked
 event_of n commands.Restart = Restart n
 event_of n commands.Stop = Restart n
 
--- Where all steps are known, the commands tell all: what a course has of a node is what the node's commands say, and servings.
+-- Where all steps are known, the commands say all: what a course has of a node is what the node's commands say, and
+-- servings.
 abbrev pub KnownStepsAreTold : Type 0
 KnownStepsAreTold = (cluster : Cluster) (choice : Choice) (packets : List Packet) (steps : List Step) (nodes n : ℕ) → first_unknown_of steps ≡ None
     → filter (λ e. not (is_serve e)) (filter (λ e. node_of e == n) (events_of (course_on cluster choice packets steps nodes))) ≡ map (event_of n) (orders_on choice packets steps nodes n)

@@ -27,7 +27,7 @@ fn empty_lists(alloc: Global, nodes: u16) -> Result<Vec<Vec<Command>>, AllocErro
     Ok(lists)
 }
 
-// Tells a node's driver one thing more, where the node is there.
+// Gives a node's driver one more command, where the node is there.
 fn push(commands: &mut Vec<Vec<Command>>, node: u16, command: Command) -> Result<(), AllocError>
     ensures { OnOk result (map (λ c. c.items) commands.new.items ≡ pushed node command (map (λ c. c.items) commands.old.items)) }
 {
@@ -60,7 +60,7 @@ fn tell(commands: &mut Vec<Vec<Command>>, event: &Event) -> Result<(), AllocErro
     }
 }
 
-// What each node's driver is told, event by event.
+// What each node's driver has to do, event by event.
 fn commands_by(alloc: Global, nodes: u16, history: &[Said]) -> Result<Vec<Vec<Command>>, AllocError>
     ensures { IfOk result (λ v. map (λ c. c.items) v.items ≡ orders_in nodes (map (λ s. s.event) history.now)) }
 {
@@ -73,11 +73,10 @@ fn commands_by(alloc: Global, nodes: u16, history: &[Said]) -> Result<Vec<Vec<Co
 
 /// What the steps tell the drivers of so many nodes, and what becomes of the capture's records.
 ///
-/// The spreader is asked once for each packet that is delivered, in the order of the steps. `full`, `hold` and `drain`
-/// tell nobody anything; [`first_unknown`](crate::first_unknown) finds them. Neither does what names a node that isn't
-/// there. These are the commands and the counts of the steps' course on any cluster (`anywhere`): what is left out of it
-/// are the servings, and the marks of workers that refuse. In a course a stop is a restart; the commands have it as a stop
-/// (`ends`).
+/// The spreader is asked once for each packet that is delivered, in the order of the steps. `full`, `hold` and `drain` tell
+/// nobody anything; [`first_unknown`](crate::first_unknown) finds them. Neither does what names a node that isn't there.
+/// These are the commands and the counts of the steps' course on any cluster (`anywhere`). Only the servings, and the marks
+/// of workers that refuse, are left out of it. In a course a stop is a restart; the commands have it as a stop (`ends`).
 pub fn orders<P: Spread>(
     alloc: Global,
     nodes: u16,

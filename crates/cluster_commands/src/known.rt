@@ -4,7 +4,7 @@ ghost use Rattle.cluster_commands.specs.Knowing.{is_known, first_unknown_of};
 
 use course::Step;
 
-// Whether a driver can be told a step.
+// Whether a step can be a driver's command.
 fn is_known(step: &Step) -> bool
     ensures { result ≡ is_known step.now }
 {
@@ -23,8 +23,8 @@ fn place_of_unknown(steps: &[Step]) -> Option<usize>
     steps.iter().position(|step| !is_known(step))
 }
 
-/// The place, from 0, of the first step that no driver can be told: `full`, `hold` and `drain`. On threads a ring refuses
-/// where it is full, and a worker serves when it is its turn. None where all can be told.
+/// The place, from 0, of the first step that can't be a driver's command: `full`, `hold` and `drain`. On threads a ring
+/// refuses where it is full, and a worker serves when it is its turn. None where all can be commands.
 pub fn first_unknown(steps: &[Step]) -> Option<u32>
     requires { length steps.now < 2 ^ 32 }
     ensures { result ≡ first_unknown_of steps.now }

@@ -1,4 +1,4 @@
-//! A core that does nothing: what it is told stands in the course's own record.
+//! A core that does nothing: what it is asked is in the course's own record.
 ghost use Rattle.std.specs.Prelude.{◌≡◌};
 ghost use Rattle.cluster_commands.specs.Noting.{answer, noting};
 

@@ -22,7 +22,7 @@ serves n w (a ∷ rest) = Serve n w a.version a.refused ∷ serves n w rest
 abbrev pub lines_asked : List Line → Ask → Outcome → List Line
 lines_asked ls a o = if accepted o then took a.version a.refused ∷ ls else ls
 
--- what they come to by the installed versions and the worker's own lines
+-- their outcomes by the installed versions and the worker's own lines
 abbrev pub own : Rules → List ℕ → List Line → ℕ → ℕ → List Ask → List Outcome
 own rules installed ls n w [] = []
 own rules installed ls n w (a ∷ rest) = by_lines rules installed ls n w a.version a.refused

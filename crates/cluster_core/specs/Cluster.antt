@@ -39,7 +39,7 @@ flow_of (Bad c) = None
 abbrev pub WereRead : List Packet → Type 0
 WereRead ps = (k : ℕ) (p : Packet) → slice_get ps k ≡ Some p → WasRead (Some p)
 
--- behind these events of a record, the oldest in front, come those
+-- after these events of a record, the oldest in front, come those
 abbrev pub Behind : List Said → List Said → List Said → Type 0
 Behind before past events = reverse past ≡ before ++ events
 
@@ -58,7 +58,7 @@ pub record TakesFirst (k : Cluster) (past : List Said) (e : Event) (n w place : 
   pub first : next_item (lines_at past n w) ≡ Some item
   pub packet : item.packet ≡ place
 
--- What a cluster's judge owes to who keeps the waiting packets: no worker serves more than was placed on it, and what is
+-- What a cluster's judge owes to whoever keeps the waiting packets. No worker serves more than was placed on it. What is
 -- sent is the packet that waits first.
 pub record Orderly (k : Cluster) : Type 0 where
   pub sound : (past : List Said) → Judged k.judge past → (n w : ℕ) → n < k.nodes → w < k.workers → taken_count (lines_at past n w) ≤ length (placed (lines_at past n w))

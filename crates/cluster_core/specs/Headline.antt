@@ -36,7 +36,7 @@ pub record Sent (outs : List Outcome) (x : Flow) (b : Backend) (v : ℕ) : Type 
   pub packet : ℕ
   pub there : slice_get outs place ≡ Some (Forward node worker packet x b v)
 
--- AGREEMENT. Two packets of one flow that were sent to different backends, by any forwarders, were sent by choices
+-- AGREEMENT. Two packets of one flow may have been sent to different backends, by any forwarders. Then the choices were made
 -- under versions that pick these backends, and so under versions that differ for the flow.
 abbrev pub Agreement : Rules → List Outcome → Type 0
 Agreement rules outs = (x : Flow) (b₁ b₂ : Backend) (v₁ v₂ : ℕ) → Sent outs x b₁ v₁ → Sent outs x b₂ v₂ → (b₁ ≡ b₂ → ⊥) →
@@ -47,15 +47,15 @@ abbrev pub clock_at : List Told → Option Item → ℕ
 clock_at ts None = clock_of ts
 clock_at ts (Some i) = max (clock_of ts) i.at
 
--- what stands for a flow then, for a worker with these lines
+-- the flow's entry that stands then, for a worker with these lines
 abbrev pub stands_next : Rules → List Line → Option Item → Flow → Option Entry
 stands_next rules ls o x =
     let ts = told rules.pick rules.capacity rules.idle (servings rules ls) in
     standing rules.capacity rules.idle (clock_at ts o) x (touches ts)
 
--- the entry that stands for a flow on a forwarder as it serves its next packet: the flow's last touch there, while fewer than
--- the capacity of other flows were touched after it and, where a limit is set, the clock less the clock at that touch is at
--- most the limit
+-- The entry that stands for a flow on a forwarder as it serves its next packet. It is the flow's last touch there, while
+-- fewer other flows than the capacity were touched after it. Where a limit is set, the clock less the clock at that touch is
+-- also at most the limit.
 abbrev pub entry_at : Rules → List Said → ℕ → ℕ → Flow → Option Entry
 entry_at rules past n w x = stands_next rules (lines_at past n w) (next_item (lines_at past n w)) x
 
@@ -65,8 +65,8 @@ pub record UpUnder (rules : Rules) (v : ℕ) (x : Flow) (b : Backend) : Type 0 w
   pub known : rules.ups v x ≡ Some ups
   pub up : is_up b ups ≡ true
 
--- KEEPING. Where an entry stands for the flow of the packet that an accepted serving takes, and its backend is up under
--- the serving's version, the packet is sent there, with the entry's origin.
+-- KEEPING. An entry may stand for the flow of the packet that an accepted serving takes, and its backend be up under the
+-- serving's version. Then the packet is sent there, with the entry's origin.
 abbrev pub Keeps : Rules → List Said → Event → Outcome → Type 0
 Keeps rules past (Install n v) o = Unit {0}
 Keeps rules past (Arrive n k marks) o = Unit {0}

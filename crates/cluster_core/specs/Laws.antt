@@ -19,7 +19,8 @@ use Rattle.cluster_core.specs.Blocks.{Ask, serves, own, past_after}
 abbrev pub ServesDependOnOwnLines : Type 0
 ServesDependOnOwnLines = (rules : Rules) (a b : List Said) (n w v : ℕ) (r : Bool) → lines_of w a ≡ lines_of w b → installed_of a ≡ installed_of b → serve_verdict rules a n w v r ≡ serve_verdict rules b n w v r
 
--- servings of one worker after one another come to what its own lines say, and the rest follows the record with them
+-- the outcomes of servings of one worker, one after another, are what its own lines say, and the rest follows the record
+-- with them
 abbrev pub ServesStandInBlocks : Type 0
 ServesStandInBlocks = (rules : Rules) (n w : ℕ) → n < rules.nodes → (packets : List Packet) (past : List Said) (asks : List Ask) (rest : List Event) →
     verdicts rules past packets (serves n w asks ++ rest) ≡ own rules (installed_of (of_node n past)) (lines_at past n w) n w asks ++ verdicts rules (past_after rules past n w asks) packets rest
@@ -34,8 +35,8 @@ abbrev pub record_after : Rules → List Said → List Packet → List Event →
 record_after rules past packets [] = past
 record_after rules past packets (e ∷ es) = record_after rules (say rules past e (packet_of packets e) ∷ past) packets es
 
--- events leave the record of every node that none of them names, and with it all that is read off it: the newest version,
--- the lives, the cursor of steering, and how many packets were placed and served
+-- Events leave the record of every node that none of them names. So they leave all that is read off it: the newest version,
+-- the lives, the cursor of steering, and how many packets were placed and served.
 abbrev pub EventsLeaveOtherNodes : Type 0
 EventsLeaveOtherNodes = (rules : Rules) (packets : List Packet) (m : ℕ) (past : List Said) (es : List Event) → All (λ e. node_of e ≡ m → ⊥) es →
     of_node m (record_after rules past packets es) ≡ of_node m past
@@ -49,8 +50,8 @@ pub record LeavesArrivals (rules : Rules) (had has : List Said) : Type 0 where
 abbrev pub BlocksLeaveArrivals : Type 0
 BlocksLeaveArrivals = (rules : Rules) (n w : ℕ) (past : List Said) (asks : List Ask) → LeavesArrivals rules (of_node n past) (of_node n (past_after rules past n w asks))
 
--- with all packets placed before all servings, the next serving of a worker that popped the first packets in order comes
--- to what its forwarder answers after its own servings
+-- All packets are placed before all servings. Then the outcome of the next serving of a worker that popped the first packets
+-- in order is what its forwarder answers after its own servings.
 abbrev pub ServesFollowPackets : Type 0
 ServesFollowPackets = (rules : Rules) (items : List Item) (done : List Handling) (i : Item) (v : ℕ) (r : Bool) → Popped items done → slice_get items (length done) ≡ Some i →
     taken rules (settled items done) v r ≡ (if nat_lt v i.floor || nat_lt v (greatest done) then Behind else Done i (told_after rules.pick rules.capacity rules.idle (told rules.pick rules.capacity rules.idle (map (serving rules) done)) (serving_under (rules.ups v) v i r)).choice)

@@ -6,7 +6,7 @@ use Rattle.cluster_core.specs.declared.counts.Totals.{Totals}
 use Rattle.cluster_core.specs.Tally.{number, is_arrival, is_forward, is_refused, lost_all, how_many, drop_counts}
 use Rattle.cluster_core.specs.Totals.{came_all, went_all}
 
--- drops are told apart by their causes
+-- drops are distinguished by their causes
 abbrev pub kind : Outcome → ℕ
 kind Installed = 0
 kind (Placed w f) = 14

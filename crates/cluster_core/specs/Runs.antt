@@ -1,4 +1,4 @@
--- What a list of events comes to: each outcome is read off the record of all events before it.
+-- What a list of events results in: each outcome is read off the record of all events before it.
 use Rattle.std.specs.Prelude.{◌≡◌, ℕ, ◌+◌, Bool, true, false, List, [], ◌∷◌, length, Option, Some, None, if◌then◌else◌, nat_lt, slice_get, is_some}
 use Rattle.forwarder.specs.Serving.{Pick}
 use Rattle.cluster_node.specs.NodeView.{NodeView}
@@ -20,7 +20,7 @@ use Rattle.pool_versions.specs.Pool.{Pools, version_at}
 use Rattle.pool_versions.specs.declared.service.Version.{Version}
 use Rattle.selection.specs.Readied.{Readied, readied_version}
 
--- what an event comes to after all before it
+-- the outcome of an event after all before it
 abbrev pub verdict : Rules → List Said → Event → Option Packet → Outcome
 verdict rules past e x = if nat_lt (node_of e) rules.nodes then node_verdict rules (of_node (node_of e) past) e x else Refused NoNode
 
@@ -38,7 +38,7 @@ packet_of packets (Restart n) = None
 abbrev pub say : Rules → List Said → Event → Option Packet → Said
 say rules past e x = record { event = e; packet = x; outcome = verdict rules past e x }
 
--- what the events come to, after a record
+-- the outcomes of the events, after a record
 abbrev pub verdicts : Rules → List Said → List Packet → List Event → List Outcome
 verdicts rules past packets [] = []
 verdicts rules past packets (e ∷ es) = verdict rules past e (packet_of packets e) ∷ verdicts rules (say rules past e (packet_of packets e) ∷ past) packets es
@@ -52,7 +52,7 @@ waiting_in (m ∷ ms) = waits m.workers + waiting_in ms
 abbrev pub AreGood : {S : Type 0} → (S → ℕ → Pick) → Rules → List (Readied S) → Type 0
 AreGood pick_of rules versions = (v : ℕ) → is_some (prepared_at v versions) ≡ true → IsPrepared pick_of rules versions v
 
--- a run stands for a record
+-- a run represents a record
 pub record RunStands {S : Type 0} (pick_of : S → ℕ → Pick) (rules : Rules) (past : List Said) (run : RunView S) : Type 0 where
   pub working : run.failed ≡ false
   pub count : length run.nodes ≡ rules.nodes
@@ -63,12 +63,12 @@ pub record RunStands {S : Type 0} (pick_of : S → ℕ → Pick) (rules : Rules)
   pub balance : waiting_in run.nodes + went_of past ≡ came_of past
   pub each : (n : ℕ) (m : NodeView) → slice_get run.nodes n ≡ Some m → NodeStands rules (of_node n past) m
 
--- an outcome is what the record says, and the run stands for the record with it
+-- an outcome is what the record says, and the run represents the record with it
 abbrev pub RunGoes : {S : Type 0} → (S → ℕ → Pick) → Rules → List Said → Event → Option Packet → Outcome → RunView S → Type 0
 RunGoes pick_of rules past e x o run = (o ≡ verdict rules past e x) × RunStands pick_of rules (say rules past e x ∷ past) run
 
--- what came of a packet, and of its serving where it was placed, is what the record says of both, and the run stands for
--- the record with them
+-- What became of a packet, and of its serving where it was placed, is what the record says of both. The run represents the
+-- record with them.
 abbrev pub RunPasses : {S : Type 0} → (S → ℕ → Pick) → Rules → List Said → Event → Packet → (ℕ → Event) → Passed → RunView S → Type 0
 RunPasses pick_of rules past e p serving q run = AreTold (verdict rules) past e p serving q × RunStands pick_of rules (with_told past e p serving q) run
 

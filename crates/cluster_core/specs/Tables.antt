@@ -23,14 +23,15 @@ abbrev pub named_under : (List ℕ → ℕ) → ℕ → Pools → ℕ → Flow �
 named_under plain size pools v x = named_in plain size (candidates_of pools v x) (slot_of_flow plain size x)
 
 -- AGREEMENT. Two packets of one flow that were sent to different backends, by any forwarders, were chosen under versions
--- whose tables name these backends at the flow's slot, and so under versions that differ.
+-- whose tables name these backends at the flow's slot. So those versions differ.
 abbrev pub TablesDiffer : (List ℕ → ℕ) → ℕ → Pools → List Outcome → Type 0
 TablesDiffer plain size pools outs = (x : Flow) (b₁ b₂ : Backend) (v₁ v₂ : ℕ) → Sent outs x b₁ v₁ → Sent outs x b₂ v₂ → (b₁ ≡ b₂ → ⊥) →
     (named_under plain size pools v₁ x ≡ Some b₁) × (named_under plain size pools v₂ x ≡ Some b₂) × (v₁ ≡ v₂ → ⊥)
 
--- SLOTS. In the table of each service of each version in which somebody is up, also of one that an earlier service hides,
--- every slot names an up backend, and the backends' slot counts stand as their weights: for some number of rounds each has from
--- so many up to one more times its weight. Where the weights are equal the counts differ by at most one.
+-- SLOTS. Take the table of each service of each version in which somebody is up, also of one that an earlier service hides.
+-- Every slot names an up backend, and the backends' slot counts are in proportion to their weights. For some number of
+-- rounds each has from so many up to one more times its weight. Where the weights are equal the counts differ by at most
+-- one.
 abbrev pub TablesAreEven : (List ℕ → ℕ) → ℕ → Pools → Type 0
 TablesAreEven plain size pools = (v : Version) (s : Service) → Contains pools.versions v → Contains v.services.items s →
     (ups s.members.items ≡ [] → ⊥) → IsEvenTable (weights s.members.items) (table_of_ups plain size (candidates_in s.members.items))

@@ -65,7 +65,7 @@ fn note_passed<N: Notes>(
 }
 
 impl<S: Scheme, H: FlowHash, T: ConnTable, N: Notes> Balancers<S, H, T, N> {
-    /// Balancers to which nothing has happened, with such notes. They stand for the empty record.
+    /// Balancers to which nothing has happened, with such notes. They represent the empty record.
     pub fn make(alloc: Global, deployment: &Deployment<S, H>, notes: N) -> Result<Self, AllocError>
         ensures run { IfOk result (λ b. RunStands (λ s z. S.pick s z) (rules_of (λ s z. S.pick s z) (λ h. H.plain h) deployment.now) [] b.run) }
         ensures notes { IfOk result (λ b. b.notes ≡ notes) }
@@ -91,7 +91,7 @@ impl<S: Scheme, H: FlowHash, T: ConnTable, N: Notes> Balancers<S, H, T, N> {
         (run, notes)
     }
 
-    /// What left the queues is no more than what was placed, by every record for which the balancers stand, and so by its
+    /// What left the queues is no more than what was placed, by every record that the balancers represent. So it is by their
     /// history, as `Counts::totals` asks. The body does nothing.
     pub fn keep_balance(&self, deployment: &Deployment<S, H>)
         ensures record { (past : List Said) → RunStands (λ s z. S.pick s z) (rules_of (λ s z. S.pick s z) (λ h. H.plain h) deployment.now) past self.now.run → went_of past ≤ came_of past }

@@ -8,7 +8,7 @@ ghost use Rattle.cluster_core.specs.PrivateCounting.{kind, bumped, Leads, Fits, 
 use crate::counts::{Totals, at_serving, number};
 use cluster_node::Outcome;
 
-// How many packets came to a node.
+// How many packets arrived at a node.
 fn arrivals(outcome: &Outcome) -> u64
     ensures { result ≡ (if is_arrival outcome.now then 1 else 0) }
 {
@@ -36,7 +36,7 @@ const RESTARTED: u8 = 16;
 
 const REFUSED: u8 = 17;
 
-// Drops are told apart by the numbers of their causes, 1 to 13.
+// Drops are distinguished by the numbers of their causes, 1 to 13.
 fn kind(outcome: &Outcome) -> u8
     ensures kind { result ≡ kind outcome.now }
     ensures few { result < 18 }

@@ -4,11 +4,11 @@ ghost use Rattle.cluster_core.specs.Tally.{number, at_serving};
 
 use cluster_node::Cause;
 
-/// Totals of a run. The drops with the cause of number k, counted from 1 in the order of `Cause`, stand at place k - 1; at
-/// the last place is how many packets were lost at restarts.
+/// Totals of a run. The drops with the cause of number k, counted from 1 in the order of `Cause`, are at place k - 1. The
+/// last place has how many packets were lost at restarts.
 #[derive(Clone, Copy, Debug, PartialEq, Eq)]
 pub struct Totals {
-    /// Packets that came to a node.
+    /// Packets that arrived at a node.
     pub received: u64,
     /// Packets that were sent to a backend.
     pub forwarded: u64,

@@ -30,9 +30,9 @@ pub enum Verdict {
     },
 }
 
-/// Compares two outcomes of a list that was judged. Each packet that was sent went to the scheme's pick under its origin,
-/// as `replay` promises for a scheme to which the turn doesn't matter; for such a scheme a split is of two versions that
-/// pick different backends for the flow (`why`). No memory is taken.
+/// Compares two outcomes of a list that was judged. Each packet that was sent went to the scheme's pick under its origin, as
+/// `replay` promises for a scheme to which the turn doesn't matter. For such a scheme the two versions of a split pick
+/// different backends for the flow (`why`). No memory is taken.
 pub fn explain<S: Scheme, H: FlowHash>(
     setup: &Setup<S, H>,
     catalogue: &Catalogue,

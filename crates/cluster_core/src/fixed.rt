@@ -19,8 +19,9 @@ pub enum SetupFault {
     BadCapacity,
 }
 
-/// What is fixed for a cluster: its hash, scheme and table size, the IPv4 addresses of its nodes, how many workers a node
-/// has, how many entries a worker's connection table keeps, and how long an entry stands after its last touch.
+/// What is fixed for a cluster: its hash, its scheme, its table size, and the IPv4 addresses of its nodes. Also fixed: how
+/// many workers a node has, how many entries a worker's connection table keeps, and how long an entry stands after its last
+/// touch.
 #[derive(Drop)]
 pub struct Setup<S: Scheme, H: FlowHash> {
     hash: H,

@@ -20,12 +20,12 @@ use pool_versions::Catalogue;
 use selection::Maglev;
 use std::alloc::{AllocError, Global};
 
-/// What a list of events comes to in a cluster whose scheme is Maglev, made with the cluster's hash.
+/// What a list of events results in, in a cluster whose scheme is Maglev, made with the cluster's hash.
 ///
-/// Over every list of deliveries, losses, repeats, installed versions, evictions and restarts: two packets of one flow
-/// that were sent to different backends were chosen under versions whose tables differ at that flow's slot
-/// (`agreement`); a worker keeps a flow's backend while its entry stands and the backend is up (`keeping`); every slot
-/// names an up backend, and backends' slot counts stand as their weights, of equal weights differ by at most one
+/// These hold over every list of deliveries, losses, repeats, installed versions, evictions and restarts. Two packets of one
+/// flow that were sent to different backends were chosen under versions whose tables differ at that flow's slot
+/// (`agreement`). A worker keeps a flow's backend while its entry stands and the backend is up (`keeping`). Every slot names
+/// an up backend, and backends' slot counts are in proportion to their weights; of equal weights they differ by at most one
 /// (`slots`). See `replay`.
 pub fn replay_maglev<H: FlowHash, T: ConnTable>(
     alloc: Global,

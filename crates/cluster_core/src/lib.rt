@@ -1,10 +1,12 @@
 //! A cluster of load balancers as a state machine over events, and what it promises over every list of events.
 //!
-//! The core has no clock and no network. A list of events installs versions, delivers packets to nodes, lets workers
-//! serve what waits, and restarts nodes; each event comes to one outcome, which is read off the record of all events
-//! before it. `replay` judges a whole list, `Run` one event after another. The promises, for every list: two packets of
-//! one flow that were sent to different backends were chosen under versions that differ for that flow; and a forwarder
-//! keeps a flow's backend while the flow's entry stands and the backend is up (Maglev, NSDI 2016, section 3.4).
+//! The core has no clock and no network. A list of events installs versions, delivers packets to nodes, lets workers serve
+//! what waits, and restarts nodes. Each event has one outcome, which is read off the record of all events before it.
+//! `replay` judges a whole list, `Run` one event after another.
+//!
+//! There are two promises for every list. Two packets of one flow that were sent to different backends were chosen under
+//! versions that differ for that flow. A forwarder keeps a flow's backend while the flow's entry stands and the backend is
+//! up (Maglev, NSDI 2016, section 3.4).
 //!
 //! `Core` is what the steps of a scenario ask of a core, and `Balancers` is a run as one, under `Rules`: a setup beside a
 //! catalogue of the same table size. Of its events it keeps what `Notes` are taken of them, for what is asked of the run.

@@ -13,10 +13,10 @@ pub trait Core {
     /// What is fixed for a run.
     type Setup;
 
-    /// What an event comes to after a record of others, how many nodes there are, and how many workers each has.
+    /// The outcome of an event after a record of others, how many nodes there are, and how many workers each has.
     ghost cluster: { Self.Setup → Cluster };
 
-    /// The core stands for the record, which has the newest event in front.
+    /// The core represents the record, which has the newest event in front.
     ghost stands: { Self.Setup → List Said → Self → Type 0 };
 
     /// One event, with the packet that it names where it is an arrival. After a refusal of memory nothing is said of the
@@ -31,9 +31,9 @@ pub trait Core {
         ensures { (past : List Said) → length past < 2 ^ 64 → stands setup.now past self.old →
             IfOk result (λ o. (o ≡ (cluster setup.now).judge past event packet) × stands setup.now (said (cluster setup.now).judge past event packet ∷ past) self.new) };
 
-    /// A packet comes to a node, and where it is placed its worker serves at once under the node's newest version: two steps,
-    /// one after the other. What the packet comes to is written into `passed`, which is the caller's room, so that it is
-    /// written once and not copied on the way out. After a refusal of memory nothing is said of the core any more, nor of
+    /// A packet arrives at a node, and where it is placed its worker serves at once under the node's newest version. That is
+    /// two steps, one after the other. What became of the packet is written into `passed`, which is the caller's room: so it
+    /// is written once and not copied on the way out. After a refusal of memory nothing is said of the core any more, nor of
     /// `passed`.
     fn pass(
         &mut self,

@@ -15,7 +15,7 @@ pub trait Notes: Drop {
     /// The notes are those of the record, which has the newest event in front.
     ghost are_of: { Self.Asked → List Said → Self → Type 0 };
 
-    /// One event more, with what it came to.
+    /// One event more, with its outcome.
     fn note(
         &mut self,
         asked: &Self::Asked,

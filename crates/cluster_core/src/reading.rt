@@ -56,9 +56,9 @@ fn of_datagram(bytes: &[u8], at: u64, check: bool) -> Packet
     }
 }
 
-/// A frame of a link, which came at a time in microseconds, as a packet: the flow and the total length of its datagram and that
-/// time, or the first cause for which it can't be balanced (RFC 791, 793, 768). A datagram of more than 65511 bytes is too large to be wrapped. With `check` the
-/// header's checksum is tested. No memory is taken.
+/// A frame of a link, which came at a time in microseconds, as a packet: the flow and the total length of its datagram and
+/// that time. Or the first cause for which it can't be balanced (RFC 791, 793, 768). A datagram of more than 65511 bytes is
+/// too large to be wrapped. With `check` the header's checksum is tested. No memory is taken.
 #[tactic(auto, unfolding(crate::specs::Reading::packet_read), using(crate::proofs::Frames::was_read))]
 #[inline(always)]
 pub fn read_packet(link: Link, frame: &[u8], at: u64, check: bool) -> Packet

@@ -34,14 +34,16 @@ fn count_of(events: &[Event]) -> usize
     events.len()
 }
 
-/// What a list of events comes to: one outcome for each event. Each packet that is Bad has a cause that reading gives.
+/// What a list of events results in: one outcome for each event. Each packet that is Bad has a cause that reading gives.
 ///
 /// The outcomes are read off the events alone (`verdicts`). For a scheme to which the turn doesn't matter, two packets of
-/// one flow that were sent to different backends, by any workers of any nodes in any lives, were chosen under versions
-/// that pick these backends, and so under versions that differ for the flow (`agreement`). A worker keeps a flow's backend
+/// one flow that were sent to different backends were chosen under versions that pick these backends. So those versions
+/// differ for the flow. This holds for any workers of any nodes in any lives (`agreement`). A worker keeps a flow's backend
 /// while the flow's entry stands and the backend is up (`keeping`). What left the queues is no more than what was placed
-/// (`balance`). Whatever the scheme is, every slot of the table that Maglev makes of a service of the catalogue names an up
-/// backend, and backends' slot counts stand as their weights, of equal weights differ by at most one (`slots`).
+/// (`balance`).
+///
+/// Whatever the scheme is, every slot of the table that Maglev makes of a service of the catalogue names an up backend.
+/// Backends' slot counts are in proportion to their weights; of equal weights they differ by at most one (`slots`).
 pub fn replay<S: Scheme, H: FlowHash, T: ConnTable>(
     alloc: Global,
     setup: &Setup<S, H>,

@@ -68,12 +68,12 @@ fn prepare_next<S: Scheme>(
     };
     match prepared {
         Ok(prepared) => Ok(prepared),
-        // A version of a catalogue has no more backends than slots, so this is want of memory.
+        // A version of a catalogue has no more backends than slots, so memory was refused here.
         Err(_) => Err(AllocError),
     }
 }
 
-// Prepares a version unless that was done before. The newest stands in front.
+// Prepares a version unless that was done before. The newest is in front.
 fn prepare<S: Scheme>(
     alloc: Global,
     versions: &mut PreparedVersions<S>,
@@ -90,8 +90,8 @@ fn prepare<S: Scheme>(
     versions.put(prepared)
 }
 
-/// Prepares a version of the catalogue that is above a node's newest, unless that was done before: it stands in front of the
-/// others then. A version that isn't above it is refused there, and so isn't prepared.
+/// Prepares a version of the catalogue that is above a node's newest, unless that was done before: then it goes in front of
+/// the others. A version that isn't above it is refused there, and so isn't prepared.
 pub fn prepare_newer<S: Scheme>(
     alloc: Global,
     versions: &mut PreparedVersions<S>,
@@ -134,7 +134,7 @@ fn prepare_for<S: Scheme>(
 }
 
 impl<S: Scheme, T: ConnTable> Run<S, T> {
-    /// A cluster in which nothing has happened. It stands for the empty record.
+    /// A cluster in which nothing has happened. It represents the empty record.
     pub fn make<H: FlowHash>(alloc: Global, setup: &Setup<S, H>) -> Result<Self, AllocError>
         ensures fresh { IfOk result (λ r. r ≡ record { failed = false; nodes = replicate (length setup.now.nodes) (record { newest = 0; installed = []; cursor = 0; workers = replicate setup.now.workers (fresh setup.now.capacity setup.now.idle) }); versions = [] }) }
         ensures stands { (pools : Pools) → IfOk result (λ r. RunStands (λ s z. S.pick s z) (rules_for (λ s z. S.pick s z) (λ h. H.plain h) setup.now pools) [] r) }
@@ -203,8 +203,8 @@ impl<S: Scheme, T: ConnTable> Run<S, T> {
     /// One event, after all before it, with the packet that it names if it is an arrival. The setup and the catalogue are
     /// the same in every step. Once memory was refused it is refused from then on.
     ///
-    /// By the clause `verdict`, for every record shorter than 2^64 for which the run stands, the outcome is the one that
-    /// the record gives, and the run stands for the record with this event.
+    /// By the clause `verdict` the outcome is the one that the record gives, for every record shorter than 2^64 that the run
+    /// represents. The run then represents the record with this event.
     pub fn step<H: FlowHash>(
         &mut self,
         setup: &Setup<S, H>,
@@ -263,12 +263,12 @@ impl<S: Scheme, T: ConnTable> Run<S, T> {
         one.step(&setup.hash(), &self.versions, known, *event, packet)
     }
 
-    /// A packet comes to a node, and where it is placed its worker serves at once under the node's newest version. The setup
-    /// is the same in every step. What the packet comes to is written into `passed`, the caller's room. Once memory was
-    /// refused it is refused from then on, and nothing is said of `passed`.
+    /// A packet arrives at a node, and where it is placed its worker serves at once under the node's newest version. The
+    /// setup is the same in every step. What became of the packet is written into `passed`, the caller's room. Once memory
+    /// was refused it is refused from then on, and nothing is said of `passed`.
     ///
-    /// By the clause `verdict`, for every record for which the run stands, what is told is what the record gives of the
-    /// arrival and of the serving behind it, and the run stands for the record with them: it is what two calls of
+    /// By the clause `verdict`, for every record that the run represents, what is reported is what the record gives of the
+    /// arrival and of the serving after it. The run then represents the record with both: it is what two calls of
     /// [`step`](Self::step) do.
     #[inline(always)]
     pub fn pass<H: FlowHash>(
@@ -297,7 +297,7 @@ impl<S: Scheme, T: ConnTable> Run<S, T> {
         done
     }
 
-    // A packet comes to a node.
+    // A packet arrives at a node.
     #[inline(always)]
     fn advance_by<H: FlowHash>(
         &mut self,

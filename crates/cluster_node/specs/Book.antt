@@ -50,7 +50,7 @@ greatest_used [] = 0
 greatest_used (put i ∷ ls) = greatest_used ls
 greatest_used (took v r ∷ ls) = max v (greatest_used ls)
 
--- what is told of a serving of this packet
+-- what is reported of a serving of this packet
 abbrev pub told_next : Rules → List Line → Item → ℕ → Bool → Told
 told_next rules ls i v r = told_after rules.pick rules.capacity rules.idle (told rules.pick rules.capacity rules.idle (servings rules ls)) (serving_under (rules.ups v) v i r)
 
@@ -78,7 +78,7 @@ worker_of rules ls = record {
   forwarding = forwarding_of rules.pick rules.capacity rules.idle (servings rules ls);
 }
 
--- a worker stands for its lines
+-- a worker represents its lines
 pub record Stands (rules : Rules) (ls : List Line) (w : WorkerView) : Type 0 where
   pub sound : taken_count ls ≤ length (placed ls)
   pub is : w ≡ worker_of rules ls

@@ -1,4 +1,4 @@
--- What each event comes to, read off the record of all events of its node before it. A record has the newest in front.
+-- The outcome of each event, read off the record of all events of its node before it. A record has the newest in front.
 use Rattle.std.specs.Prelude.{◌≡◌, ℕ, ◌+◌, ◌-◌, ◌%◌, ◌<◌, ◌==◌, Bool, true, false, List, [], ◌∷◌, length, Option, Some, None, if◌then◌else◌, nat_lt, slice_get, find}
 use Rattle.std.specs.List.{list_any}
 use Rattle.five_tuple.specs.declared.Flow.{Flow}
@@ -137,12 +137,12 @@ of_taken n w takings.Idle = Refused Idle
 of_taken n w takings.Behind = Refused VersionRange
 of_taken n w (takings.Done i c) = of_choice n w i c
 
--- what an installation comes to
+-- the outcome of an installation
 abbrev pub install_verdict : Bool → ℕ → ℕ → Outcome
 install_verdict known newest v =
     if known then (if nat_lt newest v then Installed else Refused NotNewer) else Refused UnknownVersion
 
--- what an arrival comes to
+-- the outcome of an arrival
 abbrev pub steered : ℕ → ℕ → Placing → Outcome
 steered newest k placings.RingsFull = Dropped k RingsFull
 steered newest k (placings.Worker w) = Placed w newest
@@ -154,7 +154,7 @@ arrive_verdict rules newest cursor k marks (Some (Good x l t)) =
     if newest == 0 then Dropped k NoVersion
     else steered newest k (place_for marks rules.workers (home_of rules.plain rules.workers x) cursor)
 
--- what a serving comes to by the versions installed on the node and the worker's own lines, and nothing else
+-- the outcome of a serving by the versions installed on the node and the worker's own lines, and nothing else
 abbrev pub by_queue : Rules → List ℕ → List Line → Option Item → ℕ → ℕ → ℕ → Bool → Outcome
 by_queue rules installed ls None n w v r = Refused Idle
 by_queue rules installed ls (Some i) n w v r =
@@ -167,7 +167,7 @@ by_lines rules installed ls n w v r =
 abbrev pub serve_verdict : Rules → List Said → ℕ → ℕ → ℕ → Bool → Outcome
 serve_verdict rules past n w v r = by_lines rules (installed_of past) (lines_of w past) n w v r
 
--- what an event comes to after all that was said of its node before
+-- the outcome of an event after all that was said of its node before
 abbrev pub node_verdict : Rules → List Said → Event → Option Packet → Outcome
 node_verdict rules past (Install n v) x = install_verdict (rules.known v) (newest_of past) v
 node_verdict rules past (Arrive n k marks) x = arrive_verdict rules (newest_of past) (refusals_of rules past % rules.workers) k marks x
@@ -207,7 +207,7 @@ IsKnown rules (Arrive n k marks) b = Unit {0}
 IsKnown rules (Serve n w v r) b = Unit {0}
 IsKnown rules (Restart n) b = Unit {0}
 
--- a node stands for its record
+-- a node represents its record
 pub record NodeStands (rules : Rules) (past : List Said) (n : NodeView) : Type 0 where
   pub some : 0 < rules.workers
   pub newest : n.newest ≡ newest_of past
@@ -220,7 +220,7 @@ pub record NodeStands (rules : Rules) (past : List Said) (n : NodeView) : Type 0
 abbrev pub node_say : Rules → List Said → Event → Option Packet → Said
 node_say rules past e x = record { event = e; packet = x; outcome = node_verdict rules past e x }
 
--- an outcome is what the record says, and the node stands for the record with it
+-- an outcome is what the record says, and the node represents the record with it
 abbrev pub NodeGoes : Rules → List Said → Event → Option Packet → Outcome → NodeView → Type 0
 NodeGoes rules past e x o n = (o ≡ node_verdict rules past e x) × NodeStands rules (node_say rules past e x ∷ past) n
 

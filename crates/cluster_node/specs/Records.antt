@@ -32,7 +32,7 @@ of_node n (s ∷ past) = if node_of s.event == n then s ∷ of_node n past else 
 abbrev pub lines_at : List Said → ℕ → ℕ → List Line
 lines_at past n w = lines_of w (of_node n past)
 
--- what an event comes to after the record of all before it
+-- the outcome of an event after the record of all before it
 abbrev pub Judge : Type 0
 Judge = List Said → Event → Option Packet → Outcome
 
@@ -61,18 +61,19 @@ with_arrival judge past e p = said judge past e (Some p) ∷ past
 abbrev pub with_serving : Judge → List Said → Event → Packet → Event → List Said
 with_serving judge past e p serving = said judge (with_arrival judge past e p) serving None ∷ with_arrival judge past e p
 
--- A packet arrived, and where it was placed its worker served at once. What is told of both is the judge's, one after the
--- other: serving at once is placing and then serving.
+-- A packet arrived, and where it was placed its worker served at once. What is reported of both is the judge's, one after
+-- the other: serving at once is placing and then serving.
 abbrev pub AreTold : Judge → List Said → Event → Packet → (ℕ → Event) → Passed → Type 0
 AreTold judge past e p serving (Unplaced o) = (placed_on o ≡ None) × (o ≡ judge past e (Some p))
 AreTold judge past e p serving (Through w floor o) = (Placed w floor ≡ judge past e (Some p)) × (o ≡ judge (with_arrival judge past e p) (serving w) None)
 
--- the record with what is told
+-- the record with what is reported
 abbrev pub with_told : List Said → Event → Packet → (ℕ → Event) → Passed → List Said
 with_told past e p serving (Unplaced o) = record { event = e; packet = Some p; outcome = o } ∷ past
 with_told past e p serving (Through w floor o) = record { event = serving w; packet = None; outcome = o } ∷ record { event = e; packet = Some p; outcome = Placed w floor } ∷ past
 
--- the node stands for the record with what the judge says, and where the packet was placed another one stood for the record between
+-- the node represents the record with what the judge says, and where the packet was placed another one represented the
+-- record between
 abbrev pub StandsThrough : Rules → List Said → Event → Packet → (ℕ → Event) → Passed → NodeView → Type 0
 StandsThrough rules past e p serving (Unplaced o) m = NodeStands rules (with_arrival (node_verdict rules) past e p) m
 StandsThrough rules past e p serving (Through w floor o) m = (between : NodeView) × NodeStands rules (with_arrival (node_verdict rules) past e p) between × NodeStands rules (with_serving (node_verdict rules) past e p (serving w)) m

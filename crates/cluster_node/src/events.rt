@@ -11,7 +11,7 @@ pub enum Event {
         node: u16,
         version: u32,
     },
-    /// A packet comes to a node. The marks say which workers refuse it.
+    /// A packet arrives at a node. The marks say which workers refuse it.
     Arrive {
         node: u16,
         packet: u32,
@@ -30,7 +30,7 @@ pub enum Event {
     },
 }
 
-/// An event, the packet that it names where it is an arrival, and what it came to.
+/// An event, the packet that it names where it is an arrival, and its outcome.
 #[derive(Clone, Copy, PartialEq, Eq)]
 pub struct Said {
     pub event: Event,

@@ -1,7 +1,7 @@
-//! One node of a cluster of balancers: events, what each one comes to, and the node's own state.
+//! One node of a cluster of balancers: events, the outcome of each, and the node's own state.
 //!
-//! An event is one atomic step of a node or worker: a version is installed, a packet arrives, a worker serves the next
-//! packet of its queue, the node restarts. What an event comes to is read off the record of all events before it.
+//! An event is one atomic step of a node or worker. A version is installed, a packet arrives, a worker serves the next
+//! packet of its queue, or the node restarts. The outcome of an event is read off the record of all events before it.
 #![tactic(auto)]
 
 mod events;

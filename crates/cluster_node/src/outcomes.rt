@@ -1,4 +1,4 @@
-//! What an event comes to.
+//! The outcomes of events.
 use five_tuple::Flow;
 use pool_versions::Backend;
 
@@ -45,13 +45,13 @@ pub enum Reason {
     VersionRange,
 }
 
-/// What came of a packet that came to a node and was served at once where it was placed.
+/// What became of a packet that arrived at a node and was served at once where it was placed.
 #[derive(Clone, Copy, PartialEq, Eq)]
 pub enum Passed {
-    /// It wasn't placed: what its arrival came to.
+    /// It wasn't placed: the outcome of its arrival.
     Unplaced(Outcome),
-    /// It went through: it was placed on a worker, to be served under a version that is not below the floor, and the
-    /// serving came to this outcome.
+    /// It went through: it was placed on a worker, to be served under a version that is not below the floor. The serving had
+    /// this outcome.
     Through {
         worker: u16,
         floor: u32,
@@ -59,7 +59,7 @@ pub enum Passed {
     },
 }
 
-/// What an event comes to.
+/// The outcome of an event.
 #[derive(Clone, Copy, PartialEq, Eq)]
 pub enum Outcome {
     /// The version is the node's newest.

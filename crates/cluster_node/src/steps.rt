@@ -107,8 +107,8 @@ fn serve_one<S: Scheme, T: ConnTable>(
     Ok(outcome_of(node, worker, taken))
 }
 
-// A packet comes to a worker, which serves the one that waits first then. Where none waits that is this packet, which need
-// not be put into the queue. After a refusal nothing is said of the room.
+// A packet is placed on a worker, which then serves the packet that waits first. Where none waits that is this packet, which
+// need not be put into the queue. After a refusal nothing is said of the room.
 #[inline(always)]
 fn pass_one<S: Scheme, T: ConnTable>(
     one: &mut Worker<S, T>,
@@ -174,7 +174,7 @@ fn clear_all<S: Scheme, T: ConnTable>(workers: &mut Vec<Worker<S, T>>) -> u64
 
 impl<S: Scheme, T: ConnTable> Node<S, T> {
     /// A node of 1 to 16 workers on which nothing has happened. Each worker has a connection table of so many entries, whose
-    /// hash begins with the key; where a limit is set, an entry stands for so many microseconds after its last touch.
+    /// hash begins with the key. Where a limit is set, an entry stands for so many microseconds after its last touch.
     pub fn make(
         alloc: Global,
         scheme: S,
@@ -333,12 +333,12 @@ impl<S: Scheme, T: ConnTable> Node<S, T> {
         clear_all(&mut self.workers)
     }
 
-    /// One event of this node, after all that was said of it before. `known` tells whether the catalogue has the version
-    /// that an installation names; all versions that were installed are among the prepared ones.
+    /// One event of this node, after all that happened to it before. `known` says whether the catalogue has the version that
+    /// an installation names; all versions that were installed are among the prepared ones.
     ///
     /// By the clause `verdict` the outcome is the one that the record of all events before it gives, for every record
-    /// shorter than 2^64 for which the node stands, and the node stands for the record with this event. Where memory was
-    /// refused the versions installed are as they were (`kept`); nothing is said of the queues, and a run ends there.
+    /// shorter than 2^64 that the node represents. The node then represents the record with this event. Where memory was
+    /// refused the versions installed are as they were (`kept`). Nothing is said of the queues, and a run ends there.
     pub fn step<H: FlowHash>(
         &mut self,
         hash: &H,
@@ -445,15 +445,15 @@ impl<S: Scheme, T: ConnTable> Node<S, T> {
         }
     }
 
-    /// A packet comes to this node, whose place is told, and where it is placed its worker serves at once under the node's
-    /// newest version: two events, of which the queue sees nothing where no other packet waits. All versions that were
-    /// installed are among the prepared ones. What the packet comes to is written into `passed`, which is the caller's room,
-    /// so that it is written once and not copied on the way out.
+    /// A packet arrives at this node, whose place is given, and where it is placed its worker serves at once under the
+    /// node's newest version. These are two events, of which the queue sees nothing where no other packet waits. All
+    /// versions that were installed are among the prepared ones. What became of the packet is written into `passed`, which
+    /// is the caller's room: so it is written once and not copied on the way out.
     ///
-    /// By the clause `verdict` what is told is what the record gives of both, one after the other, and the node stands for
-    /// the record with them, for every record for which it stands: serving at once is placing and then serving. Where memory
-    /// was refused the versions installed are as they were (`kept`); nothing is said of the queues, nor of `passed`, and a
-    /// run ends there.
+    /// By the clause `verdict` what is reported is what the record gives of both events, one after the other. This holds for
+    /// every record that the node represents, and the node then represents the record with both. So serving at once is
+    /// placing and then serving. Where memory was refused the versions installed are as they were (`kept`). Nothing is said
+    /// of the queues, nor of `passed`, and a run ends there.
     #[inline(always)]
     pub fn pass<H: FlowHash>(
         &mut self,

@@ -23,7 +23,7 @@ pub record WholeWasRead (input input' : Tape) : Type 0 where
   pub ending : InputEnd
   pub read : IsReadWhole input input' head records ending
 
--- behind a header that was accepted, the input's records were refused
+-- after a header that was accepted, the input's records were refused
 pub record RecordsFail (fault : SimulationFault) (input input' : Tape) : Type 0 where
   pub head : Head
   pub text : Tape

@@ -15,8 +15,8 @@ use Rattle.scenario.specs.declared.words.SchemeKind.TheVariants.{Maglev}
 use Rattle.scenario_play.specs.Described.{rules_in}
 use Rattle.cluster_play.specs.Runs.{packets_in, record_of}
 
--- its history keeps the promises, and for Maglev in terms of the tables' slots; and so do its splits: where the turn doesn't
--- matter to the scheme the two versions of each pick its two backends, for Maglev at the flow's slot
+-- Its history keeps the promises, and for Maglev in terms of the tables' slots. So do its splits. Where the turn doesn't
+-- matter to the scheme the two versions of each pick its two backends, for Maglev at the flow's slot.
 pub record KeepsPromises (s : Scenario) (link : Link) (records : List Record) (history : History) : Type 0 where
   pub agreement : IsSteady (rules_in s) → Agreement (rules_in s) history.outcomes.items
   pub keeping : Keeping (rules_in s) [] (packets_in s link records) history.events.items history.outcomes.items

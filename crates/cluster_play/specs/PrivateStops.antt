@@ -3,7 +3,7 @@ use Rattle.simulation.specs.declared.fault.SimulationFault.TheVariants.{Capture,
 use Rattle.cluster_play.specs.declared.stop.RunStop.{RunStop}
 use Rattle.cluster_play.specs.declared.stop.RunStop.TheVariants.{UnknownStep, Simulation, Threads}
 
--- a fault of the threads, or want of memory
+-- a fault of the threads, or a refusal of memory
 abbrev pub IsOfThreads : RunStop → Type 0
 IsOfThreads (UnknownStep place) = ⊥
 IsOfThreads (Threads fault) = Unit {0}

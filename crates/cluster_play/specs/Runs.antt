@@ -35,7 +35,7 @@ use Rattle.cluster_play.specs.Sends.{sent_by_nodes}
 abbrev pub packets_in : Scenario → Link → List Record → List Packet
 packets_in s link records = packets_of link s.check records
 
--- what the scenario's steps, with the choices of its spreader, tell each node, and what they come to for the records
+-- what the scenario's steps, with the choices of its spreader, tell each node, and what they mean for the records
 abbrev pub commands_in : Scenario → Link → List Record → List (List Command)
 commands_in s link records = orders_of (choice_in s) (packets_in s link records) s.steps.items (length s.nodes.items)
 
@@ -47,7 +47,7 @@ pub record AreOfRun (s : Scenario) (link : Link) (records : List Record) (nodes 
   pub runs : AreRuns (rules_in s) (packets_in s link records) s.ring 0 (commands_in s link records) nodes
   pub joins : JoinsRuns (rules_in s) (packets_in s link records) nodes history
 
--- whether the history's events come to what they came to
+-- whether a replay of the history's events gives the outcomes that it has
 abbrev pub audit_line : Bool → List ℕ
 audit_line true = codes "audit agrees\n"
 audit_line false = codes "audit differs\n"
@@ -56,7 +56,7 @@ audit_line false = codes "audit differs\n"
 abbrev pub record_of : History → List Said
 record_of h = reverse (said_of h.events.items h.outcomes.items)
 
--- what is told of the splits of a history, where it is asked for
+-- what is reported of the splits of a history, where it is asked for
 abbrev pub splits_if : Bool → Scenario → History → List ℕ
 splits_if true s h = splits_text (lookups_in s) (record_of h)
 splits_if false s h = []
@@ -64,8 +64,9 @@ splits_if false s h = []
 abbrev pub run_report : Tally → Totals → Bool → Bool → List ℕ
 run_report tally totals cut agrees = report_text tally totals cut ++ audit_line agrees
 
--- a cluster on threads knows each step; it ran over the whole input, the output got the capture of what the nodes sent, node by node and life
--- by life, and the text is the report of that run, behind what is told of its splits where it is asked for
+-- A cluster on threads knows each step, and it ran over the whole input. The output got the capture of what the nodes sent,
+-- node by node and life by life. The text is the report of that run, after what is reported of its splits where it is asked
+-- for.
 pub record Ran (s : Scenario) (splits : Bool) (input input' output output' : Tape) (text : List ℕ) : Type 0 where
   pub known : first_unknown_of s.steps.items ≡ None
   pub head : Head
@@ -79,7 +80,7 @@ pub record Ran (s : Scenario) (splits : Bool) (input input' output output' : Tap
   pub unfailed : Unfailed output output'
   pub report : text ≡ splits_if splits s history ++ run_report (tally_in s head.link records) (totals_in history.outcomes.items) (is_cut ending) true
 
--- the same up to the output, which got a beginning of that capture; it is cut between records, unless writing failed
+-- the same up to the output, which got a prefix of that capture; it is cut between records, unless writing failed
 pub record BreaksOff (fault : SimulationFault) (s : Scenario) (input input' output output' : Tape) : Type 0 where
   pub head : Head
   pub records : List Record
@@ -91,8 +92,8 @@ pub record BreaksOff (fault : SimulationFault) (s : Scenario) (input input' outp
   pub not_reading : IsOfRun fault
   pub wrote : CaptureUntil fault output output' (sent_by_nodes (traffic_of (plan_in s) head.link records) nodes)
 
--- The run stopped by this fault. No device is called where a step is one that no cluster on threads knows. A fault of reading, a fault of the threads, and want of memory before the output was begun
--- leave the output as it was.
+-- The run stopped by this fault. No device is called where a step is one that no cluster on threads knows. A fault of
+-- reading, a fault of the threads, and a refusal of memory before the output was begun leave the output as it was.
 abbrev pub Halted : Scenario → Tape → Tape → Tape → Tape → RunStop → Type 0
 Halted s input input' output output' (UnknownStep place) = (first_unknown_of s.steps.items ≡ Some place) × (input' ≡ input) × (output' ≡ output)
 Halted s input input' output output' (Threads fault) = WholeWasRead input input' × (output' ≡ output)

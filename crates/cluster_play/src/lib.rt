@@ -1,5 +1,5 @@
-//! Runs a scenario's cluster on threads over a capture that was read whole: what the nodes sent is written as another
-//! capture, node by node, and the run is told by a report that ends in whether its history is what it came to.
+//! Runs a scenario's cluster on threads over a capture that was read whole. What the nodes sent is written as another
+//! capture, node by node. A report says what became of the run, and ends in whether its history is a replay's.
 #![tactic(auto)]
 
 mod orders;

@@ -13,7 +13,7 @@ use scenario::{Scenario, SpreadKind};
 use spreader::{HashSpread, TurnSpread};
 use std::alloc::{AllocError, Global};
 
-/// What the steps tell each node, with the choices of the spreader that the scenario names, and what becomes of the records.
+/// What the steps tell each node, with the choices of the scenario's spreader, and what becomes of the records.
 pub(crate) fn orders_of(
     alloc: Global,
     scenario: &Scenario,

@@ -23,7 +23,7 @@ fn totals_of(outcomes: &[Outcome]) -> Totals
     totals(outcomes)
 }
 
-/// What is told of the splits of a run's history, where it is asked for. The book of splits hashes by the key.
+/// What is reported of the splits of a run's history, where it is asked for. The book of splits hashes by the key.
 pub(crate) fn splits_told(
     alloc: Global,
     key: TableKey,
@@ -53,7 +53,7 @@ fn audit_line(agrees: bool) -> &'static str
     }
 }
 
-/// The report: the counts, and whether the history is what it came to.
+/// The report: the counts, and whether the history agrees with its replay.
 pub(crate) fn run_report(
     alloc: Global,
     tally: Tally,

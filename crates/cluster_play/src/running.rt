@@ -88,23 +88,25 @@ fn run_over<R: Threads + Wait + Sync>(
     })
 }
 
-/// Runs a scenario's cluster on threads over a capture, and answers the report, which ends in `audit agrees` where a replay
-/// of the run's history comes to what it came to: by the clause `ok` it always does. With `splits` a line for each two
-/// packets that follow one another in a flow, in the history's order, and went to different backends stands before it, and
-/// how many there were; events are numbered as in the history. The capture is read to its end before any thread starts, and
-/// the steps become the nodes' commands. Once all threads are joined, what the nodes sent is written as another capture: node
-/// by node, and of each node life by life. The connection tables and the book of splits hash by the key.
+/// Runs a scenario's cluster on threads over a capture, and answers the report. The report ends in `audit agrees` where a
+/// replay of the run's history gives the outcomes that it has: by the clause `ok` it always does. With `splits` the report
+/// begins with a line for each split, and then how many there were. A split is two packets that follow one another in a
+/// flow, in the history's order, and went to different backends; events are numbered as in the history.
 ///
-/// Before anything is called the steps are looked at: `full`, `hold` and `drain` are none of a cluster on threads. Whatever
-/// goes wrong before the writing leaves the output as it was. Where memory for a datagram in a tunnel is refused the output
-/// is cut between records.
+/// The capture is read to its end before any thread starts, and the steps become the nodes' commands. Once all threads are
+/// joined, what the nodes sent is written as another capture: node by node, and of each node life by life. The connection
+/// tables and the book of splits hash by the key.
 ///
-/// By the clause `kept` the run keeps the promises, whatever the schedule was: for a scheme to which the turn doesn't matter
-/// two packets of one flow that were sent to different backends were chosen under versions that pick these backends, for
-/// Maglev under versions whose tables name them at the flow's slot; a worker keeps a flow's backend while its entry stands
-/// and the backend is up; and every slot of Maglev's tables names an up backend, and backends' slot counts stand as their
-/// weights. The two versions of each split pick its two backends, for such a scheme, and for Maglev name them at the flow's
-/// slot.
+/// Before anything is called the steps are looked at: a cluster on threads has no `full`, `hold` and `drain`. Whatever goes
+/// wrong before the writing leaves the output as it was. Where memory for a datagram in a tunnel is refused the output is
+/// cut between records.
+///
+/// By the clause `kept` the run keeps the promises, whatever the schedule was. For a scheme to which the turn doesn't
+/// matter, two packets of one flow that were sent to different backends were chosen under versions that pick these backends.
+/// Where the scheme is Maglev, their tables name the two backends at the flow's slot. A worker keeps a flow's backend while
+/// its entry stands and the backend is up. Every slot of Maglev's tables names an up backend, and backends' slot counts are
+/// in proportion to their weights. The two versions of each split pick its two backends, for such a scheme, and for Maglev
+/// name them at the flow's slot.
 pub fn run_scenario<R: Threads + Wait + Sync, I: Source, O: Sink>(
     rt: &R,
     alloc: Global,

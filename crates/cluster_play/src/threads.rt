@@ -21,7 +21,7 @@ use std::alloc::Global;
 use std::sync::Wait;
 use std::thread::Threads;
 
-/// A run, and whether its history is what it came to.
+/// A run, and whether its history agrees with its replay.
 #[derive(Drop)]
 pub(crate) struct Audited {
     pub(crate) run: ClusterRun,

@@ -4,7 +4,7 @@
 use clap::{Arg, ArgAction, Command, Error, value_parser};
 use std::alloc::Global;
 
-/// What stands below the help of `simulate`.
+/// The end of the help of `simulate`.
 const SIMULATE_HELP: &str =
     "Example: maglev simulate --list examples/failover.toml examples/failover.pcap sent.pcap
 
@@ -37,7 +37,7 @@ Faults, and what to do:
   Write                        make room, or open standard output
   Memory                       allow more memory, or take fewer slots, versions and entries";
 
-/// What stands below the help of `run`.
+/// The end of the help of `run`.
 const RUN_HELP: &str = "Example: maglev run examples/failover.toml examples/failover.pcap sent.pcap
 
 SCENARIO, INPUT and OUTPUT may be -, as for simulate. Steps are those of simulate but for full, hold and drain, which are BadStep, and with stop N, which is BadStep there: N's workers end before their next packet and begin anew, without what waits. With --splits events are numbered, and packets ordered, as in the run's history: node by node, of each life what the node was told and then the servings, worker by worker.
@@ -47,13 +47,13 @@ Faults are those of simulate, and:
   Foreign, RingLost, BookLost
                        tell the authors: what the threads did isn't what was promised";
 
-/// What stands below the help of `explain`.
+/// The end of the help of `explain`.
 const EXPLAIN_HELP: &str =
     "Example: maglev explain examples/failover.toml examples/failover.pcap 13 15
 
 SCENARIO or INPUT may be -, which is standard input. Faults are those of simulate.";
 
-/// What stands below the help of `pick`.
+/// The end of the help of `pick`.
 const PICK_HELP: &str = "The datagram is read from standard input.
 
 Example: echo 4500001c000100004011aece0a000001c000020103e8003500080000 | maglev pick --size 7 --hash sum A B C";

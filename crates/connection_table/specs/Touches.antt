@@ -1,4 +1,4 @@
--- What stands for a flow, read off the list of a forwarder's touches. A list of touches has the newest first.
+-- The entry of a flow that stands, read off the list of a forwarder's touches. A list of touches has the newest first.
 use Rattle.std.specs.Prelude.{ℕ, ◌-◌, Bool, List, [], ◌∷◌, length, Option, Some, None, nat_lt, ◌==◌, ◌&&◌, if◌then◌else◌}
 use Rattle.five_tuple.specs.declared.Flow.{Flow}
 use Rattle.connection_table.specs.declared.table.Entry.{Entry}
@@ -49,7 +49,7 @@ in_time idle clock None = None
 in_time None clock (Some e) = Some e
 in_time (Some limit) clock (Some e) = unless_past limit clock e
 
--- what stands for the flow at a clock: its last touch, while fewer than the capacity of others came after it and, where a
--- limit is set, the clock less the clock at that touch is at most the limit
+-- The entry of a flow that stands at a clock. It is the flow's last touch, while fewer others than the capacity came after
+-- it. Where a limit is set, the clock less the clock at that touch is also at most the limit.
 abbrev pub standing : ℕ → Option ℕ → ℕ → Flow → List Touch → Option Entry
 standing capacity idle clock x ts = in_time idle clock (remembered capacity x ts)

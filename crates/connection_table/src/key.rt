@@ -3,16 +3,16 @@ use std::hash::{BuildHasher, FoldHasher, Hasher};
 use std::io;
 use std::random::RandomSource;
 
-/// What the hash of a table's map begins with. The hash is std's fast one with the key in it: flows that were chosen before the
-/// key was drawn fall into the groups of the map as others do, and don't make each search as long as the table. It is no
-/// cipher, and holds off nobody who learns of the key by timing many searches. No answer of a table depends on it.
+/// What the hash of a table's map begins with. The hash is std's fast one with the key in it. Flows that were chosen before
+/// the key was drawn fall into the groups of the map as others do, and don't make each search as long as the table. It is no
+/// cipher: it doesn't hold off an attacker who learns the key by timing many searches. No answer of a table depends on it.
 #[derive(Clone, Copy)]
 pub struct TableKey {
     seed: FoldHasher,
 }
 
 impl TableKey {
-    /// The key that everybody knows.
+    /// The fixed key.
     pub fn fixed() -> TableKey {
         TableKey {
             seed: FoldHasher::default(),

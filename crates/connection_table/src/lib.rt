@@ -1,8 +1,8 @@
 //! Connection tables: which backend a flow was given, for a bounded number of flows by least recent use.
 //!
-//! A table remembers, for the flows that were used most recently, the backend that each was sent to and the version of
-//! the pools under which that backend was chosen (connection tracking, Maglev, NSDI 2016, section 3.4). `PlainTable`
-//! keeps a vector, `LruTable` a hash map with links; both keep one law, that of `ConnTable`.
+//! A table remembers the flows that were used most recently. For each it has the backend that the flow was sent to, and the
+//! version of the pools under which that backend was chosen (connection tracking, Maglev, NSDI 2016, section 3.4).
+//! `PlainTable` keeps a vector, `LruTable` a hash map with links; both keep one law, that of `ConnTable`.
 #![tactic(auto)]
 
 mod key;

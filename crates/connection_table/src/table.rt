@@ -32,7 +32,7 @@ pub trait ConnTable: Drop + Sized {
         ensures capacity { IfOk result (λ t. capacity t ≡ limit) }
         ensures empty { IfOk result (λ t. entries t ≡ []) };
 
-    /// An empty table by the key that everybody knows.
+    /// An empty table by the fixed key.
     fn make(alloc: Global, limit: u32) -> Result<Self, AllocError>
         requires some { 0 < limit }
         requires limit { limit ≤ 1000000 }
@@ -54,8 +54,8 @@ pub trait ConnTable: Drop + Sized {
         ensures there { IsSome (last_touch flow (entries self.old)) → IsOk result }
         ensures capacity { capacity self.new ≡ capacity self.old };
 
-    /// Touches a flow: its entry as it stood is the answer, and from now on it is in front and was last touched at this clock.
-    /// Where there is none nothing changes.
+    /// Touches a flow, and answers its entry as it was. From now on the entry is in front and was last touched at this
+    /// clock. Where there is none nothing changes.
     fn touch(&mut self, flow: &Flow, clock: u64) -> Option<Entry>
         ensures found { result ≡ last_touch flow.now (entries self.old) }
         ensures touched { entries self.new ≡ retouched clock flow.now (entries self.old) }

@@ -3,7 +3,7 @@ use Rattle.std.specs.Prelude.{ℕ, Bool, List}
 use Rattle.cluster_node.specs.declared.events.Said.{Said}
 
 pub record Course : Type 0 where
-  -- the events, newest first, with what each came to
+  -- the events, newest first, with the outcome of each
   pub past : List Said
   -- how many records were read
   pub read : ℕ

@@ -1,4 +1,4 @@
--- What is told of a packet that was handed to the spreader.
+-- What is reported of a packet that was handed to the spreader.
 use Rattle.std.specs.Prelude.{ℕ, false, List, [], ◌∷◌, Option, Some, None, if◌then◌else◌}
 use Rattle.cluster_node.specs.declared.packets.Packet.{Packet}
 use Rattle.cluster_node.specs.declared.events.Event.TheVariants.{Arrive, Serve}
@@ -11,7 +11,7 @@ use Rattle.course.specs.declared.delivery.Delivery.{Delivery}
 use Rattle.course.specs.Course.{Course}
 use Rattle.course.specs.Steps.{with_passed}
 
--- what the packet's arrival came to
+-- the outcome of the packet's arrival
 abbrev pub came_to : Passed → Outcome
 came_to (Unplaced o) = o
 came_to (Through w floor o) = Placed w floor
@@ -20,7 +20,7 @@ came_to (Through w floor o) = Placed w floor
 abbrev pub arrival_of : Packet → Delivery → Said
 arrival_of p d = record { event = Arrive d.node d.place d.refused; packet = Some p; outcome = came_to d.passed }
 
--- the serving behind it, where it was served at once
+-- the serving after it, where it was served at once
 abbrev pub serving_passed : ℕ → ℕ → Passed → Option Said
 serving_passed n v (Unplaced o) = None
 serving_passed n v (Through w floor o) = Some (record { event = Serve n w v false; packet = None; outcome = o })
@@ -32,10 +32,10 @@ abbrev pub if_there : Option Said → List Said
 if_there None = []
 if_there (Some s) = s ∷ []
 
--- the events that are told, the oldest first: none where no node was live; else its arrival, and the serving behind it
+-- the events that are reported, the oldest first: none where no node was live; else its arrival, and the serving after it
 abbrev pub events_of : Packet → Delivery → List Said
 events_of p d = if d.arrived then arrival_of p d ∷ if_there (serving_of d) else []
 
--- a course with what is told of a packet that arrived
+-- a course with what is reported of a packet that arrived
 abbrev pub with_delivery : Packet → Delivery → Course → Course
 with_delivery p d c = with_passed (Arrive d.node d.place d.refused) p (λ w. Serve d.node w d.version false) d.passed c

@@ -41,15 +41,15 @@ true_or (Some b) = b
 abbrev pub is_held : ℕ → Course → Bool
 is_held n c = true_or (slice_get c.held n)
 
--- an event was said, with what it came to
+-- an event was said, with its outcome
 abbrev pub noted : Said → Course → Course
 noted s c = record c { past = s ∷ c.past }
 
--- an event, with what it comes to
+-- an event, with its outcome
 abbrev pub say : World → Event → Option Packet → Course → Course
 say w e p c = record c { past = said w.cluster.judge c.past e p ∷ c.past }
 
--- what is told of a packet that came, and of its serving where it was placed
+-- what is reported of a packet that arrived, and of its serving where it was placed
 abbrev pub with_passed : Event → Packet → (ℕ → Event) → Passed → Course → Course
 with_passed e p serving q c = record c { past = with_told c.past e p serving q }
 

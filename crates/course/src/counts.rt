@@ -33,7 +33,7 @@ fn add(count: &mut u64, more: u64) -> Result<(), AllocError>
     }
 }
 
-// Where a cause stands among the counts of drops.
+// The place of a cause among the counts of drops.
 fn place_of(cause: Cause) -> usize
     ensures place { result + 1 ≡ number cause }
     ensures few { result ≤ 12 }

@@ -1,4 +1,4 @@
-//! What is told of a packet that was handed to the spreader.
+//! What is reported of a packet that was handed to the spreader.
 ghost use Rattle.std.specs.Prelude.{◌≡◌, ◌++◌, ◌∷◌, [], true, OnOk};
 ghost use Rattle.cluster_node.specs.declared.packets.Packet.{Packet};
 ghost use Rattle.course.specs.Deliveries.{arrival_of, serving_of, events_of};
@@ -6,10 +6,10 @@ ghost use Rattle.course.specs.Deliveries.{arrival_of, serving_of, events_of};
 use cluster_node::{Event, Outcome, Packet, Passed, Said};
 use std::alloc::AllocError;
 
-/// What is told of a packet that was handed to the spreader: room that a caller has, and uses again for the next packet.
+/// What is reported of a packet that was handed to the spreader: room that a caller has, and uses again for the next packet.
 #[derive(Clone, Copy)]
 pub struct Delivery {
-    /// It came to a node. Where none was live it didn't, and the other fields tell nothing.
+    /// It arrived at a node. Where none was live it didn't, and the other fields mean nothing.
     pub arrived: bool,
     pub node: u16,
     /// The packet's place among the records.
@@ -18,11 +18,11 @@ pub struct Delivery {
     pub refused: [bool; 16],
     /// The version under which it was served, if it was served at once.
     pub version: u32,
-    /// What its arrival came to, and its serving.
+    /// The outcomes of its arrival and its serving.
     pub passed: Passed,
 }
 
-// Puts an event behind others.
+// Puts an event after others.
 fn push(said: Said, events: &mut Vec<Said>) -> Result<(), AllocError>
     ensures { OnOk result (events.new.items ≡ events.old.items ++ said ∷ []) }
 {
@@ -41,7 +41,7 @@ fn push(said: Said, events: &mut Vec<Said>) -> Result<(), AllocError>
 }
 
 impl Delivery {
-    /// Nothing is told.
+    /// Nothing is reported.
     pub fn new() -> Delivery
         ensures { (p : Packet) → events_of p result ≡ [] }
     {
@@ -55,8 +55,8 @@ impl Delivery {
         }
     }
 
-    /// A packet came to a node where these workers refuse. What came of it stands here already; where it was served at once,
-    /// that was under this version.
+    /// A packet arrived at a node where these workers refuse. What became of it is here already; where it was served at
+    /// once, that was under this version.
     #[inline(always)]
     pub(crate) fn arrive(&mut self, node: u16, place: u32, refused: [bool; 16], version: u32)
         ensures { self.new ≡ record self.old { arrived = true; node = node; place = place; refused = refused; version = version } }
@@ -89,7 +89,7 @@ impl Delivery {
         }
     }
 
-    /// The serving behind the arrival, where the packet was served at once.
+    /// The serving after the arrival, where the packet was served at once.
     #[inline(always)]
     pub fn serving(&self) -> Option<Said>
         ensures { result ≡ serving_of self.now }
@@ -116,7 +116,7 @@ impl Delivery {
         }
     }
 
-    /// Puts the events that are told of the packet behind others.
+    /// Puts the events that are reported of the packet after others.
     pub fn push_onto(&self, packet: &Packet, events: &mut Vec<Said>) -> Result<(), AllocError>
         ensures { OnOk result (events.new.items ≡ events.old.items ++ events_of packet.now self.now) }
     {

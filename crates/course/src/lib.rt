@@ -1,8 +1,8 @@
-//! The course of a scenario: the list of events that its steps and a capture's records define, and what they come to.
+//! The course of a scenario: the list of events that its steps and a capture's records define, with the outcome of each.
 //!
 //! The records of a capture are handed out by the steps: taken, lost, or delivered again. A delivered packet goes to the
-//! node that a spreader chooses among the live ones, and where it is placed there on a worker and the node isn't held,
-//! the worker serves at once.
+//! node that a spreader chooses among the live ones. Where it is placed there on a worker and the node isn't held, the
+//! worker serves at once.
 #![tactic(auto)]
 
 mod counts;

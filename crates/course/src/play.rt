@@ -29,8 +29,8 @@ pub fn all_live(alloc: Global, nodes: u16) -> Result<Vec<u16>, AllocError>
     Ok(live)
 }
 
-/// A run so far: the events that the steps defined, with what each came to, and what the steps fixed, with the spreader, which
-/// has the live nodes. Of the events only their number is kept; the record of them is there for contracts alone.
+/// A run so far: the events that the steps defined, with their outcomes. It also has what the steps fixed, and the spreader,
+/// which has the live nodes. Of the events only their number is kept; the record of them is there for contracts alone.
 #[derive(Drop)]
 pub struct Play<P: Spread> {
     spread: P,
@@ -60,7 +60,7 @@ impl<P: Spread> Model for Play<P> {
 }
 
 impl<P: Spread> Play<P> {
-    /// The node that the spreader chooses for a packet, behind those that were handed to it.
+    /// The node that the spreader chooses for a packet, after those that were handed to it.
     #[inline(always)]
     fn choose(&self, packet: &Packet) -> Option<u16>
         ensures { result ≡ P.choice self.now.spread self.now.course.live (flow_of packet.now) self.now.course.nth }
@@ -141,7 +141,7 @@ impl<P: Spread> Play<P> {
         Ok(())
     }
 
-    /// An event and what it came to, which are put behind those that are told so far.
+    /// An event and its outcome, which are put after those that are reported so far.
     #[inline(always)]
     fn tell(
         &mut self,
@@ -164,7 +164,7 @@ impl<P: Spread> Play<P> {
         Ok(())
     }
 
-    /// An event, which is put behind those that are told so far.
+    /// An event, which is put after those that are reported so far.
     #[inline(always)]
     fn say<C: Core>(
         &mut self,
@@ -214,7 +214,7 @@ impl<P: Spread> Play<P> {
         self.say(core, setup, event, None, events)
     }
 
-    /// What is told of a packet that arrived was said.
+    /// Notes what a delivery reports: the arrival of the packet, and its serving where there was one.
     #[inline(always)]
     fn note_delivery(&mut self, packet: &Packet, delivery: &Delivery) -> Result<(), AllocError>
         ensures spread { self.new.spread ≡ self.old.spread }
@@ -340,7 +340,7 @@ impl<P: Spread> Play<P> {
         }
     }
 
-    /// A packet is handed to the spreader. What is told of it stands in `delivery` then, in place of what was told there of
+    /// A packet is handed to the spreader. What is reported of it is in `delivery` then, in place of what was there of
     /// another one.
     #[tactic(auto, unfolding(crate::specs::Steps::deliver))]
     #[inline(always)]
@@ -366,7 +366,7 @@ impl<P: Spread> Play<P> {
         self.route(core, setup, chosen, place, packet, delivery)
     }
 
-    /// A packet is handed to the spreader, and what is told of it is put behind the events that are told so far.
+    /// A packet is handed to the spreader, and what is reported of it is put after the events that are reported so far.
     fn deliver_onto<C: Core>(
         &mut self,
         core: &mut C,

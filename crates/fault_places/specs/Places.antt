@@ -36,7 +36,7 @@ key_name key.Proto = codes "proto"
 key_name key.Port = codes "port"
 key_name key.Members = codes "members"
 
--- a scenario takes what stands at the key; those of arrays are judged by their items
+-- a scenario takes the value at the key; those of arrays are judged by their items
 abbrev pub holds : Key → Members → Bool
 holds key.Size ms = is_some (option_and_then size_of (number_at 0 65537 (codes "size") ms))
 holds key.Hash ms = is_some (option_and_then hash_of_word (text_at (codes "hash") ms))

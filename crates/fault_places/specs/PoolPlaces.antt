@@ -11,7 +11,7 @@ use Rattle.fault_places.specs.declared.place.Flaw.TheVariants as flaw
 use Rattle.fault_places.specs.declared.place.Place.{Place}
 use Rattle.fault_places.specs.declared.place.Place.TheVariants as place
 
--- the number of the first element that is the same as an earlier one, by a test, the first being n, behind some others
+-- the number of the first element that is the same as an earlier one, by a test, the first being n, after some others
 abbrev pub double_from : {X : Type 0} → (X → X → Bool) → List X → ℕ → List X → Option ℕ
 double_from same earlier n [] = None
 double_from same earlier n (x ∷ xs) = if list_any (λ y. same y x) earlier then Some n else double_from same (x ∷ earlier) (n + 1) xs
@@ -19,7 +19,7 @@ double_from same earlier n (x ∷ xs) = if list_any (λ y. same y x) earlier the
 abbrev pub first_double : {X : Type 0} → (X → X → Bool) → List X → Option ℕ
 first_double same xs = double_from same [] 0 xs
 
--- what tells services apart
+-- what distinguishes services
 abbrev pub key_of : PlainService Member → ServiceKey
 key_of s = record { vip = s.vip; proto = s.proto; port = s.port }
 
@@ -48,7 +48,7 @@ abbrev pub long_from : ℕ → ℕ → ℕ → List (PlainService Member) → Op
 long_from size v m [] = None
 long_from size v m (s ∷ ss) = if is_long size s then Some (place.Service v m (flaw.Item key.Members (most_members size))) else long_from size v (m + 1) ss
 
--- where version v, which so many others stand in front of, passes a limit
+-- where version v, which so many others precede, passes a limit
 abbrev pub over_place : ℕ → ℕ → List (PlainService Member) → Option Place
 over_place size v ss =
     if nat_lt 1023 v then Some (place.Root (flaw.Item key.Versions v)) else
@@ -57,7 +57,7 @@ over_place size v ss =
 abbrev pub services_place : ℕ → ℕ → List (PlainService Member) → Option Place
 services_place size v ss = option_or (double_service v ss) (option_or (double_name_from v 0 ss) (over_place size v ss))
 
--- where version v can't stand behind others
+-- where version v can't follow others
 abbrev pub version_place : ℕ → List (PlainVersion Member) → ℕ → PlainVersion Member → Option Place
 version_place size earlier v x =
     if (x.number == 0) || list_any (λ w. w.number == x.number) earlier then Some (place.Version v (flaw.Value key.Number)) else services_place size v x.services

@@ -9,7 +9,7 @@ use pool_versions::{Member, Service};
 use std::alloc::{AllocError, Global};
 use std::collections::BTreeSet;
 
-/// What tells services apart: address, protocol and port.
+/// What distinguishes services: address, protocol and port.
 #[derive(Clone, Copy, PartialEq, Eq, PartialOrd, Ord)]
 struct ServiceKey {
     vip: u32,
@@ -17,7 +17,7 @@ struct ServiceKey {
     port: u16,
 }
 
-// The place of the first key that stands in front of it too.
+// The place of the first key that has its equal before it.
 fn first_double<K: Ord + Copy>(alloc: Global, keys: &[K]) -> Result<Option<usize>, AllocError>
     ensures { IfOk result (λ o. o ≡ first_double K.eq keys.now) }
 {

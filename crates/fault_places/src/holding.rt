@@ -1,4 +1,4 @@
-//! Whether what stands at a key is one of the values that it may have.
+//! Whether the value of a key is one of those that it may have.
 ghost use Rattle.std.specs.Prelude.{◌≡◌, true, is_some, option_and_then, codes, IfOk};
 ghost use Rattle.toml.specs.View.{table_view};
 ghost use Rattle.hash_laws.specs.Any.{hash_of_word};
@@ -97,7 +97,7 @@ fn has_protocol(table: &Table) -> bool
     }
 }
 
-/// Whether what stands at a key of a number, a word, a flag or an address is one that it may have, or is missing where it may
+/// Whether the value of a key of a number, a word, a flag or an address is one that it may have, or is missing where it may
 /// be. Keys of arrays hold always.
 pub(crate) fn holds(alloc: Global, table: &Table, key: Key) -> Result<bool, AllocError>
     ensures { IfOk result (λ b. b ≡ holds key (table_view table.now)) }

@@ -1,9 +1,9 @@
 //! Where a scenario isn't as it should be: the key, the item or the table at which reading it refuses.
 //!
 //! A document is refused as `BadKey` where [`key_place`] finds a place in it, and only there. The order of places is that in
-//! which a scenario is read: the document's own keys, then the setup, the nodes, the versions with their services, and the
-//! steps. It is then refused as `BadMember` where [`member_place`] finds one, and only there; and then by the catalogue of
-//! versions where [`pool_place`] finds one.
+//! which a scenario is read: the document's own keys, the setup, the nodes, the versions with their services, the steps. It
+//! is then refused as `BadMember` where [`member_place`] finds one, and only there; and then by the catalogue of versions
+//! where [`pool_place`] finds one.
 #![tactic(auto)]
 
 mod doubles;

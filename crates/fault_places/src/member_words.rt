@@ -116,8 +116,8 @@ pub fn member_place(
     }
 }
 
-/// A law: a document of a format whose keys are as they should be either has a word that is no member, and is refused as BadMember, or all
-/// its words are members.
+/// A law about a document of a format whose keys are as they should be. Either it has a word that is no member, and is
+/// refused as BadMember, or all its words are members.
 pub fn one_word_or_all_members()
     ensures { OneWordOrAllMembers }
 {}

@@ -279,8 +279,8 @@ pub fn key_place(alloc: Global, format: Format, table: &Table) -> Result<Option<
     }
 }
 
-/// A law: a document of a format either has a place, and is refused as BadKey, or is a scenario's, whose members and steps may
-/// be none.
+/// A law: a document of a format either has a place, and is refused as BadKey, or is a scenario's. The scenario's members
+/// and steps may still be none.
 pub fn one_place_or_a_draft()
     ensures { OnePlaceOrADraft }
 {}

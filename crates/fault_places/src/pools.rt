@@ -113,7 +113,7 @@ fn is_refused(versions: &[Version], number: u32) -> bool
     number == 0 || has_number(versions, number)
 }
 
-// Where a version can't stand behind the earlier ones.
+// Where a version can't follow the earlier ones.
 fn version_place(
     alloc: Global,
     size: TableSize,
@@ -129,8 +129,8 @@ fn version_place(
     services_place(alloc, size, at, version.services.as_slice())
 }
 
-/// The first place at which versions that are added in order to an empty catalogue of this table size are refused: a number, a
-/// service or a member that an earlier one has, or the first past a limit.
+/// The first place at which versions are refused that are added in order to an empty catalogue of this table size. It is a
+/// number, a service or a member that an earlier one has, or the first past a limit.
 pub fn pool_place(
     alloc: Global,
     size: TableSize,

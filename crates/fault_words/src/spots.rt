@@ -1,4 +1,4 @@
-//! Where in a scenario's text a value stands.
+//! Where in a scenario's text a value is.
 //!
 //! A value is named by its path, as `versions[0].services[1].port`: keys joined by dots, and places in arrays, from 0, in
 //! brackets. Only documents that could be read are looked through.
@@ -56,7 +56,7 @@ fn after_value(alloc: Global, text: &str) -> Option<&str> {
     }
 }
 
-// After a value, what is blank behind it, and a comma.
+// After a value, the blanks after it, and a comma.
 fn after_element(alloc: Global, text: &str) -> Option<&str> {
     let rest = skip_blank(after_value(alloc, text)?, true);
     if first(rest) == b',' {
@@ -66,7 +66,7 @@ fn after_element(alloc: Global, text: &str) -> Option<&str> {
     }
 }
 
-// Whether a path is a value's own or that of what it stands in.
+// Whether a path is a value's own or that of an array or table that holds it.
 fn leads_to(path: &str, wanted: &str) -> bool {
     let (path, wanted) = (path.as_bytes(), wanted.as_bytes());
     wanted.starts_with(path)
@@ -91,7 +91,7 @@ pub fn below(alloc: Global, table: &str, key: &str) -> Option<String> {
     }
 }
 
-// The element of an array that leads to the wanted value, with its path. The text begins behind the bracket.
+// The element of an array that leads to the wanted value, with its path. The text begins after the bracket.
 fn in_array<'a>(
     alloc: Global,
     text: &'a str,
@@ -110,7 +110,7 @@ fn in_array<'a>(
     None
 }
 
-// The member of a table that leads to the wanted value, with its path. The text begins behind the bracket.
+// The member of a table that leads to the wanted value, with its path. The text begins after the bracket.
 fn in_table<'a>(
     alloc: Global,
     text: &'a str,
@@ -177,7 +177,7 @@ impl Headers {
         }
     }
 
-    // The table that the header at the front of a text begins, and what is behind the header.
+    // The table that the header at the front of a text begins, and what is after the header.
     fn read<'a>(&mut self, alloc: Global, text: &'a str) -> Option<(String, &'a str)> {
         let is_array = byte_at(text, 1) == b'[';
         let inner = stepped(text)?;
@@ -189,7 +189,7 @@ impl Headers {
     }
 }
 
-/// Where a value stands.
+/// Where a value is.
 #[derive(Clone, Copy)]
 pub enum Spot<'a> {
     /// The text from the value on.
@@ -199,7 +199,7 @@ pub enum Spot<'a> {
 }
 
 impl<'a> Spot<'a> {
-    /// The number of the line, from 1, of the document on which it stands.
+    /// The number of the line, from 1, of the document on which it is.
     pub fn line(self, document: &str) -> usize {
         let (Spot::Value(end) | Spot::Header(end)) = self;
         line_of(
@@ -208,7 +208,7 @@ impl<'a> Spot<'a> {
         )
     }
 
-    /// The value, as it stands there.
+    /// The value, as it is written there.
     pub fn found(self, alloc: Global) -> Option<&'a str> {
         match self {
             Spot::Value(text) => value_text(alloc, text),
@@ -217,7 +217,7 @@ impl<'a> Spot<'a> {
     }
 }
 
-/// The number of the line, from 1, on which this place of a document stands.
+/// The number of the line, from 1, on which this place of a document is.
 pub fn line_of(document: &[u8], place: usize) -> usize {
     let before = document.iter().take(place);
     before
@@ -226,7 +226,7 @@ pub fn line_of(document: &[u8], place: usize) -> usize {
         .saturating_add(1)
 }
 
-/// Where the value or the table of this path stands. None where the document has none, or memory was refused.
+/// Where the value or the table of this path is. None where the document has none, or memory was refused.
 pub fn spot_of<'a>(alloc: Global, text: &'a str, wanted: &str) -> Option<Spot<'a>> {
     let mut headers = Headers {
         versions: 0,
@@ -256,7 +256,7 @@ pub fn spot_of<'a>(alloc: Global, text: &'a str, wanted: &str) -> Option<Spot<'a
     None
 }
 
-// The value that a text begins with, as it stands there.
+// The value that a text begins with, as it is written there.
 fn value_text(alloc: Global, text: &str) -> Option<&str> {
     match first(text) {
         b'[' => Some("an array"),

@@ -7,7 +7,8 @@ use std::alloc::Global;
 use toml::{Table, Value};
 
 /// One line on a scenario's fault: the path of the key, as `versions[0].services[1].port`, with its line, what was found and
-/// what was expected; of BadToml line and column, both from 1. None where nothing more is known or memory was refused.
+/// what was expected. For BadToml it has line and column, both from 1. None where nothing more is known or memory was
+/// refused.
 pub fn words_of(alloc: Global, text: &[u8], fault: ScenarioFault) -> Option<String> {
     let table = match toml::table_from_slice(alloc, text) {
         Ok(table) => table,

@@ -16,7 +16,7 @@ use std::alloc::{AllocError, Global};
 #[cfg(test)]
 mod tests;
 
-/// What a list of events comes to where the first backend that is up is taken. Two packets of one flow that were sent to
+/// What a list of events results in where the first backend that is up is taken. Two packets of one flow that were sent to
 /// different backends were chosen under versions whose up lists for that flow begin with different backends.
 pub fn replay_first<H: FlowHash, T: ConnTable>(
     alloc: Global,

@@ -1,5 +1,5 @@
-//! Runs one node on threads, with two workers and two lives. For each packet that was sent, in the order of the history,
-//! it prints the number of its backend and the version under which the backend was chosen; where there is no record it
+//! Runs one node on threads, with two workers and two lives. For each packet that was sent it prints the number of its
+//! backend and the version under which the backend was chosen, in the order of the history. Where there is no record it
 //! prints why alone, to standard error. `tests/refused_threads.py` refuses each of its threads and allocations in turn.
 #![tactic(auto)]
 

@@ -1,6 +1,6 @@
-//! Replays a list of events on both connection tables. For each packet that was sent it prints the number of its backend
-//! and the version under which the backend was chosen; where memory was refused it prints `fault: Memory` alone, to
-//! standard error. `tests/refused_growths_core.py` refuses each of its allocations in turn.
+//! Replays a list of events on both connection tables. For each packet that was sent it prints the number of its backend and
+//! the version under which the backend was chosen. Where memory was refused it prints `fault: Memory` alone, to standard
+//! error. `tests/refused_growths_core.py` refuses each of its allocations in turn.
 #![tactic(auto)]
 
 ghost use Rattle.std.specs.Prelude.{◌≡◌, IfOk, Some};

@@ -1,6 +1,6 @@
-//! Wraps a datagram of TCP (RFC 791, 793) in GRE over IPv4 (RFC 2784), and prints the bytes in hexadecimal digits; where memory
-//! was refused it prints `fault: Memory` alone, to standard error. `tests/refused_growths_core.py` refuses each of its
-//! allocations in turn.
+//! Wraps a datagram of TCP (RFC 791, 793) in GRE over IPv4 (RFC 2784), and prints the bytes in hexadecimal digits. Where
+//! memory was refused it prints `fault: Memory` alone, to standard error. `tests/refused_growths_core.py` refuses each of
+//! its allocations in turn.
 #![tactic(auto)]
 
 use gre_tunnel::{GreFault, wrap};

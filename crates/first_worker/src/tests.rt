@@ -37,7 +37,7 @@ fn played(
     play
 }
 
-// The run has these events, and this is told of its records.
+// The run has these events, and this is what it reports of its records.
 fn comes_to(rt: &impl Abort, alloc: Global, steps: &[Step], events: &[Event], tally: Tally)
     requires { length steps.now < 2 ^ 32 }
 {

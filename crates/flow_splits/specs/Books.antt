@@ -19,11 +19,11 @@ Keeps old new = (k : ℕ) (b : Backend) → slice_get old k ≡ Some b → slice
 abbrev pub same_key : FlowKey → FlowKey → Bool
 same_key a b = same_flow a.flow b.flow
 
--- the send that a flow's entry stands for, by the backend at its place
+-- the send that a flow's entry represents, by the backend at its place
 abbrev pub told : List Backend → Flow → LastSend → Option Sending
 told backends x l = option_map (λ b. record { number = l.number; flow = x; version = l.version; backend = b; origin = l.origin }) (slice_get backends l.place)
 
--- each flow's entry stands for its last send, and the others have none
+-- each flow's entry represents its last send, and the others have none
 pub record AreLast (sent : Flow → Option Sending) (l : LastSends) : Type 0 where
   pub each : (x : Flow) → option_map (λ s. told l.backends.all.items x s) (get same_key l.sends (record { flow = x })) ≡ option_map Some (sent x)
 

@@ -13,7 +13,7 @@ use Rattle.flow_splits.specs.declared.cause.SplitCause.{SplitCause}
 use Rattle.flow_splits.specs.declared.cause.SplitCause.TheVariants.{Down, Moved}
 use Rattle.flow_splits.specs.declared.sending.Split.{Split}
 
--- what splits are told by: the slots of flows, and who is up for a flow under a version (None: no service)
+-- what splits are described by: the slots of flows, and who is up for a flow under a version (None: no service)
 pub record Lookups : Type 0 where
   pub slot : Flow → ℕ
   pub ups : ℕ → Flow → Option Candidates

@@ -66,8 +66,8 @@ abbrev pub flows_of : List Said → List Flow
 flows_of [] = []
 flows_of (s ∷ past) = flows_with (λ x. last_sent past x) (sent_by (length past) s.event s.outcome) (flows_of past)
 
--- what is said by a history's events and what each came to, the oldest in front; the packets of arrivals are left out, of
--- which no split depends
+-- What is said by a history's events and the outcome of each, the oldest in front. The packets of arrivals are left out,
+-- since no split depends on them.
 abbrev pub said_of : List Event → List Outcome → List Said
 said_of [] os = []
 said_of (e ∷ es) [] = []

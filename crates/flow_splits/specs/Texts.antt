@@ -39,7 +39,7 @@ split_line lookups p = line_of p (lookups.slot p.later.flow) (cause_of lookups p
 abbrev pub split_counts : ℕ → ℕ → ℕ → ℕ → List ℕ
 split_counts flows split down moved = count_line (codes "flows") flows ++ (count_line (codes "split") split ++ (count_line (codes "down") down ++ count_line (codes "moved") moved))
 
--- a line for each split, and behind them the counts
+-- a line for each split, and after them the counts
 abbrev pub text_of : Lookups → ℕ → List Split → List ℕ
 text_of lookups flows ps = flat_map (split_line lookups) ps ++ split_counts flows (length ps) (down_count lookups ps) (moved_count lookups ps)
 

@@ -52,7 +52,7 @@ impl Backends {
         self.is_at(place, backend).then_some(place)
     }
 
-    // Puts a backend behind the others.
+    // Puts a backend after the others.
     fn push(&mut self, backend: &Backend) -> Result<usize, AllocError>
         ensures place { IfOk result (λ place. slice_get self.new.all.items place ≡ Some backend.now) }
         ensures others { OnOk result (Keeps self.old.all.items self.new.all.items) }

@@ -16,8 +16,9 @@ use cluster_node::{Event, Outcome};
 use connection_table::TableKey;
 use std::alloc::{AllocError, Global};
 
-/// What is known of a cluster's events so far: how many there were, the last send of each flow, and the splits in the order
-/// of their later sends. Its memory grows with the flows and the splits, and not with the events. Flows are hashed by a key.
+/// What is known of a cluster's events so far: how many there were, the last send of each flow, and the splits. Splits are
+/// in the order of their later sends. The book's memory grows with the flows and the splits, and not with the events. Flows
+/// are hashed by a key.
 #[derive(Drop)]
 pub struct SplitBook {
     number: u64,
@@ -84,7 +85,7 @@ impl SplitBook {
         }
     }
 
-    /// One event more, with what it came to. Where memory is refused nothing more is known of the book.
+    /// One event more, with its outcome. Where memory is refused nothing more is known of the book.
     pub fn note(&mut self, event: &Event, outcome: &Outcome) -> Result<(), AllocError>
         ensures { (past : List Said) (packet : Option Packet) → IsBookOf past self.old → OnOk result (IsBookOf (record { event = event.now; packet = packet; outcome = outcome.now } ∷ past) self.new) }
     {
@@ -102,7 +103,7 @@ impl SplitBook {
         }
     }
 
-    /// The book of a history: its events with what each came to, as far as both lists go.
+    /// The book of a history: its events with their outcomes, as far as both lists go.
     pub fn of_history(
         alloc: Global,
         key: TableKey,

@@ -3,8 +3,8 @@ ghost use Rattle.flow_splits.specs.Pairs.{RecordsHaveSplits, RecordsHaveFlows, H
 ghost use Rattle.flow_splits.specs.Agreeing.{SplitsFollowPicks, SplitsFollowTables};
 
 /// The splits of every record are all pairs of sends of one flow to different backends with no send of that flow between
-/// them, each once, in the order of the later sends; the flows are all of which a packet was sent, each once; and what was
-/// sent at the event of a number is what the history has there.
+/// them. Each is there once, in the order of the later sends. The flows are all of which a packet was sent, each once. What
+/// was sent at the event of a number is what the history has there.
 pub fn splits_are_all_pairs()
     ensures splits { RecordsHaveSplits }
     ensures flows { RecordsHaveFlows }
@@ -16,8 +16,8 @@ pub fn splits_are_explained()
     ensures { SplitsAreExplained }
 {}
 
-/// In every record whose outcomes are the verdicts, for a scheme to which the turn doesn't matter, the two versions of a split
-/// pick its two backends for its flow; for Maglev their tables name these backends at the flow's slot.
+/// A law about every record whose outcomes are the verdicts, for a scheme to which the turn doesn't matter. The two versions
+/// of a split pick its two backends for its flow; for Maglev their tables name these backends at the flow's slot.
 pub fn splits_follow_picks()
     ensures picks { SplitsFollowPicks }
     ensures tables { SplitsFollowTables }

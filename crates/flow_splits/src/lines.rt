@@ -136,8 +136,8 @@ fn push_lines<H: FlowHash>(
     Ok(down)
 }
 
-/// Puts a line for each split of a book behind a text, and then how many flows were sent, how many splits there are, and how
-/// many of them have each cause. Flows have their slots by the hash and the size of the catalogue's tables.
+/// Puts a line for each split of a book after a text. Then it puts how many flows were sent, how many splits there are, and
+/// how many of them have each cause. Flows have their slots by the hash and the size of the catalogue's tables.
 pub fn push_splits<H: FlowHash>(
     text: &mut String,
     hash: &H,

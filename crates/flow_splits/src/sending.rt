@@ -6,8 +6,8 @@ use cluster_node::{Event, Outcome};
 use five_tuple::Flow;
 use pool_versions::Backend;
 
-/// A packet that was sent: the number of its serving among the events, counted from 0, its flow, the version under which it
-/// was served, its backend, and the version under which that was chosen.
+/// A packet that was sent: the number of its serving among the events, counted from 0, its flow, and its backend. Beside
+/// these it has the version under which it was served, and the one under which the backend was chosen.
 #[derive(Clone, Copy, PartialEq, Eq)]
 pub struct Sending {
     pub number: u64,

@@ -16,8 +16,8 @@ use Rattle.forwarder.specs.declared.Choice.TheVariants.{Forward, NoService, NoBa
 abbrev pub Pick : Type 0
 Pick = Candidates → Flow → ℕ → Option Backend
 
--- a packet's serving: its flow, its time, the version, who is up for the flow under it (None: no service), and whether
--- a new entry is refused
+-- A packet's serving: its flow, its time, the version, and who is up for the flow under it (None: no service). Also whether
+-- a new entry is refused.
 pub record Serving : Type 0 where
   pub flow : Flow
   pub at : ℕ
@@ -25,7 +25,7 @@ pub record Serving : Type 0 where
   pub ups : Option Candidates
   pub refused : Bool
 
--- what is told of a serving: the answer, whether the scheme was asked, the touch, if it is one, and the clock
+-- what is reported of a serving: the answer, whether the scheme was asked, the touch, if it is one, and the clock
 pub record Told : Type 0 where
   pub choice : Choice
   pub asked : Bool
@@ -73,7 +73,7 @@ told_under pick clock s (Some ups) stood turn = told_by pick clock s ups stood (
 abbrev pub serve_as : Pick → ℕ → Serving → Option Entry → ℕ → Told
 serve_as pick clock s stood turn = told_under pick clock s s.ups stood turn
 
--- the touches among what was told, newest first
+-- the touches among what was reported, newest first
 abbrev pub with_touch : Option Touch → List Touch → List Touch
 with_touch None ts = ts
 with_touch (Some t) ts = t ∷ ts
@@ -92,15 +92,15 @@ abbrev pub clock_of : List Told → ℕ
 clock_of [] = 0
 clock_of (t ∷ ts) = t.clock
 
--- what is told of a serving at a clock after others
+-- what is reported of a serving at a clock after others
 abbrev pub told_at : Pick → ℕ → Option ℕ → List Told → Serving → ℕ → Told
 told_at pick capacity idle past s clock = serve_as pick clock s (standing capacity idle clock s.flow (touches past)) (asked_count past % 2 ^ 64)
 
--- what is told of a serving after others: its clock is the greatest time of the packets so far, its own included
+-- what is reported of a serving after others: its clock is the greatest time of the packets so far, its own included
 abbrev pub told_after : Pick → ℕ → Option ℕ → List Told → Serving → Told
 told_after pick capacity idle past s = told_at pick capacity idle past s (max (clock_of past) s.at)
 
--- what is told of a forwarder's servings in one life, newest first
+-- what is reported of a forwarder's servings in one life, newest first
 abbrev pub told : Pick → ℕ → Option ℕ → List Serving → List Told
 told pick capacity idle [] = []
 told pick capacity idle (s ∷ earlier) = told_after pick capacity idle (told pick capacity idle earlier) s ∷ told pick capacity idle earlier
@@ -119,11 +119,11 @@ forwarding_of pick capacity idle past = record {
 abbrev pub clock_with : Forwarding → ℕ → ℕ
 clock_with f at = max f.clock at
 
--- what stands for a flow in its table then
+-- the flow's entry that stands in its table then
 abbrev pub stands_in : Forwarding → Flow → ℕ → Option Entry
 stands_in f x at = in_time f.idle (clock_with f at) (last_touch x f.entries)
 
--- what a forwarder tells of a serving
+-- what a forwarder reports of a serving
 abbrev pub told_in : Pick → Forwarding → Serving → Told
 told_in pick f s = serve_as pick (clock_with f s.at) s (stands_in f s.flow s.at) f.turn
 
@@ -132,7 +132,7 @@ abbrev pub entries_after : ℕ → Option Touch → List Touch → List Touch
 entries_after capacity None ts = ts
 entries_after capacity (Some t) ts = stored capacity t.0 t.1 ts
 
--- the forwarder after it was told this
+-- the forwarder after this was reported
 abbrev pub after_told : Told → Forwarding → Forwarding
 after_told t f = record {
   capacity = f.capacity;

@@ -1,7 +1,7 @@
 //! One forwarder: it sends each packet of a flow where the flow's entry says, and a new flow where the scheme says.
 //!
-//! This is connection tracking over consistent hashing (Maglev, NSDI 2016, section 3.4): while the entry of a flow
-//! stands and its backend is up, the flow's packets go to that backend, whatever the pools' newer versions say.
+//! This is connection tracking over consistent hashing (Maglev, NSDI 2016, section 3.4). While the entry of a flow stands
+//! and its backend is up, the flow's packets go to that backend, whatever the pools' newer versions say.
 #![tactic(auto)]
 
 ghost use Rattle.std.specs.Prelude.{◌≡◌, ◌≤◌, ◌<◌, ◌∷◌, [], ℕ, List, length, Option, Some, None, IsTrue, IfOk, IfSome, IsNone, IsSome, IsFalse, MatchBool};
@@ -85,7 +85,7 @@ fn sent(entry: &Entry) -> Choice
     }
 }
 
-// The flow's entry as it stood, which is touched. Where it is past the limit it is as none, and keeps its place.
+// The flow's entry as it was, which is touched. Where it is past the limit it is as none, and keeps its place.
 #[inline(always)]
 fn stand<T: ConnTable>(table: &mut T, idle: Option<u64>, flow: &Flow, clock: u64) -> Option<Entry>
     ensures stood { result ≡ in_time idle clock (last_touch flow.now (T.entries table.old)) }
@@ -189,17 +189,17 @@ impl<S: Scheme, T: ConnTable> Forwarder<S, T> {
         at: u64,
         refused: bool,
     ) -> Served
-        // what is told, by the entry that is in the table, the turn and the clock
+        // what is answered, by the entry that is in the table, the turn and the clock
         ensures choice { let s = serving_of version.now flow.now at refused in
             result.choice ≡ (told_in (S.pick version.now.scheme version.now.size) self.old s).choice }
         ensures after { let s = serving_of version.now flow.now at result.unstored in
             self.new ≡ after_told (told_in (S.pick version.now.scheme version.now.size) self.old s) self.old }
-        // unstored only where a new entry was due, and always where it was due and refused; want of memory is no reason where
-        // the flow has a place in the table
+        // unstored only where a new entry was due, and always where it was due and refused; a refusal of memory is no reason
+        // where the flow has a place in the table
         ensures due { IsTrue result.unstored → IsNone (stands_in self.old flow.now at) × IsForward result.choice }
         ensures refused { IsTrue refused → IsNone (stands_in self.old flow.now at) → IsForward result.choice → IsTrue result.unstored }
         ensures there { IsTrue result.unstored → IsFalse refused → IsNone (last_touch flow.now self.old.entries) }
-        // the same, by every list of servings for which the forwarder stands; and it stands for one more
+        // the same, by every list of servings that the forwarder represents; and it represents one more
         ensures history { let pick = S.pick version.now.scheme version.now.size in
             (past : List Serving) → self.old ≡ forwarding_of pick self.old.capacity self.old.idle past →
             (result.choice ≡ (told_after pick self.old.capacity self.old.idle (told pick self.old.capacity self.old.idle past) (serving_of version.now flow.now at refused)).choice)

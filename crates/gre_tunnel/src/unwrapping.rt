@@ -52,7 +52,7 @@ fn gre_fault(payload: &[u8]) -> Option<GreFault>
 }
 
 /// What a tunnelled datagram carries (RFC 2784, 2.1 to 2.6). The outer header is read with its
-/// checksum tested; a fragment is NotGre, and bytes behind its total length are no part of it. The
+/// checksum tested; a fragment is NotGre, and bytes after its total length are no part of it. The
 /// GRE header's bits 6 to 12 and its second reserved field are ignored.
 pub fn unwrap(bytes: &[u8]) -> Result<Inner<'_>, GreFault>
     ensures { MatchResult result (λ inner. gre_answer bytes.now ≡ Ok (carried inner)) (λ fault. gre_answer bytes.now ≡ Err fault) }

@@ -16,7 +16,7 @@ fn is_too_large(inner: &[u8]) -> bool
     inner.len() > LARGEST_INNER
 }
 
-// What stands before a datagram of so many bytes in a tunnel: the outer header and the GRE header.
+// What is before a datagram of so many bytes in a tunnel: the outer header and the GRE header.
 #[inline(always)]
 fn front(len: u16, node: u32, backend: u32) -> [u8; 24]
     requires { len < 65512 }
@@ -30,7 +30,7 @@ fn front(len: u16, node: u32, backend: u32) -> [u8; 24]
     front
 }
 
-// Both pieces, behind what stands in `room`, or neither.
+// Both pieces, after what is in `room`, or neither.
 #[inline(always)]
 fn append_both(room: &mut Vec<u8>, front: &[u8; 24], inner: &[u8]) -> Result<(), AllocError>
     requires { length inner.now < 65512 }
@@ -44,10 +44,10 @@ fn append_both(room: &mut Vec<u8>, front: &[u8; 24], inner: &[u8]) -> Result<(),
     Ok(())
 }
 
-/// Puts the datagram, behind an outer header from `node` to `backend` and a GRE header (RFC 2784,
-/// 2.1), behind what the room holds. The room grows only where it has less capacity than all its bytes
-/// then need. A refusal leaves its bytes as they were: TooLarge where the datagram has more than 65,511
-/// bytes, or else Memory.
+/// Puts an outer header from `node` to `backend`, a GRE header (RFC 2784, 2.1) and the datagram
+/// after what the room holds. The room grows only where it has less capacity than all its bytes
+/// then need. A refusal leaves its bytes as they were: TooLarge where the datagram has more than
+/// 65,511 bytes, or else Memory.
 #[tactic(auto, unfolding(crate::specs::Gre::wrapped))]
 #[inline(always)]
 pub fn wrap_onto(inner: &[u8], node: u32, backend: u32, room: &mut Vec<u8>) -> Result<(), GreFault>
@@ -68,9 +68,10 @@ pub fn wrap_onto(inner: &[u8], node: u32, backend: u32, room: &mut Vec<u8>) -> R
     }
 }
 
-/// The datagram behind an outer header and a GRE header, as `wrap_onto` writes them, in a room that may
-/// be used again and again: it grows only where it has less capacity than the wrapped datagram has
-/// bytes. What stood in it is gone, but for TooLarge: the datagram has more than 65,511 bytes.
+/// The datagram after an outer header and a GRE header, as `wrap_onto` writes them, in a room that
+/// may be used again and again. The room grows only where it has less capacity than the wrapped
+/// datagram has bytes. What was in it is gone, but for TooLarge: the datagram has more than 65,511
+/// bytes.
 pub fn wrap_into(inner: &[u8], node: u32, backend: u32, room: &mut Vec<u8>) -> Result<(), GreFault>
     ensures bytes { OnOk result (room.new.items ≡ wrapped node backend inner.now) }
     ensures size { OnOk result (length room.new.items ≡ 24 + length inner.now) }
@@ -90,8 +91,8 @@ pub fn wrap_into(inner: &[u8], node: u32, backend: u32, room: &mut Vec<u8>) -> R
     }
 }
 
-/// The datagram behind an outer header and a GRE header, as `wrap_into` writes them, in memory of its
-/// own. One growth is made, of exactly the bytes' number.
+/// The datagram after an outer header and a GRE header, as `wrap_into` writes them, in memory of
+/// its own. One growth is made, of exactly the bytes' number.
 pub fn wrap(alloc: Global, inner: &[u8], node: u32, backend: u32) -> Result<Vec<u8>, GreFault>
     ensures bytes { IfOk result (λ v. v.items ≡ wrapped node backend inner.now) }
     ensures size { IfOk result (λ v. length v.items ≡ 24 + length inner.now) }

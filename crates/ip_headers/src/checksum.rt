@@ -5,7 +5,7 @@ ghost use Rattle.ip_headers.specs.Sum.{word_sum, folded, sum_of};
 // A multiple of 65,535 that leaves room for a word above it.
 const FULL: u64 = 0x7fff_8000_0000_0000;
 
-// The sum of what is left behind the last whole word of 32 bits.
+// The sum of what is left after the last whole word of 32 bits.
 #[inline(always)]
 fn last_sum(bytes: &[u8]) -> u64
     requires { length bytes.now < 4 }

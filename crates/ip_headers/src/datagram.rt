@@ -90,9 +90,9 @@ fn header_fault(bytes: &[u8], check: bool) -> Option<IpFault>
     None
 }
 
-/// Reads the datagram that begins at the first byte. Bytes behind its total length are no part of it.
-/// The header checksum is tested where `check` holds. Type of service, identification, the don't
-/// fragment flag, time to live and options aren't tested.
+/// Reads the datagram that begins at the first byte. Bytes after its total length are no part of
+/// it. The header checksum is tested where `check` holds. Type of service, identification, the
+/// don't fragment flag, time to live and options aren't tested.
 pub fn read_ipv4(bytes: &[u8], check: bool) -> Result<Ipv4View<'_>, IpFault>
     ensures { MatchResult result (λ v. ipv4_answer check bytes.now ≡ Ok (view v)) (λ fault. ipv4_answer check bytes.now ≡ Err fault) }
 {

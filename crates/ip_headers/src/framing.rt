@@ -5,9 +5,9 @@ ghost use Rattle.ip_headers.specs.Ipv4.{frame_answer};
 use super::{IpFault, Link};
 use crate::places::u16_at;
 
-/// The bytes of a frame from where its datagram begins: all of them, or those behind an Ethernet
+/// The bytes of a frame from where its datagram begins: all of them, or those after an Ethernet
 /// header. Truncated where that header isn't whole, NotIpv4 where its EtherType isn't 0x0800.
-/// Padding behind the datagram is still there; [`crate::read_ipv4`] cuts it off.
+/// Padding after the datagram is still there; [`crate::read_ipv4`] cuts it off.
 pub fn read_frame(link: Link, frame: &[u8]) -> Result<&[u8], IpFault>
     ensures { MatchResult result (λ bytes. frame_answer link frame.now ≡ Ok bytes.now) (λ fault. frame_answer link frame.now ≡ Err fault) }
 {

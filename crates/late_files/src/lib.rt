@@ -16,19 +16,19 @@ const BUFFER: usize = 65_536;
 /// The descriptor of standard error, the last of the standard streams.
 const LAST_STANDARD: i32 = 2;
 
-/// The word that stands for standard input or standard output in the place of a path.
+/// The word that means standard input or standard output in the place of a path.
 const STANDARD: &str = "-";
 
-/// Whether a path stands for a standard stream.
+/// Whether a path means a standard stream.
 pub fn is_standard(path: &str) -> bool {
     path == STANDARD
 }
 
-/// Gives each standard stream that is closed a file that has nothing to read and can't be written, so that no file that is
-/// opened later takes its place. The files stand for the streams as long as they are kept.
+/// Gives each standard stream that is closed a file that has nothing to read and can't be written. So no file that is opened
+/// later takes its place. The files take the places of the streams as long as they are kept.
 pub fn stand_for_closed(rt: &HostRuntime) -> [Option<File>; 3] {
     let first = stand_in(rt);
-    // Descriptors are given from the least one on, so that behind one above the streams' no stream is closed.
+    // Descriptors are given from the least one on, so that after one above the streams' no stream is closed.
     let second = first.as_ref().and_then(|_| stand_in(rt));
     let third = second.as_ref().and_then(|_| stand_in(rt));
     [first, second, third]

@@ -1,4 +1,4 @@
--- The listing: a line for each event, with what it came to.
+-- The listing: a line for each event, with its outcome.
 use Rattle.std.specs.Prelude.{ℕ, ◌+◌, List, [], ◌∷◌, ◌++◌, codes}
 use Rattle.std.specs.Fmt.{decimal}
 use Rattle.cluster_node.specs.declared.events.Event.{Event}

@@ -38,7 +38,7 @@ abbrev pub records_text : Tally → Bool → List ℕ
 records_text tally is_cut =
     count_line (codes "packets") tally.packets ++ (count_line (codes "lost") tally.lost ++ (count_line (codes "unrouted") tally.unrouted ++ (count_line (codes "skipped") tally.skipped ++ (count_line (codes "left") tally.left ++ cut_line is_cut))))
 
--- what became of the packets that came to a node
+-- what became of the packets that arrived at a node
 abbrev pub totals_text : Totals → List ℕ
 totals_text totals =
     count_line (codes "received") totals.received ++ (count_line (codes "forwarded") totals.forwarded ++ (drops_text totals.dropped ++ (count_line (codes "waiting") totals.waiting ++ count_line (codes "refused") totals.refused)))

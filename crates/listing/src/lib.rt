@@ -1,4 +1,4 @@
-//! The texts of a run: its events with what each came to, its report, and why two packets went where they went.
+//! The texts of a run: its events with their outcomes, its report, and why two packets went where they went.
 #![tactic(auto)]
 
 mod lines;

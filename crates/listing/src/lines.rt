@@ -1,4 +1,4 @@
-//! The lines of a listing: one for each event, with what it came to.
+//! The lines of a listing: one for each event, with its outcome.
 ghost use Rattle.std.specs.Prelude.{◌≡◌, ◌++◌, OnOk, string_bytes};
 ghost use Rattle.listing.specs.Lines.{line_of};
 
@@ -66,7 +66,7 @@ impl fmt::Display for OutcomeText {
     }
 }
 
-/// Puts the line of an event behind a text: `K EVENT: OUTCOME`, where K is the event's number.
+/// Puts the line of an event after a text: `K EVENT: OUTCOME`, where K is the event's number.
 pub fn push_line(
     text: &mut String,
     number: u64,

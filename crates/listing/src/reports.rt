@@ -73,7 +73,7 @@ fn push_records(text: &mut String, tally: Tally, is_cut: bool) -> Result<(), All
     push_cut(text, is_cut)
 }
 
-// What became of the packets that came to a node.
+// What became of the packets that arrived at a node.
 fn push_totals(text: &mut String, totals: &Totals) -> Result<(), AllocError>
     ensures { OnOk result (string_bytes text.new ≡ string_bytes text.old ++ totals_text totals.now) }
 {

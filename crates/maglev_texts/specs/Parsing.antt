@@ -61,12 +61,12 @@ member_of_pieces _ = None
 abbrev pub member_of : List ℕ → Option Member
 member_of text = member_of_pieces (pieces 64 text)
 
--- what stands before a word's star, the whole word where there is none
+-- what is before a word's star, the whole word where there is none
 abbrev pub before_star : List ℕ → List ℕ
 before_star [] = []
 before_star (b ∷ bs) = if b == 42 then [] else b ∷ before_star bs
 
--- what stands behind it, if there is one
+-- what is after it, if there is one
 abbrev pub behind_star : List ℕ → Option (List ℕ)
 behind_star [] = None
 behind_star (b ∷ bs) = if b == 42 then Some bs else behind_star bs
@@ -75,7 +75,7 @@ behind_star (b ∷ bs) = if b == 42 then Some bs else behind_star bs
 abbrev pub weight_of : List ℕ → Option ℕ
 weight_of text = option_and_then (λ n. if nat_lt 0 n then Some n else None) (decimal_of 16 text)
 
--- the weight that a word bears behind its star, 1 where there is none
+-- the weight that a word has after its star, 1 where there is none
 abbrev pub weight_behind : Option (List ℕ) → Option ℕ
 weight_behind None = Some 1
 weight_behind (Some text) = weight_of text
@@ -91,7 +91,7 @@ weighed_name_of word = if is_name (before_star word) then option_map (weighed_as
 abbrev pub weighing : Member → Bool → ℕ → Member
 weighing m up weight = record { backend = m.backend; up = up; weight = weight }
 
--- behind a member's star: `W`, or `W/down`
+-- after a member's star: `W`, or `W/down`
 abbrev pub weighed_at : Member → List (List ℕ) → Option Member
 weighed_at m (weight ∷ []) = option_map (weighing m true) (weight_of weight)
 weighed_at m (weight ∷ word ∷ []) = if bytes_eq word (codes "down") then option_map (weighing m false) (weight_of weight) else None
@@ -100,7 +100,7 @@ weighed_at m _ = None
 abbrev pub weighed_behind : List ℕ → Member → Option Member
 weighed_behind tail m = if m.up then weighed_at m (pieces 47 tail) else None
 
--- a member word, or one with something behind its star
+-- a member word, or one with something after its star
 abbrev pub weighed_member : List ℕ → Option (List ℕ) → Option Member
 weighed_member word None = member_of word
 weighed_member word (Some tail) = option_and_then (weighed_behind tail) (member_of word)

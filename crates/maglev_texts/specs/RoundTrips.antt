@@ -18,7 +18,7 @@ AddressesAreReadBack = (a : ℕ) → a < 2 ^ 32 → address_of (address_text a) 
 abbrev pub OnlyAddressesAreRead : Type 0
 OnlyAddressesAreRead = (a : ℕ) (text : List ℕ) → address_of text ≡ Some a → (text ≡ address_text a) × (a < 2 ^ 32)
 
--- `NAME@ADDRESS`, with `/down` behind it where it is down
+-- `NAME@ADDRESS`, with `/down` after it where it is down
 abbrev pub member_text : Member → List ℕ
 member_text m = backend_text m.backend ++ (if m.up then [] else codes "/down")
 
@@ -28,13 +28,13 @@ MembersAreReadBack = (m : Member) → m.weight ≡ 1 → is_name m.backend.name 
 abbrev pub OnlyMembersAreRead : Type 0
 OnlyMembersAreRead = (m : Member) (text : List ℕ) → member_of text ≡ Some m → (text ≡ member_text m) × (m.weight ≡ 1) × (is_name m.backend.name ≡ true) × (m.backend.addr < 2 ^ 32)
 
--- `NAME@ADDRESS*W`, with `/down` behind it where it is down
+-- `NAME@ADDRESS*W`, with `/down` after it where it is down
 abbrev pub weighed_text : Member → List ℕ
 weighed_text m = backend_text m.backend ++ (codes "*" ++ (decimal m.weight ++ (if m.up then [] else codes "/down")))
 
 abbrev pub WeighedMembersAreReadBack : Type 0
 WeighedMembersAreReadBack = (m : Member) → 1 ≤ m.weight → m.weight ≤ 16 → is_name m.backend.name ≡ true → m.backend.addr < 2 ^ 32 → weighed_member_of (weighed_text m) ≡ Some m
 
--- a member word means the same where weights may stand
+-- a member word means the same where weights are allowed
 abbrev pub MemberWordsMeanTheSame : Type 0
 MemberWordsMeanTheSame = (m : Member) (text : List ℕ) → member_of text ≡ Some m → weighed_member_of text ≡ Some m

@@ -1,8 +1,8 @@
 //! What is printed is read, and nothing else.
 ghost use Rattle.maglev_texts.specs.RoundTrips.{DecimalsAreReadBack, OnlyDecimalsAreRead, AddressesAreReadBack, OnlyAddressesAreRead, MembersAreReadBack, OnlyMembersAreRead, WeighedMembersAreReadBack, MemberWordsMeanTheSame};
 
-/// Decimal numbers, addresses and member words are read from what is printed of them, and from no other text: two texts of
-/// one number, address or member are the same. A member word means the same where weights may stand. The clauses are the
+/// Decimal numbers, addresses and member words are read from what is printed of them, and from no other text. Two texts of
+/// one number, address or member are the same. A member word means the same where weights are allowed. The clauses are the
 /// laws; the body does nothing.
 pub fn texts_are_read_back()
     ensures decimals { DecimalsAreReadBack }

@@ -108,8 +108,8 @@ fn weighed_behind(alloc: Global, tail: &[u8], member: Member) -> Result<Option<M
     Ok(weighed_at(member, parts.as_slice()))
 }
 
-/// The member that a word is where weights may stand: `NAME@ADDRESS`, then `*W` where the weight isn't left out, then `/down`
-/// where the member is down. W is from 1 to 16, without leading zeros.
+/// The member that a word is where weights are allowed: `NAME@ADDRESS`, then `*W` unless the weight is left out, then
+/// `/down` where the member is down. W is from 1 to 16, without leading zeros.
 pub fn weighed_member(alloc: Global, word: &[u8]) -> Result<Option<Member>, AllocError>
     ensures { IfOk result (λ o. o ≡ weighed_member_of word.now) }
 {

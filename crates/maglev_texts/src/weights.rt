@@ -12,7 +12,7 @@ pub fn weight(text: &[u8]) -> Option<Weight>
     Weight::new(number as u8)
 }
 
-/// A word before its first star, and behind it, if there is one.
+/// A word before its first star, and after it, if there is one.
 pub(crate) fn at_star(word: &[u8]) -> (&[u8], Option<&[u8]>)
     ensures head { result.0.now ≡ before_star word.entry.now }
     ensures tail { option_copied result.1 ≡ behind_star word.entry.now }

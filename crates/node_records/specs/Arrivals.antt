@@ -1,4 +1,4 @@
--- What an arrival comes to, by the packet that it names.
+-- The outcome of an arrival, by the packet that it names.
 use Rattle.std.specs.Prelude.{◌≡◌, ℕ, true, Option, Some, None}
 use Rattle.cluster_core.specs.Tally.{is_arrival}
 use Rattle.cluster_node.specs.declared.packets.Packet.{Packet}

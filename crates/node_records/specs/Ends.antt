@@ -27,7 +27,7 @@ uses_installed installed hs = list_all (λ h. list_any (λ u. u == h.version) in
 abbrev pub all_use_installed : List ℕ → List (List Handled) → Bool
 all_use_installed installed hss = list_all (λ hs. uses_installed installed hs) hss
 
--- What a worker handled is what was placed on it, in order. Of a life that wasn't drained it is a beginning of that.
+-- What a worker handled is what was placed on it, in order. Of a life that wasn't drained it is a prefix of that.
 abbrev pub ServesPlaced : Bool → List Item → List Handled → Type 0
 ServesPlaced true is hs = items_of hs ≡ is
 ServesPlaced false is hs = items_of hs ≡ take (length hs) is
@@ -49,14 +49,14 @@ IsLifeFault drained j handled (Some Foreign) = all_use_installed j.installed han
 IsLifeFault drained j handled (Some RingLost) = (all_use_installed j.installed handled ≡ true) × (AllServePlaced drained j.placed handled → ⊥)
 IsLifeFault drained j handled (Some Memory) = ⊥
 
--- An answer says why the records don't fit exactly where they don't; where they do it is Ok or want of memory.
+-- An answer says why the records don't fit exactly where they don't; where they do it is Ok or out of memory.
 abbrev pub JudgesLife : {A : Type 0} → Bool → JournalView → List (List Handled) → Result A LifeFault → Type 0
 JudgesLife drained j handled (Ok x) = IsLifeFault drained j handled None
 JudgesLife drained j handled (Err Foreign) = IsLifeFault drained j handled (Some Foreign)
 JudgesLife drained j handled (Err RingLost) = IsLifeFault drained j handled (Some RingLost)
 JudgesLife drained j handled (Err Memory) = IsLifeFault drained j handled None
 
--- a fault other than want of memory changes nothing
+-- a fault other than out of memory changes nothing
 abbrev pub UnlessMemory : LifeFault → Type 0 → Type 0
 UnlessMemory Foreign P = P
 UnlessMemory RingLost P = P
@@ -82,8 +82,8 @@ left_over (is ∷ iss) (hs ∷ hss) = (length is - length hs) + left_over iss hs
 abbrev pub with_life_ended : List (List Handled) → JournalView → JournalView
 with_life_ended hss j = with_restart (left_over j.placed hss % 2 ^ 64) (with_all_serves 0 hss j)
 
--- A run fits: no ring refused before it had taken as many packets as it has places, and for each life what was sent is a
--- merge of what its workers sent.
+-- A run fits. No ring refused before it had taken as many packets as it has places. For each life what was sent is a merge
+-- of what its workers sent.
 pub record RunFits (j : JournalView) (sent : List (List Outcome)) : Type 0 where
   pub due : j.early ≡ false
   pub merged : AreMerges sent (lives_of j.outcomes)

@@ -22,6 +22,6 @@ pub record IsFrom {S H : Type 0} (eq : S → S → Bool) (setup : Fixed S H) (po
   pub size : m.size ≡ setup.size
   pub version : IsSomeAnd (version_at m.version.number pools.versions) (λ v. AreSame m.version v)
 
--- what was kept stays, and behind it there may be what a prepared version was made from
+-- what was kept stays, and after it there may be what a prepared version was made from
 abbrev pub IsMore : {S : Type 0} → Readied S → List (MadeOf S) → List (MadeOf S) → Type 0
 IsMore {S} p before after = (after ≡ before) ⊎ ((m : MadeOf S) × (after ≡ before ++ m ∷ []) × IsMadeOf p m)

@@ -1,4 +1,4 @@
-//! Whether a record is what a replay of its events comes to.
+//! Whether a record agrees with a replay of its events.
 ghost use Rattle.std.specs.Prelude.{◌≡◌, ◌↔◌, [], ℕ, Some, IfOk, IsTrue, slice_get};
 ghost use Rattle.cluster_node.specs.declared.packets.Packet.{Packet};
 ghost use Rattle.cluster_node.specs.Records.{WasRead};
@@ -15,7 +15,7 @@ use pool_versions::Catalogue;
 use selection::Scheme;
 use std::alloc::{AllocError, Global};
 
-// Whether the outcomes are those that were told.
+// Whether the outcomes are those that were recorded.
 fn are_told(told: &[Outcome], outcomes: &[Outcome]) -> bool
     ensures { IsTrue result ↔ (outcomes.now ≡ told.now) }
 {
@@ -30,7 +30,7 @@ fn are_told(told: &[Outcome], outcomes: &[Outcome]) -> bool
     true
 }
 
-// Whether a replay of the events comes to these outcomes.
+// Whether a replay of the events gives these outcomes.
 fn agrees<S: Scheme, H: FlowHash, T: ConnTable>(
     alloc: Global,
     setup: &Setup<S, H>,
@@ -49,8 +49,8 @@ fn agrees<S: Scheme, H: FlowHash, T: ConnTable>(
 }
 
 impl NodeRecord {
-    /// Whether the outcomes are what the events come to in this cluster, one after another: the events are replayed on
-    /// tables of their own. The packets were read, and the catalogue is one for the cluster's table size.
+    /// Whether the outcomes are those of the events in this cluster, one after another: the events are replayed on tables of
+    /// their own. The packets were read, and the catalogue is one for the cluster's table size.
     pub fn audit<S: Scheme, H: FlowHash, T: ConnTable>(
         &self,
         alloc: Global,
@@ -75,7 +75,7 @@ impl NodeRecord {
 }
 
 impl History {
-    /// The same of all nodes: whether the outcomes are what the events come to in this cluster.
+    /// The same of all nodes: whether the outcomes are those of the events in this cluster.
     pub fn audit<S: Scheme, H: FlowHash, T: ConnTable>(
         &self,
         alloc: Global,

@@ -1,5 +1,5 @@
-//! A node's run on one thread, in one of the orders that its threads might take: its records are those that threads make
-//! (at a stop those of workers that served nothing in that life), and what it promises is what a run on threads promises.
+//! A node's run on one thread, in one of the orders that its threads might take. Its records are those that threads make; at
+//! a stop they are those of workers that served nothing in that life. What it promises is what a run on threads promises.
 //! The tests compare it with the replay of its history, and play the worked examples step by step.
 #![tactic(auto)]
 
@@ -293,8 +293,8 @@ fn end<S: Scheme, H: FlowHash, T: ConnTable>(
     }
 }
 
-/// A node's run: its commands in order, and at the end of each life all servings under the newest version, or none where the
-/// life ends with a stop.
+/// A node's run: its commands in order, and at the end of each life all servings under the newest version. Where the life
+/// ends with a stop there are none.
 pub fn rehearse<S: Scheme, H: FlowHash, T: ConnTable>(
     alloc: Global,
     setup: &Setup<S, H>,

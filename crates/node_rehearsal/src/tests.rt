@@ -109,7 +109,7 @@ enum Act {
 
 type Told = (&'static str, u32, u32);
 
-// What a worker's step tells: a word and two numbers. Of a packet that was sent the last byte of the backend's address and
+// What a worker's step says: a word and two numbers. Of a packet that was sent the last byte of the backend's address and
 // the origin. With ample memory each new entry is made.
 fn told_step(step: &Step) -> Told {
     match step {
@@ -266,7 +266,7 @@ fn replays<S: Scheme>(
     assert!(rt; least_recent.as_slice() == outcomes);
 }
 
-// Node 0 does these steps with these workers, and each tells what is wanted.
+// Node 0 does these steps with these workers, and each says what is wanted.
 fn plays_with<S: Scheme, T: ConnTable>(
     rt: &impl Abort,
     alloc: Global,
@@ -302,8 +302,8 @@ fn plays_with<S: Scheme, T: ConnTable>(
     replays(rt, alloc, setup, journal.events(), journal.outcomes());
 }
 
-// Node 0 does these steps, and each tells what is wanted. The packets are of source ports 1000, 1001 and 1006, and one of
-// no flow.
+// Node 0 does these steps, and each says what is wanted. The packets are of source ports 1000, 1001 and 1006, and one of no
+// flow.
 fn plays<S: Scheme, T: ConnTable>(
     rt: &impl Abort,
     alloc: Global,
@@ -517,7 +517,7 @@ fn examples_with_other_schemes(rt: HostRuntime) {
     );
 }
 
-// Rings that refuse as they are told, and have no room.
+// Rings that refuse as these marks say, and have no room.
 #[derive(Drop)]
 struct Refusing {
     refused: [bool; 16],
@@ -654,7 +654,7 @@ fn records_that_do_not_fit(rt: HostRuntime) {
     );
 }
 
-// Whether a worker is one of the cluster by the sum hash whose tables have 7 slots and keep so many entries, after it handled a
+// Whether a worker is one of the cluster by the sum hash whose tables have 7 slots and keep so many entries. It handled a
 // packet under this version, prepared by this hash and for this size. The worker's own table keeps two entries.
 fn is_own(
     rt: &impl Abort,
@@ -844,7 +844,7 @@ fn a_stop_loses_what_was_placed(rt: HostRuntime) {
     );
 }
 
-// Packets that were placed and not served when a life ends are lost, and the node's version stands. What was sent is told
+// Packets that were placed and not served when a life ends are lost, and the node's version stays. What was sent is reported
 // life by life: of the first nothing.
 #[test]
 fn a_life_that_is_not_drained(rt: HostRuntime) {

@@ -1,4 +1,4 @@
--- What a reader or a writer tells as a device.
+-- What a reader or a writer reports as a device.
 use Rattle.std.specs.Prelude.{ℕ, List, Option}
 use Rattle.pcap_file.specs.declared.counts.CallCounts.{CallCounts}
 use Rattle.pcap_file.specs.Device.{Tape}

@@ -1,4 +1,4 @@
-// The counts that a device tells.
+// The counts that a device reports.
 ghost use Rattle.std.specs.Prelude.{◌≡◌, ◌<◌, ◌^◌};
 ghost use Rattle.pcap_file.specs.Device.{Called, fault_for, failures_with, interruptions_with};
 
@@ -38,7 +38,7 @@ impl CallCounts {
         self.calls = self.calls.wrapping_add(1);
     }
 
-    /// Counts a fault of the call that was counted last. At the greatest count of failures each fault is told as an
+    /// Counts a fault of the call that was counted last. At the greatest count of failures each fault is reported as an
     /// interruption.
     pub fn fault(&mut self, is_interrupted: bool) -> DeviceFault
         ensures told { result ≡ fault_for is_interrupted self.old.failures }

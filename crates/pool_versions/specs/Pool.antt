@@ -1,4 +1,4 @@
--- What a catalogue stands for.
+-- What a catalogue represents.
 use Rattle.std.specs.Prelude.{◌≡◌, ℕ, ◌≤◌, Bool, false, ◌&&◌, ◌||◌, ◌==◌, nat_lt, nat_eq, if◌then◌else◌, List, [], ◌∷◌, length, map, filter, find, Option, Some, None, option_map, option_and_then, is_some, Result, Ok, Err, ◌⊎◌}
 use Rattle.std.specs.List.{list_any, All}
 use Rattle.std.specs.List.Sorted.{IsSortedByKey, IsPermutation}
@@ -26,7 +26,7 @@ version_at n = find (λ v. v.number == n)
 abbrev pub same_service : Service → Service → Bool
 same_service a b = (a.vip == b.vip) && ((a.proto == b.proto) && (a.port == b.port))
 
--- what tells services apart
+-- what distinguishes services
 abbrev pub key_of : Service → ServiceKey
 key_of s = record { vip = s.vip; proto = s.proto; port = s.port }
 
@@ -70,7 +70,7 @@ fault_of c v =
     if is_some (version_at v.number c.versions) then Some fault.NumberTaken else
     services_fault c v.services.items
 
--- the answer is the fault, if there is one, and else Ok or want of memory
+-- the answer is the fault, if there is one, and else Ok or out of memory
 abbrev pub RefusedAs : {E : Type 0} → Result E PoolFault → Option PoolFault → Type 0
 RefusedAs (Ok _) f = f ≡ None
 RefusedAs (Err e) f = (f ≡ Some e) ⊎ ((e ≡ fault.Memory) × (f ≡ None))
@@ -84,8 +84,8 @@ pub record HasFewMembers (size : ℕ) (s : Service) : Type 0 where
 abbrev pub AreWeighed : List Member → Type 0
 AreWeighed ms = All (λ m. (1 ≤ m.weight) × (m.weight ≤ 16)) ms
 
--- a version keeps the limits that do not depend on the other versions: it has few services, no two of which are for the same
--- flows, each with few members, no two of which have one name
+-- A version keeps the limits that do not depend on the other versions. It has few services, no two of which are for the same
+-- flows. Each has few members, no two of which have one name.
 pub record IsWithinLimits (size : ℕ) (v : Version) : Type 0 where
   pub services : length v.services.items ≤ 256
   pub members : All (HasFewMembers size) v.services.items
@@ -177,8 +177,8 @@ pub record HasUps (c : Pools) (n : ℕ) (x : Flow) (bs : List Backend) : Type 0 
   pub permutation : IsPermutation (up_backends service.members.items) bs
   pub fit : length bs ≤ c.size
 
--- some weights are those of the up backends of a flow's service, in their order: of the up members in some order these are
--- the backends, and those are the weights
+-- Some weights are those of the up backends of a flow's service, in their order. Of the up members in some order these are
+-- the backends, and those are the weights.
 pub record HasWeights (c : Pools) (n : ℕ) (x : Flow) (ws : List ℕ) : Type 0 where
   pub version : Version
   pub service : Service

@@ -86,8 +86,8 @@ impl Catalogue {
         self.size
     }
 
-    /// No two versions have one number; within a version no two services are for the same flows, and within a service no
-    /// two members have one name. Each member's weight is from 1 to 16. The clause is the invariant.
+    /// No two versions have one number. Within a version no two services are for the same flows, and within a service no two
+    /// members have one name. Each member's weight is from 1 to 16. The clause is the invariant.
     pub fn keeps_doubles_out(&self)
         ensures { AreSound self.now }
     {

@@ -8,7 +8,7 @@ use crate::service::Service;
 use maglev_table::Name;
 use std::alloc::{AllocError, Global};
 
-/// What tells services apart: address, protocol and port.
+/// What distinguishes services: address, protocol and port.
 #[derive(Clone, Copy, PartialEq, Eq, PartialOrd, Ord)]
 struct ServiceKey {
     vip: u32,
@@ -66,7 +66,7 @@ fn has_service(services: &[Service], service: &Service) -> bool
     services.iter().any(|other| service.is_same(other))
 }
 
-// The answer where there is no memory for a sort: each member against those behind it.
+// The answer where there is no memory for a sort: each member against those after it.
 fn walk_finds_double_name(members: &[Member]) -> bool
     ensures { result ≡ has_double same_name members.now }
 {

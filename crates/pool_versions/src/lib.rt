@@ -1,7 +1,7 @@
-//! Pools by version: which backends stand behind a service, and which of them are up.
+//! Pools by version: which backends serve a service, and which of them are up.
 //!
-//! A version says which services there are, and which members stand behind each. A catalogue holds the versions that
-//! a cluster may run, each under its number. What was taken into it never changes.
+//! A version says which services there are, and which members each has. A catalogue holds the versions that a cluster may
+//! run, each under its number. What was taken into it never changes.
 #![tactic(auto)]
 
 mod backend;

@@ -11,7 +11,7 @@ use std::alloc::{AllocError, Global};
 /// The most members of a service. There may be no more of them than slots either.
 pub const MOST_MEMBERS: usize = 4096;
 
-/// A service: an IPv4 address, a protocol number, a destination port, and the members that stand behind them.
+/// A service: an IPv4 address, a protocol number, a destination port, and its members.
 #[derive(Drop)]
 pub struct Service {
     pub vip: u32,

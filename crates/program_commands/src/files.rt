@@ -30,7 +30,7 @@ impl<'a> Paths<'a> {
 /// The most bytes of a scenario that are read: one more than it may have.
 const MOST: u64 = 1_048_577;
 
-/// The text of a scenario's file, up to the bytes that show that it is too long, and what became of reading it: where it was
+/// The text of a scenario's file, up to the bytes that show that it is too long, and what became of reading it. Where it was
 /// refused the text is what came before.
 pub fn read_scenario(rt: &HostRuntime, path: &str) -> (Vec<u8>, Result<(), Trouble>) {
     let mut text = Vec::new(rt.alloc());
@@ -209,7 +209,7 @@ pub fn explain_files(
     }
 }
 
-/// How many whole records stand in front of the one at which reading a capture stops. Standard input can't be read again.
+/// How many whole records are before the one at which reading a capture stops. Standard input can't be read again.
 pub fn records_before(rt: &HostRuntime, path: &str) -> Option<u32> {
     if is_standard(path) {
         return None;

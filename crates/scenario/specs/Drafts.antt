@@ -48,7 +48,7 @@ version_draft f ms =
 abbrev pub version_in : Format → Data → Option (PlainVersion (Option Member))
 version_in f d = option_and_then (λ ms. if has_only version_keys ms then version_draft f ms else None) (as_table d)
 
--- what the drafts of the code stand for
+-- what the drafts of the code represent
 abbrev pub plain_service_draft : ServiceDraft → PlainService (Option Member)
 plain_service_draft s = record { vip = s.vip; proto = s.proto; port = s.port; members = s.members.items }
 

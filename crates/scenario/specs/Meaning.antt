@@ -119,8 +119,8 @@ plan_of_draft d = with_versions d (all_of version_of d.versions)
 abbrev pub format_of : Members → Option Format
 format_of ms = option_map (λ n. if n == 1 then One else Two) (number_at 1 2 (codes "format") ms)
 
--- what a document says of the pools, where its keys are as they should be and its words are members: the size of the tables,
--- and the versions
+-- What a document says of the pools, where its keys are as they should be and its words are members. It is the size of the
+-- tables, and the versions.
 abbrev pub pools_of : Members → Option (ℕ × List (PlainVersion Member))
 pools_of ms = option_and_then (λ f. option_and_then (λ d. option_map (λ versions. (d.choices.size, versions)) (all_of version_of d.versions)) (draft_in f ms)) (format_of ms)
 

@@ -85,7 +85,7 @@ kind_of word =
     else (if bytes_eq word (codes "restart") then Some kind.Restart
     else (if bytes_eq word (codes "stop") then Some kind.Stop else None)))))))))
 
--- the step of a kind with these words behind it
+-- the step of a kind with these words after it
 abbrev pub step_of : ℕ → ℕ → Kind → List (List ℕ) → Option PlainStep
 step_of nodes workers kind.Install words = install_of nodes words
 step_of nodes workers kind.Live words = live_of nodes words

@@ -1,4 +1,4 @@
-//! A scenario as its document holds it: all keys are as they should be, but a word may be no member and a text no step.
+//! A scenario as its document holds it. All keys are as they should be, but a word may be no member and a text no step.
 ghost use Rattle.std.specs.Prelude.{◌≡◌, ◌≤◌, map, length, nat_eq, option_map, option_and_then, string_bytes, codes, IfOk, IfSome};
 ghost use Rattle.std.specs.List.{list_any, list_all};
 ghost use Rattle.std.specs.BTreeMap.{keys};

@@ -183,7 +183,7 @@ fn kind_of(word: &[u8]) -> Option<Kind>
     None
 }
 
-// The step of a kind with these words behind it.
+// The step of a kind with these words after it.
 fn step_of(
     alloc: Global,
     kind: Kind,

@@ -50,6 +50,6 @@ choice_in s = choice_by s.spread (plain_of s.hash)
 abbrev pub plan_in : Scenario → Planned
 plan_in s = record { nodes = s.nodes.items; check = s.check; steps = s.steps.items }
 
--- what its splits and explanations are told by
+-- what its splits and explanations are described by
 abbrev pub lookups_in : Scenario → Lookups
 lookups_in s = lookups_of (plain_of s.hash) s.size s.catalogue

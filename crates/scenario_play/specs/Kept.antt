@@ -11,8 +11,8 @@ use Rattle.scenario.specs.declared.reading.Scenario.{Scenario}
 use Rattle.scenario.specs.declared.words.SchemeKind.TheVariants.{Maglev}
 use Rattle.scenario_play.specs.Described.{rules_in}
 
--- its history keeps the promises, and for Maglev in terms of the tables' slots; and so do its splits: where the turn doesn't
--- matter to the scheme the two versions of each pick its two backends, for Maglev at the flow's slot
+-- Its history keeps the promises, and for Maglev in terms of the tables' slots. So do its splits. Where the turn doesn't
+-- matter to the scheme the two versions of each pick its two backends, for Maglev at the flow's slot.
 pub record KeepsPromises (s : Scenario) (course : Course) : Type 0 where
   pub promises : Promises (rules_in s) (reverse course.past)
   pub tables : s.scheme ≡ Maglev → MaglevPromises (plain_of s.hash) s.size s.catalogue (rules_in s) (reverse course.past)

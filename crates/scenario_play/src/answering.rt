@@ -53,7 +53,7 @@ fn plain_report<P: Spread>(
     report_text(alloc, tally, &totals, is_cut(played.ending))
 }
 
-// What is told of the splits, where it is asked for.
+// What is reported of the splits, where it is asked for.
 fn push_splits_if<S: Scheme, H: FlowHash>(
     text: &mut String,
     deployment: &Deployment<S, H>,

@@ -1,5 +1,5 @@
-/// What stands before a report: with `list` a line for each event, and then with `splits` a line for each flow that was split,
-/// and how many there were.
+/// What comes before a report. With `list` it is a line for each event. With `splits` it is then a line for each flow that
+/// was split, and how many there were.
 #[derive(Clone, Copy, Debug, PartialEq, Eq)]
 pub struct Wanted {
     pub list: bool,

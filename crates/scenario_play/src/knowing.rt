@@ -20,8 +20,9 @@ fn place_of_stop(steps: &[Step]) -> Option<usize>
     steps.iter().position(|step| is_stop(step))
 }
 
-/// The place, from 0, of the first step `stop`: it ends a balancer's life while its threads are at work, and where a scenario
-/// is played there are none. [`play_scenario`](crate::play_scenario) would play it as the restart that it is in a course.
+/// The place, from 0, of the first step `stop`. That step ends a balancer's life while its threads are at work, and where a
+/// scenario is played there are none. [`play_scenario`](crate::play_scenario) would play it as the restart that it is in a
+/// course.
 pub fn first_stop(steps: &[Step]) -> Option<u32>
     requires { length steps.now < 2 ^ 32 }
     ensures { result ≡ first_stop_of steps.now }

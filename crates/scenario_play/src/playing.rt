@@ -178,14 +178,15 @@ fn play_named<I: Source, O: Sink>(
 
 /// Plays a scenario over a capture, and answers what is asked of the run. What the cluster sends is written as another
 /// capture, which is begun once the input's header was accepted. Whatever goes wrong but a write, the output is cut between
-/// records. The connection tables and the book of splits hash by the key. The memory of a run that succeeds stays taken until
-/// the program ends: to give it back entry by entry takes a twentieth of a run.
+/// records. The connection tables and the book of splits hash by the key. The memory of a run that succeeds isn't given back
+/// until the program ends: to give it back entry by entry takes a twentieth of a run.
 ///
-/// By the clause `kept` the run keeps the promises: for a scheme to which the turn doesn't matter two packets of one flow
-/// that were sent to different backends were chosen under versions that pick these backends, for Maglev under versions whose
-/// tables name them at the flow's slot; a forwarder keeps a flow's backend while its entry stands and the backend is up; and
-/// every slot of Maglev's tables names an up backend, and backends' slot counts stand as their weights. The two versions of each
-/// split pick its two backends, for such a scheme, and for Maglev name them at the flow's slot.
+/// By the clause `kept` the run keeps the promises. For a scheme to which the turn doesn't matter, two packets of one flow
+/// that were sent to different backends were chosen under versions that pick these backends. Where the scheme is Maglev,
+/// their tables name the two backends at the flow's slot. A forwarder keeps a flow's backend while its entry stands and the
+/// backend is up. Every slot of Maglev's tables names an up backend, and backends' slot counts are in proportion to their
+/// weights. The two versions of each split pick its two backends, for such a scheme, and for Maglev name them at the flow's
+/// slot.
 pub fn play_scenario<I: Source, O: Sink>(
     alloc: Global,
     key: TableKey,

@@ -1,7 +1,7 @@
 //! The steps of a scenario.
 #![tactic(auto)]
 
-/// A step of a scenario. A node is its place among the cluster's nodes, workers are numbered from 0, and a record is named
+/// A step of a scenario. A node is its place among the cluster's nodes, and workers are numbered from 0. A record is named
 /// by its place in the capture, from 0.
 #[derive(Drop)]
 pub enum Step {
@@ -23,6 +23,6 @@ pub enum Step {
     Drain(u16),
     /// `restart N`: a node restarts. Ends a hold.
     Restart(u16),
-    /// `stop N`: a node's life ends on threads as it stands, and another begins. In a course it is a restart.
+    /// `stop N`: a node's life ends on threads as it is, and another begins. In a course it is a restart.
     Stop(u16),
 }

@@ -52,8 +52,8 @@ pub record IsFullTable (t : NamedTable) : Type 0 where
   pub long : length t.owners ≡ t.size
   pub named : (slot : ℕ) → slot < t.size → (b : Backend) × (slot_names t.ups t.owners slot ≡ Some b) × Contains t.ups b
 
--- every slot names an up backend, and backends' slot counts stand as their weights: for some number of rounds each has from
--- so many up to one more times its weight. Of equal weights they differ by at most one
+-- Every slot names an up backend, and backends' slot counts are in proportion to their weights. For some number of rounds
+-- each has from so many up to one more times its weight. Of equal weights they differ by at most one.
 pub record IsEvenTable (weights : List ℕ) (t : NamedTable) : Type 0 where
   pub full : IsFullTable t
   pub shares : AreShares weights t.owners

@@ -1,4 +1,4 @@
--- What a prepared version stands for.
+-- What a prepared version represents.
 use Rattle.std.specs.Prelude.{◌≡◌, ℕ, Bool, ◌&&◌, ◌==◌, nat_eq, nat_lt, List, [], ◌∷◌, map, find, length, Option, option_map, Contains, IsSomeAnd}
 use Rattle.std.specs.Cmp.Lexicographic.{pointwise}
 use Rattle.five_tuple.specs.declared.Flow.{Flow}

@@ -152,7 +152,7 @@ impl<S: Scheme> Choices<S> {
         self.ups.as_slice()
     }
 
-    /// Whether a backend stands where its address lets expect it. If it doesn't, it may stand elsewhere.
+    /// Whether a backend is where its address lets expect it. If it isn't, it may be elsewhere.
     pub(crate) fn is_where_expected(&self, backend: &Backend) -> bool
         ensures { IsTrue result → Contains self.now.ups.backends backend.now }
     {

@@ -19,11 +19,11 @@ pub struct Maglev<H: FlowHash> {
     pub hash: H,
 }
 
-// How many backends two bytes a slot tell apart.
+// How many backends two bytes a slot can distinguish.
 const MOST_NARROW: usize = 65_536;
 
-/// For each slot the place of the backend that it names: in two bytes, or in four where there are more backends than two
-/// bytes tell apart.
+/// For each slot the place of the backend that it names: in two bytes, or in four where two bytes can't distinguish so many
+/// backends.
 #[derive(Drop)]
 enum Slots {
     Narrow(Vec<u16>),
@@ -160,8 +160,8 @@ impl MaglevTable {
 }
 
 impl<H: FlowHash> Maglev<H> {
-    /// The table of some backends that are up, each with its weight. Every slot names one of them, and their slot counts
-    /// stand as their weights.
+    /// The table of some backends that are up, each with its weight. Every slot names one of them, and their slot counts are
+    /// in proportion to their weights.
     pub fn table(
         &self,
         alloc: Global,

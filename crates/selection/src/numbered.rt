@@ -12,7 +12,7 @@ use std::marker::Model;
 #[derive(Drop)]
 pub struct PreparedVersions<S: Scheme> {
     versions: Vec<PreparedVersion<S>>,
-    // How many versions stand behind the first one of a number.
+    // How many versions are after the first one of a number.
     places: HashMap<u32, usize>,
 }
 

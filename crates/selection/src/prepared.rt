@@ -26,7 +26,7 @@ pub struct PreparedVersion<S: Scheme> {
     size: TableSize,
     number: u32,
     services: Vec<Ready<S>>,
-    // How many services stand behind the first one of a key.
+    // How many services are after the first one of a key.
     places: HashMap<ServiceKey, usize>,
     // What it was made from.
     version: Arc<Version>,
@@ -67,7 +67,7 @@ fn any_has_more_ups(services: &[Service], size: TableSize) -> bool
     services.iter().any(|service| has_more_ups(service, size))
 }
 
-// For each key how many services stand behind the first one that has it.
+// For each key how many services are after the first one that has it.
 fn places_of<S: Scheme>(
     alloc: Global,
     services: &[Ready<S>],
@@ -135,9 +135,9 @@ impl<S: Scheme> PreparedVersion<S> {
         Self::make_after(alloc, scheme, size, version, &nothing)
     }
 
-    /// The same. A service whose up backends are those that a service of its address, protocol and port had in the version
-    /// before, of the same weights, prepared for an equal scheme and the same size, shares what was prepared there: it costs no memory of its
-    /// own and no table is made.
+    /// The same. A service may have the up backends, of the same weights, that a service of its address, protocol and port
+    /// had in the version before. Where that was prepared for an equal scheme and the same size, the two share what was
+    /// prepared: it costs no memory of its own and no table is made.
     pub fn make_after(
         alloc: Global,
         scheme: &S,
@@ -247,8 +247,7 @@ impl<S: Scheme> PreparedVersion<S> {
         }
     }
 
-    /// Whether a backend, as the pair of a name and an address, is one of the up backends of the first service that a
-    /// flow is of.
+    /// Whether a backend, as the pair of a name and an address, is up in the first service that a flow is of.
     pub fn is_up(&self, flow: &Flow, backend: &Backend) -> bool
         ensures { (result ≡ true) ↔ IsUpFor flow.now backend.now self.now.services }
     {

@@ -19,7 +19,7 @@ use std::alloc::Global;
 use std::marker::Model;
 use std::sync::Arc;
 
-/// What tells services apart: address, protocol and port.
+/// What distinguishes services: address, protocol and port.
 #[derive(Clone, Copy, PartialEq, Eq, Hash)]
 pub(crate) struct ServiceKey {
     vip: u32,
@@ -149,7 +149,7 @@ impl<S: Scheme> Ready<S> {
         })
     }
 
-    // What tells this service from others.
+    // What distinguishes this service from others.
     pub(crate) fn key(&self) -> ServiceKey
         ensures { result ≡ key_of_readied self.now }
     {

@@ -29,7 +29,7 @@ abbrev pub ArrivesFirst : List Record → Record → List Said → Type 0
 ArrivesFirst all r [] = Unit {0}
 ArrivesFirst all r (s ∷ ss) = ComesAs all r s.event × NoArrivals ss
 
--- the queues of frames mirror a record, and these events come behind it
+-- the queues of frames mirror a record, and these events come after it
 pub record CanSettle (all : List Record) (k : Cluster) (past events : List Said) (qs : List (List Record)) : Type 0 where
   pub workers : k.workers ≤ 16
   pub room : k.nodes * 16 ≤ length qs

@@ -15,7 +15,7 @@ pub record Taking : Type 0 where
   pub given : ℕ
   pub ended : Option InputEnd
 
--- behind the header the input has these records; and then what is left, or the ending
+-- after the header the input has these records; and then what is left, or the ending
 abbrev pub HasSeen : Head → Option InputEnd → Option (List ℕ) → List Record → Option (List ℕ) → Type 0
 HasSeen head None text seen left = Passed head text seen left
 HasSeen head (Some ending) text seen left = IsTold head text seen ending
@@ -32,7 +32,7 @@ abbrev pub SeenMore : Bool → Tape → List Record → Tape → Taking → Type
 SeenMore true text seen left t = Seen text (seen ++ t.record_read ∷ []) left t × (t.ended ≡ None)
 SeenMore false text seen left t = Seen text seen left t × (is_some t.ended ≡ true)
 
--- behind the records that were read come these, and then the ending; none where it had ended
+-- after the records that were read come these, and then the ending; none where it had ended
 pub record ReadOn (text : Tape) (seen : List Record) (left : Tape) (ending : InputEnd) (old new : Taking) : Type 0 where
   pub more : List Record
   pub told : IsTold old.head text.bytes (seen ++ more) ending
@@ -40,17 +40,17 @@ pub record ReadOn (text : Tape) (seen : List Record) (left : Tape) (ending : Inp
   pub count : new.given ≡ length (seen ++ more)
   pub none : is_some old.ended ≡ true → more ≡ []
 
--- the input stands behind these records, or at its end if these are all
+-- the input is after these records, or at its end if these are all
 abbrev pub Stands : Head → Tape → Tape → List Record → Type 0
 Stands head text left records = (ended : Option InputEnd) × HasSeen head ended text.bytes records left.bytes × Unfailed text left
 
--- how the input stands where a run stopped by this fault: it refused the record behind these, or it stands behind them
+-- where the input is when a run stopped by this fault: it refused the record after these, or it is after them
 abbrev pub StopsAt : Head → Tape → Tape → List Record → SimulationFault → Type 0
 StopsAt head text left records (Capture fault) = RefusedBehind head text left records fault
 StopsAt head text left records Write = Stands head text left records
 StopsAt head text left records Memory = Stands head text left records
 
--- reading on stopped by this fault, behind some records more
+-- reading on stopped by this fault, after some records more
 pub record ReadStops (old : Taking) (text : Tape) (seen : List Record) (left : Tape) (fault : SimulationFault) : Type 0 where
   pub more : List Record
   pub stops : StopsAt old.head text left (seen ++ more) fault

@@ -16,7 +16,7 @@ use Rattle.simulation.specs.Intake.{StopsAt}
 use Rattle.simulation.specs.Sent.{packets_of, sent, Wrote, WroteUntil}
 use Rattle.simulation.specs.Simulated.{course_of, traffic_of, sendings}
 
--- a record with these events behind it, the oldest of them first
+-- a record with these events after it, the oldest of them first
 abbrev pub onto : List Said → List Said → List Said
 onto past [] = past
 onto past (s ∷ ss) = onto (s ∷ past) ss
@@ -25,11 +25,11 @@ onto past (s ∷ ss) = onto (s ∷ past) ss
 abbrev pub Left : Cluster → Choice → Planned → Link → List Record → List Step → Course → Type 0
 Left cluster choice plan link all ss course = run (world_of cluster choice (packets_of link plan.check all)) ss course ≡ course_of cluster choice plan link all
 
--- behind the header the output got what was sent so far
+-- after the header the output got what was sent so far
 abbrev pub SentSoFar : Planned → Link → List Record → Course → Tape → Tape → Type 0
 SentSoFar plan link all course begun out = Wrote begun out (sent (traffic_of plan link all) (reverse course.past))
 
--- a run stopped by this fault behind some records, and the output got a beginning of what is sent of them
+-- a run stopped by this fault after some records, and the output got a prefix of what is sent of them
 pub record Shortened (cluster : Cluster) (choice : Choice) (plan : Planned) (head : Head) (text left begun out : Tape) (fault : SimulationFault) : Type 0 where
   pub records : List Record
   pub stops : StopsAt head text left records fault

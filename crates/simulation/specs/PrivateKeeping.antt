@@ -43,7 +43,7 @@ abbrev pub to_keep : ℕ → Option Record → Option (ℕ × Option Record)
 to_keep zero r = None
 to_keep (suc n) r = Some (suc n, r)
 
--- these records were read and these steps are left: of each place exactly this is kept, so that a record is kept where, and
--- only where, it was read and a step that is left names it
+-- These records were read and these steps are left, and of each place exactly this is kept. So a record is kept where, and
+-- only where, it was read and a step that is left names it.
 abbrev pub KeepsNamed : List Record → List Step → Kept → Type 0
 KeepsNamed seen ss k = (place : ℕ) → kept_at k place ≡ to_keep (times_named place ss) (slice_get seen place)

@@ -1,5 +1,5 @@
 -- The queues of the frames that wait, and how an event moves them. A node has 16 of them, one for each worker that it may
--- have, and they lie behind one another in the order of nodes and workers.
+-- have. They follow one another in the order of nodes and workers.
 use Rattle.std.specs.Prelude.{◌≡◌, ℕ, zero, suc, ◌+◌, ◌*◌, ◌<◌, ◌==◌, ◌&&◌, nat_lt, Bool, false, List, [], ◌∷◌, ◌++◌, length, drop, Option, Some, None, if◌then◌else◌, slice_get, slice_set, slice_index_or}
 use Rattle.pcap_file.specs.Format.{Packet as Record}
 use Rattle.cluster_node.specs.declared.packets.Packet.{Packet}
@@ -22,7 +22,7 @@ HasQueue qs n w = (w < 16) × (n * 16 + w < length qs)
 abbrev pub place_of : ℕ → ℕ → ℕ → Option ℕ
 place_of count n w = if nat_lt w 16 && nat_lt (n * 16 + w) count then Some (n * 16 + w) else None
 
--- each queue moves as told, by its node and worker, and their number stays
+-- each queue moves by its node and worker as this says, and their number stays
 pub record Moves (old new : List (List Record)) (move : ℕ → ℕ → List Record → List Record) : Type 0 where
   pub count : length new ≡ length old
   pub each : (n w : ℕ) → HasQueue old n w → queue_at new n w ≡ move n w (queue_at old n w)
@@ -71,8 +71,8 @@ back_by (Some at) count r = unless_put (place_of count at.0 at.1) r
 abbrev pub handed_back : Said → ℕ → Record → Option Record
 handed_back s count r = back_by (placed_by s.event s.packet s.outcome) count r
 
--- how an event that is accepted and no arrival moves the queues: a serving takes the first of its worker's queue, and a
--- restart empties those of its node
+-- How an event that is accepted and no arrival moves the queues. A serving takes the first of its worker's queue, and a
+-- restart empties those of its node.
 abbrev pub settled_by : Event → ℕ → ℕ → List Record → List Record
 settled_by (Install m v) n w q = q
 settled_by (Arrive m k marks) n w q = q
@@ -126,6 +126,6 @@ alone_on None on qs = false
 alone_on (Some at) None qs = false
 alone_on (Some at) (Some on) qs = (at.0 == on.0 && at.1 == on.1) && is_free qs at.0 at.1
 
--- whether the packet of an arrival waits alone, and the event behind takes it out
+-- whether the packet of an arrival waits alone, and the event after it takes it out
 abbrev pub passes : Said → Said → List (List Record) → Bool
 passes s t qs = alone_on (placed_by s.event s.packet s.outcome) (taken_on t) qs

@@ -21,8 +21,8 @@ use Rattle.simulation.specs.PrivateKeeping.{KeepsNamed}
 use Rattle.simulation.specs.PrivateGoing.{Left, SentSoFar}
 use Rattle.simulation.specs.declared.staging.Stage.{Stage}
 
--- where all the records are these: the queues of frames mirror the course, and behind the header the output got what was
--- sent so far
+-- where all the records are these: the queues of frames mirror the course, and after the header the output got what was sent
+-- so far
 pub record Sound (cluster : Cluster) (plan : Planned) (link : Link) (all : List Record) (course : Course) (qs : List (List Record)) (begun out : Tape) : Type 0 where
   pub workers : cluster.workers ≤ 16
   pub room : cluster.nodes * 16 ≤ length qs
@@ -36,8 +36,8 @@ pub record Going {P : Type 0} (cluster : Cluster) (choice : Choice) (plan : Plan
   pub left : Left cluster choice plan link all ss stage.play.course
   pub sound : Sound cluster plan link all stage.play.course stage.relay.waiting begun out
 
--- with these steps left: some records were read, just those of them are kept that a step left names, and whatever comes
--- behind them, the run is going
+-- With these steps left: some records were read, and just those of them are kept that a step left names. Whatever comes
+-- after them, the run is going.
 pub record Reached {P : Type 0} (cluster : Cluster) (choice : Choice) (plan : Planned) (text begun : Tape) (ss : List Step) (stage : Stage P) (left out : Tape) : Type 0 where
   pub seen : List Record
   pub read : Seen text seen left stage.intake
@@ -55,8 +55,8 @@ abbrev pub still_to_lose : Bool → ℕ → List Step → List Step
 still_to_lose true k ss = lose_of k ∷ ss
 still_to_lose false k ss = ss
 
--- the steps are done and the input was read to its end: the records behind the header are these, the course is the plan's
--- over them, and the output got all that it sends
+-- The steps are done and the input was read to its end. The records after the header are these, the course is the plan's
+-- over them, and the output got all that it sends.
 pub record IsOver (cluster : Cluster) (choice : Choice) (plan : Planned) (head : Head) (text left begun out : Tape) (course : Course) (packets : ℕ) (ending : InputEnd) : Type 0 where
   pub records : List Record
   pub told : IsTold head text.bytes records ending

@@ -28,7 +28,7 @@ packet_in link check r = packet_read link r.bytes (time_of r) check
 abbrev pub packets_of : Link → Bool → List Record → List Packet
 packets_of link check rs = map (packet_in link check) rs
 
--- the datagram of a packet, by its length: what stands behind it in the frame is padding
+-- the datagram of a packet, by its length: what is after it in the frame is padding
 abbrev pub cut_to : Packet → Result (List ℕ) IpFault → Option (List ℕ)
 cut_to p (Err fault) = None
 cut_to (Bad c) (Ok bytes) = None

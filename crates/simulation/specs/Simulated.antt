@@ -1,4 +1,4 @@
--- What the run of a scenario over a capture comes to.
+-- What the run of a scenario over a capture results in.
 use Rattle.std.specs.Prelude.{◌≡◌, ◌⊎◌, ℕ, List, length, drop, reverse, Option, Some, None, Ok, Err}
 use Rattle.std.specs.Io.KnownBytes.{Appends}
 use Rattle.ip_headers.specs.declared.Link.{Link}
@@ -18,7 +18,7 @@ use Rattle.simulation.specs.Plans.{Planned}
 use Rattle.simulation.specs.Intake.{StopsAt}
 use Rattle.simulation.specs.Sent.{Traffic, Sending, packets_of, sent, capture_text, WroteUntil}
 
--- an input that is told has this header, these records and this ending
+-- an input that is known has this header, these records and this ending
 abbrev pub InputIs : Option (List ℕ) → Head → List Record → InputEnd → Type 0
 InputIs None head records ending = Unit {0}
 InputIs (Some text) head records ending = (head_answer text ≡ Ok head) × Reads head 0 (drop 24 text) records (ending_of ending)
@@ -35,8 +35,8 @@ traffic_of plan link records = record { nodes = plan.nodes; link = link; check =
 abbrev pub sendings : Cluster → Choice → Planned → Link → List Record → List Sending
 sendings cluster choice plan link records = sent (traffic_of plan link records) (reverse (course_of cluster choice plan link records).past)
 
--- the course is that of the input's records, of which there are so many, up to how the input ends, and the output got the
--- capture of all that it sends; neither device failed
+-- The course is that of the input's records, of which there are so many, up to how the input ends. The output got the
+-- capture of all that it sends; neither device failed.
 pub record Simulated (cluster : Cluster) (choice : Choice) (plan : Planned) (input input' output output' : Tape) (course : Course) (packets : ℕ) (ending : InputEnd) : Type 0 where
   pub head : Head
   pub records : List Record
@@ -51,14 +51,14 @@ pub record Simulated (cluster : Cluster) (choice : Choice) (plan : Planned) (inp
 abbrev pub Begun : Tape → Tape → Type 0
 Begun output begun = Appends output.bytes begun.bytes written_head × Unfailed output begun
 
--- what the output got of the capture of these records where a run stopped by this fault: a beginning of the header, or the
--- header and a beginning of the records
+-- What the output got of the capture of these records where a run stopped by this fault. It is a prefix of the header, or
+-- the header and a prefix of the records.
 abbrev pub CaptureUntil : SimulationFault → Tape → Tape → List Sending → Type 0
 CaptureUntil fault output output' all =
     ((fault ≡ Write) × PutRefused written_head output output') ⊎ ((begun : Tape) × Begun output begun × WroteUntil fault begun output' all)
 
--- behind its header the input had these records when the run stopped by this fault, and the output got a beginning of the
--- capture over these: cut between records, unless writing failed
+-- After its header the input had these records when the run stopped by this fault. The output got a prefix of the capture
+-- over these: cut between records, unless writing failed.
 pub record StopsShort (cluster : Cluster) (choice : Choice) (plan : Planned) (input input' output output' : Tape) (fault : SimulationFault) : Type 0 where
   pub head : Head
   pub text : Tape
@@ -75,8 +75,8 @@ HeaderFails (Capture fault) input input' = HeadRead input.bytes input'.bytes (Er
 HeaderFails Write input input' = ⊥
 HeaderFails Memory input input' = ⊥
 
--- memory was refused before the devices were called; or the input's header was refused, and the output is as it was; or the
--- run stopped short
+-- Memory was refused before the devices were called; or the input's header was refused, and the output is as it was; or the
+-- run stopped short.
 abbrev pub Stopped : Cluster → Choice → Planned → Tape → Tape → Tape → Tape → SimulationFault → Type 0
 Stopped cluster choice plan input input' output output' fault =
     ((fault ≡ Memory) × (input' ≡ input) × (output' ≡ output))

@@ -34,7 +34,7 @@ impl Model for Intake {
 }
 
 impl Intake {
-    // Nothing was read behind the header.
+    // Nothing was read after the header.
     pub(crate) fn new(alloc: Global, head: Head) -> Intake
         ensures head { result.head ≡ head }
         ensures fresh { result.ended ≡ None }

@@ -150,8 +150,8 @@ impl Relay {
         Ok(())
     }
 
-    // Follows what is told of a packet that arrived: its arrival, whose packet has the record that was read last, and the
-    // serving behind it.
+    // Follows what is reported of a packet that arrived: its arrival, whose packet has the record that was read last, and
+    // the serving after it.
     fn settle_told<O: Sink>(
         &mut self,
         wire: &Wire<'_>,
@@ -179,8 +179,8 @@ impl Relay {
         }
     }
 
-    // Follows what is told of a packet that was delivered, as which the record read last was read. Where it was served at
-    // once, and no other waited there, its frame is sent from where it was read.
+    // Follows what is reported of a packet that was delivered, as which the record read last was read. Where it was served
+    // at once, and no other waited there, its frame is sent from where it was read.
     #[inline(always)]
     pub(crate) fn settle_delivered<O: Sink>(
         &mut self,

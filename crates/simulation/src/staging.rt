@@ -31,8 +31,8 @@ use scenario_steps::Step;
 use spreader::Spread;
 use std::alloc::{AllocError, Global};
 
-/// The course so far, what one delivery tells and the events of one other step, the frames that wait, the records that come
-/// again, and those that are read.
+/// The course so far, what one delivery reports and the events of one other step. Beside these: the frames that wait, the
+/// records that come again, and those that are read.
 #[derive(Drop)]
 pub(crate) struct Stage<P: Spread> {
     play: Play<P>,
@@ -423,7 +423,7 @@ impl<P: Spread> Stage<P> {
     }
 }
 
-/// Runs the steps over the records behind a file header, record by record.
+/// Runs the steps over the records after a file header, record by record.
 pub(crate) fn play_records<C: Core, P: Spread, I: Source, O: Sink>(
     run: &Run<'_, C::Setup>,
     core: &mut C,

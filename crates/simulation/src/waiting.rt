@@ -1,7 +1,7 @@
 //! The frames that wait at all workers of a cluster.
 //!
 //! A cluster's core queues packets by their places in a capture. Where the capture isn't kept, `Waiting` keeps the frames
-//! beside those queues: it follows the record of events, and a frame is there exactly while its packet waits.
+//! beside those queues. It follows the record of events, and a frame is there exactly while its packet waits.
 ghost use Rattle.std.specs.Prelude.{◌≡◌, true, ◌*◌, ◌<◌, ◌∷◌, ◌++◌, [], ℕ, Bool, false, List, length, drop, replicate, slice_get, slice_set, option_map, Some, IfOk, OnOk, OnErr, IfSome, IsSomeAnd};
 ghost use Rattle.pcap_file.specs.Format.{Packet as Record, packet};
 ghost use Rattle.cluster_node.specs.declared.events.Said.{Said};
@@ -145,7 +145,8 @@ impl Waiting {
     }
 
     /// Whether a packet that is placed on a worker waits alone, and a serving of that worker with this outcome takes it out
-    /// again. Then both events are followed as the queues stand, and what is sent is that packet: its frame need not be kept.
+    /// again. Then both events are followed with the queues as they are, and what is sent is that packet: its frame need not
+    /// be kept.
     #[inline(always)]
     pub(crate) fn passes(&self, read: &Packet, node: u16, worker: u16, outcome: &Outcome) -> bool
         ensures { (place floor version : ℕ) (marks : List Bool) → result ≡ passes (record { event = Arrive node place marks; packet = Some read.now; outcome = Placed worker floor }) (record { event = Serve node worker version false; packet = None; outcome = outcome.now }) self.now }
@@ -171,7 +172,7 @@ impl Waiting {
         }
     }
 
-    /// Follows an arrival, whose packet has this frame. Where the packet waits now, the frame is kept behind those that wait
+    /// Follows an arrival, whose packet has this frame. Where the packet waits now, the frame is kept after those that wait
     /// at its worker; else it is handed back.
     #[inline(always)]
     pub(crate) fn arrive(&mut self, said: &Said, frame: Frame) -> Result<Option<Frame>, AllocError>

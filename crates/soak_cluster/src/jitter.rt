@@ -4,8 +4,8 @@ use node_threads::Gate;
 use stats_book::Stats;
 use std::thread::yield_now;
 
-/// Round each serving, before a version is prepared and where a node stops, it yields up to three times, by its seed and
-/// what is served or prepared.
+/// Round each serving, before a version is prepared and where a node stops, it yields up to three times. How often depends
+/// on its seed and on what is served or prepared.
 #[derive(Drop)]
 pub struct Jitter {
     pub seed: u64,

@@ -45,7 +45,7 @@ fn sends_of(alloc: Global, outcomes: &[Outcome], by: u16) -> Result<Vec<Outcome>
     Ok(sent)
 }
 
-// What each life came to.
+// The outcome of each life.
 fn lives(alloc: Global, outcomes: &[Outcome]) -> Result<Vec<Vec<Outcome>>, AllocError> {
     let mut lives = Vec::new(alloc);
     let mut life = Vec::new(alloc);
@@ -97,7 +97,7 @@ fn is_stopped(commands: &[Command], life: usize) -> bool {
     matches!(ends.nth(life), Some(Command::Stop))
 }
 
-// In each life what was placed was served or is told as lost at the life's end, and nothing was lost but at a stop.
+// In each life what was placed was served or is reported as lost at the life's end, and nothing was lost but at a stop.
 fn is_kept(record: &NodeRecord, commands: &[Command]) -> bool {
     let mut waiting = 0u64;
     let mut life = 0usize;
@@ -131,7 +131,7 @@ fn lost_of(outcomes: &[Outcome]) -> u64 {
     all
 }
 
-/// The counts of a run are what its outcomes come to, and nothing waits.
+/// The counts of a run are those of its outcomes, and nothing waits.
 pub fn are_counted(stats: &Stats, outcomes: &[Outcome]) -> bool {
     let forwarded = outcomes
         .iter()
@@ -153,7 +153,7 @@ pub fn are_counted(stats: &Stats, outcomes: &[Outcome]) -> bool {
     same && stats.dropped[Cause::LostAtRestart as usize] == lost
 }
 
-/// Each node did what it was told, served what was placed or lost it at a stop, and sent what its workers sent.
+/// Each node obeyed its commands, served what was placed or lost it at a stop, and sent what its workers sent.
 pub fn are_lived(
     alloc: Global,
     records: &[NodeRecord],

@@ -1,9 +1,9 @@
 //! A soak program: many short runs of a cluster on threads, each thrown from a seed and judged afterwards.
 //!
-//! Arguments: a seed, and how many runs. Each run's history and each node's record are audited on both connection tables, each
-//! node's record is compared with its commands, the counts with the outcomes, and each list of what was sent with what the
-//! workers sent. Prints how many runs and commands there were, how many runs had a fault, and how many weren't what they
-//! should be: the last two are 0.
+//! Arguments: a seed, and how many runs. Each run's history and each node's record are audited on both connection tables.
+//! Each node's record is compared with its commands, the counts with the outcomes, and each list of what was sent with what
+//! the workers sent. Prints how many runs and commands there were, how many runs had a fault, and how many weren't what they
+//! should be. The last two are 0.
 #![tactic(auto)]
 
 ghost use Rattle.std.specs.Prelude.{◌≡◌, ◌<◌, ◌≤◌, ℕ, Some, length, slice_get};
@@ -33,7 +33,7 @@ use std::env;
 use std::sync::Wait;
 use std::thread::Threads;
 
-/// What the runs came to.
+/// The outcome of the runs.
 #[derive(Clone, Copy, Drop)]
 struct Tally {
     runs: u64,
@@ -42,7 +42,7 @@ struct Tally {
     differ: u64,
 }
 
-// Whether each node's record, and the history of them all, come to their outcomes when they are replayed on this table.
+// Whether each node's record, and the history of them all, have the outcomes of a replay on this table.
 fn are_audited<S: Scheme, T: ConnTable>(
     alloc: Global,
     setup: &Setup<S, Fnv>,

@@ -1,4 +1,4 @@
-//! The cluster that a run is made on, and what its nodes are told to do.
+//! The cluster that a run is made on, and the commands of its nodes.
 ghost use Rattle.std.specs.Prelude.{◌≡◌, ◌≤◌, ◌<◌, ℕ, IfOk, Some, length, slice_get};
 ghost use Rattle.cluster_node.specs.declared.packets.Packet.{Packet};
 ghost use Rattle.cluster_node.specs.Records.{WasRead};
@@ -25,7 +25,7 @@ const VERSIONS: u32 = 24;
 /// What is thrown for one run, beside its cluster.
 #[derive(Drop)]
 pub struct Throw {
-    /// What each node is told to do.
+    /// The commands of each node.
     pub commands: Vec<Vec<Command>>,
     /// The places of a ring.
     pub ring: u32,
@@ -71,7 +71,7 @@ pub fn catalogue(alloc: Global, size: TableSize, dice: &mut Dice) -> Result<Cata
     Ok(catalogue)
 }
 
-/// A cluster of 1 to 8 nodes with 1 to 16 workers each, whose tables keep 1 to 4 entries, without an idle limit or with one of
+/// A cluster of 1 to 8 nodes with 1 to 16 workers each, whose tables keep 1 to 4 entries. It has no idle limit, or one of
 /// some microseconds.
 pub fn setup<S: Scheme>(
     alloc: Global,
@@ -127,8 +127,8 @@ pub fn packets() -> [Packet; 8]
     ]
 }
 
-// One command: mostly an offer, now and then of a packet that isn't there; else a version, which may be old or unknown;
-// and seldom a restart or a stop.
+// One command. Mostly it is an offer, now and then of a packet that isn't there; else a version, which may be old or
+// unknown; and seldom a restart or a stop.
 fn command(dice: &mut Dice) -> Command {
     match dice.below(40) {
         0 => return Command::Restart,

@@ -1,7 +1,7 @@
 //! Spreaders: which node of a cluster a packet goes to.
 //!
-//! A spreader stands before the nodes, as a router that spreads packets over equal paths does. It may change its mind at
-//! any packet, since the live nodes change: nothing that the cluster promises rests on its choices.
+//! A spreader is in front of the nodes, as a router that spreads packets over equal paths is. It may change its mind at any
+//! packet, since the live nodes change: nothing that the cluster promises rests on its choices.
 #![tactic(auto)]
 
 ghost use Rattle.std.specs.Prelude.{◌≡◌, ◌<◌, ◌%◌, ℕ, List, Option, length, slice_get, refl};

@@ -12,7 +12,7 @@ use cluster_node::Cause;
 use std::marker::Model;
 use std::sync::ledger::{Blank, Book};
 
-/// Ledgers for the fifteen counts, which no type stands for yet.
+/// Ledgers for the fifteen counts, which no type vouches for yet.
 #[derive(Drop)]
 pub struct Blanks {
     received: Blank,

@@ -179,7 +179,7 @@ impl<B: Names> DropShares<B> {
     }
 }
 
-// Ledgers for the drops, which no type stands for yet.
+// Ledgers for the drops, which no type vouches for yet.
 #[derive(Drop)]
 pub(crate) struct DropBlanks {
     not_ipv4: Blank,

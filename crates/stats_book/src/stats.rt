@@ -4,10 +4,10 @@ ghost use Rattle.stats_book.specs.Counts.{place_of};
 
 use cluster_node::Cause;
 
-/// What became of the packets that came to a cluster's nodes.
+/// What became of the packets that arrived at a cluster's nodes.
 #[derive(Clone, Copy, Debug, PartialEq, Eq)]
 pub struct Stats {
-    /// Packets that came to a node.
+    /// Packets that arrived at a node.
     pub received: u64,
     /// Packets that were sent to a backend.
     pub forwarded: u64,

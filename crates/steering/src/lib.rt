@@ -179,7 +179,7 @@ impl Steerer {
     }
 }
 
-/// A law: with the marks of the workers that refused one after another, `begin` with `next_try` names the worker that
+/// A law about the marks of the workers that refused one after another. `begin` with `next_try` names the worker that
 /// `place` names, and leaves the cursor that `place` leaves.
 pub fn tries_are_placings()
     ensures { TriesArePlacings }

@@ -1,4 +1,5 @@
--- The rule of a board: the publisher's numbers ascend, the word is the last of them, and what a worker's seat has seen is among them.
+-- The rule of a board. The publisher's numbers ascend, the word is the last of them, and what a worker's seat has seen is
+-- among them.
 use Rattle.std.specs.Prelude.{◌≡◌, ℕ, ◌<◌, ◌≤◌, ◌^◌, ◌++◌, true, false, List, [], ◌∷◌, All, Contains, length, slice_index, take}
 use mathlib.Core.Option.{some}
 use lib.ListN.{get_elem?}
@@ -34,11 +35,11 @@ pub record IsBoard (first : ℕ) (words : List ℕ) (views : List View) : Type 0
 abbrev pub HoldsBoard : ℕ → State Unit View → Type 0
 HoldsBoard first s = IsBoard first s.words s.views
 
--- the number is behind the publisher's
+-- the number is after the publisher's
 abbrev pub Published : Step Unit → Me Unit View → ℕ → Me Unit View → Type 0
 Published s me stored after = after ≡ (publisher (me.0.numbers ++ stored ∷ []) me.0.given_back, me.1)
 
--- the number found is behind what was seen, and no less
+-- the number found is after what was seen, and no less
 abbrev pub Looked : Step Unit → Me Unit View → ℕ → Me Unit View → Type 0
 Looked s me found after = (after ≡ (watcher (me.0.numbers ++ found ∷ []), me.1)) × (found < 2 ^ 32) × All (λ n. n ≤ found) me.0.numbers
 

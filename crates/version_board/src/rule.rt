@@ -25,7 +25,7 @@ impl TableRule<(), View, u32> for BoardRule {
     ghost first = { λ first. publisher (first ∷ []) [] };
 }
 
-/// A number is stored, and stands last.
+/// A number is stored, and is last.
 pub struct Publishes;
 
 impl Play<(), View> for Publishes {
