@@ -2,13 +2,13 @@
 ghost use Rattle.std.specs.Prelude.{◌≡◌, IfErr, OnOk};
 ghost use Rattle.maglev_cli.specs.Runs.{Runs, RunCommandFails, stop_fault, threads_fault};
 
-use command_faults::{CliFault, put_text};
-use scenario_commands::{run_fault, scenario_fault};
 use cluster_play::{RunStop, run_scenario};
+use command_faults::{CliFault, put_text};
 use connection_table::TableKey;
 use node_threads::RunFault;
 use pcap_file::{Sink, Source};
 use scenario::read;
+use scenario_commands::{run_fault, scenario_fault};
 use std::alloc::Global;
 use std::sync::Wait;
 use std::thread::Threads;

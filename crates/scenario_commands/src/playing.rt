@@ -2,8 +2,8 @@
 ghost use Rattle.std.specs.Prelude.{◌≡◌, ℕ, IfErr, OnOk};
 ghost use Rattle.scenario_commands.specs.Scenarios.{Plays, PlayFails, ExplainFails, unkept, pool_fault, capture_fault, scenario_fault, run_fault};
 
-use command_faults::{CliFault, put_text};
 use super::nowhere::Nowhere;
+use command_faults::{CliFault, put_text};
 use connection_table::TableKey;
 use pcap_file::{PcapFault, Sink, Source};
 use pool_versions::PoolFault;

@@ -6,8 +6,8 @@ ghost use Rattle.command_faults.specs.Printing.{Prints, BreaksOff};
 ghost use Rattle.table_commands.specs.Compare.{IsCompareText, IsCompareTextOf, ListsFail, CompareFails, AreGood};
 
 use super::compare_text::compare_text_of;
-use command_faults::{CliFault, put_text};
 use super::members::lists_in;
+use command_faults::{CliFault, put_text};
 use hash_laws::{AnyHash, FlowHash};
 use maglev_table::TableSize;
 use pcap_file::Sink;

@@ -4,9 +4,9 @@ ghost use Rattle.command_faults.specs.Printing.{Prints, BreaksOff};
 ghost use Rattle.table_commands.specs.Refusals.{AreFew, IsTableWork};
 ghost use Rattle.table_commands.specs.Pick.{longest, without_newline, IsHexOf, found_line, pick_line, HexFails, InputFails, IsPickLine, IsPickLineOf, IsShort, PickFailsWith, PickFails};
 
-use command_faults::{CliFault, put_text};
 use super::names::{Entrants, lists_of, names_for};
 use cluster_core::{Packet, read_packet};
+use command_faults::{CliFault, put_text};
 use five_tuple::Flow;
 use hash_laws::{AnyHash, FlowHash};
 use hex::FromHexError;

@@ -3,9 +3,9 @@ ghost use Rattle.table_commands.specs.Text.{IsTableText, IsTableTextOf};
 ghost use Rattle.command_faults.specs.Printing.{Prints, BreaksOff};
 ghost use Rattle.table_commands.specs.Refusals.{TableFails, WordsFail, AreNames, IsTableWork};
 
-use command_faults::{CliFault, put_text};
 use super::names::{Entrants, lists_of, names_for};
 use super::table_text::table_text_of;
+use command_faults::{CliFault, put_text};
 use hash_laws::{AnyHash, FlowHash};
 use maglev_table::{TableSize, populate};
 use pcap_file::Sink;

@@ -1,15 +1,16 @@
 //! The commands that play a scenario, over files.
 use crate::reasons::Trouble;
+use command_faults::CliFault;
+use connection_table::TableKey;
 use late_files::{
     FileFault, InputFile, Kept, OutputFile, Refusal, is_standard, is_standard_output,
 };
-use maglev_cli::{CliFault, TableKey, Wanted, explain_keyed, run_keyed, simulate_keyed};
 use pcap_file::{Frame, FromRead, PcapFault, ToWrite, read_record_into, read_start};
+use scenario_commands::{explain_keyed, simulate_keyed};
+use scenario_play::Wanted;
 use std::fs::File;
 use std::io;
 use std::io::{BufReader, ErrorKind, Read, Write};
-use std::sync::Wait;
-use std::thread::Threads;
 
 /// The paths of a command's files. `explain` has no output.
 #[derive(Clone, Copy)]
@@ -55,8 +56,8 @@ fn text_into<R: Read + Drop>(file: R, text: &mut Vec<u8>) -> Result<(), Trouble>
     }
 }
 
-// A key that nobody else knows; where the system has none, the fixed key. No answer depends on it.
-fn table_key(rt: &HostRuntime) -> TableKey {
+/// A key that nobody else knows, or the fixed key where the system has none. No answer depends on it.
+pub fn table_key(rt: &HostRuntime) -> TableKey {
     match TableKey::drawn(rt) {
         Ok(key) => key,
         Err(_) => TableKey::fixed(),
@@ -124,24 +125,48 @@ fn printed(rt: &HostRuntime, text: &[u8], to_error: bool) -> Result<(), CliFault
     }
 }
 
-// The end of a command that wrote an output: it is written out, and then the report is printed, or the fault is reported.
-fn ended(
-    rt: &HostRuntime,
-    outcome: Result<(), CliFault>,
-    input: FromRead<InputFile<'_>>,
-    output: ToWrite<OutputFile<'_>>,
-    report: ToWrite<Kept>,
+/// The devices of a command over files, each opened at its first call, and the report as it is kept until the output is
+/// written out.
+#[derive(Drop)]
+pub struct Devices<'x> {
+    /// The capture that is read.
+    pub input: FromRead<InputFile<'x>>,
+    /// The capture that is written.
+    pub output: ToWrite<OutputFile<'x>>,
+    /// The report.
+    pub report: ToWrite<Kept>,
     to_error: bool,
-) -> Result<(), Trouble> {
-    let input = input.into_inner();
-    let mut output = output.into_inner();
-    let report = report.into_inner();
-    let outcome = match (flushed(&mut output), outcome) {
-        (Err(fault), _) => Err(fault),
-        (Ok(()), Ok(())) => return Ok(printed(rt, report.text(), to_error)?),
-        (Ok(()), Err(fault)) => Err(of_output(of_input(fault, &input), &output, &report)),
-    };
-    outcome.map_err(|fault| trouble_of(fault, &input, output.refusal()))
+}
+
+impl<'x> Devices<'x> {
+    /// Those of some files. Nothing is opened yet.
+    pub fn of(rt: &'x HostRuntime, files: &Paths<'x>) -> Devices<'x> {
+        Devices {
+            input: FromRead::new(InputFile::new(rt, files.input)),
+            output: ToWrite::new(OutputFile::new(rt, files.output, files.read())),
+            report: ToWrite::new(Kept::new(rt.alloc())),
+            to_error: is_standard_output(rt, files.output),
+        }
+    }
+
+    /// The end of a command: the output is written out, and then the report is printed, or the fault is answered.
+    pub fn ended(self, rt: &HostRuntime, outcome: Result<(), CliFault>) -> Result<(), Trouble> {
+        let Devices {
+            input,
+            output,
+            report,
+            to_error,
+        } = self;
+        let input = input.into_inner();
+        let mut output = output.into_inner();
+        let report = report.into_inner();
+        let outcome = match (flushed(&mut output), outcome) {
+            (Err(fault), _) => Err(fault),
+            (Ok(()), Ok(())) => return Ok(printed(rt, report.text(), to_error)?),
+            (Ok(()), Err(fault)) => Err(of_output(of_input(fault, &input), &output, &report)),
+        };
+        outcome.map_err(|fault| trouble_of(fault, &input, output.refusal()))
+    }
 }
 
 /// The command `simulate` over files. The report is printed once the output is written out.
@@ -151,45 +176,17 @@ pub fn simulate_files<'x>(
     text: &[u8],
     wanted: Wanted,
 ) -> Result<(), Trouble> {
-    let to_error = is_standard_output(rt, files.output);
-    let mut output = ToWrite::new(OutputFile::new(rt, files.output, files.read()));
-    let mut input = FromRead::new(InputFile::new(rt, files.input));
-    let mut report = ToWrite::new(Kept::new(rt.alloc()));
+    let mut devices = Devices::of(rt, files);
     let outcome = simulate_keyed(
         rt.alloc(),
         table_key(rt),
         text,
-        &mut input,
-        &mut output,
-        &mut report,
+        &mut devices.input,
+        &mut devices.output,
+        &mut devices.report,
         wanted,
     );
-    ended(rt, outcome, input, output, report, to_error)
-}
-
-/// The command `run` over files. The report is printed once the output is written out.
-pub fn run_files<'x, T: Threads + Wait + Sync>(
-    rt: &'x HostRuntime,
-    threads: &T,
-    files: &Paths<'x>,
-    text: &[u8],
-    splits: bool,
-) -> Result<(), Trouble> {
-    let to_error = is_standard_output(rt, files.output);
-    let mut output = ToWrite::new(OutputFile::new(rt, files.output, files.read()));
-    let mut input = FromRead::new(InputFile::new(rt, files.input));
-    let mut report = ToWrite::new(Kept::new(rt.alloc()));
-    let outcome = run_keyed(
-        threads,
-        rt.alloc(),
-        table_key(rt),
-        text,
-        &mut input,
-        &mut output,
-        &mut report,
-        splits,
-    );
-    ended(rt, outcome, input, output, report, to_error)
+    devices.ended(rt, outcome)
 }
 
 /// The command `explain` over files.

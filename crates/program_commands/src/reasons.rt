@@ -1,8 +1,8 @@
-//! What `--verbose` says after a fault: where it is, what was found there and what was expected.
-use crate::scenario_runs::Paths;
+//! What `--verbose` says behind a fault: where it is, what was found there and what was expected.
+use crate::files::Paths;
+use command_faults::CliFault;
 use fault_words::words_of;
 use late_files::{Head, Refusal};
-use maglev_cli::CliFault;
 use pcap_file::PcapFault;
 use scenario::ScenarioFault;
 use std::alloc::Global;
