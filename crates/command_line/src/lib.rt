@@ -40,12 +40,12 @@ Faults, and what to do:
 /// The end of the help of `run`.
 const RUN_HELP: &str = "Example: maglev run examples/failover.toml examples/failover.pcap sent.pcap
 
-SCENARIO, INPUT and OUTPUT may be -, as for simulate. Steps are those of simulate but for full, hold and drain, which are BadStep, and with stop N, which is BadStep there: N's workers end before their next packet and begin anew, without what waits. With --splits events are numbered, and packets ordered, as in the run's history: node by node, of each life what the node was told and then the servings, worker by worker.
+SCENARIO, INPUT and OUTPUT may be -, as for simulate. Steps are those of simulate but for full, hold and drain, which are BadStep. There is one more, which is BadStep in simulate: stop N, at which N's workers end before their next packet and begin anew, without what waits. With --splits events are numbered, and packets ordered, as in the run's history. That goes node by node: of each life first the node's commands and then the servings, worker by worker.
 
 Faults are those of simulate, and:
   ThreadLost           allow more threads, or take fewer nodes and workers
   Foreign, RingLost, BookLost
-                       tell the authors: what the threads did isn't what was promised";
+                       report it as a bug: what the threads did isn't what was promised";
 
 /// The end of the help of `explain`.
 const EXPLAIN_HELP: &str =
@@ -198,7 +198,7 @@ fn splits<'a>(alloc: Global) -> Arg<'a> {
 fn list<'a>(alloc: Global) -> Arg<'a> {
     Arg::new(alloc, "list")
         .long("list")
-        .help("print each event and what it came to before the report")
+        .help("print each event and its outcome before the report")
         .action(ArgAction::SetTrue)
 }
 
