@@ -29,7 +29,7 @@ use node_records::{Journal, WorkerRecord, are_of};
 use pool_versions::Catalogue;
 use rtrb::{Consumer, RingBuffer};
 use selection::Scheme;
-use stats_book::Names;
+use stats_book::{Names, Shares};
 use std::alloc::{AllocError, Global};
 use std::sync::Wait;
 use std::thread;
@@ -76,8 +76,8 @@ fn reader_of<S: Scheme, R: Wait + Drop>(
     }
 }
 
-/// What the workers see of their driver's versions: for each seat of the board a place to read.
-pub fn post_all<'a, S: Scheme, R: Wait + Drop>(
+// What the workers see of their driver's versions: for each seat of the board a place to read.
+fn post_all<'a, S: Scheme, R: Wait + Drop>(
     alloc: Global,
     board: &'a WordBoard,
     stage: &Stage<S, R>,
@@ -96,8 +96,48 @@ pub fn post_all<'a, S: Scheme, R: Wait + Drop>(
     Ok(posts)
 }
 
-/// The rings of a life, each of so many places, and what its workers own.
-pub fn lay<'a, S: Scheme, B: Names>(
+impl<'a, S: Scheme, B: Names> Laid<'a, S, B> {
+    // Nothing for no worker.
+    fn empty(alloc: Global) -> Laid<'a, S, B>
+        ensures { length result.outfits.items ≡ 0 }
+    {
+        Laid {
+            outfits: Vec::new(alloc),
+            inputs: Inputs {
+                rings: Vec::new(alloc),
+            },
+            outputs: Vec::new(alloc),
+        }
+    }
+
+    // The rings of one worker more, each of so many places, and what it owns.
+    fn add(
+        &mut self,
+        alloc: Global,
+        post: Post<'a, S>,
+        places: u32,
+        part: Shares<B>,
+        number: u16,
+    ) -> Result<(), AllocError>
+        ensures { OnOk result (length self.new.outfits.items ≡ length self.old.outfits.items + 1) }
+    {
+        let (input, ring) = RingBuffer::new(alloc, places as usize)?;
+        self.inputs.rings.push(input)?;
+        let (out, output) = RingBuffer::new(alloc, places as usize)?;
+        self.outputs.push(output)?;
+        self.outfits.push(Outfit {
+            post,
+            ring,
+            out,
+            part,
+            number,
+        })?;
+        Ok(())
+    }
+}
+
+// The rings of a life, each of so many places, and what its workers own.
+fn lay<'a, S: Scheme, B: Names>(
     alloc: Global,
     posts: Vec<Post<'a, S>>,
     places: u32,
@@ -108,29 +148,36 @@ pub fn lay<'a, S: Scheme, B: Names>(
     ensures parts { OnOk result (tally.new.shares.parts + length posts.entry.items ≡ tally.old.shares.parts) }
     ensures same { OnOk result ((tally.new.shares ≡ record tally.old.shares { parts = tally.new.shares.parts }) × (tally.new.lost ≡ tally.old.lost)) }
 {
-    let mut outfits = Vec::new(alloc);
-    let mut rings = Vec::new(alloc);
-    let mut outputs = Vec::new(alloc);
+    let mut laid = Laid::empty(alloc);
     let mut number = 0u16;
     for post in posts {
-        let (input, ring) = RingBuffer::new(alloc, places as usize)?;
-        let (out, output) = RingBuffer::new(alloc, places as usize)?;
-        rings.push(input)?;
-        outputs.push(output)?;
-        outfits.push(Outfit {
-            post,
-            ring,
-            out,
-            part: tally.part(),
-            number,
-        })?;
+        let part = tally.part();
+        laid.add(alloc, post, places, part, number)?;
         number = number.wrapping_add(1);
     }
-    Ok(Laid {
-        outfits,
-        inputs: Inputs { rings },
-        outputs,
-    })
+    Ok(laid)
+}
+
+/// For each seat of the board a place to read versions, its rings, each of so many places, and a part of the counts.
+pub fn lay_all<'a, S: Scheme, R: Wait + Drop, B: Names>(
+    alloc: Global,
+    board: &'a WordBoard,
+    stage: &Stage<S, R>,
+    seats: Vec<Watcher>,
+    places: u32,
+    tally: &mut Tally<B>,
+) -> Result<Laid<'a, S, B>, RunFault>
+    requires watchers { All (λ w. IsWatcherOf board.now w) seats.items }
+    requires enough { length seats.items < tally.old.shares.parts }
+    ensures outfits { IfOk result (λ l. length l.outfits.items ≡ length seats.items) }
+    ensures parts { OnOk result (tally.new.shares.parts + length seats.items ≡ tally.old.shares.parts) }
+    ensures same { OnOk result ((tally.new.shares ≡ record tally.old.shares { parts = tally.new.shares.parts }) × (tally.new.lost ≡ tally.old.lost)) }
+{
+    let posts = post_all(alloc, board, stage, seats)?;
+    match lay(alloc, posts, places, tally) {
+        Ok(laid) => Ok(laid),
+        Err(_) => Err(RunFault::Memory),
+    }
 }
 
 // Starts the workers, up to the first that can't be started.
