@@ -74,15 +74,15 @@ fn unweighed<H: hash_laws::FlowHash>(
     Maglev { hash }.table(alloc, size, ups, weights.as_slice())
 }
 
-// The address that a table gives a slot, or 0 for none.
-fn address_at(table: &MaglevTable, slot: u32) -> u32 {
-    match table.backend_at(slot) {
-        Some(backend) => backend.addr,
-        None => 0,
+// The address that a table gives a slot.
+fn address_at(table: &MaglevTable, slot: u32) -> Option<u32> {
+    if slot >= table.size().slots() {
+        return None;
     }
+    Some(table.backend_at(slot)?.addr)
 }
 
-// The backends of a table of 7 slots, and the address that each slot has.
+// The backends of a table of 7 slots, and the address that each slot has, 0 for none.
 static TABLES: [(&[(&[u8], u32)], [u32; 7]); 3] = [
     (&[(b"A", A), (b"B", B), (b"C", C)], [B, A, B, C, C, A, A]),
     (&[(b"A", A), (b"C", C)], [A, A, A, C, C, C, A]),
@@ -95,7 +95,8 @@ fn shows_table(rt: &impl Abort, alloc: Global, rows: &[(&[u8], u32)], addrs: &[u
     holds(rt, table.size().slots() == 7, "seven slots");
     holds(rt, table.ups() == ups.as_slice(), "the backends");
     for (slot, addr) in addrs.iter().enumerate() {
-        assert_eq!(rt; address_at(&table, slot as u32), *addr, "at {slot}");
+        let found = address_at(&table, slot as u32).unwrap_or(0);
+        assert_eq!(rt; found, *addr, "at {slot}");
     }
 }
 
@@ -490,7 +491,7 @@ fn more_backends_than_two_bytes_tell_apart(rt: HostRuntime) {
     let table = unweighed(&rt, rt.alloc(), Fnv, size, ups.as_slice()).expect(&rt, "a table");
     let mut named = vec![in rt.alloc(); false; 65537].expect(&rt, "memory");
     for slot in 0..65537u32 {
-        let place = table.backend_at(slot).expect(&rt, "a backend").addr as usize;
+        let place = address_at(&table, slot).expect(&rt, "a backend") as usize;
         holds(
             &rt,
             named.get(place) == Some(&false),
