@@ -13,6 +13,7 @@ import importlib.machinery
 import importlib.util
 import os
 import pathlib
+import re
 import shutil
 import subprocess
 import sys
@@ -63,10 +64,15 @@ def ways(crates, below):
     return found
 
 
+def memory():
+    """The bytes of memory that can be had, what the system only keeps of files among them."""
+    found = re.search(r"MemAvailable: +(\d+)", pathlib.Path("/proc/meminfo").read_text())
+    return int(found[1]) << 10
+
+
 def jobs():
     """How many checks run side by side."""
-    pages = os.sysconf("SC_AVPHYS_PAGES") * os.sysconf("SC_PAGE_SIZE")
-    return max(1, min(len(os.sched_getaffinity(0)), pages // ROOM))
+    return max(1, min(len(os.sched_getaffinity(0)), memory() // ROOM))
 
 
 def taken(seconds):

@@ -79,7 +79,7 @@ def without_parameters(head):
 
 
 def owner_at(text, found):
-    """Whose function this is, a type's or a trait's, and whether it stands in the trait itself."""
+    """Whose function this is, a type's or a trait's, and whether it is in the trait itself."""
     if found.group()[0] != " ":
         return "", False
     kind, head = [one.groups() for one in OWNER.finditer(text, 0, found.start())][-1]
@@ -194,7 +194,7 @@ def judge_promises(house, elsewhere):
     """For each promise a line of what shows it, and what is wrong with it, if anything."""
     for name in house.promises:
         shown = [f"edit {one.name}" for one in house.shown[name]] or elsewhere.get(name, [])
-        yield f"{name}: {', '.join(shown)}", None if shown else "no edit and no test shows it"
+        yield f"{name}: {', '.join(shown) or 'nothing'}", None if shown else "no edit and no test shows it"
 
 
 def judge_elsewhere(house, elsewhere):
@@ -238,17 +238,17 @@ def judge(house):
     elsewhere = {}
     for name, said in lines_of(LINES, LINE):
         elsewhere.setdefault(name, []).append(said)
-    told = [*judge_promises(house, elsewhere), *judge_bodies(house)]
-    return told, [*judge_elsewhere(house, elsewhere), *judge_forms(), *judge_edits(house)]
+    printed = [*judge_promises(house, elsewhere), *judge_bodies(house)]
+    return printed, [*judge_elsewhere(house, elsewhere), *judge_forms(), *judge_edits(house)]
 
 
 def main(words):
-    told, checked = judge(House())
+    printed, checked = judge(House())
     if "--check" not in words:
-        print("\n".join(line for line, fault in told if fault is None))
-    failed = [f"FAILED {line}: {fault}" for line, fault in [*told, *checked] if fault]
+        print("\n".join(line for line, fault in printed if fault is None))
+    failed = [f"FAILED {line}: {fault}" for line, fault in [*printed, *checked] if fault]
     print("".join(f"{line}\n" for line in failed), end="")
-    print(f"{len(told) + len(checked) - len(failed)} passed, {len(failed)} failed")
+    print(f"{len(printed) + len(checked) - len(failed)} passed, {len(failed)} failed")
     return 1 if failed else 0
 
 
