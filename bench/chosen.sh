@@ -4,8 +4,8 @@
 # how evenly such flows, and others in patterns, are spread under 200 drawn keys. Choosing 65,536 flows takes some seconds.
 source "$(dirname "$(readlink -f "${BASH_SOURCE[0]}")")/common.sh"
 flows=${1:-65536} packets=${2:-200000}
-"$top/bin/maglev" --help >/dev/null # builds it
-maglev=$top/crates/maglev/out/maglev
+. "$top/bin/program.sh"
+maglev=$program
 cc -O2 -o "$work/chosen" "$top/bench/chosen_flows.c"
 "$work/chosen" "$flows" 16 >"$work/clients"
 awk -v n="$flows" 'BEGIN { for (i = 0; i < n; i++) print "10.0." int(i / 250) % 250 "." i % 250, 1024 + int(i / 62500) }' >"$work/others"

@@ -3,8 +3,8 @@
 # 65,536 places, beside `simulate` on the same scenario. A driver that is faster than its workers finds the rings full, and
 # those packets are dropped: so the packets that were sent are told too. Of five runs the fastest counts.
 source "$(dirname "$(readlink -f "${BASH_SOURCE[0]}")")/common.sh"
-"$top/bin/maglev" --help >/dev/null # builds it
-maglev=$top/crates/maglev/out/maglev
+. "$top/bin/program.sh"
+maglev=$program
 python3 "$top/bench/many_clients.py" "$work/input.pcap" 1000000 100000
 
 # cluster NODES WORKERS: prints a scenario in which every node gets its share of the capture.

@@ -4,8 +4,8 @@
 # runs each, in turns, the fastest counts; of the first two also the medians. Then the most memory that each takes, also for
 # 4,000,000 packets.
 source "$(dirname "$(readlink -f "${BASH_SOURCE[0]}")")/common.sh"
-"$top/bin/maglev" --help >/dev/null # builds it
-maglev=$top/crates/maglev/out/maglev
+. "$top/bin/program.sh"
+maglev=$program
 cc -O2 -o "$work/peer" "$top/bench/simulate.c"
 python3 "$top/bench/many_clients.py" "$work/input.pcap" 1000000 100000
 python3 "$top/bench/many_clients.py" "$work/longer.pcap" 4000000 100000

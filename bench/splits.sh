@@ -2,8 +2,8 @@
 # splits.sh: times `simulate --splits` over 1,000,000 packets of 100,000 flows, four nodes and two workers each, beside
 # `simulate` without it. Both write to /dev/null. Of twelve runs each, in turns, the fastest counts.
 source "$(dirname "$(readlink -f "${BASH_SOURCE[0]}")")/common.sh"
-"$top/bin/maglev" --help >/dev/null # builds it
-maglev=$top/crates/maglev/out/maglev
+. "$top/bin/program.sh"
+maglev=$program
 python3 "$top/bench/many_clients.py" "$work/input.pcap" 1000000 100000
 nodes='"10.9.0.1", "10.9.0.2", "10.9.0.3", "10.9.0.4"'
 steps='"install 0 1", "install 1 1", "install 2 1", "install 3 1", "take 1000000"'

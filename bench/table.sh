@@ -2,8 +2,8 @@
 # table.sh: times `table --size 65537 --hash fnv` of 3, 200 and 4,096 names beside a C program (bench/table.c). Of fifteen whole
 # runs each, in turns, the fastest counts.
 source "$(dirname "$(readlink -f "${BASH_SOURCE[0]}")")/common.sh"
-"$top/bin/maglev" --help >/dev/null # builds it
-maglev=$top/crates/maglev/out/maglev
+. "$top/bin/program.sh"
+maglev=$program
 cc -O2 -o "$work/peer" "$top/bench/table.c"
 for count in 3 200 4096; do
     names=$(seq -f 'b%g' 1 "$count")

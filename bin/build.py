@@ -203,9 +203,9 @@ def sources(name):
 
 
 def write_sources(name):
-    """Lists what the program is built from, each path ended by a zero byte."""
-    words = [os.fsencode(path.relative_to(TOP)) + b"\0" for path in sources(name)]
-    (CRATES / name / "out" / "sources").write_bytes(b"".join(words))
+    """Lists what the program is built from, as words for the shell."""
+    words = "\n".join(str(path.relative_to(TOP)) for path in sources(name))
+    (CRATES / name / "out" / "sources").write_text(f'paths="{words}"\n')
 
 
 def is_current(name):
@@ -217,10 +217,8 @@ def is_current(name):
 def prove_program(name, progress):
     """Proves and builds the program, over proved libraries. What rt answered; and the seconds."""
     start = time.monotonic()
-    done = rt_in(CRATES / name, "check")
-    if done.returncode == 0:
-        # rt run builds what it runs.
-        done = rt_in(CRATES / name, "run", "--", "--help")
+    # rt run proves what it builds, and builds what it runs.
+    done = rt_in(CRATES / name, "run", "--", "--help")
     return progress.takes(name, done, time.monotonic() - start)
 
 

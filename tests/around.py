@@ -3,6 +3,7 @@
 
 What a tool that isn't installed would show is skipped with a word. The last line is 'N passed, N failed'.
 """
+import hashlib
 import os
 import pathlib
 import re
@@ -169,7 +170,11 @@ def test_install():
         share = TOP / "share"
         files = [path.relative_to(share) for path in share.rglob("*") if path.is_file()]
         same = [(prefix / "share" / name).read_bytes() == (share / name).read_bytes() for name in files]
-        check("what stands beside it", len(same) == 4 and all(same))
+        check("what is beside it", len(same) == 4 and all(same))
+        documents = [path.relative_to(TOP / "docs") for path in (TOP / "docs").rglob("*") if path.is_file()]
+        there = prefix / "share" / "doc" / "maglev"
+        check("the documents", documents and all((there / name).read_bytes() == (TOP / "docs" / name).read_bytes() for name in documents))
+        check("the licences", (there / "LICENSE").exists() and (there / "LICENSE-MIT").exists() and (there / "LICENSE-APACHE").exists())
     check("bin/install of nothing", did([TOP / "bin" / "install"])[0] == 2)
 
 
@@ -220,6 +225,44 @@ def test_first_run():
         status, out, err = call()
         lines = b"src/lib.rt: not proved\nlow is not proved\nmaglev: the program can't be built\n"
         check("a crate that isn't proved", (status, out) == (3, b"") and err.endswith(lines), repr(err))
+
+
+def ship(top):
+    """Writes a dist/ whose program says that it is that one's, with the sums of the small repository as it is."""
+    (top / "dist").mkdir(exist_ok=True)
+    program = top / "dist" / "maglev"
+    program.write_text('#!/bin/sh\necho "shipped $*"\n')
+    program.chmod(0o755)
+    code = ["crates.txt", "crates/low/src/lib.rt", "crates/maglev/src/main.rt"]
+    for name, paths in [("maglev.sha256", ["dist/maglev"]), ("sources.sha256", code)]:
+        lines = [f"{hashlib.sha256((top / path).read_bytes()).hexdigest()}  {path}\n" for path in paths]
+        (top / "dist" / name).write_text("".join(lines))
+
+
+def test_shipped_program():
+    """bin/maglev runs the program of dist/ where its sums are the tree's and none was built here, and says so once."""
+    first = b"maglev: running the program of dist/, proved by the gate; bin/prove proves and builds it here\n"
+    with tempfile.TemporaryDirectory() as made:
+        top = pathlib.Path(made)
+        words, env = small_repository(top)
+        ship(top)
+        no_kit = {**os.environ, "PATH": "/usr/bin:/bin"}
+        check("the first call, without a kit", did(words, env=no_kit) == (0, b"shipped a\n", first))
+        check("the second says nothing", did(words, env=no_kit, cwd="/") == (0, b"shipped a\n", b""))
+        source = top / "crates" / "low" / "src" / "lib.rt"
+        source.write_text("changed\n")
+        status, out, err = did(words, env=env)
+        check("a changed source is built", (status, out) == (0, b"ran a\n") and err.startswith(b"maglev: proving"), repr(err))
+        source.write_text("code\n")
+        check("it is as it was", did(words, env=env) == (0, b"shipped a\n", b""))
+        (top / "dist" / "maglev").write_text('#!/bin/sh\necho "another $*"\n')
+        check("another program isn't run", did(words, env=env)[:2] == (0, b"ran a\n"))
+        ship(top)
+        check("what was built here comes first", did(words, env=env) == (0, b"ran a\n", b""))
+        shutil.rmtree(top / "crates" / "maglev" / "out")
+        check("nothing was built", did(words, env=no_kit) == (0, b"shipped a\n", first))
+        (top / "crates" / "low" / "src" / "lib.rt").unlink()
+        check("a source that is gone", did(words, env=no_kit)[:2] != (0, b"shipped a\n"))
 
 
 if __name__ == "__main__":

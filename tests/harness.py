@@ -3,7 +3,8 @@ import os
 import pathlib
 
 TOP = pathlib.Path(__file__).resolve().parent.parent
-PROGRAM = str(TOP / "bin" / "maglev")
+# The program that the scripts run: what bin/maglev chooses, if no other is named.
+PROGRAM = os.environ.get("MAGLEV_PROGRAM", str(TOP / "bin" / "maglev"))
 
 passed = 0
 failed = 0

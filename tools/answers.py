@@ -2,6 +2,7 @@
 """answers.py CRATE: writes general tactics as answers for the goals on which the prover searches long, and for those that an
 edit's function owes; keeps what proves and saves time, and prints the seconds before and after.
 
+answers.py --slow CRATE       leaves those out that only an edit's function owes
 answers.py --times CRATE      lists the functions of a crate by the seconds that their goals took in the last check
 answers.py --without EDIT ..  tries must-fail edits (paths) with the answers of the edited functions taken out
 
@@ -28,7 +29,7 @@ USES = {
     "common_steps": "use Rattle.std.proofs.lemmas.Grind.{common_steps}",
 }
 # Seconds of search above which a function's goals are answered, and what an answer has to save.
-LONG, SAVES = 1.0, 0.3
+LONG, SAVES = float(os.environ.get("LONG", "1.0")), 0.3
 GOAL = re.compile(r"^(returns|loop-\S+-(init|preserved)$|\S+-init$|\S+-preserved$)")
 
 
@@ -158,10 +159,10 @@ def refused(crate, said, path):
     return found
 
 
-def answer(crate):
+def answer(crate, with_edits):
     """Writes answers, and keeps what proves and saves."""
     before = searched(crate)
-    touched = edited(crate)
+    touched = edited(crate) if with_edits else set()
     known = proved_by_goals(crate)
     chosen = sorted(path for path in known if before[path] >= LONG or path.rpartition("/")[2] in touched)
     files = {path: (crate / "proofs" / path / "Answers.antt") for path in chosen}
@@ -234,7 +235,8 @@ def main(words):
         return 0
     if words[:1] == ["--without"]:
         return without(words[1:])
-    return max(answer(CRATES / name) for name in words)
+    names = [word for word in words if word != "--slow"]
+    return max(answer(CRATES / name, "--slow" not in words) for name in names)
 
 
 if __name__ == "__main__":

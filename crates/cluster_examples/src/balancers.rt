@@ -1,6 +1,7 @@
-//! Worked scenarios on balancers with both tables, and what deployment refuse.
+//! Worked scenarios on balancers with both tables, and what a deployment refuses.
 ghost use Rattle.std.specs.Prelude.{◌≡◌, ◌<◌, ◌^◌, [], length};
 
+use crate::checks::{Told, holds, same_count, same_told};
 use cluster_core::{Balancers, Core, Deployment, Notes, Setup, Task, Totals};
 use cluster_node::{Event, Outcome, Packet, Said};
 use connection_table::{ConnTable, LruTable, PlainTable};
@@ -151,7 +152,7 @@ fn played<T: ConnTable>(
 }
 
 // Of a Forward the last byte of the backend's address and the origin.
-fn told(outcome: &Outcome) -> (&'static str, u64, u32) {
+fn told(outcome: &Outcome) -> Told {
     match outcome {
         Outcome::Installed => ("installed", 0, 0),
         Outcome::Placed { worker, floor } => ("placed", u64::from(*worker), *floor),
@@ -165,134 +166,187 @@ fn told(outcome: &Outcome) -> (&'static str, u64, u32) {
     }
 }
 
-fn shows(rt: &impl Abort, history: &[Said], want: &[(&'static str, u64, u32)]) {
-    assert_eq!(rt; history.len(), want.len(), "how many events");
-    for (at, (said, want)) in history.iter().zip(want).enumerate() {
-        assert_eq!(rt; told(&said.outcome), *want, "event {at}");
+fn shows(rt: &impl Abort, history: &[Said], want: &[Told]) {
+    same_count(rt, history.len(), want.len(), "how many events");
+    for (event, (said, want)) in history.iter().zip(want).enumerate() {
+        same_told(rt, told(&said.outcome), *want, event);
     }
 }
 
-// Two nodes with different versions, which send one flow to two backends.
-fn two_versions<T: ConnTable>(rt: &impl Abort, alloc: Global) {
-    let steps = [
-        Step::Install {
-            node: 0,
-            version: 1,
-        },
-        Step::Install {
-            node: 1,
-            version: 2,
-        },
-        Step::Take(2),
-    ];
-    let mut events = Vec::new(alloc);
-    let _ = played::<T>(rt, alloc, 1006, &steps, &mut events);
-    let want = [
-        ("installed", 0, 0),
-        ("installed", 0, 0),
-        ("placed", 0, 1),
-        ("forward", 1, 1),
-        ("placed", 0, 2),
-        ("forward", 3, 2),
-    ];
-    shows(rt, events.as_slice(), &want);
+// A step, as the rows have it.
+#[derive(Clone, Copy)]
+enum Move {
+    Install(u16, u32),
+    /// Node 0 alone is live.
+    Alone,
+    Hold(u16),
+    Drain(u16),
+    Restart(u16),
+    Take(u32),
+    Again(u32),
 }
 
-// Two packets are lost at a restart, and one is sent.
-fn totalled<T: ConnTable>(rt: &impl Abort, alloc: Global) {
-    let one = [0].to_vec(alloc).expect(rt, "memory");
-    let steps = [
-        Step::Live(one),
-        Step::Install {
-            node: 0,
-            version: 1,
-        },
-        Step::Hold(0),
-        Step::Take(2),
-        Step::Restart(0),
-        Step::Take(1),
-    ];
-    let want = Totals {
-        received: 3,
-        forwarded: 1,
-        dropped: [0, 0, 0, 0, 0, 0, 0, 0, 0, 0, 0, 0, 2],
-        waiting: 0,
-        refused: 0,
-    };
-    let mut events = Vec::new(alloc);
-    assert_eq!(rt; played::<T>(rt, alloc, 1000, &steps, &mut events), want);
+fn step_of(rt: &impl Abort, alloc: Global, step: Move) -> Step {
+    match step {
+        Move::Install(node, version) => Step::Install { node, version },
+        Move::Alone => Step::Live([0].to_vec(alloc).expect(rt, "memory")),
+        Move::Hold(node) => Step::Hold(node),
+        Move::Drain(node) => Step::Drain(node),
+        Move::Restart(node) => Step::Restart(node),
+        Move::Take(packets) => Step::Take(packets),
+        Move::Again(packet) => Step::Again(packet),
+    }
 }
 
-// Two packets wait when the node restarts; the next is served at once, and so is what is drained.
-fn held<T: ConnTable>(rt: &impl Abort, alloc: Global) {
-    let one = [0].to_vec(alloc).expect(rt, "memory");
-    let steps = [
-        Step::Live(one),
-        Step::Install {
-            node: 0,
-            version: 1,
+fn steps_of(rt: &impl Abort, alloc: Global, moves: &[Move]) -> Vec<Step> {
+    let mut steps = Vec::new(alloc);
+    for step in moves {
+        steps.push(step_of(rt, alloc, *step)).expect(rt, "memory");
+    }
+    steps
+}
+
+// What becomes of three packets from a port, by these steps, and the totals.
+struct Scenario {
+    port: u16,
+    moves: &'static [Move],
+    told: &'static [Told],
+    totals: Totals,
+}
+
+static SCENARIOS: [Scenario; 3] = [
+    // Two nodes with different versions, which send one flow to two backends.
+    Scenario {
+        port: 1006,
+        moves: &[Move::Install(0, 1), Move::Install(1, 2), Move::Take(2)],
+        told: &[
+            ("installed", 0, 0),
+            ("installed", 0, 0),
+            ("placed", 0, 1),
+            ("forward", 1, 1),
+            ("placed", 0, 2),
+            ("forward", 3, 2),
+        ],
+        totals: Totals {
+            received: 2,
+            forwarded: 2,
+            dropped: [0; 13],
+            waiting: 0,
+            refused: 0,
         },
-        Step::Hold(0),
-        Step::Take(2),
-        Step::Restart(0),
-        Step::Take(1),
-        Step::Hold(0),
-        Step::Again(0),
-        Step::Again(1),
-        Step::Drain(0),
-    ];
-    let mut events = Vec::new(alloc);
-    let _ = played::<T>(rt, alloc, 1006, &steps, &mut events);
-    let want = [
-        ("installed", 0, 0),
-        ("placed", 0, 1),
-        ("placed", 0, 1),
-        ("restarted", 2, 0),
-        ("placed", 0, 1),
-        ("forward", 1, 1),
-        ("placed", 0, 1),
-        ("placed", 0, 1),
-        ("forward", 1, 1),
-        ("forward", 1, 1),
-    ];
-    shows(rt, events.as_slice(), &want);
+    },
+    // Two packets are lost at a restart, and one is sent.
+    Scenario {
+        port: 1000,
+        moves: &[
+            Move::Alone,
+            Move::Install(0, 1),
+            Move::Hold(0),
+            Move::Take(2),
+            Move::Restart(0),
+            Move::Take(1),
+        ],
+        told: &[
+            ("installed", 0, 0),
+            ("placed", 0, 1),
+            ("placed", 0, 1),
+            ("restarted", 2, 0),
+            ("placed", 0, 1),
+            ("forward", 1, 1),
+        ],
+        totals: Totals {
+            received: 3,
+            forwarded: 1,
+            dropped: [0, 0, 0, 0, 0, 0, 0, 0, 0, 0, 0, 0, 2],
+            waiting: 0,
+            refused: 0,
+        },
+    },
+    // Two packets wait when the node restarts; the next is served at once, and so is what is drained.
+    Scenario {
+        port: 1006,
+        moves: &[
+            Move::Alone,
+            Move::Install(0, 1),
+            Move::Hold(0),
+            Move::Take(2),
+            Move::Restart(0),
+            Move::Take(1),
+            Move::Hold(0),
+            Move::Again(0),
+            Move::Again(1),
+            Move::Drain(0),
+        ],
+        told: &[
+            ("installed", 0, 0),
+            ("placed", 0, 1),
+            ("placed", 0, 1),
+            ("restarted", 2, 0),
+            ("placed", 0, 1),
+            ("forward", 1, 1),
+            ("placed", 0, 1),
+            ("placed", 0, 1),
+            ("forward", 1, 1),
+            ("forward", 1, 1),
+        ],
+        totals: Totals {
+            received: 5,
+            forwarded: 3,
+            dropped: [0, 0, 0, 0, 0, 0, 0, 0, 0, 0, 0, 0, 2],
+            waiting: 0,
+            refused: 0,
+        },
+    },
+];
+
+fn same_totals(rt: &impl Abort, found: &Totals, wanted: &Totals) {
+    assert_eq!(rt; *found, *wanted);
+}
+
+fn plays<T: ConnTable>(rt: &impl Abort, alloc: Global) {
+    for scenario in SCENARIOS.iter() {
+        let steps = steps_of(rt, alloc, scenario.moves);
+        assert!(rt; steps.len() < 100);
+        let mut events = Vec::new(alloc);
+        let totals = played::<T>(rt, alloc, scenario.port, steps.as_slice(), &mut events);
+        same_totals(rt, &totals, &scenario.totals);
+        shows(rt, events.as_slice(), scenario.told);
+    }
 }
 
 #[test]
 fn scenarios_with_a_plain_table(rt: HostRuntime) {
-    two_versions::<PlainTable>(&rt, rt.alloc());
-    held::<PlainTable>(&rt, rt.alloc());
-    totalled::<PlainTable>(&rt, rt.alloc());
+    plays::<PlainTable>(&rt, rt.alloc());
 }
 
 #[test]
 fn scenarios_with_a_table_over_links(rt: HostRuntime) {
-    two_versions::<LruTable>(&rt, rt.alloc());
-    held::<LruTable>(&rt, rt.alloc());
-    totalled::<LruTable>(&rt, rt.alloc());
+    plays::<LruTable>(&rt, rt.alloc());
 }
 
-// Tables of two sizes don't fit. What fits is kept as it was.
+// Tables of two sizes don't fit.
+#[test]
+fn what_does_not_fit(rt: HostRuntime) {
+    let made = Deployment::new(setup(&rt, rt.alloc()), catalogue(&rt, rt.alloc(), 13));
+    holds(&rt, made.is_none(), "two sizes");
+}
+
+// What fits is kept as it was.
 #[test]
 fn what_fits(rt: HostRuntime) {
-    let alloc = rt.alloc();
-    assert!(&rt; Deployment::new(setup(&rt, alloc), catalogue(&rt, alloc, 13)).is_none());
     let task = Task {
-        deployment: deployment(&rt, alloc),
+        deployment: deployment(&rt, rt.alloc()),
         asked: (),
     };
     let workers = <Balancers<Sums, SumHash, LruTable, Kept> as Core>::workers(&task);
-    let deployment = &task.deployment;
-    assert_eq!(&rt;
-        (
-            deployment.setup().workers(),
-            deployment.setup().size().slots(),
-            deployment.catalogue().size().slots(),
-            workers
-        ),
-        (1, 7, 7, 1)
-    );
-    assert!(&rt;
-        deployment.catalogue().get(2).is_some() && deployment.catalogue().get(3).is_none()
+    let setup = task.deployment.setup();
+    let catalogue = task.deployment.catalogue();
+    holds(&rt, (setup.workers(), workers) == (1, 1), "one worker");
+    let sizes = (setup.size().slots(), catalogue.size().slots());
+    holds(&rt, sizes == (7, 7), "seven slots");
+    holds(
+        &rt,
+        catalogue.get(2).is_some() && catalogue.get(3).is_none(),
+        "two versions",
     );
 }

@@ -5,4 +5,6 @@
 #[cfg(test)]
 mod balancers;
 #[cfg(test)]
+mod checks;
+#[cfg(test)]
 mod tests;

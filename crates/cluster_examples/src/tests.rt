@@ -1,20 +1,21 @@
 //! The worked examples as lists of events, on both tables.
 mod frames;
 mod idle;
+mod schemes;
 
 ghost use Rattle.std.specs.Prelude.{◌≡◌, ℕ, Some, slice_get};
 ghost use Rattle.cluster_node.specs.Records.{WasRead};
 
+use crate::checks::{Told, holds, same_count, same_told};
 use cluster_core::{
-    Cause, Event, Outcome, Packet, Reason, Run, Setup, Verdict, explain, replay, replay_maglev,
-    totals,
+    Cause, Event, Outcome, Packet, Reason, Run, Setup, replay, replay_maglev, totals,
 };
 use connection_table::{ConnTable, LruTable, PlainTable};
 use five_tuple::Flow;
 use hash_laws::SumHash;
 use maglev_table::{Name, TableSize, Weight};
 use pool_versions::{Backend, Catalogue, Member, Service, Version};
-use selection::{Maglev, PlainHash, RoundRobin, Scheme};
+use selection::{Maglev, Scheme};
 use std::alloc::Global;
 use std::process::Abort;
 
@@ -76,20 +77,18 @@ fn catalogue_of(rt: &impl Abort, alloc: Global, versions: &[(u32, u8, [bool; 3])
 }
 
 // The versions 1 all up; 2 without B; 3 all up, A at another address; 4 without A; 5 all up.
+static VERSIONS: [(u32, u8, [bool; 3]); 5] = [
+    (1, 1, [true, true, true]),
+    (2, 1, [true, false, true]),
+    (3, 9, [true, true, true]),
+    (4, 1, [false, true, true]),
+    (5, 1, [true, true, true]),
+];
+
 fn catalogue(rt: &impl Abort, alloc: Global) -> Catalogue
     ensures { result.size ≡ 7 }
 {
-    catalogue_of(
-        rt,
-        alloc,
-        &[
-            (1, 1, [true, true, true]),
-            (2, 1, [true, false, true]),
-            (3, 9, [true, true, true]),
-            (4, 1, [false, true, true]),
-            (5, 1, [true, true, true]),
-        ],
-    )
+    catalogue_of(rt, alloc, &VERSIONS)
 }
 
 // With an idle limit in microseconds, if there is one.
@@ -131,73 +130,101 @@ fn packet(sport: u16) -> Packet
     packet_at(sport, 0)
 }
 
-fn install(node: u16, version: u32) -> Event {
-    Event::Install { node, version }
-}
-
-fn arrive(node: u16, packet: u32) -> Event {
+fn arrive(node: u16, packet: u32, refused: [bool; 16]) -> Event {
     Event::Arrive {
         node,
         packet,
-        refused: [false; 16],
+        refused,
     }
 }
 
-fn serve(node: u16, version: u32) -> Event {
+fn serve(node: u16, version: u32, refused: bool) -> Event {
     Event::Serve {
         node,
         worker: 0,
         version,
-        refused: false,
+        refused,
     }
 }
 
 // What an outcome tells: a word and two numbers. Of a Forward the last byte of the backend's address and the origin.
-fn told(outcome: &Outcome) -> (&'static str, u32, u32) {
+fn told(outcome: &Outcome) -> Told {
     match outcome {
         Outcome::Installed => ("installed", 0, 0),
-        Outcome::Placed { worker, floor } => ("placed", u32::from(*worker), *floor),
+        Outcome::Placed { worker, floor } => ("placed", u64::from(*worker), *floor),
         Outcome::Forward {
             backend,
             origin,
             ..
-        } => ("forward", backend.addr % 256, *origin),
-        Outcome::Dropped { packet, cause } => (
-            match cause {
-                Cause::NoVersion => "no version",
-                Cause::RingsFull => "rings full",
-                Cause::NoBackend => "no backend",
-                _ => "dropped",
-            },
-            *packet,
-            0,
-        ),
-        Outcome::Restarted { lost } => ("restarted", (*lost % 256) as u32, 0),
-        Outcome::Refused(reason) => (
-            match reason {
-                Reason::NoNode => "no node",
-                Reason::NoWorker => "no worker",
-                Reason::NoPacket => "no packet",
-                Reason::UnknownVersion => "unknown version",
-                Reason::NotNewer => "not newer",
-                Reason::Idle => "idle",
-                Reason::VersionRange => "version range",
-            },
-            0,
-            0,
-        ),
+        } => ("forward", u64::from(backend.addr % 256), *origin),
+        Outcome::Dropped { packet, cause } => (word_of_cause(*cause), u64::from(*packet), 0),
+        Outcome::Restarted { lost } => ("restarted", *lost % 256, 0),
+        Outcome::Refused(reason) => (word_of_reason(*reason), 0, 0),
     }
 }
 
-// An event, and what it comes to.
-type Step = (Event, (&'static str, u32, u32));
+fn word_of_cause(cause: Cause) -> &'static str {
+    match cause {
+        Cause::NoVersion => "no version",
+        Cause::RingsFull => "rings full",
+        Cause::NoBackend => "no backend",
+        _ => "dropped",
+    }
+}
 
-fn events_of(rt: &impl Abort, alloc: Global, steps: &[Step]) -> Vec<Event> {
+fn word_of_reason(reason: Reason) -> &'static str {
+    match reason {
+        Reason::NoNode => "no node",
+        Reason::NoWorker => "no worker",
+        Reason::NoPacket => "no packet",
+        Reason::UnknownVersion => "unknown version",
+        Reason::NotNewer => "not newer",
+        Reason::Idle => "idle",
+        Reason::VersionRange => "version range",
+    }
+}
+
+/// An event, as the rows have it: of a node and a version, or of a node and a packet.
+#[derive(Clone, Copy)]
+enum Act {
+    Install(u16, u32),
+    Arrive(u16, u32),
+    /// Of node 0, where these workers refuse.
+    Refusing(u32, [bool; 16]),
+    Serve(u16, u32),
+    /// A serving whose entry is refused.
+    Unstored(u16, u32),
+    Restart(u16),
+}
+
+fn event_of(act: Act) -> Event {
+    match act {
+        Act::Install(node, version) => Event::Install { node, version },
+        Act::Arrive(node, packet) => arrive(node, packet, [false; 16]),
+        Act::Refusing(packet, refused) => arrive(0, packet, refused),
+        Act::Serve(node, version) => serve(node, version, false),
+        Act::Unstored(node, version) => serve(node, version, true),
+        Act::Restart(node) => Event::Restart { node },
+    }
+}
+
+// An event, and what it results in.
+type Step = (Act, Told);
+
+fn events_of(rt: &impl Abort, alloc: Global, acts: &[Act]) -> Vec<Event> {
     let mut events = Vec::new(alloc);
-    for (event, _) in steps {
-        events.push(*event).expect(rt, "memory");
+    for act in acts {
+        events.push(event_of(*act)).expect(rt, "memory");
     }
     events
+}
+
+fn acts_of(rt: &impl Abort, alloc: Global, steps: &[Step]) -> Vec<Act> {
+    let mut acts = Vec::new(alloc);
+    for (act, _) in steps {
+        acts.push(*act).expect(rt, "memory");
+    }
+    acts
 }
 
 fn shows_of<S: Scheme, T: ConnTable>(
@@ -211,7 +238,8 @@ fn shows_of<S: Scheme, T: ConnTable>(
     requires size { catalogue.now.size ≡ setup.now.size }
     requires read { (k : ℕ) (p : Packet) → slice_get packets.now k ≡ Some p → WasRead (Some p) }
 {
-    let events = events_of(rt, alloc, steps);
+    let acts = acts_of(rt, alloc, steps);
+    let events = events_of(rt, alloc, acts.as_slice());
     let outcomes = replay::<S, SumHash, T>(
         alloc,
         setup,
@@ -219,9 +247,9 @@ fn shows_of<S: Scheme, T: ConnTable>(
         packets,
         events.as_slice(),
     ).expect(rt, "memory");
-    assert_eq!(rt; outcomes.len(), steps.len());
-    for (at, (outcome, step)) in outcomes.iter().zip(steps.iter()).enumerate() {
-        assert_eq!(rt; told(outcome), step.1, "event {at}");
+    same_count(rt, outcomes.len(), steps.len(), "how many events");
+    for (event, (outcome, step)) in outcomes.iter().zip(steps.iter()).enumerate() {
+        same_told(rt, told(outcome), step.1, event);
     }
 }
 
@@ -244,235 +272,141 @@ const SECOND: u32 = 1;
 
 const THIRD: u32 = 2;
 
-fn keeps_and_leaves<T: ConnTable>(rt: &impl Abort, alloc: Global) {
-    let setup = setup(rt, alloc, Maglev { hash: SumHash }, 1);
+// Examples on one worker.
+static EXAMPLES: [&[Step]; 9] = [
     // A backend that is down is left.
-    shows::<Maglev<SumHash>, T>(
-        rt,
-        alloc,
-        &setup,
-        &[
-            (install(0, 1), ("installed", 0, 0)),
-            (arrive(0, SECOND), ("placed", 0, 1)),
-            (serve(0, 1), ("forward", 2, 1)),
-            (install(0, 2), ("installed", 0, 0)),
-            (arrive(0, SECOND), ("placed", 0, 2)),
-            (serve(0, 2), ("forward", 1, 2)),
-        ],
-    );
+    &[
+        (Act::Install(0, 1), ("installed", 0, 0)),
+        (Act::Arrive(0, SECOND), ("placed", 0, 1)),
+        (Act::Serve(0, 1), ("forward", 2, 1)),
+        (Act::Install(0, 2), ("installed", 0, 0)),
+        (Act::Arrive(0, SECOND), ("placed", 0, 2)),
+        (Act::Serve(0, 2), ("forward", 1, 2)),
+    ],
     // Another address is another backend.
-    shows::<Maglev<SumHash>, T>(
-        rt,
-        alloc,
-        &setup,
-        &[
-            (install(0, 1), ("installed", 0, 0)),
-            (arrive(0, FIRST), ("placed", 0, 1)),
-            (serve(0, 1), ("forward", 1, 1)),
-            (install(0, 3), ("installed", 0, 0)),
-            (arrive(0, FIRST), ("placed", 0, 3)),
-            (serve(0, 3), ("forward", 9, 3)),
-        ],
-    );
+    &[
+        (Act::Install(0, 1), ("installed", 0, 0)),
+        (Act::Arrive(0, FIRST), ("placed", 0, 1)),
+        (Act::Serve(0, 1), ("forward", 1, 1)),
+        (Act::Install(0, 3), ("installed", 0, 0)),
+        (Act::Arrive(0, FIRST), ("placed", 0, 3)),
+        (Act::Serve(0, 3), ("forward", 9, 3)),
+    ],
     // What was not served under a version leaves no trace.
-    shows::<Maglev<SumHash>, T>(
-        rt,
-        alloc,
-        &setup,
-        &[
-            (install(0, 1), ("installed", 0, 0)),
-            (arrive(0, FIRST), ("placed", 0, 1)),
-            (serve(0, 1), ("forward", 1, 1)),
-            (install(0, 4), ("installed", 0, 0)),
-            (install(0, 5), ("installed", 0, 0)),
-            (arrive(0, FIRST), ("placed", 0, 5)),
-            (serve(0, 5), ("forward", 1, 1)),
-        ],
-    );
+    &[
+        (Act::Install(0, 1), ("installed", 0, 0)),
+        (Act::Arrive(0, FIRST), ("placed", 0, 1)),
+        (Act::Serve(0, 1), ("forward", 1, 1)),
+        (Act::Install(0, 4), ("installed", 0, 0)),
+        (Act::Install(0, 5), ("installed", 0, 0)),
+        (Act::Arrive(0, FIRST), ("placed", 0, 5)),
+        (Act::Serve(0, 5), ("forward", 1, 1)),
+    ],
     // An entry that was refused is not there.
-    shows::<Maglev<SumHash>, T>(
-        rt,
-        alloc,
-        &setup,
-        &[
-            (install(0, 1), ("installed", 0, 0)),
-            (arrive(0, THIRD), ("placed", 0, 1)),
-            (
-                Event::Serve {
-                    node: 0,
-                    worker: 0,
-                    version: 1,
-                    refused: true,
-                },
-                ("forward", 1, 1),
-            ),
-            (install(0, 2), ("installed", 0, 0)),
-            (arrive(0, THIRD), ("placed", 0, 2)),
-            (serve(0, 2), ("forward", 3, 2)),
-        ],
-    );
-}
-
-fn refuses_in_order<T: ConnTable>(rt: &impl Abort, alloc: Global) {
-    let setup = setup(rt, alloc, Maglev { hash: SumHash }, 1);
-    shows::<Maglev<SumHash>, T>(
-        rt,
-        alloc,
-        &setup,
-        &[
-            (arrive(0, THIRD), ("no version", THIRD, 0)),
-            (install(0, 1), ("installed", 0, 0)),
-            (install(0, 2), ("installed", 0, 0)),
-            (install(0, 2), ("not newer", 0, 0)),
-            (install(0, 9), ("unknown version", 0, 0)),
-            (arrive(0, THIRD), ("placed", 0, 2)),
-            (serve(0, 1), ("version range", 0, 0)),
-            (serve(0, 2), ("forward", 3, 2)),
-            (serve(0, 2), ("idle", 0, 0)),
-            (install(2, 1), ("no node", 0, 0)),
-            (arrive(0, 3), ("no packet", 0, 0)),
-        ],
-    );
+    &[
+        (Act::Install(0, 1), ("installed", 0, 0)),
+        (Act::Arrive(0, THIRD), ("placed", 0, 1)),
+        (Act::Unstored(0, 1), ("forward", 1, 1)),
+        (Act::Install(0, 2), ("installed", 0, 0)),
+        (Act::Arrive(0, THIRD), ("placed", 0, 2)),
+        (Act::Serve(0, 2), ("forward", 3, 2)),
+    ],
+    // Refusals in their order.
+    &[
+        (Act::Arrive(0, THIRD), ("no version", 2, 0)),
+        (Act::Install(0, 1), ("installed", 0, 0)),
+        (Act::Install(0, 2), ("installed", 0, 0)),
+        (Act::Install(0, 2), ("not newer", 0, 0)),
+        (Act::Install(0, 9), ("unknown version", 0, 0)),
+        (Act::Arrive(0, THIRD), ("placed", 0, 2)),
+        (Act::Serve(0, 1), ("version range", 0, 0)),
+        (Act::Serve(0, 2), ("forward", 3, 2)),
+        (Act::Serve(0, 2), ("idle", 0, 0)),
+        (Act::Install(2, 1), ("no node", 0, 0)),
+        (Act::Arrive(0, 3), ("no packet", 0, 0)),
+    ],
     // The version between the floor and the newest may be used.
-    shows::<Maglev<SumHash>, T>(
-        rt,
-        alloc,
-        &setup,
-        &[
-            (install(0, 1), ("installed", 0, 0)),
-            (arrive(0, THIRD), ("placed", 0, 1)),
-            (install(0, 2), ("installed", 0, 0)),
-            (serve(0, 1), ("forward", 1, 1)),
-        ],
-    );
-}
+    &[
+        (Act::Install(0, 1), ("installed", 0, 0)),
+        (Act::Arrive(0, THIRD), ("placed", 0, 1)),
+        (Act::Install(0, 2), ("installed", 0, 0)),
+        (Act::Serve(0, 1), ("forward", 1, 1)),
+    ],
+    // The packets of a flow on two nodes with different versions, and the entry that remains until two others came.
+    &[
+        (Act::Install(0, 1), ("installed", 0, 0)),
+        (Act::Install(1, 2), ("installed", 0, 0)),
+        (Act::Arrive(0, THIRD), ("placed", 0, 1)),
+        (Act::Serve(0, 1), ("forward", 1, 1)),
+        (Act::Arrive(1, THIRD), ("placed", 0, 2)),
+        (Act::Serve(1, 2), ("forward", 3, 2)),
+    ],
+    &[
+        (Act::Install(0, 1), ("installed", 0, 0)),
+        (Act::Arrive(0, THIRD), ("placed", 0, 1)),
+        (Act::Serve(0, 1), ("forward", 1, 1)),
+        (Act::Install(0, 2), ("installed", 0, 0)),
+        (Act::Arrive(0, FIRST), ("placed", 0, 2)),
+        (Act::Serve(0, 2), ("forward", 1, 2)),
+        (Act::Arrive(0, FIRST), ("placed", 0, 2)),
+        (Act::Serve(0, 2), ("forward", 1, 2)),
+        (Act::Arrive(0, THIRD), ("placed", 0, 2)),
+        (Act::Serve(0, 2), ("forward", 1, 1)),
+        (Act::Arrive(0, FIRST), ("placed", 0, 2)),
+        (Act::Serve(0, 2), ("forward", 1, 2)),
+        (Act::Arrive(0, SECOND), ("placed", 0, 2)),
+        (Act::Serve(0, 2), ("forward", 1, 2)),
+        (Act::Arrive(0, THIRD), ("placed", 0, 2)),
+        (Act::Serve(0, 2), ("forward", 3, 2)),
+    ],
+    // The backend that is taken when the first is down is kept when the first is up again.
+    &[
+        (Act::Install(0, 1), ("installed", 0, 0)),
+        (Act::Arrive(0, FIRST), ("placed", 0, 1)),
+        (Act::Serve(0, 1), ("forward", 1, 1)),
+        (Act::Install(0, 4), ("installed", 0, 0)),
+        (Act::Arrive(0, FIRST), ("placed", 0, 4)),
+        (Act::Serve(0, 4), ("forward", 2, 4)),
+        (Act::Install(0, 5), ("installed", 0, 0)),
+        (Act::Arrive(0, FIRST), ("placed", 0, 5)),
+        (Act::Serve(0, 5), ("forward", 2, 4)),
+    ],
+];
 
-// A home that refuses, four times, and then all.
-fn goes_round<T: ConnTable>(rt: &impl Abort, alloc: Global) {
-    let setup = setup(rt, alloc, Maglev { hash: SumHash }, 3);
-    let mut refused = [false; 16];
-    refused[1] = true;
-    let one = Event::Arrive {
-        node: 0,
-        packet: FIRST,
-        refused,
-    };
-    let all = Event::Arrive {
-        node: 0,
-        packet: FIRST,
-        refused: [true; 16],
-    };
-    shows::<Maglev<SumHash>, T>(
-        rt,
-        alloc,
-        &setup,
-        &[
-            (install(0, 1), ("installed", 0, 0)),
-            (one, ("placed", 0, 1)),
-            (one, ("placed", 2, 1)),
-            (one, ("placed", 2, 1)),
-            (one, ("placed", 0, 1)),
-            (all, ("rings full", FIRST, 0)),
-        ],
-    );
+const ONE_REFUSES: [bool; 16] = [
+    false, true, false, false, false, false, false, false, false, false, false, false, false,
+    false, false, false,
+];
+
+// A home, of three workers, that refuses, four times, and then all.
+static ROUND: [Step; 6] = [
+    (Act::Install(0, 1), ("installed", 0, 0)),
+    (Act::Refusing(FIRST, ONE_REFUSES), ("placed", 0, 1)),
+    (Act::Refusing(FIRST, ONE_REFUSES), ("placed", 2, 1)),
+    (Act::Refusing(FIRST, ONE_REFUSES), ("placed", 2, 1)),
+    (Act::Refusing(FIRST, ONE_REFUSES), ("placed", 0, 1)),
+    (Act::Refusing(FIRST, [true; 16]), ("rings full", 0, 0)),
+];
+
+fn shows_all<T: ConnTable>(rt: &impl Abort, alloc: Global) {
+    let one = setup(rt, alloc, Maglev { hash: SumHash }, 1);
+    for steps in EXAMPLES.iter() {
+        shows::<Maglev<SumHash>, T>(rt, alloc, &one, steps);
+    }
+    let three = setup(rt, alloc, Maglev { hash: SumHash }, 3);
+    shows::<Maglev<SumHash>, T>(rt, alloc, &three, &ROUND);
 }
 
 #[test]
 fn examples_with_a_plain_table(rt: HostRuntime) {
-    keeps_and_leaves::<PlainTable>(&rt, rt.alloc());
-    refuses_in_order::<PlainTable>(&rt, rt.alloc());
-    goes_round::<PlainTable>(&rt, rt.alloc());
-    splits_and_evicts::<PlainTable>(&rt, rt.alloc());
-    stays_after_a_change::<PlainTable>(&rt, rt.alloc());
+    shows_all::<PlainTable>(&rt, rt.alloc());
     counts::<PlainTable>(&rt, rt.alloc());
 }
 
 #[test]
 fn examples_with_a_table_over_links(rt: HostRuntime) {
-    keeps_and_leaves::<LruTable>(&rt, rt.alloc());
-    refuses_in_order::<LruTable>(&rt, rt.alloc());
-    goes_round::<LruTable>(&rt, rt.alloc());
-    splits_and_evicts::<LruTable>(&rt, rt.alloc());
-    stays_after_a_change::<LruTable>(&rt, rt.alloc());
+    shows_all::<LruTable>(&rt, rt.alloc());
     counts::<LruTable>(&rt, rt.alloc());
-}
-
-// What explaining two outcomes tells: the slot, the versions, and the last bytes of the backends' addresses.
-fn told_of(verdict: Verdict) -> (&'static str, [u32; 5]) {
-    match verdict {
-        Verdict::NotSent => ("not sent", [0; 5]),
-        Verdict::OtherFlow => ("other flow", [0; 5]),
-        Verdict::Same => ("same", [0; 5]),
-        Verdict::Split {
-            slot,
-            v1,
-            v2,
-            b1,
-            b2,
-        } => ("split", [slot, v1, v2, b1.addr % 256, b2.addr % 256]),
-    }
-}
-
-// The packets of two flows on two nodes with different versions, and the entry that stands until two others came.
-fn splits_and_evicts<T: ConnTable>(rt: &impl Abort, alloc: Global) {
-    let setup = setup(rt, alloc, Maglev { hash: SumHash }, 1);
-    shows::<Maglev<SumHash>, T>(
-        rt,
-        alloc,
-        &setup,
-        &[
-            (install(0, 1), ("installed", 0, 0)),
-            (install(1, 2), ("installed", 0, 0)),
-            (arrive(0, THIRD), ("placed", 0, 1)),
-            (serve(0, 1), ("forward", 1, 1)),
-            (arrive(1, THIRD), ("placed", 0, 2)),
-            (serve(1, 2), ("forward", 3, 2)),
-        ],
-    );
-    shows::<Maglev<SumHash>, T>(
-        rt,
-        alloc,
-        &setup,
-        &[
-            (install(0, 1), ("installed", 0, 0)),
-            (arrive(0, THIRD), ("placed", 0, 1)),
-            (serve(0, 1), ("forward", 1, 1)),
-            (install(0, 2), ("installed", 0, 0)),
-            (arrive(0, FIRST), ("placed", 0, 2)),
-            (serve(0, 2), ("forward", 1, 2)),
-            (arrive(0, FIRST), ("placed", 0, 2)),
-            (serve(0, 2), ("forward", 1, 2)),
-            (arrive(0, THIRD), ("placed", 0, 2)),
-            (serve(0, 2), ("forward", 1, 1)),
-            (arrive(0, FIRST), ("placed", 0, 2)),
-            (serve(0, 2), ("forward", 1, 2)),
-            (arrive(0, SECOND), ("placed", 0, 2)),
-            (serve(0, 2), ("forward", 1, 2)),
-            (arrive(0, THIRD), ("placed", 0, 2)),
-            (serve(0, 2), ("forward", 3, 2)),
-        ],
-    );
-}
-
-// The backend that is taken when the first is down is kept when the first is up again.
-fn stays_after_a_change<T: ConnTable>(rt: &impl Abort, alloc: Global) {
-    let setup = setup(rt, alloc, Maglev { hash: SumHash }, 1);
-    shows::<Maglev<SumHash>, T>(
-        rt,
-        alloc,
-        &setup,
-        &[
-            (install(0, 1), ("installed", 0, 0)),
-            (arrive(0, FIRST), ("placed", 0, 1)),
-            (serve(0, 1), ("forward", 1, 1)),
-            (install(0, 4), ("installed", 0, 0)),
-            (arrive(0, FIRST), ("placed", 0, 4)),
-            (serve(0, 4), ("forward", 2, 4)),
-            (install(0, 5), ("installed", 0, 0)),
-            (arrive(0, FIRST), ("placed", 0, 5)),
-            (serve(0, 5), ("forward", 2, 4)),
-        ],
-    );
 }
 
 // A list of outcomes that no run has: what was received was forwarded, dropped for one of the causes, or waits.
@@ -488,235 +422,72 @@ fn every_drop_is_counted(rt: HostRuntime) {
             cause: Cause::TooLarge,
         },
     ];
-    let totals = totals(&outcomes);
-    assert_eq!(rt;
-        (totals.received, totals.forwarded, totals.waiting),
-        (2, 0, 0)
-    );
-    assert_eq!(rt; totals.dropped, [0, 0, 0, 0, 0, 0, 0, 1, 0, 0, 0, 0, 1]);
+    let found = totals(&outcomes);
+    let numbers = (found.received, found.forwarded, found.waiting);
+    holds(&rt, numbers == (2, 0, 0), "two were received");
+    let dropped = [0, 0, 0, 0, 0, 0, 0, 1, 0, 0, 0, 0, 1];
+    holds(&rt, found.dropped == dropped, "and dropped");
 }
 
 // Two packets wait when the node restarts.
+static COUNTED: [Act; 7] = [
+    Act::Install(0, 1),
+    Act::Arrive(0, 0),
+    Act::Arrive(0, 0),
+    Act::Restart(0),
+    Act::Arrive(0, 0),
+    Act::Serve(0, 1),
+    Act::Serve(0, 1),
+];
+
 fn counts<T: ConnTable>(rt: &impl Abort, alloc: Global) {
     let setup = setup(rt, alloc, Maglev { hash: SumHash }, 1);
     let packets = [packet(1000)];
-    let events = [
-        install(0, 1),
-        arrive(0, 0),
-        arrive(0, 0),
-        Event::Restart { node: 0 },
-        arrive(0, 0),
-        serve(0, 1),
-        serve(0, 1),
-    ];
+    let events = events_of(rt, alloc, &COUNTED);
     let outcomes = replay_maglev::<SumHash, T>(
         alloc,
         &setup,
         &catalogue(rt, alloc),
         &packets,
-        &events,
-    ).expect(rt, "memory");
-    let totals = totals(outcomes.as_slice());
-    assert_eq!(rt;
-        (
-            totals.received,
-            totals.forwarded,
-            totals.waiting,
-            totals.refused
-        ),
-        (3, 1, 0, 1)
-    );
-    assert_eq!(rt; totals.dropped, [0, 0, 0, 0, 0, 0, 0, 0, 0, 0, 0, 0, 2]);
-}
-
-// The events of two nodes, of which the first has version 1 and the second version 2, and each is sent one packet.
-fn two_nodes(packet: u32) -> [Event; 6] {
-    [
-        install(0, 1),
-        install(1, 2),
-        arrive(0, packet),
-        serve(0, 1),
-        arrive(1, packet),
-        serve(1, 2),
-    ]
-}
-
-// The events of one node, whose entry for the third flow stands until packets of two others were sent.
-fn evicting() -> [Event; 16] {
-    [
-        install(0, 1),
-        arrive(0, THIRD),
-        serve(0, 1),
-        install(0, 2),
-        arrive(0, FIRST),
-        serve(0, 2),
-        arrive(0, FIRST),
-        serve(0, 2),
-        arrive(0, THIRD),
-        serve(0, 2),
-        arrive(0, FIRST),
-        serve(0, 2),
-        arrive(0, SECOND),
-        serve(0, 2),
-        arrive(0, THIRD),
-        serve(0, 2),
-    ]
-}
-
-// The events of two nodes with one version, of which the first is sent another flow before the third.
-fn in_turns() -> [Event; 8] {
-    [
-        install(0, 1),
-        install(1, 1),
-        arrive(0, FIRST),
-        serve(0, 1),
-        arrive(1, THIRD),
-        serve(1, 1),
-        arrive(0, THIRD),
-        serve(0, 1),
-    ]
-}
-
-fn explained_of<S: Scheme, T: ConnTable>(
-    rt: &impl Abort,
-    alloc: Global,
-    setup: &Setup<S, SumHash>,
-    catalogue: &Catalogue,
-    packets: &[Packet],
-    events: &[Event],
-    places: (usize, usize),
-) -> (&'static str, [u32; 5])
-    requires size { catalogue.now.size ≡ setup.now.size }
-    requires read { (k : ℕ) (p : Packet) → slice_get packets.now k ≡ Some p → WasRead (Some p) }
-{
-    let outcomes = replay::<S, SumHash, T>(alloc, setup, catalogue, packets, events).expect(
-        rt, "memory",
-    );
-    let one = outcomes.get(places.0).expect(rt, "an outcome");
-    let other = outcomes.get(places.1).expect(rt, "an outcome");
-    told_of(explain(setup, catalogue, one, other))
-}
-
-fn explained<S: Scheme, T: ConnTable>(
-    rt: &impl Abort,
-    alloc: Global,
-    setup: &Setup<S, SumHash>,
-    events: &[Event],
-    places: (usize, usize),
-) -> (&'static str, [u32; 5])
-    requires { setup.now.size ≡ 7 }
-{
-    let packets = [packet(1000), packet(1001), packet(1006)];
-    explained_of::<S, T>(
-        rt,
-        alloc,
-        setup,
-        &catalogue(rt, alloc),
-        &packets,
-        events,
-        places,
+        events.as_slice(),
     )
-}
-
-// Two nodes with two versions split the third flow, and not the first; an entry that was evicted splits the third flow
-// on one node.
-fn splits_are_explained<T: ConnTable>(rt: &impl Abort, alloc: Global) {
-    let maglev = setup(rt, alloc, Maglev { hash: SumHash }, 1);
-    assert_eq!(rt;
-        explained::<Maglev<SumHash>, T>(rt, alloc, &maglev, &two_nodes(THIRD), (3, 5)),
-        ("split", [5, 1, 2, 1, 3])
+    .expect(rt, "memory");
+    let found = totals(outcomes.as_slice());
+    let numbers = (
+        found.received,
+        found.forwarded,
+        found.waiting,
+        found.refused,
     );
-    assert_eq!(rt;
-        explained::<Maglev<SumHash>, T>(rt, alloc, &maglev, &two_nodes(FIRST), (3, 5)),
-        ("same", [0; 5])
-    );
-    assert_eq!(rt;
-        explained::<Maglev<SumHash>, T>(rt, alloc, &maglev, &two_nodes(FIRST), (2, 5)),
-        ("not sent", [0; 5])
-    );
-    assert_eq!(rt;
-        explained::<Maglev<SumHash>, T>(rt, alloc, &maglev, &evicting(), (9, 15)),
-        ("split", [5, 1, 2, 1, 3])
-    );
-    assert_eq!(rt;
-        explained::<Maglev<SumHash>, T>(rt, alloc, &maglev, &evicting(), (9, 5)),
-        ("other flow", [0; 5])
-    );
-}
-
-// By a plain hash one backend takes the flow under both versions. In turns one version sends a flow to two.
-fn other_schemes<T: ConnTable>(rt: &impl Abort, alloc: Global) {
-    let plain = setup(rt, alloc, PlainHash { hash: SumHash }, 1);
-    shows::<PlainHash<SumHash>, T>(
-        rt,
-        alloc,
-        &plain,
-        &[
-            (install(0, 1), ("installed", 0, 0)),
-            (install(1, 2), ("installed", 0, 0)),
-            (arrive(0, FIRST), ("placed", 0, 1)),
-            (serve(0, 1), ("forward", 3, 1)),
-            (arrive(1, FIRST), ("placed", 0, 2)),
-            (serve(1, 2), ("forward", 3, 2)),
-        ],
-    );
-    assert_eq!(rt;
-        explained::<PlainHash<SumHash>, T>(rt, alloc, &plain, &two_nodes(FIRST), (3, 5)),
-        ("same", [0; 5])
-    );
-    let round = setup(rt, alloc, RoundRobin, 1);
-    shows::<RoundRobin, T>(
-        rt,
-        alloc,
-        &round,
-        &[
-            (install(0, 1), ("installed", 0, 0)),
-            (install(1, 1), ("installed", 0, 0)),
-            (arrive(0, FIRST), ("placed", 0, 1)),
-            (serve(0, 1), ("forward", 1, 1)),
-            (arrive(1, THIRD), ("placed", 0, 1)),
-            (serve(1, 1), ("forward", 1, 1)),
-            (arrive(0, THIRD), ("placed", 0, 1)),
-            (serve(0, 1), ("forward", 2, 1)),
-        ],
-    );
-    assert_eq!(rt;
-        explained::<RoundRobin, T>(rt, alloc, &round, &in_turns(), (7, 5)),
-        ("split", [5, 1, 1, 2, 1])
-    );
-}
-
-#[test]
-fn schemes_with_a_plain_table(rt: HostRuntime) {
-    splits_are_explained::<PlainTable>(&rt, rt.alloc());
-    other_schemes::<PlainTable>(&rt, rt.alloc());
-}
-
-#[test]
-fn schemes_with_a_table_over_links(rt: HostRuntime) {
-    splits_are_explained::<LruTable>(&rt, rt.alloc());
-    other_schemes::<LruTable>(&rt, rt.alloc());
+    holds(rt, numbers == (3, 1, 0, 1), "three were received");
+    let dropped = [0, 0, 0, 0, 0, 0, 0, 0, 0, 0, 0, 0, 2];
+    holds(rt, found.dropped == dropped, "and two lost");
 }
 
 // One event after another, with the reads between them.
 #[test]
 fn a_run_tells_what_waits(rt: HostRuntime) {
-    let alloc = rt.alloc();
-    let setup = setup(&rt, alloc, Maglev { hash: SumHash }, 1);
-    let catalogue = catalogue(&rt, alloc);
-    let mut run: Run<Maglev<SumHash>, LruTable> = Run::make(alloc, &setup).expect(&rt, "memory");
-    let good = packet(1000);
-    assert_eq!(rt; (run.newest(0), run.waiting(0, 0)), (0, 0));
-    let outcome = run
-        .step(&setup, &catalogue, &install(0, 2), None)
-        .expect(&rt, "memory");
-    assert_eq!(rt; told(&outcome), ("installed", 0, 0));
-    let outcome = run
-        .step(&setup, &catalogue, &arrive(0, 7), Some(&good))
-        .expect(&rt, "memory");
-    assert_eq!(rt; told(&outcome), ("placed", 0, 2));
-    assert_eq!(rt;
-        (run.newest(0), run.waiting(0, 0), run.newest(1)),
-        (2, 1, 0)
+    let setup = setup(&rt, rt.alloc(), Maglev { hash: SumHash }, 1);
+    let catalogue = catalogue(&rt, rt.alloc());
+    let mut run: Run<Maglev<SumHash>, LruTable> = Run::make(rt.alloc(), &setup).expect(
+        &rt, "memory",
     );
+    let good = packet(1000);
+    holds(
+        &rt,
+        (run.newest(0), run.waiting(0, 0)) == (0, 0),
+        "nothing yet",
+    );
+    let install = event_of(Act::Install(0, 2));
+    let outcome = run
+        .step(&setup, &catalogue, &install, None)
+        .expect(&rt, "memory");
+    same_told(&rt, told(&outcome), ("installed", 0, 0), 0);
+    let arrive = event_of(Act::Arrive(0, 7));
+    let outcome = run
+        .step(&setup, &catalogue, &arrive, Some(&good))
+        .expect(&rt, "memory");
+    same_told(&rt, told(&outcome), ("placed", 0, 2), 1);
+    let found = (run.newest(0), run.waiting(0, 0), run.newest(1));
+    holds(&rt, found == (2, 1, 0), "one waits");
 }

@@ -34,10 +34,10 @@ fn all_agree(audits: Vec<Result<bool, AllocError>>) -> Result<bool, AllocError>
 }
 
 impl ClusterRun {
-    /// Whether what each node's events came to is what they come to in this cluster: each node's history is replayed by
-    /// itself on tables of its own, all at once where threads can be had. Of a run of the cluster this is
-    /// [`audit`](Self::audit), since the nodes' histories stand behind one another in its history and no node's events
-    /// change another node. The packets were read, and the catalogue is one for the cluster's table size.
+    /// Whether the outcomes of each node's events are those of the events in this cluster. Each node's history is replayed
+    /// by itself on tables of its own, all at once where threads can be had. Of a run of the cluster this is
+    /// [`audit`](Self::audit), since the nodes' histories follow one another in its history and no node's events change
+    /// another node. The packets were read, and the catalogue is one for the cluster's table size.
     pub fn audit_nodes<
         S: Scheme + Send + Sync,
         H: FlowHash + Send + Sync,

@@ -52,7 +52,7 @@ impl ClusterRun {
         self.history.events.as_slice()
     }
 
-    /// What each event came to.
+    /// The outcome of each event.
     pub fn outcomes(&self) -> &[Outcome]
         ensures { result.now ≡ self.now.history.outcomes.items }
     {
@@ -74,9 +74,9 @@ impl ClusterRun {
         self.stats
     }
 
-    /// Whether the outcomes are what the events come to in this cluster, one after another: the events are replayed on
-    /// tables of their own. The packets were read, and the catalogue is one for the cluster's table size. So it is true
-    /// of what the run itself was given.
+    /// Whether the outcomes are those of the events in this cluster, one after another: the events are replayed on tables of
+    /// their own. The packets were read, and the catalogue is one for the cluster's table size. So it is true of what the
+    /// run itself was given.
     pub fn audit<S: Scheme, H: FlowHash, T: ConnTable>(
         &self,
         alloc: Global,
@@ -150,7 +150,7 @@ impl<'e, S: Scheme, H: FlowHash, G, B: Names> Tasks<'e, S, H, G, B> {
     }
 }
 
-/// What a driver's thread promises: that its record is one of its node's commands, and that it counted what it came to.
+/// What a driver's thread promises: that its record is one of its node's commands, and that it counted its outcomes.
 #[derive(Drop)]
 pub struct OfNode<'e, S: Scheme, H: FlowHash> {
     /// The cluster.
@@ -159,7 +159,7 @@ pub struct OfNode<'e, S: Scheme, H: FlowHash> {
     pub catalogue: &'e Catalogue,
     /// The packets that the commands offer.
     pub packets: &'e [Packet],
-    /// What the node's driver is told to do.
+    /// The commands of the node's driver.
     pub commands: &'e [Command],
     /// The node's place.
     pub node: u16,
@@ -197,7 +197,7 @@ struct Joined<B: Names> {
     fault: Option<RunFault>,
 }
 
-// The place of a fault in the order in which faults are told.
+// The place of a fault in the order in which faults are reported.
 fn rank(fault: RunFault) -> u8
     ensures { result ≡ rank_of fault }
 {
@@ -210,7 +210,7 @@ fn rank(fault: RunFault) -> u8
     }
 }
 
-// The fault of two that is told.
+// The fault of two that is reported.
 fn first_of(fault: Option<RunFault>, other: RunFault) -> RunFault
     ensures { result ≡ first_fault fault other }
 {
@@ -456,15 +456,15 @@ where
     })
 }
 
-/// The runs of all nodes of a cluster at once, each as `run_node` does it, with its driver in a thread of its own. There
-/// is a list of commands for each node. All threads are joined before anything is answered.
+/// The runs of all nodes of a cluster at once, each as `run_node` does it, with its driver in a thread of its own. There is
+/// a list of commands for each node. All threads are joined before anything is answered.
 ///
 /// Whatever the schedule was, each record is one of a run of its node's commands, and the history has all of them, node by
-/// node: what each event comes to in it is what it came to in its node. Of several faults Memory is told first, then
+/// node. The outcome of each event in it is that of the event in its node. Of several faults Memory is reported first, then
 /// ThreadLost, Foreign, RingLost and BookLost. A driver that can't be started is ThreadLost, and so the others end first.
 ///
-/// So what is promised of every list of events is promised of the run: two packets of one flow that were sent to different
-/// backends, by any nodes, were chosen under versions that pick these backends (`agreement`), and a worker keeps a flow's
+/// So what is promised of every list of events is promised of the run. Two packets of one flow that were sent to different
+/// backends, by any nodes, were chosen under versions that pick these backends (`agreement`). A worker keeps a flow's
 /// backend while its entry stands and the backend is up (`keeping`).
 pub fn run_cluster<
     S: Scheme + Send + Sync,

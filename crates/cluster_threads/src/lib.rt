@@ -1,7 +1,7 @@
 //! A cluster on threads: the runs of all its nodes at once, each with a driver in a thread of its own.
 //!
-//! [`run_cluster`] runs each node as `run_node` of `node_threads` does it, joins all drivers, and puts the nodes' records
-//! behind one another into one history of the cluster.
+//! [`run_cluster`] runs each node as `run_node` of `node_threads` does it, and joins all drivers. Then it puts the nodes'
+//! records one after another into one history of the cluster.
 #![tactic(auto)]
 
 mod auditing;

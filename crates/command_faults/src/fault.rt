@@ -22,7 +22,7 @@ pub enum CliFault {
     TooMany,
     /// The output couldn't be written.
     Write,
-    /// The input isn't hexadecimal digits, two a byte, with at most one newline behind them.
+    /// The input isn't hexadecimal digits, two a byte, with at most one newline after them.
     BadHex,
     /// The input is longer than any datagram, or a scenario's text has more than 1,048,576 bytes.
     TooLong,

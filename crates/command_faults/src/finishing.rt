@@ -8,7 +8,7 @@ use super::fault::{CliFault, word_of};
 use itoa::Buffer;
 use pcap_file::{Refused, Sink, put_all};
 
-// The number behind a fault's word, if it has one.
+// The number after a fault's word, if it has one.
 fn write_number<S: Sink>(fault: &CliFault, err: &mut S) -> Result<(), Refused>
     ensures written { OnOk result (Appends (S.tape err.old).bytes (S.tape err.new).bytes (number_text fault.now) × Unfailed (S.tape err.old) (S.tape err.new)) }
     ensures refused { OnErr result (PutRefused (number_text fault.now) (S.tape err.old) (S.tape err.new)) }
@@ -44,8 +44,8 @@ fn write_fault<S: Sink>(fault: &CliFault, err: &mut S) -> Result<(), Refused>
     }
 }
 
-/// Writes a fault's line, and gives the exit status: 0 for Ok, of which nothing is written, and else 1, also where the line
-/// can't be written whole.
+/// Writes a fault's line, and gives the exit status. It is 0 for Ok, of which nothing is written, and else 1, also where the
+/// line can't be written whole.
 pub fn finish<S: Sink>(outcome: &Result<(), CliFault>, err: &mut S) -> u8
     ensures { FinishesWith outcome.now (S.tape err.old) (S.tape err.new) result err.old err.new }
 {

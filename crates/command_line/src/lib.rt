@@ -2,7 +2,7 @@
 #![tactic(auto)]
 
 use clap::{Arg, ArgAction, Command, Error, value_parser};
-use std::alloc::Global;
+use std::alloc::{AllocError, Global};
 
 /// The end of the help of `simulate`.
 const SIMULATE_HELP: &str =
@@ -40,12 +40,12 @@ Faults, and what to do:
 /// The end of the help of `run`.
 const RUN_HELP: &str = "Example: maglev run examples/failover.toml examples/failover.pcap sent.pcap
 
-SCENARIO, INPUT and OUTPUT may be -, as for simulate. Steps are those of simulate but for full, hold and drain, which are BadStep, and with stop N, which is BadStep there: N's workers end before their next packet and begin anew, without what waits. With --splits events are numbered, and packets ordered, as in the run's history: node by node, of each life what the node was told and then the servings, worker by worker.
+SCENARIO, INPUT and OUTPUT may be -, as for simulate. Steps are those of simulate but for full, hold and drain, which are BadStep. There is one more, which is BadStep in simulate: stop N, at which N's workers end before their next packet and begin anew, without what waits. With --splits events are numbered, and packets ordered, as in the run's history. That goes node by node: of each life first the node's commands and then the servings, worker by worker.
 
 Faults are those of simulate, and:
   ThreadLost           allow more threads, or take fewer nodes and workers
   Foreign, RingLost, BookLost
-                       tell the authors: what the threads did isn't what was promised";
+                       report it as a bug: what the threads did isn't what was promised";
 
 /// The end of the help of `explain`.
 const EXPLAIN_HELP: &str =
@@ -88,33 +88,36 @@ fn names<'a>(alloc: Global) -> Arg<'a> {
         .num_args(1..)
 }
 
-fn table<'a>(alloc: Global) -> Result<Command<'a>, Error> {
+fn no_check<'a>(alloc: Global) -> Arg<'a> {
+    Arg::new(alloc, "no-check")
+        .long("no-check")
+        .help("don't test the header checksum")
+        .action(ArgAction::SetTrue)
+}
+
+// What each command over a table takes first.
+fn over_table<'a>(alloc: Global, command: Command<'a>) -> Result<Command<'a>, AllocError> {
+    command.arg(size(alloc))?.arg(hash(alloc))
+}
+
+fn table<'a>(alloc: Global) -> Result<Command<'a>, AllocError> {
     let table = Command::new(alloc, "table")
         .about(
             "Prints which backend each slot of a table names, and how many slots each backend has",
         )
-        .after_help("Example: maglev table --size 7 --hash sum A B C")
-        .arg(size(alloc))?
-        .arg(hash(alloc))?
-        .arg(names(alloc))?;
-    Ok(table)
+        .after_help("Example: maglev table --size 7 --hash sum A B C");
+    over_table(alloc, table)?.arg(names(alloc))
 }
 
-fn pick<'a>(alloc: Global) -> Result<Command<'a>, Error> {
-    let no_check = Arg::new(alloc, "no-check")
-        .long("no-check")
-        .help("don't test the header checksum")
-        .action(ArgAction::SetTrue);
+fn pick<'a>(alloc: Global) -> Result<Command<'a>, AllocError> {
     let pick = Command::new(alloc, "pick")
         .about(
             "Reads one IPv4 datagram as hexadecimal text, and prints its flow, slot and backend, or why it is dropped",
         )
-        .after_help(PICK_HELP)
-        .arg(size(alloc))?
-        .arg(hash(alloc))?
-        .arg(no_check)?
-        .arg(names(alloc))?;
-    Ok(pick)
+        .after_help(PICK_HELP);
+    over_table(alloc, pick)?
+        .arg(no_check(alloc))?
+        .arg(names(alloc))
 }
 
 fn members<'a>(alloc: Global, id: &'a str, help: &'a str) -> Arg<'a> {
@@ -126,23 +129,23 @@ fn members<'a>(alloc: Global, id: &'a str, help: &'a str) -> Arg<'a> {
         .action(ArgAction::Set)
 }
 
-fn compare<'a>(alloc: Global) -> Result<Command<'a>, Error> {
-    let old = members(
+fn old<'a>(alloc: Global) -> Arg<'a> {
+    members(
         alloc,
         "old",
         "members before: NAME@ADDRESS, then *W for a weight from 1 to 16, then /down where it is down, joined by single spaces",
-    );
-    let new = members(alloc, "new", "members after");
+    )
+}
+
+fn compare<'a>(alloc: Global) -> Result<Command<'a>, AllocError> {
     let compare = Command::new(alloc, "compare")
         .about("Prints the slots that name another backend after a change of members")
         .after_help(
             "Example: maglev compare --size 7 --hash sum --old 'A@10.8.0.1 B@10.8.0.2' --new 'A@10.8.0.1 B@10.8.0.2/down'",
-        )
-        .arg(size(alloc))?
-        .arg(hash(alloc))?
-        .arg(old)?
-        .arg(new)?;
-    Ok(compare)
+        );
+    over_table(alloc, compare)?
+        .arg(old(alloc))?
+        .arg(members(alloc, "new", "members after"))
 }
 
 fn file<'a>(alloc: Global, id: &'a str, name: &'a str, help: &'a str) -> Arg<'a> {
@@ -192,51 +195,75 @@ fn splits<'a>(alloc: Global) -> Arg<'a> {
         .action(ArgAction::SetTrue)
 }
 
-fn simulate<'a>(alloc: Global) -> Result<Command<'a>, Error> {
-    let list = Arg::new(alloc, "list")
+fn list<'a>(alloc: Global) -> Arg<'a> {
+    Arg::new(alloc, "list")
         .long("list")
-        .help("print each event and what it came to before the report")
-        .action(ArgAction::SetTrue);
+        .help("print each event and its outcome before the report")
+        .action(ArgAction::SetTrue)
+}
+
+// What each command over a capture takes.
+fn over_capture<'a>(alloc: Global, command: Command<'a>) -> Result<Command<'a>, AllocError> {
+    command
+        .arg(verbose(alloc))?
+        .arg(scenario(alloc))?
+        .arg(input(alloc))
+}
+
+// What a command takes that reads a capture and writes another.
+fn between_captures<'a>(alloc: Global, command: Command<'a>) -> Result<Command<'a>, AllocError> {
+    over_capture(alloc, command)?.arg(output(alloc))
+}
+
+fn simulate<'a>(alloc: Global) -> Result<Command<'a>, AllocError> {
     let simulate = Command::new(alloc, "simulate")
         .about(
             "Plays a scenario over a capture, writes what the cluster sends, and prints a report",
         )
-        .after_help(SIMULATE_HELP)
-        .arg(list)?
-        .arg(splits(alloc))?
-        .arg(verbose(alloc))?
-        .arg(scenario(alloc))?
-        .arg(input(alloc))?
-        .arg(output(alloc))?;
-    Ok(simulate)
+        .after_help(SIMULATE_HELP);
+    between_captures(alloc, simulate.arg(list(alloc))?.arg(splits(alloc))?)
 }
 
-fn explain<'a>(alloc: Global) -> Result<Command<'a>, Error> {
+fn explain<'a>(alloc: Global) -> Result<Command<'a>, AllocError> {
     let explain = Command::new(alloc, "explain")
         .about(
             "Plays a scenario over a capture, and prints why the packets of two events went where they went",
         )
-        .after_help(EXPLAIN_HELP)
-        .arg(verbose(alloc))?
-        .arg(scenario(alloc))?
-        .arg(input(alloc))?
+        .after_help(EXPLAIN_HELP);
+    over_capture(alloc, explain)?
         .arg(event(alloc, "one", "I"))?
-        .arg(event(alloc, "other", "J"))?;
-    Ok(explain)
+        .arg(event(alloc, "other", "J"))
 }
 
-fn run<'a>(alloc: Global) -> Result<Command<'a>, Error> {
+fn run<'a>(alloc: Global) -> Result<Command<'a>, AllocError> {
     let run = Command::new(alloc, "run")
         .about(
             "Runs a scenario's cluster on threads over a capture, writes what the nodes send, node by node, and prints a report with an audit",
         )
-        .after_help(RUN_HELP)
-        .arg(splits(alloc))?
-        .arg(verbose(alloc))?
-        .arg(scenario(alloc))?
-        .arg(input(alloc))?
-        .arg(output(alloc))?;
-    Ok(run)
+        .after_help(RUN_HELP);
+    between_captures(alloc, run.arg(splits(alloc))?)
+}
+
+// The command with one more that it has.
+fn with<'a>(
+    command: Command<'a>,
+    other: Result<Command<'a>, AllocError>,
+) -> Result<Command<'a>, AllocError> {
+    command.subcommand(other?)
+}
+
+// The commands that need no scenario.
+fn with_tables<'a>(alloc: Global, command: Command<'a>) -> Result<Command<'a>, AllocError> {
+    let command = with(command, table(alloc))?;
+    let command = with(command, pick(alloc))?;
+    with(command, compare(alloc))
+}
+
+// The commands that play a scenario.
+fn with_scenarios<'a>(alloc: Global, command: Command<'a>) -> Result<Command<'a>, AllocError> {
+    let command = with(command, simulate(alloc))?;
+    let command = with(command, explain(alloc))?;
+    with(command, run(alloc))
 }
 
 /// The command line of the program.
@@ -244,12 +271,6 @@ pub fn command<'a>(alloc: Global) -> Result<Command<'a>, Error> {
     let whole = Command::new(alloc, "maglev")
         .about("A cluster of layer 4 load balancers after Maglev (NSDI 2016), proved")
         .version("0.1.0")
-        .subcommand_required(true)
-        .subcommand(table(alloc)?)?
-        .subcommand(pick(alloc)?)?
-        .subcommand(compare(alloc)?)?
-        .subcommand(simulate(alloc)?)?
-        .subcommand(explain(alloc)?)?
-        .subcommand(run(alloc)?)?;
-    Ok(whole)
+        .subcommand_required(true);
+    Ok(with_scenarios(alloc, with_tables(alloc, whole)?)?)
 }

@@ -35,13 +35,13 @@ fn stop_fault(stop: RunStop) -> CliFault
     }
 }
 
-/// The command `run`: runs a scenario's cluster on threads over a capture, writes what the nodes sent as another capture,
-/// node by node, and then the report, which ends in `audit agrees`, with what is told of its splits before it where `splits`
-/// holds.
+/// The command `run`: runs a scenario's cluster on threads over a capture, and writes what the nodes sent as another
+/// capture, node by node. Then it writes the report, which ends in `audit agrees`, with what is reported of its splits
+/// before it where `splits` holds.
 ///
 /// The devices aren't called before the scenario was accepted and none of its steps is `full`, `hold` or `drain`. After a
-/// fault that isn't `Write` nothing stands in the report, and the output is as it was, unless memory was refused while it was
-/// written: then it is cut between records.
+/// fault that isn't `Write` nothing is in the report, and the output is as it was. Where memory was refused while the output
+/// was written, it is cut between records.
 pub fn run<T: Threads + Wait + Sync, I: Source, O: Sink, R: Sink>(
     rt: &T,
     alloc: Global,

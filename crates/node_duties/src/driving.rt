@@ -94,7 +94,7 @@ fn count_arrival<B: Names, R: Wait>(
     }
 }
 
-// Counts what an arrival comes to, if it comes to a drop.
+// Counts the outcome of an arrival, if that is a drop.
 fn count_drop<B: Names, R: Wait>(
     rt: &R,
     book: &Mutex<StatsBook<B>>,

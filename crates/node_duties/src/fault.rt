@@ -11,7 +11,7 @@ use std::alloc::AllocError;
 pub enum RunFault {
     /// A version was used that was not installed on the node before, or that isn't the catalogue's, prepared for the cluster.
     Foreign,
-    /// What a worker took isn't what was placed on it, or what was gathered isn't a merge of what the workers sent, or a
+    /// What a worker took isn't what was placed on it, or what was gathered isn't a merge of what the workers sent. Or a
     /// ring refused a packet before it had taken as many as it has places.
     RingLost,
     /// A thread couldn't be started, had no place to read versions, or couldn't read them any more.

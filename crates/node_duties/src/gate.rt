@@ -1,9 +1,9 @@
 //! What is called round each serving, before a version is prepared, and where a node stops.
 use stats_book::Stats;
 
-/// Is called by a worker round each serving, in the worker's own thread, and by the driver before it prepares a version and
-/// once it has told the workers to halt: a place for tests and for watchers. `nth` counts that worker's servings in its
-/// life, from 0.
+/// A place for tests and for watchers. A worker calls it round each serving, in the worker's own thread. The driver calls it
+/// before it prepares a version and once it has told the workers to halt. `nth` counts that worker's servings in its life,
+/// from 0.
 ///
 /// Nothing is held over a call, so a gate may take its time; the thread that calls it waits for it.
 pub trait Gate {
@@ -20,8 +20,8 @@ pub trait Gate {
     /// memory was refused in the serving, this call doesn't come.
     fn counted(&self, node: u16, worker: u16, stats: Stats);
 
-    /// The packet was served, and what it came to was sent on. Where memory was refused in the serving, this call comes
-    /// all the same, and is the worker's last.
+    /// The packet was served, and its outcome was sent on. Where memory was refused in the serving, this call comes all the
+    /// same, and is the worker's last.
     fn after(&self, node: u16, worker: u16, nth: u64);
 }
 

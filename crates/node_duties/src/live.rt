@@ -73,7 +73,7 @@ pub fn prepare_after<S: Scheme, H: FlowHash>(
             PreparedVersion::make_after(alloc, &scheme, setup.size(), version, before)
         }
     };
-    // A version of a catalogue has no more backends than slots, so this is want of memory.
+    // A version of a catalogue has no more backends than slots, so memory was refused here.
     let Ok(prepared) = prepared else {
         return Err(AllocError);
     };

@@ -14,8 +14,8 @@ use stats_book::{Names, Shares, StatsBook};
 use std::alloc::AllocError;
 use std::sync::Mutex;
 
-/// What a node is to do, beside which others may run, and its shares of the counts. By its type the node is there, a ring
-/// has places, nothing is counted on the shares yet, and they have a part for its driver and one for each worker.
+/// What a node is to do, beside which others may run, and its shares of the counts. By its type the node is there and a ring
+/// has places. Nothing is counted on the shares yet, and they have a part for its driver and one for each worker.
 #[derive(Drop)]
 pub struct Task<'e, S: Scheme, H: FlowHash, G, B: Names> {
     /// The cluster.
@@ -24,7 +24,7 @@ pub struct Task<'e, S: Scheme, H: FlowHash, G, B: Names> {
     pub catalogue: &'e Catalogue,
     /// The packets that the commands offer, by number.
     pub packets: &'e [Packet],
-    /// What the node's driver is told to do.
+    /// The commands of the node's driver.
     pub commands: &'e [Command],
     /// What is called round each serving.
     pub gate: &'e G,
@@ -51,7 +51,7 @@ pub struct Plan<'e, S: Scheme, H: FlowHash, G, B: Names> {
     pub catalogue: &'e Catalogue,
     /// The packets that the commands offer, by number.
     pub packets: &'e [Packet],
-    /// What the node's driver is told to do.
+    /// The commands of the node's driver.
     pub commands: &'e [Command],
     /// What is called round each serving.
     pub gate: &'e G,

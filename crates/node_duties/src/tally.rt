@@ -48,7 +48,7 @@ impl<B: Names> Tally<B> {
         }
     }
 
-    /// What another thread counted comes to this.
+    /// Takes what another thread counted.
     pub fn merge(&mut self, other: Tally<B>)
         ensures parts { self.new.shares.parts ≡ self.old.shares.parts + other.shares.parts }
         ensures shares { self.new.shares ≡ plus self.old.shares other.shares }

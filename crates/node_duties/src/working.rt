@@ -130,7 +130,7 @@ fn begin<S: Scheme, H: FlowHash, T: ConnTable, G, B: Names>(
     })
 }
 
-// The next packet. None where the life ends: with the closing mark, or since the workers were told to halt, which is asked
+// The next packet. None where the life ends: with the closing mark, or since the workers were told to halt. That is asked
 // before each turn at the ring.
 fn next<S: Scheme, R: Wait>(rt: &R, ends: &mut Ends<'_, S>) -> Option<Item> {
     let mut idle = Idle::new();

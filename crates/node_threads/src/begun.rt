@@ -9,7 +9,8 @@ use selection::Scheme;
 use stats_book::Names;
 use std::marker::Model;
 
-/// What a life begins with, before its rings are laid. By its type it may begin: the commands before it were obeyed, what was counted is what they came to, and there is a part of the counts for each worker.
+/// What a life begins with, before its rings are laid. By its type it may begin. The commands before it were obeyed, what
+/// was counted is their outcomes, and there is a part of the counts for each worker.
 #[derive(Drop)]
 pub struct Life<'e, S: Scheme, H: FlowHash, G, B: Names> {
     plan: Plan<'e, S, H, G, B>,

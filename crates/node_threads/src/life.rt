@@ -297,7 +297,7 @@ fn give_up<S: Scheme, T: ConnTable, B: Names, R: Threads + Wait>(
     }
 }
 
-// What the workers counted comes to their driver's tally, and their records are kept.
+// What the workers counted is added to their driver's tally, and their records are kept.
 fn muster<S: Scheme, T: ConnTable, B: Names>(
     alloc: Global,
     tally: &mut Tally<B>,
@@ -372,8 +372,8 @@ fn end<S: Scheme, H: FlowHash, T: ConnTable>(
     }
 }
 
-// A life that was driven ends as its commands say: the workers' records are compared with what was placed on them, and
-// written behind the driver's steps. What was lost at a stop is counted.
+// A life that was driven ends as its commands say. The workers' records are compared with what was placed on them, and
+// written after the driver's steps. What was lost at a stop is counted.
 fn end_driven<S: Scheme, H: FlowHash, T: ConnTable, G, B: Names, R: Wait>(
     rt: &R,
     alloc: Global,
@@ -421,7 +421,7 @@ fn end_driven<S: Scheme, H: FlowHash, T: ConnTable, G, B: Names, R: Wait>(
     })
 }
 
-// The workers get no more to serve: where the life ends with a stop they are told to halt, and else each ring gets a closing
+// The workers get no more to serve. Where the life ends with a stop they are told to halt, and else each ring gets a closing
 // mark.
 fn end_feed<S: Scheme, H: FlowHash, G: Gate, B: Names, R: Wait, W: Wait + Drop>(
     rt: &R,
@@ -439,7 +439,7 @@ fn end_feed<S: Scheme, H: FlowHash, G: Gate, B: Names, R: Wait, W: Wait + Drop>(
     }
 }
 
-// What is told where a worker did not do all: that a driver was refused memory comes first.
+// What is reported where a worker did not do all: that a driver was refused memory comes first.
 fn told_first<P: Drop>(driven: Result<P, RunFault>, fault: RunFault) -> RunFault {
     match driven {
         Err(RunFault::Memory) => RunFault::Memory,

@@ -41,7 +41,7 @@ impl NodeRun {
         self.record.events.as_slice()
     }
 
-    /// What each event came to.
+    /// The outcome of each event.
     pub fn outcomes(&self) -> &[Outcome]
         ensures { result.now ≡ self.now.record.outcomes.items }
     {
@@ -62,8 +62,8 @@ impl NodeRun {
         self.stats
     }
 
-    /// Whether the outcomes are what the events come to in this cluster, one after another: the events are replayed on
-    /// tables of their own. The packets were read, and the catalogue is one for the cluster's table size.
+    /// Whether the outcomes are those of the events in this cluster, one after another: the events are replayed on tables of
+    /// their own. The packets were read, and the catalogue is one for the cluster's table size.
     pub fn audit<S: Scheme, H: FlowHash, T: ConnTable>(
         &self,
         alloc: Global,

@@ -125,8 +125,7 @@ fn printed(rt: &HostRuntime, text: &[u8], to_error: bool) -> Result<(), CliFault
     }
 }
 
-/// The devices of a command over files, each opened at its first call, and the report as it is kept until the output is
-/// written out.
+/// The devices of a command over files, each opened at its first call. The report is kept until the output is written out.
 #[derive(Drop)]
 pub struct Devices<'x> {
     /// The capture that is read.

@@ -1,4 +1,4 @@
-//! What `--verbose` says behind a fault: where it is, what was found there and what was expected.
+//! What `--verbose` says after a fault: where it is, what was found there and what was expected.
 use crate::files::Paths;
 use command_faults::CliFault;
 use fault_words::words_of;

@@ -17,7 +17,7 @@ pub fn paths_of<'a>(matches: &'a ArgMatches<'_>, output: &'a str) -> Option<Path
     })
 }
 
-/// The end of a command over files: a fault is told, and with `--verbose` where it is and what was expected.
+/// The end of a command over files: a fault is reported, and with `--verbose` where it is and what was expected.
 pub fn ended(
     rt: &HostRuntime,
     matches: &ArgMatches<'_>,

@@ -4,7 +4,7 @@ ghost use Rattle.scenario_commands.specs.Scenarios.{unkept};
 
 use pcap_file::{DeviceFault, Sink};
 
-/// Takes whatever is written, never fails, and tells nothing of it.
+/// Takes whatever is written, never fails, and keeps nothing of it.
 #[derive(Drop)]
 pub(crate) struct Nowhere {
     pub(crate) calls: u64,

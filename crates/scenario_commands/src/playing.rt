@@ -85,12 +85,12 @@ fn play<I: Source, O: Sink, R: Sink>(
     }
 }
 
-/// The command `simulate`: plays a scenario over a capture, writes what the cluster sends as another capture, and then the
-/// report, with what is wanted before it: a line for each event, and then a line for each flow that was split, and how many
-/// there were.
+/// The command `simulate`: plays a scenario over a capture, and writes what the cluster sends as another capture. Then it
+/// writes the report, with what is wanted before it: a line for each event, and then a line for each flow that was split,
+/// and how many there were.
 ///
-/// The devices aren't called before the scenario was accepted and none of its steps is `stop`, and the output isn't before the
-/// input's header was. After a fault that isn't `Write` nothing stands in the report, and the output is cut between records.
+/// The devices aren't called before the scenario was accepted and none of its steps is `stop`, and the output isn't before
+/// the input's header was. After a fault that isn't `Write` nothing is in the report, and the output is cut between records.
 pub fn simulate<I: Source, O: Sink, R: Sink>(
     alloc: Global,
     scenario: &[u8],
@@ -131,8 +131,8 @@ pub fn simulate_keyed<I: Source, O: Sink, R: Sink>(
     }
 }
 
-/// The command `explain`: plays a scenario over a capture, and writes why the packets of two of its events, counted from 0,
-/// went where they went. What the cluster sends is kept nowhere. A step `stop` is refused as in [`simulate`].
+/// The command `explain`: plays a scenario over a capture, and writes why the packets of two of its events went where they
+/// went. Events are counted from 0. What the cluster sends is kept nowhere. A step `stop` is refused as in [`simulate`].
 pub fn explain_run<I: Source, R: Sink>(
     alloc: Global,
     scenario: &[u8],

@@ -1,12 +1,8 @@
 //! Packets served one after another, on both tables, with the backends that the worked examples give.
-ghost use Rattle.std.specs.Prelude.{◌<◌, ◌≤◌};
-
+use crate::checks::{VIP, flow, flow_to, holds, same_count, same_pair, seven, version_of};
 use connection_table::{ConnTable, LruTable, PlainTable};
-use five_tuple::Flow;
 use forwarder::{Choice, Forwarder};
 use hash_laws::SumHash;
-use maglev_table::{Name, TableSize, Weight};
-use pool_versions::{Backend, Member, Service, Version};
 use selection::{Maglev, PreparedVersion};
 use std::alloc::Global;
 use std::process::Abort;
@@ -15,66 +11,38 @@ type Sums = Maglev<SumHash>;
 
 const SUMS: Sums = Maglev { hash: SumHash };
 
-fn flow(sport: u16, dport: u16) -> Flow {
-    Flow {
-        src: 0x0a000001,
-        dst: 0xc0000201,
-        sport,
-        dport,
-        proto: 6,
-    }
-}
-
-fn member(rt: &impl Abort, name: &[u8], addr: u32, up: bool) -> Member {
-    let name = Name::new(name).expect(rt, "a name");
-    Member {
-        backend: Backend { name, addr },
-        up,
-        weight: Weight::one(),
-    }
-}
-
-// A version with the backends A, B and C at 10.8.0.1, .2 and .3, or A at another address; which are up is told.
+// A version with the backends A, B and C at 10.8.0.1, .2 and .3, or A at another address; which are up is given.
 fn version(
     rt: &impl Abort,
     alloc: Global,
     number: u32,
-    a: u8,
+    a: u32,
     up: [bool; 3],
 ) -> PreparedVersion<Sums> {
-    let members = [
-        member(rt, b"A", 0x0a080000 + u32::from(a), up[0]),
-        member(rt, b"B", 0x0a080002, up[1]),
-        member(rt, b"C", 0x0a080003, up[2]),
+    let rows = [
+        (b"A".as_slice(), a, up[0], 1),
+        (b"B", 0x0a08_0002, up[1], 1),
+        (b"C", 0x0a08_0003, up[2], 1),
     ];
-    let members = Vec::from_slice(alloc, &members).expect(rt, "memory");
-    let mut services = Vec::new(alloc);
-    services
-        .push(Service {
-            vip: 0xc0000201,
-            proto: 6,
-            port: 80,
-            members,
-        })
-        .expect(rt, "memory");
-    let version = Version { number, services };
-    let size = TableSize::new(7).expect(rt, "a size");
-    PreparedVersion::make(alloc, &SUMS, size, &version).expect(rt, "a prepared version")
+    let version = version_of(rt, alloc, number, VIP, &rows);
+    PreparedVersion::make(alloc, &SUMS, seven(rt), &version).expect(rt, "a prepared version")
 }
 
 // The versions of the examples: 1 all up; 2 without B; 3 all up, A at another address; 4 without A; 5 all up; 6 nobody.
+static VERSIONS: [(u32, u32, [bool; 3]); 6] = [
+    (1, 0x0a08_0001, [true, true, true]),
+    (2, 0x0a08_0001, [true, false, true]),
+    (3, 0x0a08_0009, [true, true, true]),
+    (4, 0x0a08_0001, [false, true, true]),
+    (5, 0x0a08_0001, [true, true, true]),
+    (6, 0x0a08_0001, [false, false, false]),
+];
+
 fn versions(rt: &impl Abort, alloc: Global) -> Vec<PreparedVersion<Sums>> {
     let mut all = Vec::new(alloc);
-    for (number, a, up) in [
-        (1, 1, [true, true, true]),
-        (2, 1, [true, false, true]),
-        (3, 9, [true, true, true]),
-        (4, 1, [false, true, true]),
-        (5, 1, [true, true, true]),
-        (6, 1, [false, false, false]),
-    ] {
-        all.push(version(rt, alloc, number, a, up))
-            .expect(rt, "memory");
+    for (number, a, up) in VERSIONS.iter() {
+        let version = version(rt, alloc, *number, *a, *up);
+        all.push(version).expect(rt, "memory");
     }
     all
 }
@@ -88,183 +56,152 @@ fn told(choice: Choice) -> (u32, u32) {
     }
 }
 
-// A step: a source port, the version, the last byte of the backend's address and the origin that are wanted.
-fn shows<T: ConnTable>(
-    rt: &impl Abort,
-    alloc: Global,
+// A step: the second, a source port, the version, the last byte of the backend's address and the origin that are wanted.
+type Step = (u64, u16, usize, u32, u32);
+
+// A forwarder of so many entries, with a limit in microseconds or without one, and its steps.
+struct Example {
     capacity: u32,
-    steps: &[(u16, usize, u32, u32)],
-)
-    requires some { 0 < capacity }
-    requires limit { capacity ≤ 1000000 }
-{
-    let versions = versions(rt, alloc);
-    let mut forwarder: Forwarder<Sums, T> = Forwarder::make(alloc, SUMS, capacity, None).expect(
-        rt, "room",
-    );
-    for (at, (port, version, backend, origin)) in steps.iter().enumerate() {
-        let prepared = versions
-            .get(version.wrapping_sub(1))
-            .expect(rt, "a version");
-        let served = forwarder.serve(prepared, &flow(*port, 80), 0, false);
-        assert_eq!(rt; told(served.choice), (*backend, *origin), "step {at}");
-        assert!(rt; !served.unstored, "stored at step {at}");
-    }
+    idle: Option<u64>,
+    steps: &'static [Step],
 }
 
-fn shows_all<T: ConnTable>(rt: &impl Abort, alloc: Global) {
+const FIVE_SECONDS: Option<u64> = Some(5_000_000);
+
+static EXAMPLES: [Example; 11] = [
     // One place: each other flow takes it. Two places: a hit renews.
-    shows::<T>(
-        rt,
-        alloc,
-        1,
-        &[
-            (1006, 1, 1, 1),
-            (1000, 2, 1, 2),
-            (1006, 2, 3, 2),
-            (1006, 2, 3, 2),
+    Example {
+        capacity: 1,
+        idle: None,
+        steps: &[
+            (0, 1006, 1, 1, 1),
+            (0, 1000, 2, 1, 2),
+            (0, 1006, 2, 3, 2),
+            (0, 1006, 2, 3, 2),
         ],
-    );
-    shows::<T>(
-        rt,
-        alloc,
-        2,
-        &[
-            (1006, 1, 1, 1),
-            (1000, 2, 1, 2),
-            (1006, 2, 1, 1),
-            (1001, 2, 1, 2),
-            (1006, 2, 1, 1),
+    },
+    Example {
+        capacity: 2,
+        idle: None,
+        steps: &[
+            (0, 1006, 1, 1, 1),
+            (0, 1000, 2, 1, 2),
+            (0, 1006, 2, 1, 1),
+            (0, 1001, 2, 1, 2),
+            (0, 1006, 2, 1, 1),
         ],
-    );
+    },
     // A backend that is down is left.
-    shows::<T>(rt, alloc, 2, &[(1001, 1, 2, 1), (1001, 2, 1, 2)]);
-    // An entry stands while fewer than two distinct other flows came after it.
-    shows::<T>(
-        rt,
-        alloc,
-        2,
-        &[
-            (1006, 1, 1, 1),
-            (1000, 2, 1, 2),
-            (1000, 2, 1, 2),
-            (1006, 2, 1, 1),
-            (1000, 2, 1, 2),
-            (1001, 2, 1, 2),
-            (1006, 2, 3, 2),
+    Example {
+        capacity: 2,
+        idle: None,
+        steps: &[(0, 1001, 1, 2, 1), (0, 1001, 2, 1, 2)],
+    },
+    // An entry remains while fewer than two distinct other flows came after it.
+    Example {
+        capacity: 2,
+        idle: None,
+        steps: &[
+            (0, 1006, 1, 1, 1),
+            (0, 1000, 2, 1, 2),
+            (0, 1000, 2, 1, 2),
+            (0, 1006, 2, 1, 1),
+            (0, 1000, 2, 1, 2),
+            (0, 1001, 2, 1, 2),
+            (0, 1006, 2, 3, 2),
         ],
-    );
+    },
     // The same name at another address is another backend.
-    shows::<T>(rt, alloc, 2, &[(1000, 1, 1, 1), (1000, 3, 9, 3)]);
+    Example {
+        capacity: 2,
+        idle: None,
+        steps: &[(0, 1000, 1, 1, 1), (0, 1000, 3, 9, 3)],
+    },
     // A version under which nothing was served leaves no trace; one under which a packet was served does.
-    shows::<T>(rt, alloc, 2, &[(1000, 1, 1, 1), (1000, 5, 1, 1)]);
-    shows::<T>(
-        rt,
-        alloc,
-        2,
-        &[(1000, 1, 1, 1), (1000, 4, 2, 4), (1000, 5, 2, 4)],
-    );
-    // Where nobody is up the entry stays as it was.
-    shows::<T>(
-        rt,
-        alloc,
-        2,
-        &[(1000, 1, 1, 1), (1000, 6, 0, 0), (1000, 5, 1, 1)],
-    );
-}
-
-// A step of a forwarder with a limit of five seconds: the second, a source port, the version, the last byte of the
-// backend's address and the origin that are wanted.
-fn ages<T: ConnTable>(rt: &impl Abort, alloc: Global, steps: &[(u64, u16, usize, u32, u32)]) {
-    let versions = versions(rt, alloc);
-    let limit = Some(5_000_000);
-    let mut forwarder: Forwarder<Sums, T> = Forwarder::make(alloc, SUMS, 2, limit).expect(
-        rt, "room",
-    );
-    for (index, (second, port, version, backend, origin)) in steps.iter().enumerate() {
-        let prepared = versions
-            .get(version.wrapping_sub(1))
-            .expect(rt, "a version");
-        let at = second.wrapping_mul(1_000_000);
-        let served = forwarder.serve(prepared, &flow(*port, 80), at, false);
-        assert_eq!(rt; told(served.choice), (*backend, *origin), "step {index}");
-        assert!(rt; !served.unstored, "stored at step {index}");
-    }
-}
-
-fn ages_all<T: ConnTable>(rt: &impl Abort, alloc: Global) {
+    Example {
+        capacity: 2,
+        idle: None,
+        steps: &[(0, 1000, 1, 1, 1), (0, 1000, 5, 1, 1)],
+    },
+    Example {
+        capacity: 2,
+        idle: None,
+        steps: &[(0, 1000, 1, 1, 1), (0, 1000, 4, 2, 4), (0, 1000, 5, 2, 4)],
+    },
+    // Where nobody is up the entry remains as it was.
+    Example {
+        capacity: 2,
+        idle: None,
+        steps: &[(0, 1000, 1, 1, 1), (0, 1000, 6, 0, 0), (0, 1000, 5, 1, 1)],
+    },
     // Five seconds are within the limit, six aren't, and a clock that steps back is no time.
-    ages::<T>(
-        rt,
-        alloc,
-        &[
+    Example {
+        capacity: 2,
+        idle: FIVE_SECONDS,
+        steps: &[
             (10, 1006, 1, 1, 1),
             (15, 1006, 2, 1, 1),
             (21, 1006, 2, 3, 2),
             (3, 1006, 2, 3, 2),
         ],
-    );
+    },
     // The clock is that of the forwarder, not of the packet.
-    ages::<T>(
-        rt,
-        alloc,
-        &[
+    Example {
+        capacity: 2,
+        idle: FIVE_SECONDS,
+        steps: &[
             (10, 1006, 1, 1, 1),
             (30, 1000, 2, 1, 2),
             (12, 1006, 2, 3, 2),
         ],
-    );
+    },
     // An entry past the limit isn't touched where nobody is up, and so is the one that is pushed out.
-    ages::<T>(
-        rt,
-        alloc,
-        &[
+    Example {
+        capacity: 2,
+        idle: FIVE_SECONDS,
+        steps: &[
             (0, 1006, 1, 1, 1),
             (5, 1000, 1, 1, 1),
             (6, 1006, 6, 0, 0),
             (6, 1001, 2, 1, 2),
             (6, 1000, 2, 1, 1),
         ],
-    );
+    },
+];
+
+fn made<T: ConnTable>(
+    rt: &impl Abort,
+    alloc: Global,
+    capacity: u32,
+    idle: Option<u64>,
+) -> Forwarder<Sums, T> {
+    assert!(rt; 0 < capacity && capacity <= 1000);
+    Forwarder::make(alloc, SUMS, capacity, idle).expect(rt, "room")
 }
 
-#[test]
-fn entries_age_in_a_plain_table(rt: HostRuntime) {
-    ages_all::<PlainTable>(&rt, rt.alloc());
+fn shows<T: ConnTable>(
+    rt: &impl Abort,
+    alloc: Global,
+    versions: &[PreparedVersion<Sums>],
+    example: &Example,
+) {
+    let mut forwarder: Forwarder<Sums, T> = made(rt, alloc, example.capacity, example.idle);
+    for (step, (second, port, version, backend, origin)) in example.steps.iter().enumerate() {
+        let prepared = versions
+            .get(version.wrapping_sub(1))
+            .expect(rt, "a version");
+        let at = second.wrapping_mul(1_000_000);
+        let served = forwarder.serve(prepared, &flow(*port), at, false);
+        same_pair(rt, told(served.choice), (*backend, *origin), step);
+        holds(rt, !served.unstored, "stored");
+    }
 }
 
-#[test]
-fn entries_age_in_a_table_over_links(rt: HostRuntime) {
-    ages_all::<LruTable>(&rt, rt.alloc());
-}
-
-// A packet without a service moves the clock, replacing an entry past the limit may be refused, and a restart sets the clock
-// back.
-#[test]
-fn the_clock_of_a_life(rt: HostRuntime) {
-    let alloc = rt.alloc();
-    let first = version(&rt, alloc, 1, 1, [true, true, true]);
-    let second = version(&rt, alloc, 2, 1, [true, false, true]);
-    let mut forwarder: Forwarder<Sums, LruTable> = Forwarder::make(alloc, SUMS, 2, Some(5)).expect(
-        &rt, "room",
-    );
-    let served = forwarder.serve(&first, &flow(1006, 80), 10, false);
-    assert_eq!(rt; told(served.choice), (1, 1));
-    let served = forwarder.serve(&first, &flow(1006, 81), 16, false);
-    assert_eq!(rt; told(served.choice), (255, 0));
-    let served = forwarder.serve(&second, &flow(1006, 80), 10, true);
-    assert_eq!(rt; told(served.choice), (3, 2));
-    assert!(rt; served.unstored);
-    assert_eq!(rt; forwarder.len(), 1);
-    let served = forwarder.serve(&second, &flow(1006, 80), 10, false);
-    assert_eq!(rt; told(served.choice), (3, 2));
-    assert!(rt; !served.unstored);
-    assert_eq!(rt; forwarder.len(), 1);
-    forwarder.restart();
-    let served = forwarder.serve(&first, &flow(1006, 80), 0, false);
-    assert_eq!(rt; told(served.choice), (1, 1));
-    let served = forwarder.serve(&second, &flow(1006, 80), 6, false);
-    assert_eq!(rt; told(served.choice), (3, 2));
+fn shows_all<T: ConnTable>(rt: &impl Abort, alloc: Global) {
+    let versions = versions(rt, alloc);
+    for example in EXAMPLES.iter() {
+        shows::<T>(rt, alloc, versions.as_slice(), example);
+    }
 }
 
 #[test]
@@ -277,47 +214,154 @@ fn the_examples_with_a_table_over_links(rt: HostRuntime) {
     shows_all::<LruTable>(&rt, rt.alloc());
 }
 
+// A packet in a forwarder's lives, or a restart, where the version is 0: the time in microseconds, the two ports, the
+// version, and whether a new entry is refused. After it: what is wanted of the packet, whether an entry was due and wasn't
+// made, and how many there are.
+struct Packet {
+    at: u64,
+    ports: (u16, u16),
+    version: usize,
+    refused: bool,
+    told: (u32, u32),
+    unstored: bool,
+    entries: usize,
+}
+
+const RESTART: Packet = Packet {
+    at: 0,
+    ports: (0, 0),
+    version: 0,
+    refused: false,
+    told: (0, 0),
+    unstored: false,
+    entries: 0,
+};
+
+// A packet of the flow from port 1006 to the service, for which there is one entry afterwards.
+const X: Packet = Packet {
+    at: 0,
+    ports: (1006, 80),
+    version: 1,
+    refused: false,
+    told: (1, 1),
+    unstored: false,
+    entries: 1,
+};
+
+// A packet without a service moves the clock, replacing an entry past the limit may be refused, and a restart sets the clock
+// back.
+static CLOCK: [Packet; 7] = [
+    Packet { at: 10, ..X },
+    Packet {
+        at: 16,
+        ports: (1006, 81),
+        told: (255, 0),
+        ..X
+    },
+    Packet {
+        at: 10,
+        version: 2,
+        refused: true,
+        told: (3, 2),
+        unstored: true,
+        ..X
+    },
+    Packet {
+        at: 10,
+        version: 2,
+        told: (3, 2),
+        ..X
+    },
+    RESTART,
+    X,
+    Packet {
+        at: 6,
+        version: 2,
+        told: (3, 2),
+        ..X
+    },
+];
+
+// A packet of the flow from port 1000 to the service, whose entry is refused.
+const REFUSED: Packet = Packet {
+    ports: (1000, 80),
+    refused: true,
+    ..X
+};
+
 // A flow without a service touches nothing, a refused entry isn't made, and a restart forgets all.
+static REFUSALS: [Packet; 5] = [
+    Packet {
+        ports: (1000, 81),
+        told: (255, 0),
+        entries: 0,
+        ..REFUSED
+    },
+    Packet {
+        unstored: true,
+        entries: 0,
+        ..REFUSED
+    },
+    Packet {
+        refused: false,
+        ..REFUSED
+    },
+    REFUSED,
+    RESTART,
+];
+
+fn lives(rt: &impl Abort, alloc: Global, idle: Option<u64>, packets: &[Packet]) {
+    let versions = versions(rt, alloc);
+    let mut forwarder: Forwarder<Sums, LruTable> = made(rt, alloc, 2, idle);
+    for (step, packet) in packets.iter().enumerate() {
+        match versions.get(packet.version.wrapping_sub(1)) {
+            None => forwarder.restart(),
+            Some(prepared) => {
+                let flow = flow_to(packet.ports.0, packet.ports.1);
+                let served = forwarder.serve(prepared, &flow, packet.at, packet.refused);
+                same_pair(rt, told(served.choice), packet.told, step);
+                holds(rt, served.unstored == packet.unstored, "unstored");
+            },
+        }
+        same_count(rt, forwarder.len(), packet.entries, "entries");
+    }
+}
+
+#[test]
+fn the_clock_of_a_life(rt: HostRuntime) {
+    lives(&rt, rt.alloc(), Some(5), &CLOCK);
+}
+
 #[test]
 fn refusals_and_restart(rt: HostRuntime) {
-    let alloc = rt.alloc();
-    let prepared = version(&rt, alloc, 1, 1, [true, true, true]);
-    let mut forwarder: Forwarder<Sums, LruTable> = Forwarder::make(alloc, SUMS, 2, None).expect(
-        &rt, "room",
-    );
-    let served = forwarder.serve(&prepared, &flow(1000, 81), 0, true);
-    assert_eq!(rt; told(served.choice), (255, 0));
-    assert!(rt; !served.unstored);
-    let served = forwarder.serve(&prepared, &flow(1000, 80), 0, true);
-    assert_eq!(rt; told(served.choice), (1, 1));
-    assert!(rt; served.unstored);
-    assert_eq!(rt; forwarder.len(), 0);
-    let served = forwarder.serve(&prepared, &flow(1000, 80), 0, false);
-    assert!(rt; !served.unstored);
-    let served = forwarder.serve(&prepared, &flow(1000, 80), 0, true);
-    assert!(rt; !served.unstored);
-    assert_eq!(rt; forwarder.len(), 1);
-    forwarder.restart();
-    assert_eq!(rt; forwarder.len(), 0);
+    lives(&rt, rt.alloc(), None, &REFUSALS);
+}
+
+// Serves 100,000 packets of so many flows in turn, from port 1000 on: how many had version 1 as their origin.
+fn flooded(
+    forwarder: &mut Forwarder<Sums, LruTable>,
+    prepared: &PreparedVersion<Sums>,
+    flows: u32,
+) -> usize {
+    let mut by_one = 0usize;
+    for i in 0..100_000u32 {
+        let place = u16::try_from(i.checked_rem(flows).unwrap_or(0)).unwrap_or(0);
+        let served = forwarder.serve(prepared, &flow(place.wrapping_add(1000)), 0, false);
+        if told(served.choice).1 == 1 {
+            by_one = by_one.wrapping_add(1);
+        }
+    }
+    by_one
 }
 
 // 100,000 packets of one flow, and of 60,000 flows, on a table of 1,000 entries.
 #[test]
 fn a_flood_keeps_to_the_capacity(rt: HostRuntime) {
-    let alloc = rt.alloc();
-    let prepared = version(&rt, alloc, 1, 1, [true, true, true]);
-    let mut forwarder: Forwarder<Sums, LruTable> = Forwarder::make(alloc, SUMS, 1000, None).expect(
-        &rt, "room",
-    );
-    for _ in 0..100000u32 {
-        let (_, origin) = told(forwarder.serve(&prepared, &flow(1006, 80), 0, false).choice);
-        assert_eq!(rt; origin, 1);
+    let prepared = version(&rt, rt.alloc(), 1, 0x0a08_0001, [true; 3]);
+    let mut forwarder: Forwarder<Sums, LruTable> = made(&rt, rt.alloc(), 1000, None);
+    for (flows, entries) in [(1, 1), (60_000, 1000)] {
+        let by_one = flooded(&mut forwarder, &prepared, flows);
+        same_count(&rt, by_one, 100_000, "origins");
+        same_count(&rt, forwarder.len(), entries, "entries");
     }
-    assert_eq!(rt; forwarder.len(), 1);
-    for i in 0..100000u32 {
-        let port = 1000 + (i % 60000) as u16;
-        let (_, origin) = told(forwarder.serve(&prepared, &flow(port, 80), 0, false).choice);
-        assert_eq!(rt; origin, 1);
-    }
-    assert_eq!(rt; forwarder.len(), 1000);
 }

@@ -1,9 +1,8 @@
-ghost use Rattle.std.specs.Prelude.{◌≡◌, IfOk};
-
+use crate::checks::{Row, VIP, backend, flow, flow_to, holds, members_of, seven, version_of};
 use five_tuple::Flow;
 use hash_laws::{AnyHash, Fnv, SumHash};
-use maglev_table::{Name, TableSize, Weight};
-use pool_versions::{Backend, Member, Service, Version};
+use maglev_table::{TableSize, Weight};
+use pool_versions::{Backend, Service, Version};
 use selection::{
     Maglev, MaglevTable, PlainHash, PrepareFault, PreparedVersion, PreparedVersions, RoundRobin,
     Scheme, maglev_and_plain_hash_are_steady,
@@ -17,64 +16,50 @@ const B: u32 = 0x0a08_0002;
 
 const C: u32 = 0x0a08_0003;
 
-fn seven(rt: &impl Abort) -> TableSize {
-    TableSize::new(7).expect(rt, "a size")
-}
+const ALL: [bool; 3] = [true; 3];
 
-fn backend(rt: &impl Abort, name: &[u8], addr: u32) -> Backend {
-    let name = Name::new(name).expect(rt, "a name");
-    Backend { name, addr }
-}
+const WITHOUT_B: [bool; 3] = [true, false, true];
 
-// From 10.0.0.1 to the TCP service 192.0.2.1:80. Under the sum hash the flows of ports 1000, 1001 and 1006 have the slots
-// 6, 0 and 5 of 7.
-fn flow(sport: u16) -> Flow {
-    Flow {
-        src: 0x0a00_0001,
-        dst: 0xc000_0201,
-        sport,
-        dport: 80,
-        proto: 6,
-    }
-}
+const NOBODY: [bool; 3] = [false; 3];
 
-fn version(rt: &impl Abort, alloc: Global, ups: [bool; 3]) -> Version {
-    weighed_version(rt, alloc, ups, 1)
-}
-
-// The same with a weight of A.
+// Version 3 of C, A and B, with a weight of A.
 fn weighed_version(rt: &impl Abort, alloc: Global, ups: [bool; 3], turns: u8) -> Version {
-    let members = [
-        Member {
-            backend: backend(rt, b"C", C),
-            up: ups[2],
-            weight: Weight::one(),
-        },
-        Member {
-            backend: backend(rt, b"A", A),
-            up: ups[0],
-            weight: Weight::new(turns).expect(rt, "a weight"),
-        },
-        Member {
-            backend: backend(rt, b"B", B),
-            up: ups[1],
-            weight: Weight::one(),
-        },
+    let rows: [Row<'_>; 3] = [
+        (b"C", C, ups[2], 1),
+        (b"A", A, ups[0], turns),
+        (b"B", B, ups[1], 1),
     ];
-    let members = Vec::from_slice(alloc, &members).expect(rt, "memory");
-    let mut services = Vec::new(alloc);
-    services
-        .push(Service {
-            vip: 0xc000_0201,
-            proto: 6,
-            port: 80,
-            members,
-        })
-        .expect(rt, "memory");
-    Version {
-        number: 3,
-        services,
+    version_of(rt, alloc, 3, VIP, &rows)
+}
+
+fn prepared<S: Scheme>(
+    rt: &impl Abort,
+    alloc: Global,
+    scheme: S,
+    version: &Version,
+) -> PreparedVersion<S> {
+    PreparedVersion::make(alloc, &scheme, seven(rt), version).expect(rt, "a prepared version")
+}
+
+fn prepared_after<S: Scheme>(
+    rt: &impl Abort,
+    alloc: Global,
+    scheme: S,
+    version: &Version,
+    before: &PreparedVersion<S>,
+) -> PreparedVersion<S> {
+    PreparedVersion::make_after(alloc, &scheme, seven(rt), version, before).expect(
+        rt,
+        "a prepared version",
+    )
+}
+
+fn backends(rt: &impl Abort, alloc: Global, rows: &[(&[u8], u32)]) -> Vec<Backend> {
+    let mut all = Vec::new(alloc);
+    for (name, addr) in rows {
+        all.push(backend(rt, name, *addr)).expect(rt, "memory");
     }
+    all
 }
 
 // The table of backends that weigh alike.
@@ -84,159 +69,167 @@ fn unweighed<H: hash_laws::FlowHash>(
     hash: H,
     size: TableSize,
     ups: &[Backend],
-) -> Result<MaglevTable, PrepareFault>
-    ensures { IfOk result (λ t. t.size ≡ size) }
-{
+) -> Result<MaglevTable, PrepareFault> {
     let weights = vec![in alloc; Weight::one(); ups.len()].expect(rt, "memory");
     Maglev { hash }.table(alloc, size, ups, weights.as_slice())
 }
 
-fn shows_table<H: hash_laws::FlowHash>(
-    rt: &impl Abort,
-    alloc: Global,
-    hash: H,
-    ups: &[Backend],
-    addrs: [u32; 7],
-) {
-    let table = unweighed(rt, alloc, hash, seven(rt), ups).expect(rt, "a table");
-    assert_eq!(rt; table.size().slots(), 7);
-    assert!(rt; table.ups() == ups);
-    for slot in 0..table.size().slots() {
-        let named = table.backend_at(slot).expect(rt, "a backend");
-        assert_eq!(rt; named.addr, addrs[slot as usize % 7], "at {slot}");
+// The address that a table gives a slot.
+fn address_at(table: &MaglevTable, slot: u32) -> Option<u32> {
+    if slot >= table.size().slots() {
+        return None;
+    }
+    Some(table.backend_at(slot)?.addr)
+}
+
+// The backends of a table of 7 slots, and the address that each slot has, 0 for none.
+static TABLES: [(&[(&[u8], u32)], [u32; 7]); 3] = [
+    (&[(b"A", A), (b"B", B), (b"C", C)], [B, A, B, C, C, A, A]),
+    (&[(b"A", A), (b"C", C)], [A, A, A, C, C, C, A]),
+    (&[], [0; 7]),
+];
+
+fn shows_table(rt: &impl Abort, alloc: Global, rows: &[(&[u8], u32)], addrs: &[u32; 7]) {
+    let ups = backends(rt, alloc, rows);
+    let table = unweighed(rt, alloc, SumHash, seven(rt), ups.as_slice()).expect(rt, "a table");
+    holds(rt, table.size().slots() == 7, "seven slots");
+    holds(rt, table.ups() == ups.as_slice(), "the backends");
+    for (slot, addr) in addrs.iter().enumerate() {
+        let found = address_at(&table, slot as u32).unwrap_or(0);
+        assert_eq!(rt; found, *addr, "at {slot}");
     }
 }
 
 #[test]
 fn tables_by_the_sum_hash(rt: HostRuntime) {
-    let alloc = rt.alloc();
-    let all = [
-        backend(&rt, b"A", A),
-        backend(&rt, b"B", B),
-        backend(&rt, b"C", C),
-    ];
-    let two = [backend(&rt, b"A", A), backend(&rt, b"C", C)];
-    shows_table(&rt, alloc, SumHash, &all, [B, A, B, C, C, A, A]);
-    shows_table(&rt, alloc, SumHash, &two, [A, A, A, C, C, C, A]);
-    let nobody = unweighed(&rt, alloc, SumHash, seven(&rt), &[]).expect(&rt, "a table");
-    for slot in 0..nobody.size().slots() {
-        assert!(rt; nobody.backend_at(slot).is_none());
+    for (rows, addrs) in TABLES.iter() {
+        shows_table(&rt, rt.alloc(), rows, addrs);
     }
-    let eight = [all[0]; 8];
-    assert!(rt; unweighed(&rt, alloc, SumHash, seven(&rt), &eight[..7]).is_ok());
-    let refused = unweighed(&rt, alloc, SumHash, seven(&rt), &eight);
+}
+
+// As many backends as slots have a table, and one more is too many.
+#[test]
+fn eight_backends_for_seven_slots(rt: HostRuntime) {
+    let eight = [backend(&rt, b"A", A); 8];
+    let made = unweighed(&rt, rt.alloc(), SumHash, seven(&rt), &eight[..7]);
+    holds(&rt, made.is_ok(), "seven");
+    let refused = unweighed(&rt, rt.alloc(), SumHash, seven(&rt), &eight);
     assert_eq!(rt; refused.err(), Some(PrepareFault::TooMany));
 }
 
-// The addresses that a scheme chooses at the turns 0, 1 and 2, through its bound.
+// The addresses that a scheme chooses at the turns 0, 1 and 2, through its bound, 0 for none.
 fn chosen<S: Scheme>(
     rt: &impl Abort,
     alloc: Global,
     scheme: S,
     ups: [bool; 3],
     sport: u16,
-) -> [Option<u32>; 3] {
-    let version = version(rt, alloc, ups);
-    let prepared = PreparedVersion::make(alloc, &scheme, seven(rt), &version).expect(
+) -> [u32; 3] {
+    let version = weighed_version(rt, alloc, ups, 1);
+    let prepared = prepared(rt, alloc, scheme, &version);
+    holds(rt, prepared.number() == 3, "the number");
+    holds(rt, prepared.size().slots() == 7, "the size");
+    holds(rt, prepared.scheme() == scheme, "the scheme");
+    holds(
         rt,
-        "a prepared version",
+        prepared.find(&flow(sport)).is_some(),
+        "what was prepared",
     );
-    assert_eq!(rt; prepared.number(), 3);
-    assert_eq!(rt; prepared.size().slots(), 7);
-    assert!(rt; prepared.scheme() == scheme);
-    assert!(rt; prepared.find(&flow(sport)).is_some());
     let ready = prepared.ready(&flow(sport)).expect(rt, "a service");
     let _ = ready.prepared();
-    let mut addrs = [None; 3];
+    let mut addrs = [0; 3];
     for turn in 0..3u64 {
-        addrs[turn as usize] = ready.choose(&flow(sport), turn).map(|backend| backend.addr);
+        if let Some(backend) = ready.choose(&flow(sport), turn) {
+            addrs[turn as usize] = backend.addr;
+        }
     }
     addrs
 }
 
-#[test]
-fn each_scheme_chooses(rt: HostRuntime) {
-    let alloc = rt.alloc();
-    let all = [true, true, true];
-    let without_b = [true, false, true];
-    let maglev = Maglev { hash: SumHash };
-    assert_eq!(rt; chosen(&rt, alloc, maglev, all, 1000), [Some(A); 3]);
-    assert_eq!(rt; chosen(&rt, alloc, maglev, all, 1001), [Some(B); 3]);
-    assert_eq!(rt; chosen(&rt, alloc, maglev, without_b, 1001), [Some(A); 3]);
-    assert_eq!(rt; chosen(&rt, alloc, maglev, all, 1006), [Some(A); 3]);
-    assert_eq!(rt; chosen(&rt, alloc, maglev, without_b, 1006), [Some(C); 3]);
-    let plain = PlainHash { hash: SumHash };
-    assert_eq!(rt; chosen(&rt, alloc, plain, all, 1000), [Some(C); 3]);
-    assert_eq!(rt; chosen(&rt, alloc, plain, without_b, 1000), [Some(C); 3]);
-    assert_eq!(rt;
-        chosen(&rt, alloc, RoundRobin, all, 1000),
-        [Some(A), Some(B), Some(C)]
-    );
-    assert_eq!(rt;
-        chosen(&rt, alloc, RoundRobin, without_b, 1000),
-        [Some(A), Some(C), Some(A)]
-    );
-    let nobody = [false, false, false];
-    assert_eq!(rt; chosen(&rt, alloc, maglev, nobody, 1000), [None; 3]);
-    assert_eq!(rt; chosen(&rt, alloc, plain, nobody, 1000), [None; 3]);
-    assert_eq!(rt; chosen(&rt, alloc, RoundRobin, nobody, 1000), [None; 3]);
-    assert!(rt; maglev_and_plain_hash_are_steady::<Fnv>() && !RoundRobin::STEADY);
+// Which backends are up, a source port, and the addresses at the turns 0, 1 and 2.
+type Choices = ([bool; 3], u16, [u32; 3]);
+
+static BY_MAGLEV: [Choices; 6] = [
+    (ALL, 1000, [A; 3]),
+    (ALL, 1001, [B; 3]),
+    (WITHOUT_B, 1001, [A; 3]),
+    (ALL, 1006, [A; 3]),
+    (WITHOUT_B, 1006, [C; 3]),
+    (NOBODY, 1000, [0; 3]),
+];
+
+static BY_PLAIN_HASH: [Choices; 3] = [
+    (ALL, 1000, [C; 3]),
+    (WITHOUT_B, 1000, [C; 3]),
+    (NOBODY, 1000, [0; 3]),
+];
+
+static BY_TURNS: [Choices; 3] = [
+    (ALL, 1000, [A, B, C]),
+    (WITHOUT_B, 1000, [A, C, A]),
+    (NOBODY, 1000, [0; 3]),
+];
+
+fn chooses<S: Scheme>(rt: &impl Abort, alloc: Global, scheme: S, rows: &[Choices]) {
+    for (at, (ups, sport, addrs)) in rows.iter().enumerate() {
+        let found = chosen(rt, alloc, scheme, *ups, *sport);
+        assert_eq!(rt; found, *addrs, "choice {at}");
+    }
 }
 
 #[test]
+fn each_scheme_chooses(rt: HostRuntime) {
+    chooses(&rt, rt.alloc(), Maglev { hash: SumHash }, &BY_MAGLEV);
+    chooses(&rt, rt.alloc(), PlainHash { hash: SumHash }, &BY_PLAIN_HASH);
+    chooses(&rt, rt.alloc(), RoundRobin, &BY_TURNS);
+    let steady = maglev_and_plain_hash_are_steady::<Fnv>() && !RoundRobin::STEADY;
+    holds(&rt, steady, "which are steady");
+}
+
+// A port of the service's address, a backend's name and address, and whether it is up where B is down.
+static PAIRS: [(u16, &[u8], u32, bool); 6] = [
+    (80, b"A", A, true),
+    (80, b"A", B, false),
+    (80, b"C", A, false),
+    (80, b"B", B, false),
+    (80, b"C", C, true),
+    (81, b"A", A, false),
+];
+
+#[test]
 fn a_pair_is_up(rt: HostRuntime) {
-    let alloc = rt.alloc();
-    let version = version(&rt, alloc, [true, false, true]);
-    let maglev = Maglev { hash: SumHash };
-    let prepared = PreparedVersion::make(alloc, &maglev, seven(&rt), &version).expect(
+    let version = weighed_version(&rt, rt.alloc(), WITHOUT_B, 1);
+    let prepared = prepared(&rt, rt.alloc(), Maglev { hash: SumHash }, &version);
+    for (dport, name, addr, up) in PAIRS.iter() {
+        let backend = backend(&rt, name, *addr);
+        let found = prepared.is_up(&flow_to(1000, *dport), &backend);
+        holds(&rt, found == *up, "a pair");
+    }
+    let elsewhere = flow_to(1000, 81);
+    holds(&rt, prepared.find(&elsewhere).is_none(), "nothing is found");
+    holds(
         &rt,
-        "a prepared version",
+        prepared.ready(&elsewhere).is_none(),
+        "nothing is ready",
     );
-    let here = flow(1000);
-    assert!(rt; prepared.is_up(&here, &backend(&rt, b"A", A)));
-    assert!(rt; !prepared.is_up(&here, &backend(&rt, b"A", B)));
-    assert!(rt; !prepared.is_up(&here, &backend(&rt, b"C", A)));
-    assert!(rt; !prepared.is_up(&here, &backend(&rt, b"B", B)));
-    assert!(rt; prepared.is_up(&here, &backend(&rt, b"C", C)));
-    let elsewhere = Flow { dport: 81, ..here };
-    assert!(rt; !prepared.is_up(&elsewhere, &backend(&rt, b"A", A)));
-    assert!(rt; prepared.find(&elsewhere).is_none());
-    assert!(rt; prepared.ready(&elsewhere).is_none());
 }
 
 // A version of one service of eight members of the addresses 0 to 7, of which the first ones are up.
 fn version_of_eight(rt: &impl Abort, alloc: Global, names: &[u8; 8], ups: usize) -> Version {
-    let mut members = Vec::new(alloc);
-    for (number, name) in names.iter().enumerate() {
-        members
-            .push(Member {
-                backend: backend(rt, &[*name], number as u32),
-                up: number < ups,
-                weight: Weight::one(),
-            })
-            .expect(rt, "memory");
+    let mut rows: [Row<'_>; 8] = [(&[], 0, false, 1); 8];
+    for (number, name) in names.chunks(1).enumerate() {
+        if number < 8 {
+            rows[number] = (name, number as u32, number < ups, 1);
+        }
     }
-    let mut services = Vec::new(alloc);
-    services
-        .push(Service {
-            vip: 1,
-            proto: 6,
-            port: 80,
-            members,
-        })
-        .expect(rt, "memory");
-    Version {
-        number: 1,
-        services,
-    }
+    version_of(rt, alloc, 1, 1, &rows)
 }
 
 #[test]
 fn more_up_backends_than_slots(rt: HostRuntime) {
-    let alloc = rt.alloc();
     for (ups, refused) in [(7usize, None), (8, Some(PrepareFault::TooMany))] {
-        let version = version_of_eight(&rt, alloc, b"abcdefgh", ups);
-        let made = PreparedVersion::make(alloc, &RoundRobin, seven(&rt), &version);
+        let version = version_of_eight(&rt, rt.alloc(), b"abcdefgh", ups);
+        let made = PreparedVersion::make(rt.alloc(), &RoundRobin, seven(&rt), &version);
         assert_eq!(rt; made.err(), refused);
     }
 }
@@ -244,10 +237,7 @@ fn more_up_backends_than_slots(rt: HostRuntime) {
 // Which of eight pairs of a name and a number are up.
 fn which_are_up(rt: &impl Abort, alloc: Global, names: &[u8; 8], pairs: &[u8; 8]) -> [bool; 8] {
     let version = version_of_eight(rt, alloc, names, 7);
-    let prepared = PreparedVersion::make(alloc, &RoundRobin, seven(rt), &version).expect(
-        rt,
-        "a prepared version",
-    );
+    let prepared = prepared(rt, alloc, RoundRobin, &version);
     let flow = Flow {
         dst: 1,
         ..flow(1000)
@@ -259,153 +249,162 @@ fn which_are_up(rt: &impl Abort, alloc: Global, names: &[u8; 8], pairs: &[u8; 8]
     are_up
 }
 
+const BUT_THE_LAST: [bool; 8] = [true, true, true, true, true, true, true, false];
+
+// Names of eight backends, names of eight pairs, and which of the pairs are up.
+static EIGHTS: [(&[u8; 8], &[u8; 8], [bool; 8]); 11] = [
+    (b"abcdefgh", b"abcdefgh", BUT_THE_LAST),
+    (b"hgfedcba", b"hgfedcba", BUT_THE_LAST),
+    (b"dbfaceg0", b"dbfaceg0", BUT_THE_LAST),
+    (b"zzzzzzzz", b"zzzzzzzz", BUT_THE_LAST),
+    (b"bbbaaacc", b"bbbaaacc", BUT_THE_LAST),
+    (b"abcdefgh", b"ZZZZZZZZ", [false; 8]),
+    (b"hgfedcba", b"ZZZZZZZZ", [false; 8]),
+    (b"dbfaceg0", b"ZZZZZZZZ", [false; 8]),
+    (b"zzzzzzzz", b"ZZZZZZZZ", [false; 8]),
+    (b"bbbaaacc", b"ZZZZZZZZ", [false; 8]),
+    (
+        b"bbbaaacc",
+        b"bcbaaaac",
+        [true, false, true, true, true, true, false, false],
+    ),
+];
+
 #[test]
 fn each_up_backend_is_found(rt: HostRuntime) {
-    let alloc = rt.alloc();
-    let but_the_last = [true, true, true, true, true, true, true, false];
-    for names in [
-        b"abcdefgh",
-        b"hgfedcba",
-        b"dbfaceg0",
-        b"zzzzzzzz",
-        b"bbbaaacc",
-    ] {
-        assert_eq!(rt; which_are_up(&rt, alloc, names, names), but_the_last);
-        assert_eq!(rt; which_are_up(&rt, alloc, names, b"ZZZZZZZZ"), [false; 8]);
+    for (names, pairs, are_up) in EIGHTS.iter() {
+        let found = which_are_up(&rt, rt.alloc(), names, pairs);
+        assert_eq!(rt; found, *are_up);
     }
-    assert_eq!(rt;
-        which_are_up(&rt, alloc, b"bbbaaacc", b"bcbaaaac"),
-        [true, false, true, true, true, true, false, false]
-    );
+}
+
+// The address that a flow has under a prepared version.
+fn address_of<S: Scheme>(prepared: &PreparedVersion<S>, flow: &Flow) -> Option<u32> {
+    let backend = prepared.ready(flow)?.choose(flow, 0)?;
+    Some(backend.addr)
 }
 
 // The addresses that the flows of the ports 1000, 1001 and 1006 have under a prepared version.
-fn addresses<S: Scheme>(prepared: &PreparedVersion<S>) -> [Option<u32>; 3] {
-    let mut addrs = [None; 3];
-    for (at, sport) in [1000u16, 1001, 1006].iter().enumerate() {
-        if let Some(ready) = prepared.ready(&flow(*sport)) {
-            addrs[at] = ready.choose(&flow(*sport), 0).map(|backend| backend.addr);
-        }
-    }
-    addrs
+fn addresses<S: Scheme>(prepared: &PreparedVersion<S>) -> [u32; 3] {
+    [
+        address_of(prepared, &flow(1000)).unwrap_or(0),
+        address_of(prepared, &flow(1001)).unwrap_or(0),
+        address_of(prepared, &flow(1006)).unwrap_or(0),
+    ]
 }
 
-// By the tables of the sum hash for 7 slots: B A B C C A A of all, A A A C C C A without B.
+fn has_addresses<S: Scheme>(rt: &impl Abort, prepared: &PreparedVersion<S>, wanted: [u32; 3]) {
+    assert_eq!(rt; addresses(prepared), wanted);
+}
+
+// Versions one after another: which backends are up, how often A takes a turn, and the addresses of three flows.
+type Chain = ([bool; 3], u8, [u32; 3]);
+
+// By the tables of the sum hash for 7 slots: B A B C C A A of all, A A A C C C A without B, and A A B C A B A where A counts
+// three times.
+static CHAIN: [Chain; 7] = [
+    (ALL, 1, [A, B, A]),
+    (ALL, 1, [A, B, A]),
+    (WITHOUT_B, 1, [A, A, C]),
+    (ALL, 1, [A, B, A]),
+    (ALL, 3, [A, A, B]),
+    (ALL, 3, [A, A, B]),
+    (ALL, 1, [A, B, A]),
+];
+
+// Each version is prepared after the one before it, which stays as it was, and keeps what it shares with that one when that
+// one is gone.
 #[test]
 fn a_version_after_another(rt: HostRuntime) {
-    let alloc = rt.alloc();
     let maglev = Maglev { hash: SumHash };
-    let all = version(&rt, alloc, [true, true, true]);
-    let without_b = version(&rt, alloc, [true, false, true]);
-    let of_all = [Some(A), Some(B), Some(A)];
-    let of_two = [Some(A), Some(A), Some(C)];
-    let first = PreparedVersion::make(alloc, &maglev, seven(&rt), &all).expect(&rt, "memory");
-    assert_eq!(rt; addresses(&first), of_all);
-    let same = PreparedVersion::make_after(alloc, &maglev, seven(&rt), &all, &first).expect(
-        &rt, "memory",
-    );
-    assert_eq!(rt; addresses(&same), of_all);
-    let changed = PreparedVersion::make_after(alloc, &maglev, seven(&rt), &without_b, &same).expect(
-        &rt, "memory",
-    );
-    assert_eq!(rt; addresses(&changed), of_two);
-    let back = PreparedVersion::make_after(alloc, &maglev, seven(&rt), &all, &changed).expect(
-        &rt, "memory",
-    );
-    drop(first);
-    drop(same);
-    assert_eq!(rt; addresses(&back), of_all);
+    let all = weighed_version(&rt, rt.alloc(), ALL, 1);
+    let mut before = prepared(&rt, rt.alloc(), maglev, &all);
+    let mut last = [A, B, A];
+    for (ups, turns, wanted) in CHAIN.iter() {
+        let version = weighed_version(&rt, rt.alloc(), *ups, *turns);
+        let after = prepared_after(&rt, rt.alloc(), maglev, &version, &before);
+        has_addresses(&rt, &before, last);
+        has_addresses(&rt, &after, *wanted);
+        before = after;
+        last = *wanted;
+    }
+    has_addresses(&rt, &before, last);
+}
+
+#[test]
+fn a_version_of_another_size(rt: HostRuntime) {
+    let maglev = Maglev { hash: SumHash };
+    let all = weighed_version(&rt, rt.alloc(), ALL, 1);
+    let before = prepared(&rt, rt.alloc(), maglev, &all);
     let thirteen = TableSize::new(13).expect(&rt, "a size");
-    let larger = PreparedVersion::make_after(alloc, &maglev, thirteen, &all, &back).expect(
+    let larger = PreparedVersion::make_after(rt.alloc(), &maglev, thirteen, &all, &before).expect(
         &rt, "memory",
     );
     let table = larger.find(&flow(1000)).expect(&rt, "a table");
-    assert_eq!(rt; table.size().slots(), 13);
+    holds(&rt, table.size().slots() == 13, "thirteen slots");
 }
 
-// By the table of the sum hash for 7 slots where A counts three times: A A B C A B A.
+// A plain hash knows no weights.
 #[test]
-fn a_version_of_other_weights(rt: HostRuntime) {
-    let alloc = rt.alloc();
-    let maglev = Maglev { hash: SumHash };
-    let all = version(&rt, alloc, [true, true, true]);
-    let heavy = weighed_version(&rt, alloc, [true, true, true], 3);
-    let first = PreparedVersion::make(alloc, &maglev, seven(&rt), &all).expect(&rt, "memory");
-    let second = PreparedVersion::make_after(alloc, &maglev, seven(&rt), &heavy, &first).expect(
-        &rt, "memory",
-    );
-    assert_eq!(rt; addresses(&first), [Some(A), Some(B), Some(A)]);
-    assert_eq!(rt; addresses(&second), [Some(A), Some(A), Some(B)]);
-    let third = PreparedVersion::make_after(alloc, &maglev, seven(&rt), &heavy, &second).expect(
-        &rt, "memory",
-    );
-    assert_eq!(rt; addresses(&third), [Some(A), Some(A), Some(B)]);
+fn weights_of_a_plain_hash(rt: HostRuntime) {
     let plain = PlainHash { hash: SumHash };
-    let light = PreparedVersion::make(alloc, &plain, seven(&rt), &all).expect(&rt, "memory");
-    let weighty = PreparedVersion::make(alloc, &plain, seven(&rt), &heavy).expect(&rt, "memory");
-    assert_eq!(rt; addresses(&light), addresses(&weighty));
+    let all = weighed_version(&rt, rt.alloc(), ALL, 1);
+    let heavy = weighed_version(&rt, rt.alloc(), ALL, 3);
+    let light = prepared(&rt, rt.alloc(), plain, &all);
+    let weighty = prepared(&rt, rt.alloc(), plain, &heavy);
+    has_addresses(&rt, &light, addresses(&weighty));
 }
 
-// What a version was made from is told by it, also where it shares tables with the one before, and outlives it.
+fn is_made_from(rt: &impl Abort, found: &Version, version: &Version, other: &Version) {
+    holds(rt, found.same(version), "the version");
+    holds(rt, !found.same(other), "no other version");
+}
+
+// What a version was made from is known by it, also where it shares tables with the one before, and outlives it.
 #[test]
 fn a_version_tells_what_it_was_made_from(rt: HostRuntime) {
-    let alloc = rt.alloc();
     let maglev = Maglev { hash: SumHash };
-    let all = version(&rt, alloc, [true, true, true]);
-    let heavy = weighed_version(&rt, alloc, [true, true, true], 3);
-    let first = PreparedVersion::make(alloc, &maglev, seven(&rt), &all).expect(&rt, "memory");
-    assert!(rt; first.version().same(&all));
-    assert!(rt; !first.version().same(&heavy));
-    let second = PreparedVersion::make_after(alloc, &maglev, seven(&rt), &heavy, &first).expect(
-        &rt, "memory",
-    );
-    assert!(rt; second.version().same(&heavy));
-    assert!(rt; !second.version().same(&all));
-    let third = PreparedVersion::make_after(alloc, &maglev, seven(&rt), &heavy, &second).expect(
-        &rt, "memory",
-    );
+    let all = weighed_version(&rt, rt.alloc(), ALL, 1);
+    let heavy = weighed_version(&rt, rt.alloc(), ALL, 3);
+    let first = prepared(&rt, rt.alloc(), maglev, &all);
+    is_made_from(&rt, first.version(), &all, &heavy);
+    let second = prepared_after(&rt, rt.alloc(), maglev, &heavy, &first);
+    is_made_from(&rt, second.version(), &heavy, &all);
+    let third = prepared_after(&rt, rt.alloc(), maglev, &heavy, &second);
     let kept = third.share_version().expect(&rt, "an owner more");
     drop(first);
     drop(second);
     drop(third);
-    assert!(rt; kept.same(&heavy));
-    assert!(rt; !kept.same(&all));
+    is_made_from(&rt, &kept, &heavy, &all);
 }
 
 // Hashes of two kinds: what one prepared doesn't serve the other.
 #[test]
 fn a_version_after_one_of_another_hash(rt: HostRuntime) {
-    let alloc = rt.alloc();
-    let all = version(&rt, alloc, [true, true, true]);
-    let by_fnv = Maglev { hash: AnyHash::Fnv };
+    let all = weighed_version(&rt, rt.alloc(), ALL, 1);
+    let first = prepared(&rt, rt.alloc(), Maglev { hash: AnyHash::Fnv }, &all);
     let by_sum = Maglev { hash: AnyHash::Sum };
-    let first = PreparedVersion::make(alloc, &by_fnv, seven(&rt), &all).expect(&rt, "memory");
-    let second = PreparedVersion::make_after(alloc, &by_sum, seven(&rt), &all, &first).expect(
-        &rt, "memory",
-    );
-    assert_eq!(rt; addresses(&second), [Some(A), Some(B), Some(A)]);
+    let second = prepared_after(&rt, rt.alloc(), by_sum, &all, &first);
+    has_addresses(&rt, &second, [A, B, A]);
 }
 
-// 600 services, of which each third has the key of the one before it, with the address of its only backend as its number.
+// A service whose only backend has its number as its address.
+fn service(rt: &impl Abort, alloc: Global, number: u32) -> Service {
+    let key = if number % 3 == 2 { number - 1 } else { number };
+    Service {
+        vip: key / 4,
+        proto: (key % 2) as u8,
+        port: (key / 2 % 2) as u16,
+        members: members_of(rt, alloc, &[(b"A", number, true, 1)]),
+    }
+}
+
+// 600 services, of which each third has the key of the one before it.
 fn many_services(rt: &impl Abort, alloc: Global) -> Version {
     let mut services = Vec::new(alloc);
     for number in 0..600u32 {
-        let key = if number % 3 == 2 { number - 1 } else { number };
-        let mut members = Vec::new(alloc);
-        members
-            .push(Member {
-                backend: backend(rt, b"A", number),
-                up: true,
-                weight: Weight::one(),
-            })
-            .expect(rt, "memory");
         services
-            .push(Service {
-                vip: key / 4,
-                proto: (key % 2) as u8,
-                port: (key / 2 % 2) as u16,
-                members,
-            })
+            .push(service(rt, alloc, number))
             .expect(rt, "memory");
     }
     Version {
@@ -414,68 +413,62 @@ fn many_services(rt: &impl Abort, alloc: Global) -> Version {
     }
 }
 
+// What a flow is wanted to have, whose key is this number: a third's key is no service's.
+fn wanted_of(key: u32) -> Option<u32> {
+    if key % 3 == 2 || key >= 600 {
+        None
+    } else {
+        Some(key)
+    }
+}
+
 #[test]
 fn a_service_among_many(rt: HostRuntime) {
-    let alloc = rt.alloc();
-    let version = many_services(&rt, alloc);
-    let prepared = PreparedVersion::make(alloc, &RoundRobin, seven(&rt), &version).expect(
-        &rt, "memory",
-    );
+    let version = many_services(&rt, rt.alloc());
+    let prepared = prepared(&rt, rt.alloc(), RoundRobin, &version);
     for key in 0..604u32 {
-        let found = prepared.ready(&Flow {
+        let flow = Flow {
             src: 1,
             dst: key / 4,
             sport: 1,
             dport: (key / 2 % 2) as u16,
             proto: (key % 2) as u8,
-        });
-        let addr = match found {
-            None => None,
-            Some(ready) => ready.choose(&flow(1000), 0).map(|backend| backend.addr),
         };
-        let want = if key % 3 == 2 || key >= 600 {
-            None
-        } else {
-            Some(key)
-        };
-        assert_eq!(rt; addr, want, "key {key}");
+        assert_eq!(rt; address_of(&prepared, &flow), wanted_of(key), "key {key}");
     }
+}
+
+// The preparation of a version of this number, without services.
+fn numbered(rt: &impl Abort, alloc: Global, number: u32) -> PreparedVersion<RoundRobin> {
+    let version = Version {
+        number,
+        services: Vec::new(alloc),
+    };
+    prepared(rt, alloc, RoundRobin, &version)
+}
+
+fn has_number(rt: &impl Abort, found: Option<&PreparedVersion<RoundRobin>>, wanted: Option<u32>) {
+    assert_eq!(rt; found.map(|version| version.number()), wanted);
 }
 
 #[test]
 fn versions_by_number(rt: HostRuntime) {
-    let alloc = rt.alloc();
-    let mut versions = PreparedVersions::new(alloc);
-    assert!(rt; versions.last().is_none());
+    let mut versions = PreparedVersions::new(rt.alloc());
+    has_number(&rt, versions.last(), None);
     for number in [700u32, 3, 4_294_967_295, 9, 3] {
-        let version = Version {
-            number,
-            services: Vec::new(alloc),
-        };
-        let prepared = PreparedVersion::make(alloc, &RoundRobin, seven(&rt), &version).expect(
-            &rt, "memory",
-        );
+        let prepared = numbered(&rt, rt.alloc(), number);
         versions.put(prepared).expect(&rt, "memory");
-        assert_eq!(rt;
-            versions.last().map(|version| version.number()),
-            Some(number)
-        );
+        has_number(&rt, versions.last(), Some(number));
     }
     for number in [3u32, 9, 700, 4_294_967_295] {
-        assert_eq!(rt;
-            versions.find(number).map(|version| version.number()),
-            Some(number)
-        );
+        has_number(&rt, versions.find(number), Some(number));
     }
-    assert!(rt; versions.find(0).is_none());
-    assert!(rt; versions.find(8).is_none());
+    has_number(&rt, versions.find(0), None);
+    has_number(&rt, versions.find(8), None);
 }
 
-// As many backends as the largest table has slots, one more than two bytes tell apart: each has one slot.
-#[test]
-fn more_backends_than_two_bytes_tell_apart(rt: HostRuntime) {
-    let alloc = rt.alloc();
-    let size = TableSize::new(65537).expect(&rt, "a size");
+// As many backends as the largest table has slots, each with its number as its address.
+fn numerous(rt: &impl Abort, alloc: Global) -> Vec<Backend> {
     let mut ups = Vec::new(alloc);
     for number in 0..65537u32 {
         let letters = [
@@ -485,15 +478,27 @@ fn more_backends_than_two_bytes_tell_apart(rt: HostRuntime) {
             b'a' + (number / 4096 % 16) as u8,
             b'a' + (number / 65536) as u8,
         ];
-        ups.push(backend(&rt, &letters, number))
-            .expect(&rt, "memory");
+        ups.push(backend(rt, &letters, number)).expect(rt, "memory");
     }
-    let table = unweighed(&rt, alloc, Fnv, size, ups.as_slice()).expect(&rt, "a table");
-    let mut named = vec![in alloc; false; 65537].expect(&rt, "memory");
+    ups
+}
+
+// One more backend than two bytes can number: each has one slot.
+#[test]
+fn more_backends_than_two_bytes_tell_apart(rt: HostRuntime) {
+    let size = TableSize::new(65537).expect(&rt, "a size");
+    let ups = numerous(&rt, rt.alloc());
+    let table = unweighed(&rt, rt.alloc(), Fnv, size, ups.as_slice()).expect(&rt, "a table");
+    let mut named = vec![in rt.alloc(); false; 65537].expect(&rt, "memory");
     for slot in 0..65537u32 {
-        let place = table.backend_at(slot).expect(&rt, "a backend").addr as usize;
-        assert!(rt; place < named.len());
-        assert!(rt; !named[place]);
-        named[place] = true;
+        let place = address_at(&table, slot).expect(&rt, "a backend") as usize;
+        holds(
+            &rt,
+            named.get(place) == Some(&false),
+            "a backend with one slot",
+        );
+        if let Some(named) = named.as_mut_slice().get_mut(place) {
+            *named = true;
+        }
     }
 }

@@ -4,11 +4,19 @@
 #[cfg(test)]
 mod captures;
 #[cfg(test)]
+mod checks;
+#[cfg(test)]
 mod devices;
+#[cfg(test)]
+mod failures;
+#[cfg(test)]
+mod frames;
 #[cfg(test)]
 mod idle;
 #[cfg(test)]
 mod limits;
+#[cfg(test)]
+mod playing;
 #[cfg(test)]
 mod run_splits;
 #[cfg(test)]

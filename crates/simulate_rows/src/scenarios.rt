@@ -19,7 +19,7 @@ pub(crate) struct Words<'a> {
     pub(crate) format: &'a str,
     pub(crate) scheme: &'a str,
     pub(crate) workers: &'a str,
-    /// Further keys, each with a newline behind.
+    /// Further keys, each with a newline after it.
     pub(crate) keys: &'a str,
     /// Each version's members; versions are numbered from 1.
     pub(crate) versions: &'a [&'a str],
@@ -27,49 +27,59 @@ pub(crate) struct Words<'a> {
     pub(crate) steps: &'a str,
 }
 
-/// These versions and these steps, and in all else what is plain.
-pub(crate) fn of_versions<'a>(versions: &'a [&'a str], steps: &'a str) -> Words<'a> {
-    Words {
-        format: "1",
-        scheme: "maglev",
-        workers: "1",
-        keys: "",
-        versions,
-        steps,
-    }
+/// Versions 1, with all up, and 2, with B down, and no steps.
+pub(crate) const PLAIN: Words<'static> = Words {
+    format: "1",
+    scheme: "maglev",
+    workers: "1",
+    keys: "",
+    versions: &[ALL, B_DOWN],
+    steps: "",
+};
+
+/// These steps, and in all else what is plain.
+pub(crate) fn plain(steps: &str) -> Words<'_> {
+    Words { steps, ..PLAIN }
 }
 
-/// Versions 1, with all up, and 2, with B down, and these steps.
-pub(crate) fn plain(steps: &str) -> Words<'_> {
-    of_versions(&[ALL, B_DOWN], steps)
+fn push_all(text: &mut String, parts: &[&str]) -> Result<(), AllocError> {
+    for part in parts {
+        text.push_str(part)?;
+    }
+    Ok(())
 }
 
 fn push_version(text: &mut String, number: usize, members: &str) -> Result<(), AllocError> {
     write!(text, "[[versions]]\nnumber = {number}\nservices = [{{ ")?;
-    text.push_str(SERVICE)?;
-    text.push_str(", members = [")?;
-    text.push_str(members)?;
-    text.push_str("] }]\n")
+    push_all(text, &[SERVICE, ", members = [", members, "] }]\n"])
 }
+
+fn push_versions(text: &mut String, versions: &[&str]) -> Result<(), AllocError> {
+    for (place, members) in versions.iter().enumerate() {
+        push_version(text, place.saturating_add(1), members)?;
+    }
+    Ok(())
+}
+
+const SIZES: &str =
+    "\nsize = 7\nhash = 'sum'\nspread = 'turn'\ncapacity = 2\nnodes = ['10.9.0.1', '10.9.0.2']\nscheme = '";
 
 /// The scenario's text: a table of 7 slots, two nodes, spreading by turn, connection tables of two entries.
 pub(crate) fn scenario_of(alloc: Global, words: Words<'_>) -> Result<String, AllocError> {
     let mut text = String::new(alloc);
-    text.push_str("format = ")?;
-    text.push_str(words.format)?;
-    text.push_str(
-        "\nsize = 7\nhash = 'sum'\nspread = 'turn'\ncapacity = 2\nnodes = ['10.9.0.1', '10.9.0.2']\nscheme = '",
+    let head = [
+        "format = ",
+        words.format,
+        SIZES,
+        words.scheme,
+        "'\nworkers = ",
+        words.workers,
+    ];
+    push_all(&mut text, &head)?;
+    push_all(
+        &mut text,
+        &["\n", words.keys, "steps = [", words.steps, "]\n"],
     )?;
-    text.push_str(words.scheme)?;
-    text.push_str("'\nworkers = ")?;
-    text.push_str(words.workers)?;
-    text.push_str("\n")?;
-    text.push_str(words.keys)?;
-    text.push_str("steps = [")?;
-    text.push_str(words.steps)?;
-    text.push_str("]\n")?;
-    for (place, members) in words.versions.iter().enumerate() {
-        push_version(&mut text, place.saturating_add(1), members)?;
-    }
+    push_versions(&mut text, words.versions)?;
     Ok(text)
 }

@@ -73,9 +73,9 @@ fn compare_with<H: FlowHash, S: Sink>(
 
 /// The command `compare`: writes the slots whose backend changes where the members `old` are replaced by `new`.
 ///
-/// Each list is one or more member words, `NAME@ADDRESS`, then `*W` where the weight isn't left out, then `/down` where the
-/// member is down, joined by single spaces. Backends are told apart by name and address. The text is written in one piece once it is whole, so after any fault but `Write`
-/// nothing was written.
+/// Each list is one or more member words, joined by single spaces. A word is `NAME@ADDRESS`, then `*W` unless the weight is
+/// left out, then `/down` where the member is down. Backends are distinguished by name and address. The text is written in
+/// one piece once it is whole, so after any fault but `Write` nothing was written.
 pub fn compare<S: Sink>(
     alloc: Global,
     size: u32,

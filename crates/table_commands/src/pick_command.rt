@@ -99,7 +99,7 @@ fn found_line<H: FlowHash>(
     }
 }
 
-// The line of what a datagram comes to.
+// The line of a datagram's flow and backend, or of its drop.
 fn line_of<H: FlowHash>(
     alloc: Global,
     size: TableSize,
@@ -178,10 +178,10 @@ fn pick_with<H: FlowHash, R: Source, S: Sink>(
     }
 }
 
-/// The command `pick`: reads one IPv4 datagram as hexadecimal text, and writes its flow, the flow's slot and the backend
-/// that the slot names, or why the datagram is dropped.
+/// The command `pick`: reads one IPv4 datagram as hexadecimal text. It writes its flow, the flow's slot and the backend that
+/// the slot names, or why the datagram is dropped.
 ///
-/// The input is hexadecimal digits of either case, two a byte, and at most one newline behind them. The header checksum is
+/// The input is hexadecimal digits of either case, two a byte, and at most one newline after them. The header checksum is
 /// tested where `check` holds. The line is written in one piece, so after any fault but `Write` nothing was written.
 pub fn pick<R: Source, S: Sink>(
     alloc: Global,

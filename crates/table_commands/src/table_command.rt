@@ -41,9 +41,9 @@ fn table_with<H: FlowHash, S: Sink>(
 
 /// The command `table`: writes which backend each slot of a table names, and how many slots each backend has.
 ///
-/// The words are the backends' names, each `NAME`, or `NAME*W` with a weight from 1 to 16, in any order: they take their turns
-/// in ascending order of bytes. The text is written
-/// in one piece once it is whole, so after any fault but `Write` nothing was written.
+/// The words are the backends' names, in any order, each `NAME`, or `NAME*W` with a weight from 1 to 16. They take their
+/// turns in ascending order of bytes. The text is written in one piece once it is whole, so after any fault but `Write`
+/// nothing was written.
 pub fn table<S: Sink>(
     alloc: Global,
     size: u32,
@@ -56,7 +56,7 @@ pub fn table<S: Sink>(
     ensures broken { IfErr result (λ fault. fault ≡ CliFault.Write → BreaksOff (IsTableTextOf hash.now size (map (λ w. w.now) words.now)) (S.tape out.old) (S.tape out.new)) }
     ensures silent { IfErr result (λ fault. fault ≢ CliFault.Write → out.new ≡ out.old) }
 
-    // Each fault comes exactly when its reason is the first that holds, and none where nothing is wrong; only Memory may
+    // Each fault comes exactly when its reason is the first that holds, and none where nothing is wrong. Only Memory may
     // come where a growth was refused.
     ensures accepted { OnOk result (IsTableWork size hash.now (map (λ w. w.now) words.now)) }
     ensures fault { IfErr result (λ fault. TableFails fault size hash.now (map (λ w. w.now) words.now)) }

@@ -20,7 +20,7 @@ complete -c maglev -n '__fish_seen_subcommand_from compare' -l old -x -d 'member
 complete -c maglev -n '__fish_seen_subcommand_from compare' -l new -x -d 'members after'
 complete -c maglev -n '__fish_seen_subcommand_from compare' -l help -d 'Print help'
 complete -c maglev -n '__fish_seen_subcommand_from simulate' -F
-complete -c maglev -n '__fish_seen_subcommand_from simulate' -l list -d 'print each event and what it came to before the report'
+complete -c maglev -n '__fish_seen_subcommand_from simulate' -l list -d 'print each event and its outcome before the report'
 complete -c maglev -n '__fish_seen_subcommand_from simulate' -l splits -d 'print each flow that was split, and why, before the report'
 complete -c maglev -n '__fish_seen_subcommand_from simulate' -l verbose -d 'with a fault, say where it is and what was expected, on standard error'
 complete -c maglev -n '__fish_seen_subcommand_from simulate' -l help -d 'Print help'
