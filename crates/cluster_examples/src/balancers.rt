@@ -331,6 +331,15 @@ fn what_does_not_fit(rt: HostRuntime) {
     holds(&rt, made.is_none(), "two sizes");
 }
 
+fn is_kept(rt: &impl Abort, deployment: &Deployment<Sums, SumHash>) {
+    let (setup, catalogue) = (deployment.setup(), deployment.catalogue());
+    holds(rt, setup.workers() == 1, "one worker");
+    holds(rt, setup.size().slots() == 7, "seven slots");
+    holds(rt, catalogue.size().slots() == 7, "seven slots there");
+    holds(rt, catalogue.get(2).is_some(), "version 2");
+    holds(rt, catalogue.get(3).is_none(), "no version 3");
+}
+
 // What fits is kept as it was.
 #[test]
 fn what_fits(rt: HostRuntime) {
@@ -339,14 +348,6 @@ fn what_fits(rt: HostRuntime) {
         asked: (),
     };
     let workers = <Balancers<Sums, SumHash, LruTable, Kept> as Core>::workers(&task);
-    let setup = task.deployment.setup();
-    let catalogue = task.deployment.catalogue();
-    holds(&rt, (setup.workers(), workers) == (1, 1), "one worker");
-    let sizes = (setup.size().slots(), catalogue.size().slots());
-    holds(&rt, sizes == (7, 7), "seven slots");
-    holds(
-        &rt,
-        catalogue.get(2).is_some() && catalogue.get(3).is_none(),
-        "two versions",
-    );
+    holds(&rt, workers == 1, "one worker");
+    is_kept(&rt, &task.deployment);
 }

@@ -3,7 +3,7 @@ mod frames;
 mod idle;
 mod schemes;
 
-ghost use Rattle.std.specs.Prelude.{◌≡◌, ℕ, Some, slice_get};
+ghost use Rattle.std.specs.Prelude.{◌≡◌, ℕ, Some, option_copied, slice_get};
 ghost use Rattle.cluster_node.specs.Records.{WasRead};
 
 use crate::checks::{Told, holds, same_count, same_told};
@@ -227,6 +227,13 @@ fn acts_of(rt: &impl Abort, alloc: Global, steps: &[Step]) -> Vec<Act> {
     acts
 }
 
+fn result_in(rt: &impl Abort, outcomes: &[Outcome], steps: &[Step]) {
+    same_count(rt, outcomes.len(), steps.len(), "how many events");
+    for (event, (outcome, step)) in outcomes.iter().zip(steps.iter()).enumerate() {
+        same_told(rt, told(outcome), step.1, event);
+    }
+}
+
 fn shows_of<S: Scheme, T: ConnTable>(
     rt: &impl Abort,
     alloc: Global,
@@ -247,10 +254,7 @@ fn shows_of<S: Scheme, T: ConnTable>(
         packets,
         events.as_slice(),
     ).expect(rt, "memory");
-    same_count(rt, outcomes.len(), steps.len(), "how many events");
-    for (event, (outcome, step)) in outcomes.iter().zip(steps.iter()).enumerate() {
-        same_told(rt, told(outcome), step.1, event);
-    }
+    result_in(rt, outcomes.as_slice(), steps);
 }
 
 // The packets are of source ports 1000, 1001 and 1006, in this order.
@@ -389,23 +393,28 @@ static ROUND: [Step; 6] = [
 ];
 
 fn shows_all<T: ConnTable>(rt: &impl Abort, alloc: Global) {
-    let one = setup(rt, alloc, Maglev { hash: SumHash }, 1);
+    let setup = setup(rt, alloc, Maglev { hash: SumHash }, 1);
     for steps in EXAMPLES.iter() {
-        shows::<Maglev<SumHash>, T>(rt, alloc, &one, steps);
+        shows::<Maglev<SumHash>, T>(rt, alloc, &setup, steps);
     }
-    let three = setup(rt, alloc, Maglev { hash: SumHash }, 3);
-    shows::<Maglev<SumHash>, T>(rt, alloc, &three, &ROUND);
+}
+
+fn goes_round<T: ConnTable>(rt: &impl Abort, alloc: Global) {
+    let setup = setup(rt, alloc, Maglev { hash: SumHash }, 3);
+    shows::<Maglev<SumHash>, T>(rt, alloc, &setup, &ROUND);
 }
 
 #[test]
 fn examples_with_a_plain_table(rt: HostRuntime) {
     shows_all::<PlainTable>(&rt, rt.alloc());
+    goes_round::<PlainTable>(&rt, rt.alloc());
     counts::<PlainTable>(&rt, rt.alloc());
 }
 
 #[test]
 fn examples_with_a_table_over_links(rt: HostRuntime) {
     shows_all::<LruTable>(&rt, rt.alloc());
+    goes_round::<LruTable>(&rt, rt.alloc());
     counts::<LruTable>(&rt, rt.alloc());
 }
 
@@ -464,6 +473,28 @@ fn counts<T: ConnTable>(rt: &impl Abort, alloc: Global) {
     holds(rt, found.dropped == dropped, "and two lost");
 }
 
+// Node 0's newest version, what waits at its worker, and node 1's newest version.
+fn has_state(rt: &impl Abort, run: &Run<Maglev<SumHash>, LruTable>, wanted: (u32, usize, u32)) {
+    let found = (run.newest(0), run.waiting(0, 0), run.newest(1));
+    assert_eq!(rt; found, wanted);
+}
+
+// What an event results in.
+fn stepped(
+    rt: &impl Abort,
+    run: &mut Run<Maglev<SumHash>, LruTable>,
+    setup: &Setup<Maglev<SumHash>, SumHash>,
+    catalogue: &Catalogue,
+    act: Act,
+    packet: Option<&Packet>,
+) -> Told
+    requires size { catalogue.now.size ≡ setup.now.size }
+    requires read { WasRead (option_copied packet) }
+{
+    let outcome = run.step(setup, catalogue, &event_of(act), packet);
+    told(&outcome.expect(rt, "memory"))
+}
+
 // One event after another, with the reads between them.
 #[test]
 fn a_run_tells_what_waits(rt: HostRuntime) {
@@ -472,22 +503,18 @@ fn a_run_tells_what_waits(rt: HostRuntime) {
     let mut run: Run<Maglev<SumHash>, LruTable> = Run::make(rt.alloc(), &setup).expect(
         &rt, "memory",
     );
+    has_state(&rt, &run, (0, 0, 0));
+    let found = stepped(&rt, &mut run, &setup, &catalogue, Act::Install(0, 2), None);
+    same_told(&rt, found, ("installed", 0, 0), 0);
     let good = packet(1000);
-    holds(
+    let found = stepped(
         &rt,
-        (run.newest(0), run.waiting(0, 0)) == (0, 0),
-        "nothing yet",
+        &mut run,
+        &setup,
+        &catalogue,
+        Act::Arrive(0, 7),
+        Some(&good),
     );
-    let install = event_of(Act::Install(0, 2));
-    let outcome = run
-        .step(&setup, &catalogue, &install, None)
-        .expect(&rt, "memory");
-    same_told(&rt, told(&outcome), ("installed", 0, 0), 0);
-    let arrive = event_of(Act::Arrive(0, 7));
-    let outcome = run
-        .step(&setup, &catalogue, &arrive, Some(&good))
-        .expect(&rt, "memory");
-    same_told(&rt, told(&outcome), ("placed", 0, 2), 1);
-    let found = (run.newest(0), run.waiting(0, 0), run.newest(1));
-    holds(&rt, found == (2, 1, 0), "one waits");
+    same_told(&rt, found, ("placed", 0, 2), 1);
+    has_state(&rt, &run, (2, 1, 0));
 }

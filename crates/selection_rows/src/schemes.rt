@@ -89,15 +89,19 @@ static TABLES: [(&[(&[u8], u32)], [u32; 7]); 3] = [
     (&[], [0; 7]),
 ];
 
+fn has_slots(rt: &impl Abort, table: &MaglevTable, addrs: &[u32; 7]) {
+    for (slot, addr) in addrs.iter().enumerate() {
+        let found = address_at(table, slot as u32).unwrap_or(0);
+        assert_eq!(rt; found, *addr, "at {slot}");
+    }
+}
+
 fn shows_table(rt: &impl Abort, alloc: Global, rows: &[(&[u8], u32)], addrs: &[u32; 7]) {
     let ups = backends(rt, alloc, rows);
     let table = unweighed(rt, alloc, SumHash, seven(rt), ups.as_slice()).expect(rt, "a table");
     holds(rt, table.size().slots() == 7, "seven slots");
     holds(rt, table.ups() == ups.as_slice(), "the backends");
-    for (slot, addr) in addrs.iter().enumerate() {
-        let found = address_at(&table, slot as u32).unwrap_or(0);
-        assert_eq!(rt; found, *addr, "at {slot}");
-    }
+    has_slots(rt, &table, addrs);
 }
 
 #[test]
@@ -451,20 +455,33 @@ fn has_number(rt: &impl Abort, found: Option<&PreparedVersion<RoundRobin>>, want
     assert_eq!(rt; found.map(|version| version.number()), wanted);
 }
 
+fn puts(rt: &impl Abort, alloc: Global, versions: &mut PreparedVersions<RoundRobin>, number: u32) {
+    let prepared = numbered(rt, alloc, number);
+    versions.put(prepared).expect(rt, "memory");
+    has_number(rt, versions.last(), Some(number));
+}
+
+static PUT: [u32; 5] = [700, 3, 4_294_967_295, 9, 3];
+
+static FOUND: [(u32, Option<u32>); 6] = [
+    (3, Some(3)),
+    (9, Some(9)),
+    (700, Some(700)),
+    (4_294_967_295, Some(4_294_967_295)),
+    (0, None),
+    (8, None),
+];
+
 #[test]
 fn versions_by_number(rt: HostRuntime) {
     let mut versions = PreparedVersions::new(rt.alloc());
     has_number(&rt, versions.last(), None);
-    for number in [700u32, 3, 4_294_967_295, 9, 3] {
-        let prepared = numbered(&rt, rt.alloc(), number);
-        versions.put(prepared).expect(&rt, "memory");
-        has_number(&rt, versions.last(), Some(number));
+    for number in PUT.iter() {
+        puts(&rt, rt.alloc(), &mut versions, *number);
     }
-    for number in [3u32, 9, 700, 4_294_967_295] {
-        has_number(&rt, versions.find(number), Some(number));
+    for (number, found) in FOUND.iter() {
+        has_number(&rt, versions.find(*number), *found);
     }
-    has_number(&rt, versions.find(0), None);
-    has_number(&rt, versions.find(8), None);
 }
 
 // As many backends as the largest table has slots, each with its number as its address.
