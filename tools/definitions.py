@@ -1,7 +1,7 @@
 #!/usr/bin/env python3
-"""Lists the definitions that stand behind the promises, in an order in which they can be read aloud.
+"""Lists the definitions that the promises rest on, in an order in which they can be read aloud.
 
-From the definitions that a promise's clauses name, all that they stand on is collected from `crates/*/specs/*.antt`, each
+From the definitions that a promise's clauses name, all that they use is collected from `crates/*/specs/*.antt`, each
 definition after those that it uses. `definitions.py` prints the page docs/DEFINITIONS.md; `definitions.py --check` ends with
 status 1 where the page in docs/ isn't that text. A word of Rattle's own library, and a type that the Rust code declares, is
 named where it is used and not counted.
@@ -20,7 +20,7 @@ PROMISES = [
         "`replay_maglev` and `replay` of `cluster_core`: each outcome is the verdict of its event after all before it; two sends "
         "of one flow to different backends chose under versions whose tables name them at the flow's slot; a forwarder keeps "
         "a flow's backend while its entry stands and the backend is up; every slot names an up backend, and backends' slot "
-        "counts stand as their weights, of equal weights differ by at most one.",
+        "counts are in proportion to their weights, of equal weights differ by at most one.",
         [
             ("cluster_core", "Runs", "verdicts"),
             ("cluster_core", "Tables", "TablesDiffer"),
@@ -33,8 +33,8 @@ PROMISES = [
     ),
     (
         "`simulate`: a scenario's events over a capture's records, and what is written",
-        "`simulate` of `maglev_cli`, on top of the definitions above.",
-        [("maglev_cli", "Scenarios", "*")],
+        "`simulate` of `scenario_commands`, on top of the definitions above.",
+        [("scenario_commands", "Scenarios", "*")],
     ),
     (
         "A node on threads",
@@ -53,7 +53,7 @@ WORD = re.compile(r"[A-Za-z_][\w'-]*|◌\S+◌")
 
 
 class Definition:
-    """A definition: where it stands, its lines, and the words in them."""
+    """A definition: where it is, its lines, and the words in them."""
 
     def __init__(self, crate, module, name, lines):
         self.key = (crate, module, name)
@@ -142,7 +142,7 @@ def page():
     definitions, imports = read()
     seen = set()
     text = ["# Definitions", ""]
-    text.append("What a reader has to believe: the definitions behind each promise, each after those that it uses, with the count of")
+    text.append("What a reader has to believe: the definitions that each promise rests on, each after those that it uses, with the count of")
     text.append("its lines. `tools/definitions.py` collects them from the `specs/` of the crates, and a test compares this page with")
     text.append("what it prints. Words of Rattle's library (lists, numbers, options) and types of the Rust code aren't listed. What a")
     text.append("hash, a scheme and a connection table is to its users are the laws of `FlowHash`, `Scheme` and `ConnTable`, in the")
@@ -164,7 +164,7 @@ def page():
         if module != "Lib" and ((crate, module) in private) != module.startswith("Private"):
             sys.exit(f"the name of {crate}/specs/{module}.antt says the contrary of whom it serves")
     text += ["", "## What a reader may skip", ""]
-    text.append("No contract of a public function, a trait or a type stands on a definition of these files, whose names begin with")
+    text.append("No contract of a public function, a trait or a type uses a definition of these files, whose names begin with")
     text.append("`Private`: they serve the contracts of private functions, which public ones are proved by.")
     text.append("")
     text += [f"- `{crate}/specs/{module}.antt`" for crate, module in private if module != "Lib"]
