@@ -22,14 +22,14 @@ use connection_table::ConnTable;
 use hash_laws::FlowHash;
 use left_right::ReadHandle;
 use node_duties::{
-    CountsOwn, Current, Desk, Gate, Inputs, Outfit, Output, Plan, Post, Progress, RunFault, Stage,
-    Tally, WorkerRun, drive, fault_of, gather, stops_at, work,
+    CountsOwn, Current, Desk, Gate, Inputs, Outfit, Output, Part, Plan, Post, Progress, RunFault,
+    Stage, Tally, WorkerRun, drive, fault_of, gather, stops_at, work,
 };
 use node_records::{Journal, WorkerRecord, are_of};
 use pool_versions::Catalogue;
 use rtrb::{Consumer, RingBuffer};
 use selection::Scheme;
-use stats_book::{Names, Shares};
+use stats_book::Names;
 use std::alloc::{AllocError, Global};
 use std::sync::Wait;
 use std::thread;
@@ -116,7 +116,7 @@ impl<'a, S: Scheme, B: Names> Laid<'a, S, B> {
         alloc: Global,
         post: Post<'a, S>,
         places: u32,
-        part: Shares<B>,
+        part: Part<B>,
         number: u16,
     ) -> Result<(), AllocError>
         ensures { OnOk result (length self.new.outfits.items ≡ length self.old.outfits.items + 1) }
