@@ -1,5 +1,5 @@
 #!/usr/bin/env python3
-"""build.py NAME: proves and builds a program of this repository with all that it stands on, as many crates side by side as
+"""build.py NAME: proves and builds a program of this repository with all that it uses, as many crates side by side as
 there are processors and memory for, those with the longest way to the program first. It prints a line for each crate when it
 is proved; where one isn't, its lines. `build.py --sources NAME` only lists what the program is built from.
 
@@ -28,7 +28,7 @@ ROOM = 3 << 30
 
 
 def stands_on():
-    """From each crate to those that it stands on, in this repository."""
+    """From each crate to those that it uses, in this repository."""
     found = {}
     for line in (TOP / "crates.txt").read_text().splitlines():
         words = line.split("#")[0].partition(":")
@@ -50,7 +50,7 @@ def needed(name, below):
 
 
 def lines_of(name):
-    """The lines of a crate, which stand for the time that its proof takes."""
+    """The lines of a crate, by which the time of its proof is guessed."""
     files = [path for part in ("src", "specs", "proofs") for path in (CRATES / name / part).rglob("*") if path.is_file()]
     return sum(path.read_bytes().count(b"\n") for path in files)
 
@@ -135,7 +135,7 @@ def make_tree(tree, name, below):
 
 
 def listed(crates):
-    """What crates.txt says of some crates, each with its words behind the colon."""
+    """What crates.txt says of some crates, each with its words after the colon."""
     lines = [line.partition(":") for line in (TOP / "crates.txt").read_text().splitlines()]
     return [(head, tail.strip()) for head, colon, tail in lines if colon and head.split()[0] in crates]
 
@@ -154,14 +154,14 @@ def prove_library(name, below, trees, at_once):
 
 
 class Progress:
-    """What is told of each crate."""
+    """What is reported of each crate."""
 
     def __init__(self, whole):
         self.whole = whole
         self.proved = set()
 
     def takes(self, name, done, seconds):
-        """Tells what became of a crate, and answers whether it was proved."""
+        """Reports what became of a crate, and answers whether it was proved."""
         if done.returncode:
             print(f"{done.stdout}{done.stderr}{name} is not proved", flush=True)
             return False
@@ -215,7 +215,7 @@ def write_sources(name):
 
 
 def is_current(name):
-    """Whether a program stands, and nothing of what it is built from is newer."""
+    """Whether a program was built, and nothing of what it is built from is newer."""
     program = CRATES / name / "out" / name
     return program.exists() and all(path.stat().st_mtime <= program.stat().st_mtime for path in sources(name))
 

@@ -120,6 +120,8 @@ def answers_alike():
 
 def check():
     """Holds dist/ to the tree and to the program that was built here. Whether all is well."""
+    if not BUILT.exists():
+        print(f"no program was built here: there is no {BUILT.relative_to(TOP)}")
     found = {"dist/ has the sums of this tree": not changed()}
     if changed():
         print(f"changed since dist/ was made: {' '.join(changed()[:8])}")
@@ -141,7 +143,7 @@ def check():
 def compare():
     """Says whether the program that was built here is that of dist/."""
     if is_same():
-        print(f"the program that was built here is dist/maglev to the byte: SHA-256 {read('maglev.sha256')[:64]}")
+        print(f"the program that was built here is dist/maglev to the byte, SHA-256 {sum_of((DIST / 'maglev').read_bytes())}")
         return True
     print("the program that was built here isn't dist/maglev")
     if changed():

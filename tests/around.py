@@ -160,6 +160,20 @@ def test_manual():
         check(f"completion of {typed}", answer == (0, expected.encode() + b"\n", b""), repr(answer))
 
 
+def test_layers():
+    """docs/DESIGN.md has each crate, in the order and the sections of crates.txt."""
+    page = (TOP / "docs" / "DESIGN.md").read_text()
+    layers = page[page.index("## The layers"):page.index("## What flows where")].splitlines()
+    cells = [line.split("|")[1] for line in layers if line.startswith("| `")] + [line for line in layers if line.startswith("**Bench")]
+    named = [name for cell in cells for name in re.findall(r"`(\w+)`", cell)]
+    lines = (TOP / "crates.txt").read_text().splitlines()
+    listed = [line.split(":")[0].split()[0] for line in lines if line and not line.startswith("#")]
+    check("each crate has its line in DESIGN, in order", named == listed, f"{[one for one in zip(named, listed) if one[0] != one[1]][:2]}")
+    heads = [line[2:].split(",")[0].split(":")[0].lower() for line in layers if line.startswith("**")]
+    sections = [line[2:].split(":")[0] for line in lines if line.startswith("# ")]
+    check("the sections are the same", [head.strip("* ") for head in heads] == sections, f"{heads} {sections}")
+
+
 def test_install():
     """The program, its page and its completions are put below a prefix, and the program runs there."""
     with tempfile.TemporaryDirectory() as made:

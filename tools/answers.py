@@ -133,7 +133,7 @@ def with_uses(text, path, crate):
 
 
 def write(crate, path, before, answers):
-    """Writes a function's answers behind those that it has."""
+    """Writes a function's answers after those that it has."""
     file = crate / "proofs" / path / "Answers.antt"
     if not answers:
         if before is None:

@@ -1,6 +1,6 @@
 #!/usr/bin/env python3
-"""Writes the man page and the completions of bash, zsh and fish from the program's help texts, which stand in tests/texts
-and are compared with the program's own by the tests. `manual.py --check` says by its status whether share/ is what this
+"""Writes the man page and the completions of bash, zsh and fish from the program's help texts, which are in tests/texts
+and compared with the program's own by the tests. `manual.py --check` says by its status whether share/ is what this
 script writes.
 """
 import pathlib

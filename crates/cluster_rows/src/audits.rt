@@ -3,6 +3,7 @@ ghost use Rattle.std.specs.Prelude.{◌≡◌, ℕ, Some, slice_get};
 ghost use Rattle.cluster_node.specs.declared.packets.Packet.{Packet};
 ghost use Rattle.cluster_node.specs.Records.{WasRead};
 
+use crate::checks::holds;
 use cluster_core::Setup;
 use cluster_node::{Cause, Event, Outcome, Packet, Reason};
 use connection_table::PlainTable;
@@ -33,43 +34,61 @@ fn packets() -> [Packet; 1]
     }]
 }
 
-// A cluster of one node, without versions, audits two events that came to these outcomes: a version that isn't there is
-// installed, and then a packet arrives.
-fn audits(rt: &impl Abort, alloc: Global, outcomes: &[Outcome]) -> (bool, bool) {
+// A cluster of one node.
+fn setup(rt: &impl Abort, alloc: Global) -> Setup<RoundRobin, SumHash>
+    ensures { result.size ≡ 7 }
+{
     let size = TableSize::new(7).expect(rt, "a size");
     let nodes = Vec::from_slice(alloc, &[9]).expect(rt, "memory");
-    let setup = Setup::new(SumHash, RoundRobin, size, nodes, 1, 2, None).expect(rt, "a setup");
-    let catalogue = Catalogue::new(alloc, size);
-    let install = Event::Install {
+    Setup::new(SumHash, RoundRobin, size, nodes, 1, 2, None).expect(rt, "a setup")
+}
+
+// Two events: a version that isn't there is installed, and then a packet arrives.
+const EVENTS: [Event; 2] = [
+    Event::Install {
         node: 0,
         version: 1,
-    };
-    let arrive = Event::Arrive {
+    },
+    Event::Arrive {
         node: 0,
         packet: 0,
         refused: [false; 16],
-    };
-    let history = History {
-        events: Vec::from_slice(alloc, &[install, arrive]).expect(rt, "memory"),
-        outcomes: Vec::from_slice(alloc, outcomes).expect(rt, "memory"),
-    };
-    let packets = packets();
-    let whole = history
-        .audit::<_, _, PlainTable>(alloc, &setup, &catalogue, &packets)
-        .expect(rt, "memory");
-    let History { events, outcomes } = history;
-    let record = NodeRecord {
-        events,
-        outcomes,
-        sent: Vec::new(alloc),
-    };
-    let own = record
-        .audit::<_, _, PlainTable>(alloc, &setup, &catalogue, &packets)
-        .expect(rt, "memory");
-    (whole, own)
+    },
+];
+
+// No versions.
+fn catalogue(rt: &impl Abort, alloc: Global) -> Catalogue
+    ensures { result.size ≡ 7 }
+{
+    Catalogue::new(alloc, TableSize::new(7).expect(rt, "a size"))
 }
 
-// What the two events come to, the second with a cause that may be another.
+// A history audits the two events that came to these outcomes.
+fn history_audits(rt: &impl Abort, alloc: Global, outcomes: &[Outcome]) -> bool {
+    let history = History {
+        events: Vec::from_slice(alloc, &EVENTS).expect(rt, "memory"),
+        outcomes: Vec::from_slice(alloc, outcomes).expect(rt, "memory"),
+    };
+    let (setup, catalogue) = (setup(rt, alloc), catalogue(rt, alloc));
+    history
+        .audit::<_, _, PlainTable>(alloc, &setup, &catalogue, &packets())
+        .expect(rt, "memory")
+}
+
+// So does the record of the node.
+fn record_audits(rt: &impl Abort, alloc: Global, outcomes: &[Outcome]) -> bool {
+    let record = NodeRecord {
+        events: Vec::from_slice(alloc, &EVENTS).expect(rt, "memory"),
+        outcomes: Vec::from_slice(alloc, outcomes).expect(rt, "memory"),
+        sent: Vec::new(alloc),
+    };
+    let (setup, catalogue) = (setup(rt, alloc), catalogue(rt, alloc));
+    record
+        .audit::<_, _, PlainTable>(alloc, &setup, &catalogue, &packets())
+        .expect(rt, "memory")
+}
+
+// What the two events result in, the second with a cause that may be another.
 fn come_to(cause: Cause) -> [Outcome; 2] {
     [
         Outcome::Refused(Reason::UnknownVersion),
@@ -77,12 +96,23 @@ fn come_to(cause: Cause) -> [Outcome; 2] {
     ]
 }
 
+fn audits(rt: &impl Abort, alloc: Global, outcomes: &[Outcome], wanted: bool) {
+    holds(
+        rt,
+        history_audits(rt, alloc, outcomes) == wanted,
+        "the history",
+    );
+    holds(
+        rt,
+        record_audits(rt, alloc, outcomes) == wanted,
+        "the record",
+    );
+}
+
 #[test]
 fn an_honest_history_is_audited(rt: HostRuntime) {
-    let alloc = rt.alloc();
     let honest = come_to(Cause::NoVersion);
-    let other = come_to(Cause::RingsFull);
-    assert!(rt; audits(&rt, alloc, honest.as_slice()) == (true, true));
-    assert!(rt; audits(&rt, alloc, other.as_slice()) == (false, false));
-    assert!(rt; audits(&rt, alloc, &honest[..1]) == (false, false));
+    audits(&rt, rt.alloc(), &honest, true);
+    audits(&rt, rt.alloc(), &come_to(Cause::RingsFull), false);
+    audits(&rt, rt.alloc(), &honest[..1], false);
 }

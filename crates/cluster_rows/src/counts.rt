@@ -1,6 +1,7 @@
 //! Two threads' worth of counting, on one.
 ghost use Rattle.std.specs.Prelude.{◌≡◌, ℕ, slice_index};
 
+use crate::checks::holds;
 use cluster_node::Cause;
 use stats_book::{Blanks, Names, Stats, StatsBook};
 use std::marker::Brand;
@@ -31,45 +32,55 @@ fn counted_by_two<B: Names>(blanks: Blanks) -> (Stats, bool)
 #[test]
 fn counts_are_the_sums_of_the_shares(rt: HostRuntime) {
     let (stats, done) = counted_by_two::<Brand>(Blanks::new(3));
-    assert!(rt; done);
-    let mut dropped = [0; 13];
-    dropped[0] = 1;
-    dropped[12] = 1;
-    assert_eq!(rt; (stats.received, stats.forwarded, stats.waiting), (4, 1, 1));
-    assert_eq!(rt; stats.dropped, dropped);
+    holds(&rt, done, "each count");
+    let numbers = (stats.received, stats.forwarded, stats.waiting);
+    holds(&rt, numbers == (4, 1, 1), "the sums");
+    let dropped = [1, 0, 0, 0, 0, 0, 0, 0, 0, 0, 0, 0, 1];
+    holds(&rt, stats.dropped == dropped, "the drops");
+}
+
+static CAUSES: [Cause; 13] = [
+    Cause::NotIpv4,
+    Cause::Truncated,
+    Cause::BadHeader,
+    Cause::BadChecksum,
+    Cause::Fragment,
+    Cause::NotTcpUdp,
+    Cause::BadTransport,
+    Cause::TooLarge,
+    Cause::NoService,
+    Cause::NoBackend,
+    Cause::NoVersion,
+    Cause::RingsFull,
+    Cause::LostAtRestart,
+];
+
+// The place of the first cause of which nothing was dropped.
+fn first_without(stats: &Stats) -> usize {
+    stats
+        .dropped
+        .iter()
+        .position(|count| *count == 0)
+        .unwrap_or(13)
 }
 
 // Each cause has a place of its own, in the order of the causes.
 #[test]
 fn causes_in_their_order(rt: HostRuntime) {
-    let causes = [
-        Cause::NotIpv4,
-        Cause::Truncated,
-        Cause::BadHeader,
-        Cause::BadChecksum,
-        Cause::Fragment,
-        Cause::NotTcpUdp,
-        Cause::BadTransport,
-        Cause::TooLarge,
-        Cause::NoService,
-        Cause::NoBackend,
-        Cause::NoVersion,
-        Cause::RingsFull,
-        Cause::LostAtRestart,
-    ];
     let mut stats = Stats::new();
-    assert!(rt; !stats.forwarded_one());
-    for (at, cause) in causes.iter().enumerate() {
-        assert!(rt; stats.receive() && stats.dropped_one(*cause));
-        assert_eq!(rt;
-            stats
-                .dropped
-                .iter()
-                .position(|count| *count == 0)
-                .unwrap_or(13),
-            at + 1
+    holds(&rt, !stats.forwarded_one(), "nothing waits");
+    for (at, cause) in CAUSES.iter().enumerate() {
+        holds(&rt, stats.receive() && stats.dropped_one(*cause), "a drop");
+        holds(
+            &rt,
+            first_without(&stats) == at.saturating_add(1),
+            "its place",
         );
     }
-    assert_eq!(rt; (stats.received, stats.waiting), (13, 0));
-    assert!(rt; !stats.dropped_one(Cause::NotIpv4));
+    holds(&rt, (stats.received, stats.waiting) == (13, 0), "the sums");
+    holds(
+        &rt,
+        !stats.dropped_one(Cause::NotIpv4),
+        "nothing waits any more",
+    );
 }

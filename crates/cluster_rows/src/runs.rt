@@ -1,9 +1,12 @@
 //! Runs of two nodes, and of two workers, at once.
-ghost use Rattle.std.specs.Prelude.{◌≡◌, length};
+ghost use Rattle.std.specs.Prelude.{◌≡◌, ℕ, Some, length, slice_get};
+ghost use Rattle.cluster_node.specs.declared.packets.Packet.{Packet};
+ghost use Rattle.cluster_node.specs.Records.{WasRead};
 
+use crate::checks::{holds, same_outcomes};
 use cluster_core::Setup;
 use cluster_node::{Outcome, Packet};
-use cluster_threads::run_cluster;
+use cluster_threads::{ClusterRun, run_cluster};
 use connection_table::PlainTable;
 use five_tuple::Flow;
 use hash_laws::SumHash;
@@ -16,8 +19,8 @@ use stats_book::Stats;
 use std::alloc::Global;
 use std::process::Abort;
 use std::sync::atomic::{AtomicU64, Ordering};
-use std::test::Fail;
 use std::thread;
+use std::thread::Threads;
 
 mod stop;
 
@@ -173,81 +176,86 @@ fn by_workers(rt: &impl Abort) -> [Outcome; 5] {
     ]
 }
 
+// The packet of the flow from a port.
+fn packet(sport: u16) -> Packet
+    ensures { WasRead (Some result) }
+{
+    Packet::Good {
+        flow: flow(sport),
+        len: 40,
+        at: 0,
+    }
+}
+
+fn met(rt: &impl Abort, gate: &Meet) {
+    holds(rt, gate.missed.load(Ordering::SeqCst) == 0, "each came");
+}
+
+// The history and what node 1 sent of it.
+fn is_by_nodes(rt: &impl Abort, run: &ClusterRun) {
+    holds(rt, run.history().len() == 6, "six events");
+    same_outcomes(rt, run.outcomes(), &by_nodes(rt));
+    assert!(rt; run.nodes.len() == 2);
+    holds(rt, run.sent(1).len() == 1, "one life");
+    for life in run.sent(1) {
+        same_outcomes(rt, life.as_slice(), &[sent_by(rt, 1, 0, 0, flow(1000))]);
+    }
+}
+
+fn is_audited<R: Abort + Threads + Sync>(
+    rt: &R,
+    alloc: Global,
+    setup: &Setup<Maglev<SumHash>, SumHash>,
+    catalogue: &Catalogue,
+    run: &ClusterRun,
+    packets: &[Packet],
+) -> bool
+    requires size { catalogue.now.size ≡ setup.now.size }
+    requires read { (k : ℕ) (p : Packet) → slice_get packets.now k ≡ Some p → WasRead (Some p) }
+{
+    run.audit_nodes::<_, _, PlainTable, _>(rt, alloc, setup, catalogue, packets)
+        .expect(rt, "memory")
+}
+
+fn list(rt: &impl Abort, alloc: Global, commands: &[Command]) -> Vec<Command> {
+    Vec::from_slice(alloc, commands).expect(rt, "memory")
+}
+
 // Two nodes run at the same time: each one's worker waits in its serving for the other's.
 #[test]
-fn two_nodes_serve_at_once(rt: HostRuntime) -> Result<(), Fail> {
+fn two_nodes_serve_at_once(rt: HostRuntime) {
     let alloc: Global = rt.alloc();
     let setup = cluster(&rt, alloc, &[0x0a09_0001, 0x0a09_0002], 1);
     let catalogue = catalogue(&rt, alloc);
-    let packets = [Packet::Good {
-        flow: flow(1000),
-        len: 40,
-        at: 0,
-    }];
+    let packets = [packet(1000)];
     let gate = Meet::new();
     let commands = [Command::Publish(1), Command::Offer(0)];
-    let first = Vec::from_slice(alloc, &commands)?;
-    let second = Vec::from_slice(alloc, &commands)?;
-    let lists = [first, second];
+    let lists = [list(&rt, alloc, &commands), list(&rt, alloc, &commands)];
     let run = run_cluster::<_, _, PlainTable, _, _>(
         &rt, alloc, &setup, &catalogue, &packets, &lists, 16, &gate,
-    );
-    let Ok(run) = run else {
-        assert!(rt; false);
-        return Ok(());
-    };
-    assert!(rt; gate.missed.load(Ordering::SeqCst) == 0);
-    assert!(rt; run.history().len() == 6);
-    assert!(rt; run.outcomes() == by_nodes(&rt).as_slice());
-    if run.nodes.len() != 2 {
-        assert!(rt; false);
-        return Ok(());
-    }
-    assert!(rt; run.sent(1).len() == 1);
-    for life in run.sent(1) {
-        assert!(rt; life.as_slice() == [sent_by(&rt, 1, 0, 0, flow(1000))].as_slice());
-    }
-    let agrees = run
-        .audit_nodes::<_, _, PlainTable, _>(&rt, alloc, &setup, &catalogue, &packets)
-        .expect(&rt, "memory");
-    assert!(rt; agrees);
+    ).expect(&rt, "a run");
+    met(&rt, &gate);
+    is_by_nodes(&rt, &run);
+    let agrees = is_audited(&rt, alloc, &setup, &catalogue, &run, &packets);
+    holds(&rt, agrees, "the audit");
     // where the packet isn't there nothing is placed
-    let agrees = run
-        .audit_nodes::<_, _, PlainTable, _>(&rt, alloc, &setup, &catalogue, &[])
-        .expect(&rt, "memory");
-    assert!(rt; !agrees);
-    Ok(())
+    let agrees = is_audited(&rt, alloc, &setup, &catalogue, &run, &[]);
+    holds(&rt, !agrees, "the audit without packets");
 }
 
 // So do two workers of one node, whose homes the two flows are.
 #[test]
-fn two_workers_serve_at_once(rt: HostRuntime) -> Result<(), Fail> {
+fn two_workers_serve_at_once(rt: HostRuntime) {
     let alloc: Global = rt.alloc();
     let setup = cluster(&rt, alloc, &[0x0a09_0001], 2);
     let catalogue = catalogue(&rt, alloc);
-    let packets = [
-        Packet::Good {
-            flow: flow(1000),
-            len: 40,
-            at: 0,
-        },
-        Packet::Good {
-            flow: flow(1001),
-            len: 40,
-            at: 0,
-        },
-    ];
+    let packets = [packet(1000), packet(1001)];
     let gate = Meet::new();
     let commands = [Command::Publish(1), Command::Offer(0), Command::Offer(1)];
-    let lists = [Vec::from_slice(alloc, &commands)?];
+    let lists = [list(&rt, alloc, &commands)];
     let run = run_cluster::<_, _, PlainTable, _, _>(
         &rt, alloc, &setup, &catalogue, &packets, &lists, 16, &gate,
-    );
-    let Ok(run) = run else {
-        assert!(rt; false);
-        return Ok(());
-    };
-    assert!(rt; gate.missed.load(Ordering::SeqCst) == 0);
-    assert!(rt; run.outcomes() == by_workers(&rt).as_slice());
-    Ok(())
+    ).expect(&rt, "a run");
+    met(&rt, &gate);
+    same_outcomes(&rt, run.outcomes(), &by_workers(&rt));
 }

@@ -1,4 +1,5 @@
 //! Lines of histories, reports and verdicts, as they are printed.
+use crate::checks::shows;
 use cluster_core::{Totals, Verdict};
 use cluster_node::{Cause, Event, Outcome, Reason, Said};
 use course::Tally;
@@ -8,10 +9,6 @@ use maglev_table::Name;
 use pool_versions::Backend;
 use std::alloc::{AllocError, Global};
 use std::process::Abort;
-
-fn shows(rt: &impl Abort, made: Result<String, AllocError>, text: &str) {
-    assert_eq!(rt; made.expect(rt, "memory").as_str(), text);
-}
 
 fn backend(rt: &impl Abort, name: &str, addr: u32) -> Backend {
     Backend {
@@ -144,21 +141,28 @@ const NOBODY: Totals = Totals {
     refused: 0,
 };
 
-#[test]
-fn two_packets_sent(rt: HostRuntime) {
-    let tally = Tally {
-        packets: 2,
-        ..NOTHING
-    };
-    let totals = Totals {
-        received: 2,
-        forwarded: 2,
-        ..NOBODY
-    };
-    shows(
-        &rt,
-        report_text(rt.alloc(), tally, &totals, false),
-        "packets 2
+// What the records came to, the totals, whether the capture is cut, and the report.
+struct Report {
+    tally: Tally,
+    totals: Totals,
+    cut: bool,
+    text: &'static str,
+}
+
+static REPORTS: [Report; 4] = [
+    // Two packets are sent.
+    Report {
+        tally: Tally {
+            packets: 2,
+            ..NOTHING
+        },
+        totals: Totals {
+            received: 2,
+            forwarded: 2,
+            ..NOBODY
+        },
+        cut: false,
+        text: "packets 2
 lost 0
 unrouted 0
 skipped 0
@@ -169,25 +173,21 @@ forwarded 2
 waiting 0
 refused 0
 ",
-    );
-}
-
-#[test]
-fn lost_at_a_restart(rt: HostRuntime) {
-    let tally = Tally {
-        packets: 3,
-        ..NOTHING
-    };
-    let totals = Totals {
-        received: 3,
-        forwarded: 1,
-        dropped: [0, 0, 0, 0, 0, 0, 0, 0, 0, 0, 0, 0, 2],
-        ..NOBODY
-    };
-    shows(
-        &rt,
-        report_text(rt.alloc(), tally, &totals, false),
-        "packets 3
+    },
+    // Two are lost at a restart.
+    Report {
+        tally: Tally {
+            packets: 3,
+            ..NOTHING
+        },
+        totals: Totals {
+            received: 3,
+            forwarded: 1,
+            dropped: [0, 0, 0, 0, 0, 0, 0, 0, 0, 0, 0, 0, 2],
+            ..NOBODY
+        },
+        cut: false,
+        text: "packets 3
 lost 0
 unrouted 0
 skipped 0
@@ -199,26 +199,22 @@ drop LostAtRestart 2
 waiting 0
 refused 0
 ",
-    );
-}
-
-#[test]
-fn each_count(rt: HostRuntime) {
-    let tally = Tally {
-        packets: 2,
-        unrouted: 1,
-        skipped: 1,
-        left: 1,
-        ..NOTHING
-    };
-    let totals = Totals {
-        refused: 1,
-        ..NOBODY
-    };
-    shows(
-        &rt,
-        report_text(rt.alloc(), tally, &totals, false),
-        "packets 2
+    },
+    // Each count of the records.
+    Report {
+        tally: Tally {
+            packets: 2,
+            unrouted: 1,
+            skipped: 1,
+            left: 1,
+            ..NOTHING
+        },
+        totals: Totals {
+            refused: 1,
+            ..NOBODY
+        },
+        cut: false,
+        text: "packets 2
 lost 0
 unrouted 1
 skipped 1
@@ -229,22 +225,18 @@ forwarded 0
 waiting 0
 refused 1
 ",
-    );
-}
-
-#[test]
-fn each_drop(rt: HostRuntime) {
-    let totals = Totals {
-        received: 76,
-        dropped: [1, 2, 3, 4, 5, 6, 7, 8, 0, 10, 0, 12, 13],
-        waiting: 5,
-        ..NOBODY
-    };
-    let tally = Tally { lost: 6, ..NOTHING };
-    shows(
-        &rt,
-        report_text(rt.alloc(), tally, &totals, true),
-        "packets 0
+    },
+    // Drops of many causes.
+    Report {
+        tally: Tally { lost: 6, ..NOTHING },
+        totals: Totals {
+            received: 76,
+            dropped: [1, 2, 3, 4, 5, 6, 7, 8, 0, 10, 0, 12, 13],
+            waiting: 5,
+            ..NOBODY
+        },
+        cut: true,
+        text: "packets 0
 lost 6
 unrouted 0
 skipped 0
@@ -266,72 +258,91 @@ drop LostAtRestart 13
 waiting 5
 refused 0
 ",
-    );
+    },
+];
+
+#[test]
+fn reports(rt: HostRuntime) {
+    for row in REPORTS.iter() {
+        let made = report_text(rt.alloc(), row.tally, &row.totals, row.cut);
+        shows(&rt, made, row.text);
+    }
+}
+
+fn split(rt: &impl Abort, versions: (u32, u32), one: (&str, u32), other: (&str, u32)) -> Verdict {
+    Verdict::Split {
+        slot: 5,
+        v1: versions.0,
+        v2: versions.1,
+        b1: backend(rt, one.0, one.1),
+        b2: backend(rt, other.0, other.1),
+    }
 }
 
 #[test]
 fn verdicts(rt: HostRuntime) {
-    let alloc = rt.alloc();
-    let moved = Verdict::Split {
-        slot: 5,
-        v1: 1,
-        v2: 2,
-        b1: backend(&rt, "A", 0x0a08_0001),
-        b2: backend(&rt, "C", 0x0a08_0003),
-    };
+    let moved = split(&rt, (1, 2), ("A", 0x0a08_0001), ("C", 0x0a08_0003));
     let line = "split slot 5 version 1 A@10.8.0.1 version 2 C@10.8.0.3\n";
-    shows(&rt, verdict_text(alloc, &moved), line);
-    let turned = Verdict::Split {
-        slot: 5,
-        v1: 1,
-        v2: 1,
-        b1: backend(&rt, "B", 0x0a08_0002),
-        b2: backend(&rt, "A", 0x0a08_0001),
-    };
+    shows(&rt, verdict_text(rt.alloc(), &moved), line);
+    let turned = split(&rt, (1, 1), ("B", 0x0a08_0002), ("A", 0x0a08_0001));
     let line = "split slot 5 version 1 B@10.8.0.2 version 1 A@10.8.0.1\n";
-    shows(&rt, verdict_text(alloc, &turned), line);
-    shows(&rt, verdict_text(alloc, &Verdict::NotSent), "not sent\n");
+    shows(&rt, verdict_text(rt.alloc(), &turned), line);
     shows(
         &rt,
-        verdict_text(alloc, &Verdict::OtherFlow),
+        verdict_text(rt.alloc(), &Verdict::NotSent),
+        "not sent\n",
+    );
+    shows(
+        &rt,
+        verdict_text(rt.alloc(), &Verdict::OtherFlow),
         "other flow\n",
     );
-    shows(&rt, verdict_text(alloc, &Verdict::Same), "same\n");
+    shows(&rt, verdict_text(rt.alloc(), &Verdict::Same), "same\n");
 }
+
+static CAUSES: [(Cause, &str); 13] = [
+    (Cause::NotIpv4, "0 arrive 0 4: drop NotIpv4\n"),
+    (Cause::Truncated, "0 arrive 0 4: drop Truncated\n"),
+    (Cause::BadHeader, "0 arrive 0 4: drop BadHeader\n"),
+    (Cause::BadChecksum, "0 arrive 0 4: drop BadChecksum\n"),
+    (Cause::Fragment, "0 arrive 0 4: drop Fragment\n"),
+    (Cause::NotTcpUdp, "0 arrive 0 4: drop NotTcpUdp\n"),
+    (Cause::BadTransport, "0 arrive 0 4: drop BadTransport\n"),
+    (Cause::TooLarge, "0 arrive 0 4: drop TooLarge\n"),
+    (Cause::NoService, "0 arrive 0 4: drop NoService\n"),
+    (Cause::NoBackend, "0 arrive 0 4: drop NoBackend\n"),
+    (Cause::NoVersion, "0 arrive 0 4: drop NoVersion\n"),
+    (Cause::RingsFull, "0 arrive 0 4: drop RingsFull\n"),
+    (Cause::LostAtRestart, "0 arrive 0 4: drop LostAtRestart\n"),
+];
+
+static REASONS: [(Reason, &str); 7] = [
+    (Reason::NoNode, "0 serve 0 7 9: refused NoNode\n"),
+    (Reason::NoWorker, "0 serve 0 7 9: refused NoWorker\n"),
+    (Reason::NoPacket, "0 serve 0 7 9: refused NoPacket\n"),
+    (
+        Reason::UnknownVersion,
+        "0 serve 0 7 9: refused UnknownVersion\n",
+    ),
+    (Reason::NotNewer, "0 serve 0 7 9: refused NotNewer\n"),
+    (Reason::Idle, "0 serve 0 7 9: refused Idle\n"),
+    (
+        Reason::VersionRange,
+        "0 serve 0 7 9: refused VersionRange\n",
+    ),
+];
 
 #[test]
 fn names(rt: HostRuntime) {
-    let alloc = rt.alloc();
-    for (cause, name) in [
-        (Cause::NotIpv4, "NotIpv4"),
-        (Cause::Truncated, "Truncated"),
-        (Cause::BadHeader, "BadHeader"),
-        (Cause::BadChecksum, "BadChecksum"),
-        (Cause::Fragment, "Fragment"),
-        (Cause::NotTcpUdp, "NotTcpUdp"),
-        (Cause::BadTransport, "BadTransport"),
-        (Cause::TooLarge, "TooLarge"),
-        (Cause::NoService, "NoService"),
-        (Cause::NoBackend, "NoBackend"),
-        (Cause::NoVersion, "NoVersion"),
-        (Cause::RingsFull, "RingsFull"),
-        (Cause::LostAtRestart, "LostAtRestart"),
-    ] {
-        let history = [arrive(4, Outcome::Dropped { packet: 4, cause })];
-        let line = format!(in alloc; "0 arrive 0 4: drop {name}\n").expect(&rt, "memory");
-        shows(&rt, listed(alloc, &history), line.as_str());
+    for (cause, line) in CAUSES.iter() {
+        let dropped = Outcome::Dropped {
+            packet: 4,
+            cause: *cause,
+        };
+        shows(&rt, listed(rt.alloc(), &[arrive(4, dropped)]), line);
     }
-    for (reason, name) in [
-        (Reason::NoNode, "NoNode"),
-        (Reason::NoWorker, "NoWorker"),
-        (Reason::NoPacket, "NoPacket"),
-        (Reason::UnknownVersion, "UnknownVersion"),
-        (Reason::NotNewer, "NotNewer"),
-        (Reason::Idle, "Idle"),
-        (Reason::VersionRange, "VersionRange"),
-    ] {
-        let history = [serve(7, 9, Outcome::Refused(reason))];
-        let line = format!(in alloc; "0 serve 0 7 9: refused {name}\n").expect(&rt, "memory");
-        shows(&rt, listed(alloc, &history), line.as_str());
+    for (reason, line) in REASONS.iter() {
+        let refused = Outcome::Refused(*reason);
+        shows(&rt, listed(rt.alloc(), &[serve(7, 9, refused)]), line);
     }
 }

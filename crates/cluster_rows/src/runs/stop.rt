@@ -3,7 +3,8 @@ ghost use Rattle.std.specs.Prelude.{◌≡◌, ℕ, Some, length, slice_get};
 ghost use Rattle.cluster_node.specs.declared.packets.Packet.{Packet};
 ghost use Rattle.cluster_node.specs.Records.{WasRead};
 
-use super::{VIP, flow};
+use super::{VIP, packet};
+use crate::checks::holds;
 use cluster_core::Setup;
 use cluster_node::{Outcome, Packet};
 use cluster_threads::{ClusterRun, run_cluster};
@@ -16,7 +17,6 @@ use pool_versions::{Backend, Catalogue, Member, Service, Version};
 use selection::Maglev;
 use std::alloc::{AllocError, Global};
 use std::process::Abort;
-use std::test::Fail;
 
 // How often the cluster runs.
 const RUNS: u32 = 20;
@@ -68,16 +68,6 @@ fn cluster(rt: &impl Abort, alloc: Global) -> Setup<Maglev<SumHash>, SumHash>
     let nodes = Vec::from_slice(alloc, &[0x0a09_0001, 0x0a09_0002]).expect(rt, "memory");
     let size = TableSize::new(7).expect(rt, "a size");
     Setup::new(SumHash, Maglev { hash: SumHash }, size, nodes, 2, 8, None).expect(rt, "a setup")
-}
-
-fn packet(sport: u16) -> Packet
-    ensures { WasRead (Some result) }
-{
-    Packet::Good {
-        flow: flow(sport),
-        len: 40,
-        at: 0,
-    }
 }
 
 // Two flows in turn.
@@ -146,25 +136,21 @@ fn is_counted(run: &ClusterRun) -> bool {
 
 // Whenever the stop comes, what wasn't taken by then is lost and all else is sent.
 #[test]
-fn a_node_stops_in_full_traffic(rt: HostRuntime) -> Result<(), Fail> {
+fn a_node_stops_in_full_traffic(rt: HostRuntime) {
     let alloc: Global = rt.alloc();
     let setup = cluster(&rt, alloc);
     let catalogue = catalogue(&rt, alloc);
     let packets = packets();
+    let lists = commands(alloc).expect(&rt, "memory");
     for _ in 0..RUNS {
-        let lists = commands(alloc)?;
         let run = run_cluster::<_, _, PlainTable, _, _>(
             &rt, alloc, &setup, &catalogue, &packets, &lists, 16, &OpenGate,
-        );
-        let Ok(run) = run else {
-            assert!(rt; false);
-            return Ok(());
-        };
-        assert!(rt; is_counted(&run));
+        )
+        .expect(&rt, "a run");
+        holds(&rt, is_counted(&run), "the counts");
         let agrees = run
             .audit_nodes::<_, _, LruTable, _>(&rt, alloc, &setup, &catalogue, &packets)
             .expect(&rt, "memory");
-        assert!(rt; agrees);
+        holds(&rt, agrees, "the audit");
     }
-    Ok(())
 }

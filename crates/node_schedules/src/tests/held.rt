@@ -4,17 +4,15 @@ ghost use Rattle.std.proofs.Common.{rules};
 ghost use Rattle.std.specs.Cmp.Rules.{comparing};
 ghost use Rattle.std.specs.Ordering.{on};
 
-use super::{forward, placed, run, setup, x_to_a};
+use super::{forward, holds, is, placed, run, sends, setup, x_to_a};
 use cluster_node::Outcome;
 use connection_table::LruTable;
 use hash_laws::FlowHash;
 use node_records::Command;
 use node_threads::Gate;
 use stats_book::Stats;
-use std::alloc::Global;
 use std::process::Abort;
 use std::sync::atomic::{AtomicU64, Ordering};
-use std::test::Fail;
 use std::thread;
 
 /// How many packets the driver steered, how often the gate was called before and after a serving, and what was missed.
@@ -91,36 +89,30 @@ fn sent(rt: &impl Abort) -> [Outcome; 4] {
     [x_to_a(rt), x_to_a(rt), x_to_a(rt), z]
 }
 
+static COMMANDS: [Command; 6] = [
+    Command::Publish(1),
+    Command::Offer(2),
+    Command::Offer(2),
+    Command::Publish(2),
+    Command::Offer(2),
+    Command::Offer(1),
+];
+
 // A ring of one place takes a packet again once the one before it was taken out. The gate is called round each serving,
 // and a worker looks anew for each packet.
 #[test]
-fn a_full_ring_takes_again(rt: HostRuntime) -> Result<(), Fail> {
-    let alloc: Global = rt.alloc();
+fn a_full_ring_takes_again(rt: HostRuntime) {
     let counts = Counts {
         steered: AtomicU64::new(0),
         before: AtomicU64::new(0),
         after: AtomicU64::new(0),
         missed: AtomicU64::new(0),
     };
-    let hash = Holding { counts: &counts };
-    let setup = setup(&rt, alloc, hash, 2);
-    let commands = [
-        Command::Publish(1),
-        Command::Offer(2),
-        Command::Offer(2),
-        Command::Publish(2),
-        Command::Offer(2),
-        Command::Offer(1),
-    ];
-    let run = run::<LruTable, _, _, _>(&rt, alloc, &setup, &commands, 1, &counts);
-    assert!(rt; counts.missed.load(Ordering::SeqCst) == 0);
-    assert!(rt;
-        counts.before.load(Ordering::SeqCst) == 4 && counts.after.load(Ordering::SeqCst) == 4
-    );
-    assert!(rt; placed(&run) == 4);
-    assert!(rt; run.sent().len() == 1);
-    for list in run.sent() {
-        assert!(rt; list.as_slice() == sent(&rt).as_slice());
-    }
-    Ok(())
+    let setup = setup(&rt, rt.alloc(), Holding { counts: &counts }, 2);
+    let run = run::<LruTable, _, _, _>(&rt, rt.alloc(), &setup, &COMMANDS, 1, &counts);
+    is(&rt, &counts.missed, 0, "missed");
+    is(&rt, &counts.before, 4, "before");
+    is(&rt, &counts.after, 4, "after");
+    holds(&rt, placed(&run) == 4, "placed");
+    sends(&rt, &run, 1, &sent(&rt));
 }

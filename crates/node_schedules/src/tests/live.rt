@@ -1,14 +1,11 @@
 //! A version that is prepared and shown while the workers run.
-use super::{forwarded, run, setup, x_to_a};
-use cluster_node::Outcome;
+use super::{forwarded, holds, is, run, sends, setup, x_to_a};
 use connection_table::PlainTable;
 use hash_laws::SumHash;
 use node_records::Command;
 use node_threads::Gate;
 use stats_book::Stats;
-use std::alloc::Global;
 use std::sync::atomic::{AtomicU64, Ordering};
-use std::test::Fail;
 use std::thread;
 
 // How often a call waits for another thread before it gives up.
@@ -71,68 +68,61 @@ impl Gate for Held {
     }
 }
 
+static PREPARED: [Command; 4] = [
+    Command::Publish(1),
+    Command::Offer(2),
+    Command::Publish(2),
+    Command::Offer(2),
+];
+
 // The driver prepares version 2 only once the first packet was served, so that packet was served while version 2 wasn't
-// prepared. The entry of x stands, and x goes where it went.
+// prepared. The entry of x remains, and x goes where it went.
 #[test]
-fn a_version_is_prepared_while_workers_run(rt: HostRuntime) -> Result<(), Fail> {
-    let alloc: Global = rt.alloc();
-    let setup = setup(&rt, alloc, SumHash, 1);
+fn a_version_is_prepared_while_workers_run(rt: HostRuntime) {
+    let setup = setup(&rt, rt.alloc(), SumHash, 1);
     let gate = Held::new(2, 0);
-    let commands = [
-        Command::Publish(1),
-        Command::Offer(2),
-        Command::Publish(2),
-        Command::Offer(2),
-    ];
-    let run = run::<PlainTable, _, _, _>(&rt, alloc, &setup, &commands, 1, &gate);
-    assert!(rt; gate.missed.load(Ordering::SeqCst) == 0);
-    assert!(rt; gate.prepared.load(Ordering::SeqCst) == 2);
-    assert!(rt; run.sent().len() == 1);
-    let wanted: [Outcome; 2] = [x_to_a(&rt), x_to_a(&rt)];
-    for list in run.sent() {
-        assert!(rt; list.as_slice() == wanted.as_slice());
-    }
-    Ok(())
+    let run = run::<PlainTable, _, _, _>(&rt, rt.alloc(), &setup, &PREPARED, 1, &gate);
+    is(&rt, &gate.missed, 0, "missed");
+    is(&rt, &gate.prepared, 2, "prepared");
+    sends(&rt, &run, 1, &[x_to_a(&rt), x_to_a(&rt)]);
 }
+
+static SHOWN: [Command; 6] = [
+    Command::Publish(1),
+    Command::Offer(2),
+    Command::Publish(2),
+    Command::Publish(3),
+    Command::Publish(4),
+    Command::Offer(2),
+];
 
 // A serving waits for the driver, which shows two more versions meanwhile: so the worker holds nothing that it reads while
 // it waits.
 #[test]
-fn nothing_is_held_over_a_wait(rt: HostRuntime) -> Result<(), Fail> {
-    let alloc: Global = rt.alloc();
-    let setup = setup(&rt, alloc, SumHash, 1);
+fn nothing_is_held_over_a_wait(rt: HostRuntime) {
+    let setup = setup(&rt, rt.alloc(), SumHash, 1);
     let gate = Held::new(0, 4);
-    let commands = [
-        Command::Publish(1),
-        Command::Offer(2),
-        Command::Publish(2),
-        Command::Publish(3),
-        Command::Publish(4),
-        Command::Offer(2),
-    ];
-    let run = run::<PlainTable, _, _, _>(&rt, alloc, &setup, &commands, 16, &gate);
-    assert!(rt; gate.missed.load(Ordering::SeqCst) == 0);
-    assert!(rt; gate.prepared.load(Ordering::SeqCst) == 4);
-    assert_eq!(rt; forwarded(&run), 2usize);
-    Ok(())
+    let run = run::<PlainTable, _, _, _>(&rt, rt.alloc(), &setup, &SHOWN, 16, &gate);
+    is(&rt, &gate.missed, 0, "missed");
+    is(&rt, &gate.prepared, 4, "prepared");
+    holds(&rt, forwarded(&run) == 2, "two were sent");
 }
+
+static NEWER: [Command; 5] = [
+    Command::Publish(2),
+    Command::Publish(1),
+    Command::Publish(2),
+    Command::Publish(77),
+    Command::Offer(2),
+];
 
 // A version that is unknown or not newer is not prepared.
 #[test]
-fn only_newer_versions_are_prepared(rt: HostRuntime) -> Result<(), Fail> {
-    let alloc: Global = rt.alloc();
-    let setup = setup(&rt, alloc, SumHash, 1);
+fn only_newer_versions_are_prepared(rt: HostRuntime) {
+    let setup = setup(&rt, rt.alloc(), SumHash, 1);
     let gate = Held::new(0, 0);
-    let commands = [
-        Command::Publish(2),
-        Command::Publish(1),
-        Command::Publish(2),
-        Command::Publish(77),
-        Command::Offer(2),
-    ];
-    let run = run::<PlainTable, _, _, _>(&rt, alloc, &setup, &commands, 16, &gate);
-    assert!(rt; gate.missed.load(Ordering::SeqCst) == 0);
-    assert!(rt; gate.prepared.load(Ordering::SeqCst) == 2);
-    assert_eq!(rt; forwarded(&run), 1usize);
-    Ok(())
+    let run = run::<PlainTable, _, _, _>(&rt, rt.alloc(), &setup, &NEWER, 16, &gate);
+    is(&rt, &gate.missed, 0, "missed");
+    is(&rt, &gate.prepared, 2, "prepared");
+    holds(&rt, forwarded(&run) == 1, "one was sent");
 }

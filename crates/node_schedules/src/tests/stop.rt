@@ -1,15 +1,13 @@
 //! A node that stops while a packet is served and others wait.
-use super::{catalogue, forward, packets, run, setup};
+use super::{agrees, counts, forward, holds, is, packets, run, same_outcomes, sends, setup};
 use cluster_node::Outcome;
 use connection_table::{LruTable, PlainTable};
 use hash_laws::SumHash;
 use node_records::Command;
 use node_threads::{Gate, NodeRun};
 use stats_book::Stats;
-use std::alloc::Global;
 use std::process::Abort;
 use std::sync::atomic::{AtomicU64, Ordering};
-use std::test::Fail;
 use std::thread;
 
 // How often a call waits for another thread before it gives up.
@@ -78,16 +76,14 @@ fn x_to_c(rt: &impl Abort) -> Outcome {
 
 // Four packets came. In each life one was sent, where version 2 chose, and two were lost at the stop.
 fn expect_two_lost(rt: &impl Abort, gate: &Stopped, run: &NodeRun) {
-    assert!(rt; gate.missed.load(Ordering::SeqCst) == 0);
-    assert!(rt; gate.stopped.load(Ordering::SeqCst) == 1);
-    assert!(rt; gate.entered.load(Ordering::SeqCst) == 2);
-    assert!(rt; run.sent().len() == 2);
-    for list in run.sent() {
-        assert!(rt; list.as_slice() == [x_to_c(rt)].as_slice());
-    }
+    is(rt, &gate.missed, 0, "missed");
+    is(rt, &gate.stopped, 1, "stopped");
+    is(rt, &gate.entered, 2, "entered");
+    sends(rt, run, 2, &[x_to_c(rt)]);
     let stats = run.stats();
-    assert_eq!(rt; (stats.received, stats.forwarded, stats.waiting), (4, 2, 0));
-    assert!(rt; stats.dropped == [0, 0, 0, 0, 0, 0, 0, 0, 0, 0, 0, 0, 2]);
+    counts(rt, &stats, (4, 2, 0));
+    let dropped = [0, 0, 0, 0, 0, 0, 0, 0, 0, 0, 0, 0, 2];
+    holds(rt, stats.dropped == dropped, "drops");
 }
 
 // Three packets are placed under version 1, and version 2 is published before the first of them looks at the board.
@@ -105,31 +101,27 @@ fn stopped_early(rt: &impl Abort) -> [Outcome; 9] {
     ]
 }
 
+static EARLY: [Command; 7] = [
+    Command::Publish(1),
+    Command::Offer(2),
+    Command::Offer(2),
+    Command::Offer(2),
+    Command::Publish(2),
+    Command::Stop,
+    Command::Offer(2),
+];
+
 // Of three packets the first is held in its serving until the node stops. It is served, and the others are lost. The next
 // life knows the newest version.
 #[test]
-fn a_stop_loses_what_was_not_taken(rt: HostRuntime) -> Result<(), Fail> {
-    let alloc: Global = rt.alloc();
-    let setup = setup(&rt, alloc, SumHash, 1);
+fn a_stop_loses_what_was_not_taken(rt: HostRuntime) {
+    let setup = setup(&rt, rt.alloc(), SumHash, 1);
     let gate = Stopped::new();
-    let commands = [
-        Command::Publish(1),
-        Command::Offer(2),
-        Command::Offer(2),
-        Command::Offer(2),
-        Command::Publish(2),
-        Command::Stop,
-        Command::Offer(2),
-    ];
-    let run = run::<PlainTable, _, _, _>(&rt, alloc, &setup, &commands, 16, &gate);
+    let run = run::<PlainTable, _, _, _>(&rt, rt.alloc(), &setup, &EARLY, 16, &gate);
     expect_two_lost(&rt, &gate, &run);
-    assert!(rt; run.outcomes() == stopped_early(&rt).as_slice());
-    let catalogue = catalogue(&rt, alloc);
-    let agrees = run
-        .audit::<_, _, PlainTable>(alloc, &setup, &catalogue, &packets())
-        .expect(&rt, "memory");
-    assert!(rt; agrees);
-    Ok(())
+    same_outcomes(&rt, run.outcomes(), &stopped_early(&rt));
+    let agreed = agrees::<PlainTable>(&rt, rt.alloc(), &setup, &run, &packets());
+    holds(&rt, agreed, "the audit");
 }
 
 // One packet is placed under version 1 and two under version 2.
@@ -147,24 +139,23 @@ fn stopped_full(rt: &impl Abort) -> [Outcome; 9] {
     ]
 }
 
+static FULL: [Command; 7] = [
+    Command::Publish(1),
+    Command::Offer(2),
+    Command::Publish(2),
+    Command::Offer(2),
+    Command::Offer(2),
+    Command::Stop,
+    Command::Offer(2),
+];
+
 // While the first packet is served its worker's ring is filled, and then the node stops. The ring has no room for a mark,
 // and takes none.
 #[test]
-fn a_full_ring_holds_no_stop_up(rt: HostRuntime) -> Result<(), Fail> {
-    let alloc: Global = rt.alloc();
-    let setup = setup(&rt, alloc, SumHash, 1);
+fn a_full_ring_holds_no_stop_up(rt: HostRuntime) {
+    let setup = setup(&rt, rt.alloc(), SumHash, 1);
     let gate = Stopped::new();
-    let commands = [
-        Command::Publish(1),
-        Command::Offer(2),
-        Command::Publish(2),
-        Command::Offer(2),
-        Command::Offer(2),
-        Command::Stop,
-        Command::Offer(2),
-    ];
-    let run = run::<LruTable, _, _, _>(&rt, alloc, &setup, &commands, 2, &gate);
+    let run = run::<LruTable, _, _, _>(&rt, rt.alloc(), &setup, &FULL, 2, &gate);
     expect_two_lost(&rt, &gate, &run);
-    assert!(rt; run.outcomes() == stopped_full(&rt).as_slice());
-    Ok(())
+    same_outcomes(&rt, run.outcomes(), &stopped_full(&rt));
 }
