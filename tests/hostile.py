@@ -4,13 +4,16 @@
 Captures cut at each byte, headers with each value of a field, and scenarios and captures at the edges of what may be read.
 The last line is 'N passed, N failed'.
 """
+import ctypes
 import pathlib
+import random
 import struct
 import subprocess
 import sys
 import tempfile
 
 import model
+import refused_growths as growths
 from harness import PROGRAM, check, run_tests
 
 # A datagram of 40 bytes from port 1000 of 10.0.0.1 to port 80 of 192.0.2.1.
@@ -63,7 +66,7 @@ def measured(text, data, command="simulate"):
         folder = pathlib.Path(name)
         (folder / "s.toml").write_text(text)
         (folder / "in.pcap").write_bytes(data)
-        words = [sys.executable, "-c", MEASURE, PROGRAM, command, "s.toml", "in.pcap", "out.pcap"]
+        words = [sys.executable, "-c", MEASURE, PROGRAM, *command.split(), "s.toml", "in.pcap", "out.pcap"]
         done = subprocess.run(words, cwd=folder, capture_output=True, text=True, timeout=60)
         *lines, took = done.stdout.splitlines()
         kilobytes, seconds = took.split()
@@ -253,6 +256,46 @@ def test_repeats():
         check(f"repeats of {length} bytes", ended and "forwarded 80000" in lines, repr(lines))
     # The larger records are 56,000 kilobytes.
     check("memory of repeats", peaks[1] < peaks[0] + 8192, repr(peaks))
+
+
+# How many flows are chosen, and in how many bits their hashes by the fixed key agree: in those that say in which of the 4,096
+# groups a map of so many flows keeps one, and two more.
+FLOWS = 32_768
+BITS = 14
+
+
+def from_client(address, port):
+    """The datagram from this port of this address, with a checksum that isn't its own."""
+    return P[:12] + struct.pack(">I", address) + P[16:20] + struct.pack(">H", port) + P[22:]
+
+
+def chosen_flows():
+    """A datagram of each of the flows that a map by the fixed key would keep in one group."""
+    clients, ports = (ctypes.c_uint32 * FLOWS)(), (ctypes.c_uint16 * FLOWS)()
+    with tempfile.TemporaryDirectory() as folder:
+        ctypes.CDLL(growths.compiled(folder, "choose.c")).choose(FLOWS, BITS, clients, ports)
+    return [from_client(*client) for client in zip(clients, ports)]
+
+
+def drawn_flows():
+    """A datagram of each of as many flows that are drawn."""
+    dice = random.Random(1)
+    return [from_client(0x0A000001 + dice.randrange(1 << 20), dice.randrange(1024, 65536)) for _ in range(FLOWS)]
+
+
+def test_chosen_flows():
+    """Two packets of each of the flows that were chosen for the fixed key take no longer than two of each of as many drawn ones.
+    With the fixed key each search in a connection table, or in the book of the splits, would look at all of them. A command
+    counts by the least time of three runs of each, in turns, and may take three times as long."""
+    keys = {"capacity": 65536, "ring": 65536, "check": "false"}
+    text = scenario(["install 0 1", f"take {2 * FLOWS}"], **keys)
+    captures = [head() + b"".join(map(record, 2 * flows)) for flows in (chosen_flows(), drawn_flows())]
+    for command in ["simulate", "simulate --splits", "run", "run --splits"]:
+        runs = [[measured(text, data, command) for data in captures] for _ in range(3)]
+        ended = all(holds and f"forwarded {2 * FLOWS}" in lines for both in runs for holds, lines, *_ in both)
+        check(f"{command} of chosen flows", ended, repr(runs))
+        chosen, drawn = (min(seconds for *_, seconds in one) for one in zip(*runs))
+        check(f"{command} of chosen flows: time", chosen < 3 * drawn, f"{chosen} and {drawn} s")
 
 
 if __name__ == "__main__":

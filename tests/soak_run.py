@@ -1,6 +1,6 @@
 #!/usr/bin/env python3
-"""soak_run.py [FIRST COUNT TIMES]: runs random scenarios on threads, and one scenario that restarts and one that stops so many
-times each, and judges what is printed and written by the model.
+"""soak_run.py [FIRST COUNT TIMES]: runs random scenarios on threads, one scenario that restarts and one that stops so many times
+each, and as many nodes and workers as may be, with the smallest rings, and judges what is printed and written by the model.
 
 Which version a packet is served under, which ring is full and how workers' packets mix is left to the schedule. What isn't
 is compared with tests/model.py: the counts of records, what came to each node, which drops a driver judges, and that what a
@@ -256,6 +256,16 @@ def restarting(word):
     return text, captured([bytes(datagram(TCP.format(1).replace("03e8", port), number)) for number, port in enumerate(ports)])
 
 
+def widest(ring):
+    """64 nodes of 16 workers with rings of so many places: 1,152 threads at once. Each node gets 32 packets, half of them after
+    one node restarted and one stopped."""
+    text = f'format = 1\nsize = 251\nhash = "fnv"\nscheme = "maglev"\nspread = "turn"\nworkers = 16\ncapacity = 8\nring = {ring}\n'
+    steps = [f"install {node} 1" for node in range(64)] + ["take 1024", "restart 0", "stop 63", "take 1024"]
+    text += f"nodes = {[f'10.9.0.{node + 1}' for node in range(64)]}\nsteps = {steps}\n"
+    text += '[[versions]]\nnumber = 1\nservices = [{ vip = "192.0.2.1", proto = "tcp", port = 80, members = ["A@10.8.0.1", "B@10.8.0.2"] }]\n'
+    return text, captured([bytes(datagram(TCP.format(number % 251), number)) for number in range(2048)])
+
+
 def case(name, text, data):
     """A run's name, its scenario and capture, and what the model says of them."""
     return name, text, data, model.Run(text, data)
@@ -277,6 +287,7 @@ def main():
     runs = [case(f"run {seed}", *thrown(seed)) for seed in range(first, first + count)]
     for word in ["restart", "stop"]:
         runs += [case(f"the run with a {word}", *restarting(word))] * times
+    runs += [case(f"64 nodes of 16 workers, rings of {ring}", *widest(ring)) for ring in [1, 4]]
     with tempfile.TemporaryDirectory() as folder:
         return judge_all((name, judged(*run, pathlib.Path(folder))) for name, *run in runs)
 

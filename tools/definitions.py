@@ -1,10 +1,10 @@
 #!/usr/bin/env python3
 """Lists the definitions that the promises rest on, in an order in which they can be read aloud.
 
-From the definitions that a promise's clauses name, all that they use is collected from `crates/*/specs/*.antt`, each
-definition after those that it uses. `definitions.py` prints the page docs/DEFINITIONS.md; `definitions.py --check` ends with
-status 1 where the page in docs/ isn't that text. A word of Rattle's own library, and a type that the Rust code declares, is
-named where it is used and not counted.
+A promise is the contract of some functions. From the definitions that their clauses name, all that they use is collected from
+`crates/*/specs/*.antt`, each definition after those that it uses. `definitions.py` prints the page docs/DEFINITIONS.md.
+`definitions.py --check` ends with status 1 where the page in docs/ isn't that text, or where README.md or docs/PROVED.md has
+other counts. A word of Rattle's own library, and a type that the Rust code declares, is named where it is used and not counted.
 """
 import pathlib
 import re
@@ -13,7 +13,7 @@ import sys
 TOP = pathlib.Path(__file__).resolve().parent.parent
 PAGE = TOP / "docs" / "DEFINITIONS.md"
 
-# A promise, what carries it, and the definitions that its clauses name.
+# A promise, what it says, and the functions whose clauses carry it: the crate, the file and the function.
 PROMISES = [
     (
         "The headline over every list of events",
@@ -21,47 +21,77 @@ PROMISES = [
         "of one flow to different backends chose under versions whose tables name them at the flow's slot; a forwarder keeps "
         "a flow's backend while its entry stands and the backend is up; every slot names an up backend, and backends' slot "
         "counts are in proportion to their weights, of equal weights differ by at most one.",
+        [("cluster_core", "headline", "replay_maglev"), ("cluster_core", "replaying", "replay")],
+    ),
+    (
+        "A cluster event by event",
+        "`Run::make`, `step` and `pass` of `cluster_core`: the outcomes are those of the headline, for every record that the run "
+        "represents.",
+        [("cluster_core", "running", "make"), ("cluster_core", "running", "step"), ("cluster_core", "running", "pass")],
+    ),
+    (
+        "`table`, `pick` and `compare`: what is written of tables",
+        "These functions of `table_commands`.",
         [
-            ("cluster_core", "Runs", "verdicts"),
-            ("cluster_core", "Tables", "TablesDiffer"),
-            ("cluster_core", "Headline", "Agreement"),
-            ("cluster_core", "Headline", "Keeping"),
-            ("cluster_core", "Tables", "TablesAreEven"),
-            ("cluster_core", "Setups", "rules_for"),
-            ("selection", "Picks", "table_pick"),
+            ("table_commands", "table_command", "table"),
+            ("table_commands", "pick_command", "pick"),
+            ("table_commands", "compare_command", "compare"),
         ],
     ),
     (
-        "`simulate`: a scenario's events over a capture's records, and what is written",
-        "`simulate` of `scenario_commands`, on top of the definitions above.",
-        [("scenario_commands", "Scenarios", "*")],
+        "`simulate` and `explain`: a scenario's events over a capture's records, and what is written",
+        "`simulate` and `explain_run` of `scenario_commands`.",
+        [("scenario_commands", "playing", "simulate"), ("scenario_commands", "playing", "explain_run")],
     ),
     (
-        "A node on threads",
-        "`run_node` of `node_threads`, on top of the definitions of the headline.",
-        [("node_records", "Runs", "IsRunOf"), ("node_duties", "Counts", "AreTotals")],
+        "A node and a cluster on threads",
+        "`run_node` of `node_threads` and `run_cluster` of `cluster_threads`.",
+        [("node_threads", "node", "run_node"), ("cluster_threads", "cluster", "run_cluster")],
     ),
     (
         "`run`: a scenario's cluster on threads over a capture, and what is written",
-        "`run` of `maglev_cli`, on top of all definitions above.",
-        [("maglev_cli", "Runs", "*")],
+        "`run` of `maglev_cli`.",
+        [("maglev_cli", "running", "run")],
     ),
 ]
 
+PREFACE = [
+    "What a reader has to believe: the definitions that each promise rests on, each after those that it uses, with the count of",
+    "its lines. They are those that the clauses of the promise's functions name, and all that these use; what an earlier part",
+    "lists isn't repeated. `tools/definitions.py` collects them from the crates, and a test compares this page with what it",
+    "prints. Words of Rattle's library (lists, numbers, options) and types of the Rust code aren't listed. What a hash, a scheme",
+    "and a connection table is to its users are the laws of `FlowHash`, `Scheme` and `ConnTable`, in the sources of `hash_laws`,",
+    "`selection` and `connection_table`.",
+]
+
 HEAD = re.compile(r"^(?:abbrev pub|unfoldable pub|pub record|pub data|abbrev|pub|record|data)\s+([^\s:({]+)")
-WORD = re.compile(r"[A-Za-z_][\w'-]*|◌\S+◌")
+WORD = re.compile(r"(?<![\w.'-])[A-Za-z_][\w'-]*|◌\S+◌")
+BOUND = re.compile(r"[({]((?:[a-z_][\w'-]* )+): ")
 
 
 class Definition:
-    """A definition: where it is, its lines, and the words in them."""
+    """A definition: where it is, its lines, and the words in them that it doesn't bind."""
 
     def __init__(self, crate, module, name, lines):
         self.key = (crate, module, name)
         self.lines = lines
-        self.words = set(WORD.findall("\n".join(line.split("--")[0] for line in lines)))
+        code = [line.split("--")[0] for line in lines]
+        words = set(WORD.findall("\n".join(code)))
+        self.words = words - bound_in(name, code) - {name}
 
 
-def imports_of(crate, lines):
+def bound_in(name, code):
+    """The words that a definition's patterns and arguments bind."""
+    found = set()
+    for line in code:
+        if line.startswith(f"{name} ") and not line.startswith(f"{name} :"):
+            found |= {word for word in WORD.findall(line.split(" =")[0]) if word[0].islower()}
+        for words in BOUND.findall(line):
+            found |= set(words.split())
+    return found
+
+
+def imports_of(lines):
     """From a word to the definition that a file's `use` lines bring in."""
     found = {}
     for line in lines:
@@ -74,46 +104,100 @@ def imports_of(crate, lines):
     return found
 
 
-def read():
-    """All definitions of the repository, and what each file brings in."""
-    definitions, imports = {}, {}
-    for path in sorted(TOP.glob("crates/*/specs/*.antt")):
+class Repository:
+    """All definitions of the repository, in the order of their files, and what each file brings in."""
+
+    def __init__(self):
+        self.definitions, self.imports = {}, {}
+        for crate in re.findall(r"^(\w+):", (TOP / "crates.txt").read_text(), re.MULTILINE):
+            for path in sorted((TOP / "crates" / crate / "specs").glob("*.antt")):
+                if path.stem != "Lib":
+                    self.read(path)
+        self.places = {key: place for place, key in enumerate(self.definitions)}
+
+    def read(self, path):
+        """The definitions of a file: each begins at its head and ends before the next one, or a comment before that."""
         crate, module = path.parts[-3], path.stem
         lines = path.read_text().splitlines()
-        imports[crate, module] = imports_of(crate, lines)
+        self.imports[crate, module] = imports_of(lines)
         name, kept = None, []
         for line in [*lines, "use end"]:
             head = HEAD.match(line)
             if line.startswith(("use ", "--")) or (head and head.group(1) != name):
                 if name:
-                    definitions[crate, module, name] = Definition(crate, module, name, kept)
+                    self.definitions[crate, module, name] = Definition(crate, module, name, kept)
                 name, kept = None, []
-            if head and not line.startswith("use ") and name is None:
+            if head and name is None:
                 name, kept = head.group(1), [line]
             elif name and line.strip():
                 kept.append(line)
-    return definitions, imports
+            elif (crate, module, line.split(" ")[0]) in self.definitions:
+                sys.exit(f"definitions.py: a comment parts a definition: {path}: {line}")
+
+    def used_by(self, key):
+        """The definitions that one uses. A word is one of its file only from its place on."""
+        found = set()
+        for word in self.definitions[key].words:
+            used = self.imports[key[:2]].get(word, (*key[:2], word))
+            if used in self.definitions and (used[:2] != key[:2] or self.places[used] < self.places[key]):
+                found.add(used)
+        return found
+
+    def reached_from(self, roots):
+        """The roots, and all definitions that they use."""
+        found, left = set(), list(roots)
+        while left:
+            key = left.pop()
+            if key not in found:
+                found.add(key)
+                left.extend(self.used_by(key))
+        return found
+
+    def in_order(self, keys):
+        """These definitions file by file, each after those of them that it uses."""
+        files = {key[:2]: set() for key in sorted(keys, key=self.places.get)}
+        for key in keys:
+            files[key[:2]] |= {used[:2] for used in self.used_by(key) & keys} - {key[:2]}
+        order = []
+        while files:
+            ready = [file for file, below in files.items() if not below & set(files)]
+            if not ready:
+                sys.exit(f"definitions.py: these files use one another: {sorted(files)}")
+            order.append(ready[0])
+            del files[ready[0]]
+        return sorted(keys, key=lambda key: (order.index(key[:2]), self.places[key]))
 
 
-def behind(roots, definitions, imports, seen):
-    """The definitions behind the roots that weren't seen before, each after those that it uses."""
-    order = []
+def clauses_of(crate, module, function):
+    """The lines of a public function's contract, and what its file brings in."""
+    path = TOP / "crates" / crate / "src" / f"{module}.rt"
+    lines = path.read_text().splitlines()
+    starts = [place for place, line in enumerate(lines) if re.match(rf" *pub fn {function}[<(]", line)]
+    if len(starts) != 1:
+        sys.exit(f"definitions.py: {path} has {len(starts)} public functions {function}")
+    kept, indent = [], re.match(" *", lines[starts[0]]).group()
+    for line in lines[starts[0] :]:
+        if line == indent + "{":
+            break
+        if kept or line.strip().startswith(("requires", "ensures")):
+            kept.append(line.split("//")[0])
+    if not kept:
+        sys.exit(f"definitions.py: {path}: {function} has no clauses")
+    return kept, imports_of([line.strip().replace("ghost use", "use") for line in lines])
 
-    def visit(key):
-        if key in seen or key not in definitions:
-            return
-        seen.add(key)
-        crate, module, _ = key
-        for word in sorted(definitions[key].words):
-            visit(imports[crate, module].get(word, (crate, module, word)))
-        order.append(key)
 
-    for crate, module, name in roots:
-        for key in [key for key in definitions if key[:2] == (crate, module)] if name == "*" else [(crate, module, name)]:
-            if key not in definitions:
-                sys.exit(f"definitions.py: no definition {'.'.join(key)}")
-            visit(key)
-    return order
+def named_by(functions, definitions):
+    """The definitions that the clauses of functions name."""
+    found = set()
+    for crate, module, function in functions:
+        lines, imports = clauses_of(crate, module, function)
+        for word in WORD.findall("\n".join(lines)):
+            key = imports.get(word)
+            if key and (TOP / "crates" / key[0]).exists():
+                if key not in definitions:
+                    sys.exit(f"definitions.py: {function} of {crate} names {'.'.join(key)}, which no file of specs/ defines")
+                found.add(key)
+    return found
 
 
 def named_by_contracts(definitions):
@@ -124,7 +208,7 @@ def named_by_contracts(definitions):
         if "tests" in path.name or "tests" in inside:
             continue
         lines = path.read_text().splitlines()
-        imports = imports_of(crate, [line.strip().replace("ghost use", "use") for line in lines])
+        imports = imports_of([line.strip().replace("ghost use", "use") for line in lines])
         is_public, of_trait = True, False
         for line in lines:
             text = line.strip()
@@ -137,47 +221,76 @@ def named_by_contracts(definitions):
     return found & set(definitions)
 
 
-def page():
-    """The text of the page."""
-    definitions, imports = read()
-    seen = set()
-    text = ["# Definitions", ""]
-    text.append("What a reader has to believe: the definitions that each promise rests on, each after those that it uses, with the count of")
-    text.append("its lines. `tools/definitions.py` collects them from the `specs/` of the crates, and a test compares this page with")
-    text.append("what it prints. Words of Rattle's library (lists, numbers, options) and types of the Rust code aren't listed. What a")
-    text.append("hash, a scheme and a connection table is to its users are the laws of `FlowHash`, `Scheme` and `ConnTable`, in the")
-    text.append("sources of `hash_laws`, `selection` and `connection_table`.")
-    for title, words, roots in PROMISES:
-        order = behind(roots, definitions, imports, seen)
-        total = sum(len(definitions[key].lines) for key in order)
-        text += ["", f"## {title}", "", words, "", f"{len(order)} definitions, {total} lines.", ""]
-        files = {}
-        for key in order:
-            files.setdefault(key[:2], []).append(key)
-        for crate, module in files:
-            names = ", ".join(f"`{key[2]}` {len(definitions[key].lines)}" for key in files[crate, module])
-            lines = sum(len(definitions[key].lines) for key in files[crate, module])
-            text.append(f"- `{crate}/specs/{module}.antt`, {lines} lines: {names}")
-    public = set(behind(sorted(named_by_contracts(definitions)), definitions, imports, set()))
-    private = sorted({key[:2] for key in definitions} - {key[:2] for key in public})
-    for crate, module in {key[:2] for key in definitions}:
-        if module != "Lib" and ((crate, module) in private) != module.startswith("Private"):
+def count(repository, keys):
+    """How many definitions and lines these are."""
+    return f"{len(keys)} definitions of {sum(len(repository.definitions[key].lines) for key in keys)} lines"
+
+
+def listing(repository, keys):
+    """A line for each file, with its definitions and their lines."""
+    files = {}
+    for key in repository.in_order(keys):
+        files.setdefault(key[:2], []).append(key)
+    text = []
+    for (crate, module), inside in files.items():
+        lines = {key[2]: len(repository.definitions[key].lines) for key in inside}
+        names = ", ".join(f"`{name}` {count}" for name, count in lines.items())
+        text.append(f"- `{crate}/specs/{module}.antt`, {sum(lines.values())} lines: {names}")
+    return text
+
+
+def private_files(repository):
+    """The files that no public contract uses. Their names begin with `Private`, and no other's does."""
+    public = repository.reached_from(named_by_contracts(repository.definitions))
+    files = {key[:2] for key in repository.definitions}
+    private = files - {key[:2] for key in public}
+    for crate, module in sorted(files):
+        if ((crate, module) in private) != module.startswith("Private"):
             sys.exit(f"the name of {crate}/specs/{module}.antt says the contrary of whom it serves")
+    return sorted(private)
+
+
+def parts(repository):
+    """Each promise with its definitions that no promise before it has."""
+    seen = set()
+    for title, words, functions in PROMISES:
+        keys = repository.reached_from(named_by(functions, repository.definitions)) - seen
+        seen |= keys
+        yield title, words, keys
+
+
+def page(repository):
+    """The text of the page."""
+    text = ["# Definitions", ""]
+    text += PREFACE
+    for title, words, keys in parts(repository):
+        text += ["", f"## {title}", "", words, "", f"{count(repository, keys)}.", "", *listing(repository, keys)]
     text += ["", "## What a reader may skip", ""]
     text.append("No contract of a public function, a trait or a type uses a definition of these files, whose names begin with")
     text.append("`Private`: they serve the contracts of private functions, which public ones are proved by.")
     text.append("")
-    text += [f"- `{crate}/specs/{module}.antt`" for crate, module in private if module != "Lib"]
+    text += [f"- `{crate}/specs/{module}.antt`" for crate, module in private_files(repository)]
     return "\n".join(text) + "\n"
 
 
+def stale(repository):
+    """The documents that don't say what is so."""
+    promised = [keys for _, _, keys in parts(repository)]
+    headline, whole = count(repository, promised[0]), count(repository, set().union(*promised))
+    found = [] if PAGE.read_text() == page(repository) else ["docs/DEFINITIONS.md isn't what definitions.py prints"]
+    for name, words in [("README.md", headline), ("docs/PROVED.md", headline), ("docs/PROVED.md", whole)]:
+        if words not in (TOP / name).read_text():
+            found.append(f"{name} doesn't say: {words}")
+    return found
+
+
 def main():
+    repository = Repository()
     if sys.argv[1:] == ["--check"]:
-        text = page()
-        first = re.search(r"(\d+) definitions, (\d+) lines", text)
-        is_told = f"{first.group(1)} definitions of {first.group(2)} lines" in (TOP / "README.md").read_text()
-        sys.exit(0 if PAGE.read_text() == text and is_told else 1)
-    print(page(), end="")
+        found = stale(repository)
+        print("\n".join(found), end="\n" if found else "")
+        sys.exit(1 if found else 0)
+    print(page(repository), end="")
 
 
 main()
