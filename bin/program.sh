@@ -9,8 +9,9 @@ out=$top/crates/maglev/out
 is_unchanged() {
     . "$out/$1"
     for path in $paths; do
-        [ ! "$top/$path" -nt "$2" ] || return 1
+        [ "$top/$path" -nt "$2" ] && return 1
     done
+    return 0
 }
 
 is_built() {
