@@ -134,7 +134,8 @@ pub struct Devices<'x> {
     pub output: ToWrite<OutputFile<'x>>,
     /// The report.
     pub report: ToWrite<Kept>,
-    to_error: bool,
+    /// Whether the report goes to standard error, since what is sent goes to standard output.
+    pub to_error: bool,
 }
 
 impl<'x> Devices<'x> {
@@ -175,16 +176,30 @@ pub fn simulate_files<'x>(
     text: &[u8],
     wanted: Wanted,
 ) -> Result<(), Trouble> {
-    let mut devices = Devices::of(rt, files);
+    let Devices {
+        input,
+        output,
+        report,
+        to_error,
+    } = Devices::of(rt, files);
+    let mut input = input;
+    let mut output = output;
+    let mut report = report;
     let outcome = simulate_keyed(
         rt.alloc(),
         table_key(rt),
         text,
-        &mut devices.input,
-        &mut devices.output,
-        &mut devices.report,
+        &mut input,
+        &mut output,
+        &mut report,
         wanted,
     );
+    let devices = Devices {
+        input,
+        output,
+        report,
+        to_error,
+    };
     devices.ended(rt, outcome)
 }
 
