@@ -259,9 +259,9 @@ def test_repeats():
 
 
 # How many flows are chosen, and in how many bits their hashes by the fixed key agree: in those that say in which of the 4,096
-# groups a map of so many flows keeps one, and two more.
+# groups a map of so many flows keeps one.
 FLOWS = 32_768
-BITS = 14
+BITS = 12
 
 
 def from_client(address, port):

@@ -276,7 +276,10 @@ def judged(text, data, expected, folder):
     (folder / "s.toml").write_text(text)
     (folder / "in.pcap").write_bytes(data)
     words = [PROGRAM, "run", "s.toml", "in.pcap", "out.pcap"]
-    done = subprocess.run(words, cwd=folder, capture_output=True, timeout=120)
+    try:
+        done = subprocess.run(words, cwd=folder, capture_output=True, timeout=120)
+    except subprocess.TimeoutExpired:
+        return ["it doesn't end in two minutes"]
     if done.returncode or done.stderr:
         return [f"status {done.returncode}: {done.stderr!r}"]
     return list(faults_of(expected, done.stdout.decode(), (folder / "out.pcap").read_bytes()))
