@@ -38,7 +38,7 @@ def drawing():
     parts = box(16, 60, 184, 88, "scenario.toml", "balancers, servers,", "versions of the servers,", "and what happens when")
     parts += box(16, 200, 184, 72, "in.pcap", "packets of clients,", "Ethernet or raw IP")
     parts.append('<rect class="frame" x="244" y="28" width="306" height="284" rx="12"/>')
-    parts.append(text(397, 50, "the cluster, played or run on threads", "title"))
+    parts.append(text(397, 50, "the cluster: one thread or many", "title"))
     parts += [text(292, 158, "spreader", "ink"), text(292, 176, "packet to", "soft"), text(292, 192, "balancer", "soft")]
     parts += balancer(66, "balancer 0", "has an entry: keeps A")
     parts += balancer(142, "balancer 1", "never saw it: table says C")
