@@ -4,14 +4,13 @@
 # a line for each goes to standard error. Status 3: it can't be built.
 out=$top/crates/maglev/out
 
-# Whether nothing is newer than a list in out/, or the file $2, of what the list names. The shell's own look at each costs
-# less than the start of another program.
+# Whether all that a list in out/ names is there, and is older than the file $2. The shell's own look at each costs less than
+# the start of another program.
 is_unchanged() {
     . "$out/$1"
     for path in $paths; do
-        [ "$top/$path" -nt "$2" ] && return 1
+        [ "$top/$path" -ot "$2" ] || return 1
     done
-    return 0
 }
 
 is_built() {
@@ -20,10 +19,10 @@ is_built() {
     is_unchanged sources "$out/maglev"
 }
 
-# What the program of dist/ is made from, with the folders, as a list for out/.
+# What the program of dist/ is made from, as a list for out/.
 list_dist() {
-    echo 'paths="dist dist/maglev dist/maglev.sha256 dist/sources.sha256'
-    cut -c67- "$top/dist/sources.sha256" | sed 'p; s|/[^/]*$||' | LC_ALL=C sort -u
+    echo 'paths="dist/maglev dist/maglev.sha256 dist/sources.sha256'
+    cut -c67- "$top/dist/sources.sha256"
     echo '"'
 }
 
