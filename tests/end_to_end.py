@@ -786,6 +786,7 @@ def test_verbose_of_a_scenario():
     for name, changed, fault, line in [
         ("no TOML", "format = 1\nsize = \n", "BadToml", "line 2, column 8: "),
         ("no UTF-8", b"format = 1 # \xff\n", "BadToml", "line 1, column 14: "),
+        ("no UTF-8 after a letter of two bytes", b"format = 1 # \xc3\xa9\xff\n", "BadToml", "line 1, column 15: "),
         ("another format", good.replace("format = 1", "format = 3"), "BadFormat", "format, line 1: found 3, expected the number 1 or 2\n"),
         ("a weight in format 1", good.replace("10.8.0.1", "10.8.0.1*2", 1), "BadMember", f'{service}.members[0], line 16: found "A@10.8.0.1*2", expected NAME@ADDRESS or'),
         ("an unknown key", "color = 1\n" + good, "BadKey", f"color, line 1: found 1, expected no key but {root}\n"),
@@ -808,6 +809,10 @@ def test_verbose_of_a_scenario():
         ("a step", scenario(["install 0 1", "take 1", "install 2 1"]), "BadStep 2", 'steps[2], line 9: found "install 2 1", expected install N V,'),
     ]:
         says(name, changed, HEAD, fault, line)
+    many = good + "".join(f"[[versions]]\nnumber = {number}\nservices = []\n" for number in range(3, 101))
+    last = many + '[[versions]]\nnumber = "x"\nservices = []\n'
+    place = f"versions[100].number, line {many.count(chr(10)) + 2}"
+    says("the last of many versions", last, HEAD, "BadKey", f'{place}: found "x", expected a number from 0 to 4294967295\n')
     twice = good + good[good.index("[[versions.services]]", good.index("number = 2")) :]
     says("a double service", twice, HEAD, "DoubleService", "versions[1].services[1], line 24: found a table, expected an address, protocol and port that")
     says("a step of run", scenario(["install 0 1", "hold 0"]), HEAD, "BadStep 1", 'steps[1], line 9: found "hold 0", expected ', ("run", "s.toml", "in.pcap", "out.pcap"))
