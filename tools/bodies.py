@@ -16,7 +16,7 @@ EDITS = TOP / "edits"
 
 FUNCTION = re.compile(r"^[ ]*(pub(?:\(\w+\))? )?(?:const )?fn (\w+)", re.M)
 OWNER = re.compile(r"^(?:pub )?(impl|trait)\b(.*)$", re.M)
-TOKEN = re.compile(r'"(?:\\.|[^"\\])*"|\'(?:\\.|[^\'\\])\'|//[^\n]*|\b(?:ensures|requires)\b|[{};]')
+TOKEN = re.compile(r'"(?:\\.|[^"\\])*"|\'(?:\\.|[^\'\\])\'|//[^\n]*|\b(?:ensures|requires)\b|[][(){};]')
 # A function that does nothing when it runs: its clauses are a law, and no body can be wrong.
 LAW = re.compile(r"(?:\)|Log<A>)\s+(?:ensures [^\n]*\n\s*)+\{(?:(?:\s*let _\w* = [^;]*;)*|\s*\w+ \{ of: PhantomData \})\s*\}\Z")
 PAIR = re.compile(r"^old: (.*)\nnew: ?(.*)$", re.M)
@@ -37,9 +37,10 @@ class Function:
     @staticmethod
     def read(text, at):
         """Where the function ends, and whether its contract has an `ensures`."""
-        depth, in_clause, in_body, has_ensures = 0, False, False, False
+        depth, inside, in_clause, in_body, has_ensures = 0, 0, False, False, False
         for token in TOKEN.finditer(text, at):
             word = token.group()
+            inside += (word in ("(", "[")) - (word in (")", "]"))
             if word in ("ensures", "requires") and not in_body and depth == 0:
                 in_clause = True
                 has_ensures |= word == "ensures"
@@ -51,7 +52,7 @@ class Function:
                 if depth == 0 and in_body:
                     return token.end(), has_ensures
                 in_clause &= depth > 0
-            elif word == ";" and depth == 0 and not in_body:
+            elif word == ";" and depth == inside == 0 and not in_body:
                 return token.end(), has_ensures
         return len(text), has_ensures
 
