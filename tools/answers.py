@@ -4,7 +4,7 @@ edit's function owes; keeps what proves and saves time, and prints the seconds b
 
 answers.py --slow CRATE       leaves those out that only an edit's function owes
 answers.py --times CRATE      lists the functions of a crate by the seconds that their goals took in the last check
-answers.py --without EDIT ..  tries must-fail edits (paths) with the answers of the edited functions taken out
+answers.py --without EDIT ..  tries edits (paths) with these answers taken out of their crates
 
 Without an answer the prover tries `search` first, and again to print proof files that nobody reads where a goal breaks. An answer
 names one tactic and no term of the code, so that an edit of the code breaks no name in it. Each goal of a loop or of a return gets
@@ -16,13 +16,12 @@ import collections
 import os
 import pathlib
 import re
-import shutil
 import subprocess
 import sys
 import tempfile
 
-TOP = pathlib.Path(__file__).resolve().parent.parent
-CRATES = TOP / "crates"
+from bodies import CRATES, TOP, Crate, copy_crates, must_fail
+
 TACTIC = "grind (arith, common_steps)"
 USES = {
     "arith": "use Rattle.std.proofs.Common.{arith}",
@@ -60,21 +59,8 @@ def run_rt(crate, *words):
 
 
 def edited(crate):
-    """The functions of a crate that its edits change, as paths below proofs/."""
-    found = set()
-    for edit in (crate / "must-fail").glob("*.edit"):
-        text = edit.read_text()
-        file = re.search(r"^file: (\S+)", text, re.M)
-        for old in re.findall(r"^old: ?(.*)$", text, re.M):
-            found |= enclosing(crate, file[1], old) if file and file[1].startswith("src/") else set()
-    return found
-
-
-def enclosing(crate, file, old):
-    """The names of the functions around a text of a file, without the module's path."""
-    text = (crate / file).read_text()
-    before = [it for it in re.finditer(r"^\s*(?:pub(?:\([a-z]+\))?\s+)?(?:const\s+)?fn\s+(\w+)", text, re.M) if it.start() <= text.find(old)]
-    return {before[-1][1]} if before else set()
+    """The functions of a crate that edits of the gate change, by their names without the module's path."""
+    return {one.plain for edit in Crate(crate).edits() if edit.in_gate for one in edit.touched}
 
 
 def proved_by_goals(crate):
@@ -203,29 +189,29 @@ def answer(crate, with_edits):
     return run_rt(crate, "check", "--jobs", "1")[0] if back else 0
 
 
+def take_out(crate):
+    """Takes the answers of this tool out of a copied crate."""
+    for file in (crate / "proofs").rglob("Answers.antt"):
+        text = file.read_text()
+        left = re.sub(rf"\n?pub \S+ : goal\.\S+\n\S+[^=\n]* = {re.escape(TACTIC)}\n", "", text)
+        if left != text and goals_in(left):
+            file.write_text(left)
+        elif left != text:
+            file.unlink()
+
+
 def without(edits):
-    """Tries edits with the answers of this tool taken out of the files of the functions that they change."""
-    missed = 0
-    for edit in map(pathlib.Path, edits):
-        crate = edit.resolve().parent.parent
-        with tempfile.TemporaryDirectory() as room:
-            tree = pathlib.Path(room) / "crates"
-            shutil.copytree(CRATES, tree, copy_function=os.link, ignore=shutil.ignore_patterns("must-fail", "trees"))
-            shutil.copy(TOP / "crates.txt", room)
-            shutil.copy(TOP / "HANDLES", room)
-            (tree / crate.name / "must-fail").mkdir()
-            shutil.copy(edit, tree / crate.name / "must-fail")
-            for file in (tree / crate.name / "proofs").rglob("Answers.antt"):
-                text = file.read_text()
-                left = re.sub(rf"\n?pub \S+ : goal\.\S+\n\S+[^=\n]* = {re.escape(TACTIC)}\n", "", text)
-                if left != text:
-                    file.unlink()
-                    if goals_in(left):
-                        file.write_text(left)
-            done = subprocess.run(["rt", "must-fail", crate.name], cwd=room, stdout=subprocess.PIPE, stderr=subprocess.STDOUT, text=True, check=False)
-            missed += done.returncode != 0
-            print(f"{edit.name}: {done.stdout.strip().splitlines()[-1][:200]}", flush=True)
-    return 1 if missed else 0
+    """Tries edits with the answers of this tool taken out of the crates that they change."""
+    crates = collections.defaultdict(list)
+    for path in map(pathlib.Path, edits):
+        folder = path.resolve().parent
+        crates[folder.parent.name if folder.name == "must-fail" else folder.name].append(path)
+    with tempfile.TemporaryDirectory(prefix="edits-") as folder:
+        room = pathlib.Path(folder)
+        copy_crates(room, [(crate, path) for crate, paths in crates.items() for path in paths])
+        for crate in crates:
+            take_out(room / "crates" / crate)
+        return max(must_fail(room, crate) for crate in crates)
 
 
 def main(words):
