@@ -1,5 +1,13 @@
-//! Tests of captures and devices.
+//! Tests of headers, flows, tunnels, captures and devices.
 #![tactic(auto)]
 
 #[cfg(test)]
+mod datagrams;
+#[cfg(test)]
+mod flows;
+#[cfg(test)]
+mod headers;
+#[cfg(test)]
 mod tests;
+#[cfg(test)]
+mod tunnels;

@@ -1,4 +1,5 @@
-//! Tests of the schemes of selection and of prepared versions, of both connection tables, and of a forwarder.
+//! Tests of the schemes of selection and of prepared versions, of both connection tables, of a forwarder, of
+//! steerers and of spreaders.
 #![tactic(auto)]
 
 #[cfg(test)]
@@ -7,5 +8,9 @@ mod checks;
 mod forwarders;
 #[cfg(test)]
 mod schemes;
+#[cfg(test)]
+mod spreaders;
+#[cfg(test)]
+mod steerers;
 #[cfg(test)]
 mod tables;

@@ -142,6 +142,3 @@ impl<H: FlowHash> Spread for HashSpread<H> {
         }
     }
 }
-
-#[cfg(test)]
-mod tests;

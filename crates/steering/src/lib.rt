@@ -13,9 +13,6 @@ use five_tuple::Flow;
 use hash_laws::FlowHash;
 use std::marker::Model;
 
-#[cfg(test)]
-mod tests;
-
 /// Where a packet goes.
 #[derive(Clone, Copy, Debug, PartialEq, Eq)]
 pub enum Placed {

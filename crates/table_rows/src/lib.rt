@@ -1,5 +1,7 @@
-//! Tests of names, sizes, permutations and population.
+//! Tests of hashes, names, sizes, permutations and population.
 #![tactic(auto)]
 
+#[cfg(test)]
+mod hashes;
 #[cfg(test)]
 mod tests;

@@ -8,6 +8,3 @@ mod word;
 
 pub use board::{NotNewer, VersionBoard};
 pub use word::{Publisher, Watcher, WordBoard};
-
-#[cfg(test)]
-mod tests;

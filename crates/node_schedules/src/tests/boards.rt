@@ -1,8 +1,9 @@
+//! A board of version numbers, of which one seat publishes and others look.
 ghost use Rattle.version_board.specs.Seats.{IsPublisherOf, IsWatcherOf};
 
-use crate::{NotNewer, Publisher, VersionBoard, Watcher, WordBoard};
 use std::process::Abort;
 use std::test::Fail;
+use version_board::{NotNewer, Publisher, VersionBoard, Watcher, WordBoard};
 
 fn publish_beside(
     rt: &impl Abort,

@@ -1,17 +1,9 @@
-use super::*;
+//! IPv4, TCP and UDP headers.
+use crate::datagrams::{TCP, UDP};
+use ip_headers::{
+    IpFault, Link, Ports, header_sum, read_frame, read_ipv4, read_ports, write_outer,
+};
 use std::process::Abort;
-
-// A TCP datagram of 40 bytes, from 10.0.0.1:1000 to 192.0.2.1:80.
-const TCP: [u8; 40] = [
-    0x45, 0, 0, 0x28, 0, 1, 0, 0, 0x40, 6, 0xae, 0xcd, 10, 0, 0, 1, 0xc0, 0, 2, 1, 3, 0xe8, 0,
-    0x50, 0, 0, 0, 1, 0, 0, 0, 0, 0x50, 2, 0x20, 0, 0, 0, 0, 0,
-];
-
-// A UDP datagram of 28 bytes, from 10.0.0.1:1000 to 192.0.2.1:53.
-const UDP: [u8; 28] = [
-    0x45, 0, 0, 0x1c, 0, 1, 0, 0, 0x40, 0x11, 0xae, 0xce, 10, 0, 0, 1, 0xc0, 0, 2, 1, 3, 0xe8, 0,
-    0x35, 0, 8, 0, 0,
-];
 
 fn ports(bytes: &[u8], check: bool) -> Result<Ports, IpFault> {
     read_ports(&read_ipv4(bytes, check)?)
@@ -111,7 +103,7 @@ fn outer_headers(rt: HostRuntime) {
 }
 
 #[test]
-fn links(rt: HostRuntime) {
+fn links_by_number(rt: HostRuntime) {
     for (number, link) in [
         (0, None),
         (1, Some(Link::Ethernet)),

@@ -1,15 +1,11 @@
 //! The worked example of a full ring, and live tries beside it.
-use super::*;
+use crate::checks::flow;
+use five_tuple::Flow;
 use hash_laws::SumHash;
+use steering::{Placed, Steerer, home};
 
 fn y() -> Flow {
-    Flow {
-        src: 0x0a000001,
-        dst: 0xc0000201,
-        sport: 1000,
-        dport: 80,
-        proto: 6,
-    }
+    flow(1000)
 }
 
 // The flow from port 1000 among three workers is at home at 1. With worker 1 refusing four times it goes to 0, 2, 2

@@ -1,17 +1,7 @@
-use super::*;
-use ip_headers::read_ipv4;
-
-// A TCP datagram of 40 bytes, from 10.0.0.1:1000 to 192.0.2.1:80.
-const TCP: [u8; 40] = [
-    0x45, 0, 0, 0x28, 0, 1, 0, 0, 0x40, 6, 0xae, 0xcd, 10, 0, 0, 1, 0xc0, 0, 2, 1, 3, 0xe8, 0,
-    0x50, 0, 0, 0, 1, 0, 0, 0, 0, 0x50, 2, 0x20, 0, 0, 0, 0, 0,
-];
-
-// A UDP datagram of 28 bytes, from 10.0.0.1:1000 to 192.0.2.1:53.
-const UDP: [u8; 28] = [
-    0x45, 0, 0, 0x1c, 0, 1, 0, 0, 0x40, 0x11, 0xae, 0xce, 10, 0, 0, 1, 0xc0, 0, 2, 1, 3, 0xe8, 0,
-    0x35, 0, 8, 0, 0,
-];
+//! Flows and their bytes.
+use crate::datagrams::{TCP, UDP};
+use five_tuple::{Flow, flow_of};
+use ip_headers::{IpFault, read_ipv4};
 
 fn answer(bytes: &[u8]) -> Result<Flow, IpFault> {
     flow_of(&read_ipv4(bytes, false)?)
