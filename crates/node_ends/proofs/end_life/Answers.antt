@@ -3,7 +3,7 @@ use Rattle.node_duties.proofs.Counting.{counts_ended}
 use Rattle.cluster_node.specs.Rules.{Rules}
 use Rattle.cluster_core.specs.Setups.{rules_for}
 use Rattle.node_duties.proofs.Goes.{goes_ended}
-use Rattle.node_threads.proofs.life.end_life.Goals as goal
+use Rattle.node_ends.proofs.end_life.Goals as goal
 
 pub returns-in-Ok-clause-going : goal.returns-in-Ok-clause-going
 returns-in-Ok-clause-going g c = λ packets cs n places going.

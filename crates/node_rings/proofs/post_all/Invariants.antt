@@ -1,7 +1,7 @@
 use Rattle.std.proofs.Common.{◌≡◌, ◌+◌, length}
 use Rattle.std.specs.Prelude.{All}
 use Rattle.version_board.specs.Seats.{IsWatcherOf}
-use Rattle.node_threads.proofs.life.post_all.Given as goal
+use Rattle.node_rings.proofs.post_all.Given as goal
 
 abbrev pub invariant-loop-seat : goal.invariant-loop-seat
 invariant-loop-seat g l = record {

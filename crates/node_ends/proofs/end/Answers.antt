@@ -3,7 +3,7 @@ use Rattle.node_records.specs.Ends.{all_handled}
 use Rattle.node_duties.proofs.Counting.{counts_served}
 use Rattle.cluster_node.specs.Rules.{Rules}
 use Rattle.cluster_core.specs.Setups.{rules_for}
-use Rattle.node_threads.proofs.life.end.Goals as goal
+use Rattle.node_ends.proofs.end.Goals as goal
 
 pub returns-in-Ok-clause-ended : goal.returns-in-Ok-clause-ended
 returns-in-Ok-clause-ended g c = λ packets d.

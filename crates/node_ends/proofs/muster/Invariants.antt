@@ -3,7 +3,7 @@ use Rattle.std.specs.Prelude.{All}
 use Rattle.cluster_node.specs.declared.outcomes.Outcome.{Outcome}
 use Rattle.node_records.specs.Ends.{all_handled}
 use Rattle.node_duties.specs.Counts.{Counts, IsWork, served_from}
-use Rattle.node_threads.proofs.life.muster.Given as goal
+use Rattle.node_ends.proofs.muster.Given as goal
 
 abbrev pub invariant-loop-done : goal.invariant-loop-done
 invariant-loop-done g l = record {

@@ -7,7 +7,7 @@ use Rattle.node_records.specs.Ends.{all_handled}
 use Rattle.cluster_node.specs.declared.outcomes.Outcome.{Outcome}
 use Rattle.node_duties.specs.Counts.{Counts, IsWork, served_from}
 use Rattle.node_duties.proofs.Counting.{counts_more}
-use Rattle.node_threads.proofs.life.muster.Goals as goal
+use Rattle.node_ends.proofs.muster.Goals as goal
 
 pub loop-done-preserved : goal.loop-done-preserved
 loop-done-preserved g c =
