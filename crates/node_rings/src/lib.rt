@@ -2,7 +2,8 @@
 //! place to read versions, and a part of the counts.
 #![tactic(auto)]
 
-ghost use Rattle.std.specs.Prelude.{◌≡◌, ◌<◌, ◌+◌, length, IfOk, OnOk, All};
+ghost use Rattle.std.specs.Prelude.{◌≡◌, ◌<◌, ◌+◌, length, IfOk, IfErr, OnOk, All};
+ghost use Rattle.node_duties.specs.declared.fault.RunFault.TheVariants.{ThreadLost};
 ghost use Rattle.version_board.specs.Seats.{IsWatcherOf};
 
 use left_right::ReadHandle;
@@ -28,7 +29,9 @@ pub struct Laid<'a, S: Scheme, B: Names> {
 // A worker's place to read versions. One that isn't had is a thread that couldn't be started.
 fn reader_of<S: Scheme, R: Wait + Drop>(
     stage: &Stage<S, R>,
-) -> Result<ReadHandle<Current<S>>, RunFault> {
+) -> Result<ReadHandle<Current<S>>, RunFault>
+    ensures { IfErr result (λ fault. fault ≡ ThreadLost) }
+{
     match stage.handle() {
         Ok(reader) => Ok(reader),
         Err(_) => Err(RunFault::ThreadLost),

@@ -1,8 +1,9 @@
 //! One life of a node: its threads are started, fed and joined.
-ghost use Rattle.std.specs.Prelude.{◌≡◌, ◌+◌, List, length, None, IfOk, All};
+ghost use Rattle.std.specs.Prelude.{◌≡◌, ◌≢◌, ◌+◌, List, length, Some, None, IfOk, IsErrOf, All};
 ghost use Rattle.cluster_core.specs.Setups.{rules_for};
 ghost use Rattle.node_duties.specs.Counts.{IsWork};
 ghost use Rattle.node_duties.specs.Going.{Begins, IsLived};
+ghost use Rattle.node_duties.specs.declared.fault.RunFault.TheVariants.{Memory};
 
 use crate::begun::Begun;
 use cluster_node::Outcome;
@@ -94,7 +95,10 @@ struct Joined<S: Scheme, T: ConnTable, B: Names> {
 }
 
 // The fault that comes first of two.
-fn first_of(fault: Option<RunFault>, other: RunFault) -> RunFault {
+fn first_of(fault: Option<RunFault>, other: RunFault) -> RunFault
+    ensures memory { fault ≡ Some Memory → result ≡ Memory }
+    ensures other { fault ≢ Some Memory → result ≡ other }
+{
     match fault {
         Some(RunFault::Memory) => RunFault::Memory,
         _ => other,
@@ -176,7 +180,10 @@ fn end_feed<S: Scheme, H: FlowHash, G: Gate, B: Names, R: Wait, W: Wait + Drop>(
 }
 
 // What is reported where a worker did not do all: that a driver was refused memory comes first.
-fn told_first<P: Drop>(driven: Result<P, RunFault>, fault: RunFault) -> RunFault {
+fn told_first<P: Drop>(driven: Result<P, RunFault>, fault: RunFault) -> RunFault
+    ensures memory { IsErrOf driven Memory → result ≡ Memory }
+    ensures fault { (IsErrOf driven Memory → ⊥) → result ≡ fault }
+{
     match driven {
         Err(RunFault::Memory) => RunFault::Memory,
         _ => fault,
