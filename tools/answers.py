@@ -8,7 +8,8 @@ answers.py --without EDIT ..  tries edits (paths) with these answers taken out o
 
 Without an answer the prover tries `search` first, and again to print proof files that nobody reads where a goal breaks. An answer
 names one tactic and no term of the code, so that an edit of the code breaks no name in it. Each goal of a loop or of a return gets
-`grind (arith, common_steps)`; where that doesn't prove, the goal stays without an answer.
+`grind (arith, common_steps)`; where that doesn't prove, `search rules`, which only spares the printing; and where neither does,
+the goal stays without an answer.
 
 It works in the crate's folder, over what earlier checks kept; times are those between the files that a check with one job saves.
 """
@@ -22,10 +23,11 @@ import tempfile
 
 from bodies import CRATES, TOP, Crate, copy_crates, must_fail
 
-TACTIC = "grind (arith, common_steps)"
+TACTICS = ("grind (arith, common_steps)", "search rules")
 USES = {
     "arith": "use Rattle.std.proofs.Common.{arith}",
     "common_steps": "use Rattle.std.proofs.lemmas.Grind.{common_steps}",
+    "rules": "use Rattle.std.proofs.Common.{rules}",
 }
 # Seconds of search above which a function's goals are answered, and what an answer has to save.
 LONG, SAVES = float(os.environ.get("LONG", "1.0")), 0.3
@@ -94,20 +96,20 @@ def covers(one, other):
 
 
 def heads(offer, known):
-    """The goals of an offer that want an answer, each with the head of its definition."""
+    """The goals of an offer that want an answer, each with the head of its definition and the first tactic."""
     found = {}
     for name, block in goals_in(offer).items():
         if GOAL.match(name) and not any(covers(name, other) for other in known):
-            found[name] = block.rstrip("\n").replace(" = ?", "")
+            found[name] = block.rstrip("\n").replace(" = ?", ""), 0
     return found
 
 
-def with_uses(text, path, crate):
-    """The text with the lines of use that the tactic and the goals need."""
+def with_uses(text, path, crate, tactics):
+    """The text with the lines of use that the tactics and the goals need."""
     lines = []
     imported = " ".join(re.findall(r"^use [^\n]*", text, re.M))
     for word, line in USES.items():
-        if not re.search(rf"[{{ ,]{word}[,}}]", imported):
+        if word in re.findall(r"\w+", " ".join(tactics)) and not re.search(rf"[{{ ,]{word}[,}}]", imported):
             lines.append(line)
     if " as goal" not in imported:
         lines.append(f"use Rattle.{crate.name}.proofs.{path.replace('/', '.')}.Goals as goal")
@@ -119,7 +121,7 @@ def with_uses(text, path, crate):
 
 
 def write(crate, path, before, answers):
-    """Writes a function's answers after those that it has."""
+    """Writes a function's answers after those that it has: of each goal the head, and which tactic it gets."""
     file = crate / "proofs" / path / "Answers.antt"
     if not answers:
         if before is None:
@@ -128,8 +130,9 @@ def write(crate, path, before, answers):
             file.write_text(before)
         return
     file.parent.mkdir(parents=True, exist_ok=True)
-    blocks = "\n".join(f"{head} = {TACTIC}\n" for head in answers.values())
-    file.write_text(with_uses(before or "", path, crate).rstrip("\n") + "\n\n" + blocks)
+    blocks = "\n".join(f"{head} = {TACTICS[turn]}\n" for head, turn in answers.values())
+    tactics = {TACTICS[turn] for _, turn in answers.values()}
+    file.write_text(with_uses(before or "", path, crate, tactics).rstrip("\n") + "\n\n" + blocks)
 
 
 def refused(crate, said, path):
@@ -158,7 +161,7 @@ def answer(crate, with_edits):
     print(f"{crate.name}: {len(chosen)} functions, {sum(map(len, answers.values()))} goals", flush=True)
     for path, given in answers.items():
         write(crate, path, texts[path], given)
-    for turn in range(4):
+    for turn in range(6):
         status, said = run_rt(crate, "check", "--jobs", os.environ.get("JOBS", "1"))
         if status == 0:
             break
@@ -169,10 +172,12 @@ def answer(crate, with_edits):
             return 1
         for path, names in lost.items():
             for name in names:
-                del answers[path][name]
+                head, tactic = answers[path].pop(name)
+                if tactic + 1 < len(TACTICS):
+                    answers[path][name] = head, tactic + 1
             if names:
                 write(crate, path, texts[path], answers[path])
-        print(f"{crate.name}: turn {turn + 1}: {sum(map(len, lost.values()))} goals stay without an answer", flush=True)
+        print(f"{crate.name}: turn {turn + 1}: {sum(map(len, lost.values()))} goals aren't proved by their tactic", flush=True)
     after = searched(crate)
     total, back = 0.0, False
     for path, given in sorted(answers.items(), key=lambda it: -before[it[0]]):
@@ -191,9 +196,10 @@ def answer(crate, with_edits):
 
 def take_out(crate):
     """Takes the answers of this tool out of a copied crate."""
+    tactics = "|".join(map(re.escape, TACTICS))
     for file in (crate / "proofs").rglob("Answers.antt"):
         text = file.read_text()
-        left = re.sub(rf"\n?pub \S+ : goal\.\S+\n\S+[^=\n]* = {re.escape(TACTIC)}\n", "", text)
+        left = re.sub(rf"\n?pub \S+ : goal\.\S+\n\S+[^=\n]* = (?:{tactics})\n", "", text)
         if left != text and goals_in(left):
             file.write_text(left)
         elif left != text:
