@@ -974,7 +974,66 @@ def test_verbose_of_files():
     says("a folder as a scenario", good, HEAD, "ReadScenario", f".: {of_folder}", ("simulate", ".", "in.pcap", "out"))
     says("a folder as an input", good, HEAD, "Read", f".: {of_folder}", ("simulate", "s.toml", ".", "out"))
     says("a folder as an output", good, HEAD + record(P), "OpenOutput", f".: {of_folder}", ("simulate", "s.toml", "in.pcap", "."))
-    says("a full disk", good, HEAD + record(P), "Write", f"/dev/full: {os.strerror(errno.ENOSPC)}", ("simulate", "s.toml", "in.pcap", "/dev/full"))
+    full = os.strerror(errno.ENOSPC)
+    says("a full disk", good, HEAD + record(P), "Write", f"/dev/full: {full}", ("simulate", "s.toml", "in.pcap", "/dev/full"))
+    says("OUTPUT is INPUT", good, HEAD + record(P), "OpenOutput", "in.pcap: found a file that is read", ("simulate", "s.toml", "in.pcap", "in.pcap"))
+
+    def unprinted_report(folder):
+        with open("/dev/full", "wb") as report:
+            return run(["simulate", "-v", "s.toml", "in.pcap", "out.pcap"], cwd=folder, stdout=report)
+
+    status, _, err = with_files(good, HEAD + record(P), unprinted_report)
+    check("verbose: a report that can't be written", (status, err.decode()) == (1, f"fault: Write\nthe report: {full}\n"), f"{status} {err!r}")
+
+
+def test_standard_streams_that_are_one_file():
+    """What is sent never comes to a file that is read, also where standard input or standard output is that file."""
+
+    def use(folder):
+        for read, words in [("in.pcap", ["s.toml", "in.pcap"]), ("in.pcap", ["s.toml", "-"]), ("s.toml", ["s.toml", "in.pcap"]), ("s.toml", ["-", "in.pcap"])]:
+            before = (folder / read).read_bytes()
+            with open(folder / read, "rb") as stdin, open(folder / read, "ab") as stdout:
+                words = [PROGRAM, "simulate", "-v", *words, "-"]
+                done = subprocess.run(words, stdin=stdin, stdout=stdout, stderr=subprocess.PIPE, cwd=folder, timeout=60)
+            answer = (done.returncode, done.stderr.decode())
+            wanted = (1, "fault: OpenOutput\n-: found a file that is read, expected another one\n")
+            check(f"{' '.join(words[2:])} >> {read}", answer == wanted and (folder / read).read_bytes() == before, repr(answer))
+
+    with_files(scenario(["install 0 1", "take 1"]), HEAD + record(P), use)
+
+
+# Characters that a terminal obeys or that turn its text round, with what is shown for each.
+RAW = "\x1b]0;pwn\x07\x7f\x9b\u061c\u200e\u2028\u202e\u2066\ufeff"
+SHOWN = "".join(letter if letter.isascii() and letter.isprintable() else f"\\u{ord(letter):04x}" for letter in RAW)
+
+
+def is_shown(text):
+    """Whether a terminal shows a text as it stands, but for the ends of its lines."""
+    return all(letter.isprintable() or letter == "\n" for letter in text)
+
+
+def test_nothing_raw():
+    """Whatever is in a scenario, a file's name or a word of the command line, a terminal shows it where it stands."""
+    good = scenario(["install 0 1", "take 1"])
+    quoted = "".join(f"\\U{ord(letter):08x}" for letter in RAW)
+    for name, text, begin in [
+        ("a key", f'"{quoted}" = 1\n' + good, SHOWN),
+        ("a value", good.replace('"maglev"', f"'''{RAW.translate({7: None, 27: None, 127: None})}\nfault: Memory\n'''"), "scheme, line 7: found '''"),
+        ("a long value", good.replace('"maglev"', '"' + "a" * 10_000 + '"'), 'scheme, line 7: found "' + "a" * 199 + ", expected"),
+    ]:
+        status, out, err = with_files(text, HEAD, lambda folder: run(["simulate", "-v", "s.toml", "in.pcap", "out.pcap"], cwd=folder))
+        lines = err.decode().split("\n")
+        is_right = (status, out, lines[0], lines[2:]) == (1, b"", "fault: BadKey", [""]) and is_shown(err.decode()) and lines[1].startswith(begin)
+        check(f"nothing raw of {name}", is_right, f"{status} {out!r} {err!r}")
+    name = RAW + "\n.pcap"
+    status, out, err = with_files(good, None, lambda folder: run(["simulate", "-v", "s.toml", name, "out.pcap"], cwd=folder))
+    wanted = f"fault: OpenInput\n{SHOWN}\\u000a.pcap: {os.strerror(errno.ENOENT)}"
+    check("nothing raw of a file's name", (status, out) == (1, b"") and err.decode().startswith(wanted) and err.count(b"\n") == 2, repr(err))
+    for words in [[RAW], ["table", "--size", "7" + RAW, "--hash", "sum", "A"], ["simulate", "--" + RAW, "a", "b", "c"], ["table", "--size", "7\n\nerror: \n"]]:
+        status, out, err = run(words)
+        check(f"nothing raw of words {words!r}", (status, out) == (2, b"") and is_shown(err.decode()) and b"\nerror" not in err, repr(err))
+    status, out, err = run([b"\xff\x1b]0;pwn\x07"])
+    check("nothing raw of bytes", status != 0 and out == b"" and is_shown(err.decode()), f"{status} {err!r}")
 
 
 def passing(source, limit):

@@ -298,5 +298,19 @@ def test_chosen_flows():
         check(f"{command} of chosen flows: time", chosen < 3 * drawn, f"{chosen} and {drawn} s")
 
 
+def test_no_random_bytes():
+    """Where the system gives no random bytes a command ends with a fault, and not with the fixed key, for which flows were chosen."""
+    with tempfile.TemporaryDirectory() as name:
+        folder = pathlib.Path(name)
+        (folder / "s.toml").write_text(scenario())
+        (folder / "in.pcap").write_bytes(head() + record(P))
+        for words in [["simulate", "s.toml", "in.pcap", "out.pcap"], ["run", "s.toml", "in.pcap", "out.pcap"], ["explain", "s.toml", "in.pcap", "2", "2"]]:
+            environment = {"LD_PRELOAD": growths.compiled(folder, "refuse_random.c")}
+            done = subprocess.run([growths.PROGRAM, *words], cwd=folder, capture_output=True, env=environment, timeout=60)
+            answer = (done.returncode, done.stdout, done.stderr)
+            check(f"{words[0]} without random bytes", answer == (1, b"", b"fault: NoRandom\n"), repr(answer))
+        check("OUTPUT without random bytes", not (folder / "out.pcap").exists())
+
+
 if __name__ == "__main__":
     sys.exit(run_tests(globals()))

@@ -49,6 +49,20 @@ def refuse_threads(library, words, case, threads, spared=0):
     return passed, failed
 
 
+def explains_why(library, program):
+    """With `-v` one more line says what a run needs whose first thread is refused. Gives how many runs were as they must be, and not."""
+    with tempfile.TemporaryDirectory() as folder:
+        for name, content in CLUSTER.files.items():
+            (pathlib.Path(folder) / name).write_bytes(content)
+        words = [program, "run", "-v", *CLUSTER.arguments[1:]]
+        done = subprocess.run(words, capture_output=True, cwd=folder, env={"LD_PRELOAD": library, "REFUSED_THREAD": "1"}, timeout=60)
+    lines = done.stderr.decode().splitlines()
+    is_right = (done.returncode, done.stdout, lines[:1], len(lines)) == (1, b"", ["fault: ThreadLost"], 2) and "allow more threads" in lines[-1]
+    if not is_right:
+        print(f"FAILED run -v, a thread refused: {done}")
+    return int(is_right), int(not is_right)
+
+
 def main():
     growths.FAULTS.append(LOST)
     program = growths.PROGRAM
@@ -57,6 +71,7 @@ def main():
         library = growths.compiled(folder, "refuse_thread.c")
         counts = [refuse_threads(library, [growths.PROGRAM], NODE, NODE_THREADS)]
         counts.append(refuse_threads(library, [program, *CLUSTER.arguments], CLUSTER, CLUSTER_THREADS, AUDIT_THREADS))
+        counts.append(explains_why(library, program))
         counts.append(growths.refuse_all(folder, [NODE]))
     return told(sum(passed for passed, _ in counts), sum(failed for _, failed in counts))
 

@@ -266,6 +266,15 @@ def widest(ring):
     return text, captured([bytes(datagram(TCP.format(number % 251), number)) for number in range(2048)])
 
 
+def last_of_four():
+    """Four nodes of one worker, of which the last gets 5,000 packets and is stopped while they come."""
+    text = 'format = 1\nsize = 7\nhash = "fnv"\nscheme = "maglev"\nspread = "turn"\nworkers = 1\ncapacity = 8\nring = 65536\n'
+    steps = [f"install {node} 1" for node in range(4)] + ["take 4", "live 3", "take 5000", "stop 3", "take 1"]
+    text += f"nodes = {[f'10.9.0.{node + 1}' for node in range(4)]}\nsteps = {steps}\n"
+    text += '[[versions]]\nnumber = 1\nservices = [{ vip = "192.0.2.1", proto = "tcp", port = 80, members = ["A@10.8.0.1", "B@10.8.0.2"] }]\n'
+    return text, captured([bytes(datagram(TCP.format(number % 251), number)) for number in range(5005)])
+
+
 def case(name, text, data):
     """A run's name, its scenario and capture, and what the model says of them."""
     return name, text, data, model.Run(text, data)
@@ -285,6 +294,20 @@ def judged(text, data, expected, folder):
     return list(faults_of(expected, done.stdout.decode(), (folder / "out.pcap").read_bytes()))
 
 
+def stopped_in_traffic(folder):
+    """The faults of a stop of the last node in full traffic: what waits is lost in one run of 20 at least. A stop that drained would
+    lose nothing."""
+    text, data = last_of_four()
+    expected = model.Run(text, data)
+    lost = 0
+    for _ in range(20):
+        yield from judged(text, data, expected, folder)
+        done = subprocess.run([PROGRAM, "run", "s.toml", "in.pcap", "out.pcap"], cwd=folder, capture_output=True, timeout=120)
+        lost += b"drop LostAtRestart" in done.stdout
+    if not lost:
+        yield "nothing was lost"
+
+
 def main():
     first, count, times = (int(word) for word in sys.argv[1:4]) if len(sys.argv) > 3 else (0, 60, 1000)
     runs = [case(f"run {seed}", *thrown(seed)) for seed in range(first, first + count)]
@@ -292,7 +315,9 @@ def main():
         runs += [case(f"the run with a {word}", *restarting(word))] * times
     runs += [case(f"64 nodes of 16 workers, rings of {ring}", *widest(ring)) for ring in [1, 4]]
     with tempfile.TemporaryDirectory() as folder:
-        return judge_all((name, judged(*run, pathlib.Path(folder))) for name, *run in runs)
+        cases = [(name, judged(*run, pathlib.Path(folder))) for name, *run in runs]
+        cases.append(("a stop of the last of four nodes", list(stopped_in_traffic(pathlib.Path(folder)))))
+        return judge_all(cases)
 
 
 if __name__ == "__main__":

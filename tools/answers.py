@@ -4,11 +4,12 @@ edit's function owes; keeps what proves and saves time, and prints the seconds b
 
 answers.py --slow CRATE       leaves those out that only an edit's function owes
 answers.py --times CRATE      lists the functions of a crate by the seconds that their goals took in the last check
-answers.py --without EDIT ..  tries must-fail edits (paths) with the answers of the edited functions taken out
+answers.py --without EDIT ..  tries edits (paths) with these answers taken out of their crates
 
 Without an answer the prover tries `search` first, and again to print proof files that nobody reads where a goal breaks. An answer
 names one tactic and no term of the code, so that an edit of the code breaks no name in it. Each goal of a loop or of a return gets
-`grind (arith, common_steps)`; where that doesn't prove, the goal stays without an answer.
+`grind (arith, common_steps)`; where that doesn't prove, `search rules`, which only spares the printing; and where neither does,
+the goal stays without an answer.
 
 It works in the crate's folder, over what earlier checks kept; times are those between the files that a check with one job saves.
 """
@@ -16,17 +17,17 @@ import collections
 import os
 import pathlib
 import re
-import shutil
 import subprocess
 import sys
 import tempfile
 
-TOP = pathlib.Path(__file__).resolve().parent.parent
-CRATES = TOP / "crates"
-TACTIC = "grind (arith, common_steps)"
+from bodies import CRATES, TOP, Crate, copy_crates, must_fail
+
+TACTICS = ("grind (arith, common_steps)", "search rules")
 USES = {
     "arith": "use Rattle.std.proofs.Common.{arith}",
     "common_steps": "use Rattle.std.proofs.lemmas.Grind.{common_steps}",
+    "rules": "use Rattle.std.proofs.Common.{rules}",
 }
 # Seconds of search above which a function's goals are answered, and what an answer has to save.
 LONG, SAVES = float(os.environ.get("LONG", "1.0")), 0.3
@@ -60,21 +61,8 @@ def run_rt(crate, *words):
 
 
 def edited(crate):
-    """The functions of a crate that its edits change, as paths below proofs/."""
-    found = set()
-    for edit in (crate / "must-fail").glob("*.edit"):
-        text = edit.read_text()
-        file = re.search(r"^file: (\S+)", text, re.M)
-        for old in re.findall(r"^old: ?(.*)$", text, re.M):
-            found |= enclosing(crate, file[1], old) if file and file[1].startswith("src/") else set()
-    return found
-
-
-def enclosing(crate, file, old):
-    """The names of the functions around a text of a file, without the module's path."""
-    text = (crate / file).read_text()
-    before = [it for it in re.finditer(r"^\s*(?:pub(?:\([a-z]+\))?\s+)?(?:const\s+)?fn\s+(\w+)", text, re.M) if it.start() <= text.find(old)]
-    return {before[-1][1]} if before else set()
+    """The functions of a crate that edits of the gate change, by their names without the module's path."""
+    return {one.plain for edit in Crate(crate).edits() if edit.in_gate for one in edit.touched}
 
 
 def proved_by_goals(crate):
@@ -108,20 +96,20 @@ def covers(one, other):
 
 
 def heads(offer, known):
-    """The goals of an offer that want an answer, each with the head of its definition."""
+    """The goals of an offer that want an answer, each with the head of its definition and the first tactic."""
     found = {}
     for name, block in goals_in(offer).items():
         if GOAL.match(name) and not any(covers(name, other) for other in known):
-            found[name] = block.rstrip("\n").replace(" = ?", "")
+            found[name] = block.rstrip("\n").replace(" = ?", ""), 0
     return found
 
 
-def with_uses(text, path, crate):
-    """The text with the lines of use that the tactic and the goals need."""
+def with_uses(text, path, crate, tactics):
+    """The text with the lines of use that the tactics and the goals need."""
     lines = []
     imported = " ".join(re.findall(r"^use [^\n]*", text, re.M))
     for word, line in USES.items():
-        if not re.search(rf"[{{ ,]{word}[,}}]", imported):
+        if word in re.findall(r"\w+", " ".join(tactics)) and not re.search(rf"[{{ ,]{word}[,}}]", imported):
             lines.append(line)
     if " as goal" not in imported:
         lines.append(f"use Rattle.{crate.name}.proofs.{path.replace('/', '.')}.Goals as goal")
@@ -133,7 +121,7 @@ def with_uses(text, path, crate):
 
 
 def write(crate, path, before, answers):
-    """Writes a function's answers after those that it has."""
+    """Writes a function's answers after those that it has: of each goal the head, and which tactic it gets."""
     file = crate / "proofs" / path / "Answers.antt"
     if not answers:
         if before is None:
@@ -142,8 +130,9 @@ def write(crate, path, before, answers):
             file.write_text(before)
         return
     file.parent.mkdir(parents=True, exist_ok=True)
-    blocks = "\n".join(f"{head} = {TACTIC}\n" for head in answers.values())
-    file.write_text(with_uses(before or "", path, crate).rstrip("\n") + "\n\n" + blocks)
+    blocks = "\n".join(f"{head} = {TACTICS[turn]}\n" for head, turn in answers.values())
+    tactics = {TACTICS[turn] for _, turn in answers.values()}
+    file.write_text(with_uses(before or "", path, crate, tactics).rstrip("\n") + "\n\n" + blocks)
 
 
 def refused(crate, said, path):
@@ -172,7 +161,7 @@ def answer(crate, with_edits):
     print(f"{crate.name}: {len(chosen)} functions, {sum(map(len, answers.values()))} goals", flush=True)
     for path, given in answers.items():
         write(crate, path, texts[path], given)
-    for turn in range(4):
+    for turn in range(6):
         status, said = run_rt(crate, "check", "--jobs", os.environ.get("JOBS", "1"))
         if status == 0:
             break
@@ -183,10 +172,12 @@ def answer(crate, with_edits):
             return 1
         for path, names in lost.items():
             for name in names:
-                del answers[path][name]
+                head, tactic = answers[path].pop(name)
+                if tactic + 1 < len(TACTICS):
+                    answers[path][name] = head, tactic + 1
             if names:
                 write(crate, path, texts[path], answers[path])
-        print(f"{crate.name}: turn {turn + 1}: {sum(map(len, lost.values()))} goals stay without an answer", flush=True)
+        print(f"{crate.name}: turn {turn + 1}: {sum(map(len, lost.values()))} goals aren't proved by their tactic", flush=True)
     after = searched(crate)
     total, back = 0.0, False
     for path, given in sorted(answers.items(), key=lambda it: -before[it[0]]):
@@ -203,29 +194,30 @@ def answer(crate, with_edits):
     return run_rt(crate, "check", "--jobs", "1")[0] if back else 0
 
 
+def take_out(crate):
+    """Takes the answers of this tool out of a copied crate."""
+    tactics = "|".join(map(re.escape, TACTICS))
+    for file in (crate / "proofs").rglob("Answers.antt"):
+        text = file.read_text()
+        left = re.sub(rf"\n?pub \S+ : goal\.\S+\n\S+[^=\n]* = (?:{tactics})\n", "", text)
+        if left != text and goals_in(left):
+            file.write_text(left)
+        elif left != text:
+            file.unlink()
+
+
 def without(edits):
-    """Tries edits with the answers of this tool taken out of the files of the functions that they change."""
-    missed = 0
-    for edit in map(pathlib.Path, edits):
-        crate = edit.resolve().parent.parent
-        with tempfile.TemporaryDirectory() as room:
-            tree = pathlib.Path(room) / "crates"
-            shutil.copytree(CRATES, tree, copy_function=os.link, ignore=shutil.ignore_patterns("must-fail", "trees"))
-            shutil.copy(TOP / "crates.txt", room)
-            shutil.copy(TOP / "HANDLES", room)
-            (tree / crate.name / "must-fail").mkdir()
-            shutil.copy(edit, tree / crate.name / "must-fail")
-            for file in (tree / crate.name / "proofs").rglob("Answers.antt"):
-                text = file.read_text()
-                left = re.sub(rf"\n?pub \S+ : goal\.\S+\n\S+[^=\n]* = {re.escape(TACTIC)}\n", "", text)
-                if left != text:
-                    file.unlink()
-                    if goals_in(left):
-                        file.write_text(left)
-            done = subprocess.run(["rt", "must-fail", crate.name], cwd=room, stdout=subprocess.PIPE, stderr=subprocess.STDOUT, text=True, check=False)
-            missed += done.returncode != 0
-            print(f"{edit.name}: {done.stdout.strip().splitlines()[-1][:200]}", flush=True)
-    return 1 if missed else 0
+    """Tries edits with the answers of this tool taken out of the crates that they change."""
+    crates = collections.defaultdict(list)
+    for path in map(pathlib.Path, edits):
+        folder = path.resolve().parent
+        crates[folder.parent.name if folder.name == "must-fail" else folder.name].append(path)
+    with tempfile.TemporaryDirectory(prefix="edits-") as folder:
+        room = pathlib.Path(folder)
+        copy_crates(room, [(crate, path) for crate, paths in crates.items() for path in paths])
+        for crate in crates:
+            take_out(room / "crates" / crate)
+        return max(must_fail(room, crate) for crate in crates)
 
 
 def main(words):

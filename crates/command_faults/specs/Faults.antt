@@ -8,7 +8,7 @@ use Rattle.pool_versions.specs.declared.catalogue.PoolFault.TheVariants as pool
 use Rattle.pcap_file.specs.declared.format.PcapFault.{PcapFault}
 use Rattle.pcap_file.specs.declared.format.PcapFault.TheVariants as capture
 use Rattle.command_faults.specs.declared.fault.CliFault.{CliFault}
-use Rattle.command_faults.specs.declared.fault.CliFault.TheVariants.{BadSize, BadHash, BadName, DoubleName, TooMany, Write, BadHex, TooLong, Read, BadMember, BadToml, BadFormat, BadKey, Pool, BadStep, Capture, OpenScenario, OpenInput, OpenOutput, ReadScenario, ThreadLost, Foreign, RingLost, BookLost, Memory}
+use Rattle.command_faults.specs.declared.fault.CliFault.TheVariants.{BadSize, BadHash, BadName, DoubleName, TooMany, Write, BadHex, TooLong, Read, BadMember, BadToml, BadFormat, BadKey, Pool, BadStep, Capture, OpenScenario, OpenInput, OpenOutput, ReadScenario, NoRandom, ThreadLost, Foreign, RingLost, BookLost, Memory}
 
 abbrev pub pool_name : PoolFault → List ℕ
 pool_name pool.BadNumber = codes "BadNumber"
@@ -50,6 +50,7 @@ fault_name OpenScenario = codes "OpenScenario"
 fault_name OpenInput = codes "OpenInput"
 fault_name OpenOutput = codes "OpenOutput"
 fault_name ReadScenario = codes "ReadScenario"
+fault_name NoRandom = codes "NoRandom"
 fault_name ThreadLost = codes "ThreadLost"
 fault_name Foreign = codes "Foreign"
 fault_name RingLost = codes "RingLost"

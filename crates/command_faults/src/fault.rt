@@ -50,6 +50,8 @@ pub enum CliFault {
     OpenOutput,
     /// The scenario's file couldn't be read.
     ReadScenario,
+    /// The system gave no random bytes for the key of the connection tables.
+    NoRandom,
     /// A thread couldn't be started.
     ThreadLost,
     /// A worker used a version that its node hadn't published.
@@ -117,6 +119,7 @@ pub(crate) fn word_of(fault: &CliFault) -> &'static str
         CliFault::OpenInput => "OpenInput",
         CliFault::OpenOutput => "OpenOutput",
         CliFault::ReadScenario => "ReadScenario",
+        CliFault::NoRandom => "NoRandom",
         CliFault::ThreadLost => "ThreadLost",
         CliFault::Foreign => "Foreign",
         CliFault::RingLost => "RingLost",

@@ -34,6 +34,7 @@ Faults, and what to do:
   ShortHeader, BadMagic, BadVersion, BadLink
                                convert INPUT: docs/USING.md has the commands
   TooLong                      shorten the scenario; or INPUT is damaged
+  NoRandom                     let the program read random bytes of the system
   Write                        make room, or open standard output
   Memory                       allow more memory, or take fewer slots, versions and entries";
 

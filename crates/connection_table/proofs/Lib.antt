@@ -2,3 +2,4 @@ pub mod Standing
 pub mod Places
 pub mod Links
 pub mod Once
+pub mod Shown

@@ -1,3 +1,4 @@
 pub mod Touches
 pub mod Recency
 pub mod Tables
+pub mod Slots

@@ -9,10 +9,11 @@ mod key;
 mod laws;
 mod lru_table;
 mod plain;
+mod slot;
 mod table;
 
 pub use key::TableKey;
 pub use laws::tables_stay_tables;
 pub use lru_table::LruTable;
 pub use plain::PlainTable;
-pub use table::{ConnTable, Entry};
+pub use table::{ConnTable, Entry, Renewed};

@@ -3,7 +3,6 @@ ghost use Rattle.std.specs.Prelude.{◌≡◌, ◌≤◌, ◌<◌, [], ℕ, leng
 ghost use Rattle.connection_table.specs.Touches.{same_flow, last_touch};
 ghost use Rattle.connection_table.specs.Recency.{Recency, stored};
 
-use crate::key::TableKey;
 use crate::table::{ConnTable, Entry};
 use five_tuple::Flow;
 use std::alloc::{AllocError, Global};
@@ -85,7 +84,7 @@ impl ConnTable for PlainTable {
 
     ghost entries = { λ t. t.pairs };
 
-    fn keyed(alloc: Global, limit: u32, _key: TableKey) -> Result<Self, AllocError> {
+    fn make(alloc: Global, limit: u32) -> Result<Self, AllocError> {
         Ok(PlainTable {
             limit,
             pairs: Vec::new(alloc),

@@ -1,5 +1,5 @@
 //! What a table of connections is.
-ghost use Rattle.std.specs.Prelude.{◌≡◌, ◌≤◌, ◌<◌, ℕ, List, [], length, IfOk, OnOk, OnErr, IsSome, IsOk};
+ghost use Rattle.std.specs.Prelude.{◌≡◌, ◌≤◌, ◌<◌, ℕ, List, [], length, IfOk, OnOk, OnErr, IsSome, IsOk, IsTrue, MatchBool};
 ghost use Rattle.connection_table.specs.Recency.{looked, retouched, stored};
 ghost use Rattle.connection_table.specs.Touches.{Touch, last_touch};
 
@@ -16,6 +16,17 @@ pub struct Entry {
     pub last: u64,
 }
 
+/// What came of a flow's entry that was renewed.
+#[derive(Clone, Copy)]
+pub struct Renewed<N> {
+    /// The flow's new entry.
+    pub entry: Entry,
+    /// What was noted beside it.
+    pub note: N,
+    /// Whether it is in the table.
+    pub stored: bool,
+}
+
 /// A bounded table of flows with their entries. Each flow is in it once; the most recently used is in front.
 pub trait ConnTable: Drop + Sized {
     /// How many entries it keeps.
@@ -24,22 +35,21 @@ pub trait ConnTable: Drop + Sized {
     /// The flows with their entries, the most recently used first.
     ghost entries: { Self → List Touch };
 
-    /// An empty table for 1 to 1,000,000 entries, whose hash, if it has one, begins with a key. Nothing of the capacity is
-    /// reserved.
-    fn keyed(alloc: Global, limit: u32, key: TableKey) -> Result<Self, AllocError>
+    /// An empty table for 1 to 1,000,000 entries. Nothing of the capacity is reserved.
+    fn make(alloc: Global, limit: u32) -> Result<Self, AllocError>
         requires some { 0 < limit }
         requires limit { limit ≤ 1000000 }
         ensures capacity { IfOk result (λ t. capacity t ≡ limit) }
         ensures empty { IfOk result (λ t. entries t ≡ []) };
 
-    /// An empty table by the fixed key.
-    fn make(alloc: Global, limit: u32) -> Result<Self, AllocError>
+    /// The same, where the table's hash begins with a key. A table that has no hash leaves this as it is.
+    fn keyed(alloc: Global, limit: u32, _key: TableKey) -> Result<Self, AllocError>
         requires some { 0 < limit }
         requires limit { limit ≤ 1000000 }
         ensures capacity { IfOk result (λ t. capacity t ≡ limit) }
         ensures empty { IfOk result (λ t. entries t ≡ []) }
     {
-        Self::keyed(alloc, limit, TableKey::fixed())
+        Self::make(alloc, limit)
     }
 
     /// The flow's entry. Nothing changes.
@@ -81,6 +91,35 @@ pub trait ConnTable: Drop + Sized {
     {
         let entry = self.peek(flow)?;
         self.touch(flow, entry.last)
+    }
+
+    /// Looks a flow up, and stores the entry that `next` answers to the one that is there. What `next` notes beside it is handed
+    /// out. `next` is called once, also where memory for a new entry is refused, and then nothing changes. Memory is never
+    /// refused for a flow that is there.
+    fn renew<N, F: FnOnce(Option<Entry>) -> (Entry, N)>(
+        &mut self,
+        flow: Flow,
+        next: F,
+    ) -> Renewed<N>
+        requires { F.pre next (last_touch flow (entries self.old)) }
+        ensures next { F.post next (last_touch flow (entries self.old)) (result.entry, result.note) }
+        ensures kept { MatchBool result.stored
+            (entries self.new ≡ stored (capacity self.old) flow result.entry (entries self.old))
+            (entries self.new ≡ entries self.old) }
+        ensures there { IsSome (last_touch flow (entries self.old)) → IsTrue result.stored }
+        ensures capacity { capacity self.new ≡ capacity self.old }
+    {
+        let held = self.peek(&flow);
+        let (entry, note) = next(held);
+        let mut renewed = Renewed {
+            entry,
+            note,
+            stored: true,
+        };
+        if self.store(flow, renewed.entry).is_err() {
+            renewed.stored = false;
+        }
+        renewed
     }
 
     /// Empties it.

@@ -3,12 +3,13 @@ use crate::spots::{below, line_of, spot_of};
 use fault_places::{Flaw, Key, Place, key_place, member_place, pool_place};
 use pool_versions::PoolFault;
 use scenario::{Format, LONGEST_IDLE, ROOT_KEYS, ScenarioFault, format_of, is_root_key, pools_in};
+use shown_text::shown;
 use std::alloc::Global;
 use toml::{Table, Value};
 
 /// One line on a scenario's fault: the path of the key, as `versions[0].services[1].port`, with its line, what was found and
-/// what was expected. For BadToml it has line and column, both from 1. None where nothing more is known or memory was
-/// refused.
+/// what was expected. For BadToml it has line and column, both from 1. A terminal can show it, whatever the scenario says. None
+/// where nothing more is known or memory was refused.
 pub fn words_of(alloc: Global, text: &[u8], fault: ScenarioFault) -> Option<String> {
     let table = match toml::table_from_slice(alloc, text) {
         Ok(table) => table,
@@ -43,18 +44,19 @@ fn bad_toml(alloc: Global, text: &[u8], error: &toml::de::Error) -> Option<Strin
         .filter(|byte| **byte & 0xc0 != 0x80)
         .count()
         .saturating_add(1);
-    let message = error.message();
+    let message = shown(alloc, error.message()).ok()?;
     format!(in alloc; "line {line}, column {column}: {message}").ok()
 }
 
 // What was found at a path, and what was expected there.
 fn at(alloc: Global, text: &str, path: &str, expected: &str) -> Option<String> {
+    let place = shown(alloc, path).ok()?;
     let Some(spot) = spot_of(alloc, text, path) else {
-        return format!(in alloc; "{path} is missing, expected {expected}").ok();
+        return format!(in alloc; "{place} is missing, expected {expected}").ok();
     };
     let line = spot.line(text);
-    let found = spot.found(alloc)?;
-    format!(in alloc; "{path}, line {line}: found {found}, expected {expected}").ok()
+    let found = shown(alloc, spot.found(alloc)?).ok()?;
+    format!(in alloc; "{place}, line {line}: found {found}, expected {expected}").ok()
 }
 
 // The path of the table of a place, and what is wrong with it.

@@ -1,13 +1,51 @@
-//! The first backend that is up, under two versions.
+//! The first backend that is up, under two versions, with the tables of `connection_table` and with one of one's own.
 ghost use Rattle.std.specs.Prelude.{◌≡◌};
 
 use super::*;
-use connection_table::{LruTable, PlainTable};
+use connection_table::{Entry, LruTable, PlainTable};
 use five_tuple::Flow;
 use hash_laws::SumHash;
 use maglev_table::{Name, TableSize, Weight};
 use pool_versions::{Backend, Member, Service, Version};
 use std::process::Abort;
+
+/// A table of one's own. It has what a table must write, and leaves the rest of [`ConnTable`] as it is given.
+#[derive(Drop)]
+struct OwnTable {
+    kept: PlainTable,
+}
+
+impl ConnTable for OwnTable {
+    ghost capacity = { λ t. t.kept.limit };
+
+    ghost entries = { λ t. t.kept.pairs };
+
+    fn make(alloc: Global, limit: u32) -> Result<OwnTable, AllocError> {
+        Ok(OwnTable {
+            kept: PlainTable::make(alloc, limit)?,
+        })
+    }
+
+    fn peek(&self, flow: &Flow) -> Option<Entry> {
+        self.kept.peek(flow)
+    }
+
+    fn look(&mut self, flow: &Flow) -> Option<Entry> {
+        self.kept.look(flow)
+    }
+
+    fn store(&mut self, flow: Flow, entry: Entry) -> Result<(), AllocError> {
+        self.kept.store(flow, entry)
+    }
+
+    fn clear(&mut self) {
+        self.kept.clear();
+    }
+
+    fn len(&self) -> usize {
+        self.kept.len()
+    }
+}
 
 fn member(rt: &impl Abort, name: &[u8], addr: u32, up: bool) -> Member {
     let name = Name::new(name).expect(rt, "a name");
@@ -102,4 +140,5 @@ fn sends<T: ConnTable>(rt: &impl Abort, alloc: Global) {
 fn two_versions_begin_with_two_backends(rt: HostRuntime) {
     sends::<PlainTable>(&rt, rt.alloc());
     sends::<LruTable>(&rt, rt.alloc());
+    sends::<OwnTable>(&rt, rt.alloc());
 }

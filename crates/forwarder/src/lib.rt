@@ -4,20 +4,21 @@
 //! and its backend is up, the flow's packets go to that backend, whatever the pools' newer versions say.
 #![tactic(auto)]
 
-ghost use Rattle.std.specs.Prelude.{◌≡◌, ◌≤◌, ◌<◌, ◌∷◌, [], ℕ, List, length, Option, Some, None, IsTrue, IfOk, IfSome, IsNone, IsSome, IsFalse, MatchBool};
+ghost use Rattle.std.specs.Prelude.{◌≡◌, ◌≤◌, ◌<◌, ◌+◌, ◌%◌, ◌^◌, ◌∷◌, [], ℕ, List, length, Option, Some, None, IsTrue, IfOk, IfSome, IsNone, IsSome, IsFalse, MatchBool, if◌then◌else◌};
 ghost use Rattle.connection_table.specs.Recency.{moved, stored};
 ghost use Rattle.connection_table.specs.Touches.{Touch, in_time, last_touch};
 ghost use Rattle.selection.specs.Readied.{ReadiedService};
 ghost use Rattle.forwarder.specs.declared.Choice.TheVariants.{Forward};
 ghost use Rattle.forwarder.specs.Forwarding.{Forwarding, unused};
+ghost use Rattle.forwarder.specs.PrivateRenewal.{IsRenewal};
 ghost use Rattle.forwarder.specs.Serving.{Serving, kept, told_after, told_in, stands_in, after_told, forwarding_of, serving_of, told, IsForward};
 
-use connection_table::{ConnTable, Entry, TableKey};
+use connection_table::{ConnTable, Entry, Renewed, TableKey};
 use five_tuple::Flow;
 use pool_versions::Backend;
 use selection::{PreparedVersion, Ready, Scheme};
 use std::alloc::{AllocError, Global};
-use std::marker::Model;
+use std::marker::{Model, PhantomData};
 
 /// Where a packet goes.
 #[derive(Clone, Copy, PartialEq, Eq)]
@@ -41,7 +42,8 @@ pub struct Served {
 /// Serves packets, one after another.
 #[derive(Drop)]
 pub struct Forwarder<S: Scheme, T: ConnTable> {
-    scheme: S,
+    // Of the versions that it serves under. Each of them has its scheme.
+    schemes: PhantomData<S>,
     table: T,
     idle: Option<u64>,
     turn: u64,
@@ -50,6 +52,7 @@ pub struct Forwarder<S: Scheme, T: ConnTable> {
 
 impl<S: Scheme, T: ConnTable> Model for Forwarder<S, T> {
     ghost use Rattle.forwarder.specs.declared.Choice.TheVariants.{Forward};
+    ghost use Rattle.forwarder.specs.PrivateRenewal.{IsRenewal};
     ghost use Rattle.forwarder.specs.Forwarding.{Forwarding};
 
     ghost Value = { Forwarding };
@@ -121,10 +124,92 @@ fn keep<T: ConnTable>(table: &mut T, stood: bool, flow: Flow, entry: Entry, refu
     }
 }
 
+// The entry where it is not past the limit.
+#[inline(always)]
+fn if_in_time(held: Option<Entry>, idle: Option<u64>, clock: u64) -> Option<Entry>
+    ensures { result ≡ in_time idle clock held }
+{
+    let entry = held?;
+    match idle {
+        None => Some(entry),
+        Some(limit) => {
+            if limit < clock.saturating_sub(entry.last) {
+                None
+            } else {
+                Some(entry)
+            }
+        }
+    }
+}
+
+// A flow's next entry, after the one that is in the table, and whether the scheme was asked for it.
+#[inline(always)]
+fn next_entry<S: Scheme>(
+    held: Option<Entry>,
+    idle: Option<u64>,
+    clock: u64,
+    ready: &Ready<S>,
+    flow: &Flow,
+    turn: u64,
+    version: u32,
+) -> (Entry, bool)
+    requires { ready.now.ups.backends ≡ [] → ⊥ }
+    ensures { IsRenewal (S.pick ready.now.scheme ready.now.size ready.now.ups flow.now turn) clock version (kept (in_time idle clock held) ready.now.ups) result.0 result.1 }
+{
+    if let Some(entry) = if_up(if_in_time(held, idle, clock), ready) {
+        let touched = Entry {
+            last: clock,
+            ..entry
+        };
+        return (touched, false);
+    }
+    match ready.choose(flow, turn) {
+        Some(backend) => {
+            let entry = Entry {
+                backend,
+                version,
+                last: clock,
+            };
+            (entry, true)
+        }
+        None => unreachable!(),
+    }
+}
+
+// Renews the flow's entry where somebody is up: by one look-up in the table.
+#[inline(always)]
+fn renew<S: Scheme, T: ConnTable>(
+    table: &mut T,
+    idle: Option<u64>,
+    clock: u64,
+    ready: &Ready<S>,
+    flow: &Flow,
+    turn: u64,
+    version: u32,
+) -> Renewed<bool>
+    requires { ready.now.ups.backends ≡ [] → ⊥ }
+    ensures renewal { IsRenewal (S.pick ready.now.scheme ready.now.size ready.now.ups flow.now turn) clock version (kept (in_time idle clock (last_touch flow.now (T.entries table.old))) ready.now.ups) result.entry result.note }
+    ensures kept { MatchBool result.stored (T.entries table.new ≡ stored (T.capacity table.old) flow.now result.entry (T.entries table.old)) (T.entries table.new ≡ T.entries table.old) }
+    ensures there { IsSome (last_touch flow.now (T.entries table.old)) → IsTrue result.stored }
+    ensures capacity { T.capacity table.new ≡ T.capacity table.old }
+{
+    table.renew(*flow, |held| {
+        next_entry(held, idle, clock, ready, flow, turn, version)
+    })
+}
+
+// The turn that follows.
+#[inline(always)]
+fn turn_after(turn: u64, asked: bool) -> u64
+    ensures { result ≡ (if asked then (turn + 1) % 2 ^ 64 else turn) }
+{
+    if asked { turn.wrapping_add(1) } else { turn }
+}
+
 impl<S: Scheme, T: ConnTable> Forwarder<S, T> {
-    /// A forwarder that has served nothing, for 1 to 1,000,000 entries. Packets are served by the scheme of the
-    /// version that they come under. Where a limit is set, an entry stands only while no more microseconds than that have
-    /// passed since its last touch.
+    /// A forwarder that has served nothing, for 1 to 1,000,000 entries. Packets are served by the scheme of the version that
+    /// they come under; the one that is given here says of which type that is. Where a limit is set, an entry stands only
+    /// while no more microseconds than that have passed since its last touch.
     pub fn make(
         alloc: Global,
         scheme: S,
@@ -141,7 +226,7 @@ impl<S: Scheme, T: ConnTable> Forwarder<S, T> {
     /// The same, with a key for the hash of its table.
     pub fn keyed(
         alloc: Global,
-        scheme: S,
+        _scheme: S,
         capacity: u32,
         key: TableKey,
         idle: Option<u64>,
@@ -151,7 +236,7 @@ impl<S: Scheme, T: ConnTable> Forwarder<S, T> {
         ensures { IfOk result (λ f. f ≡ unused capacity idle) }
     {
         Ok(Forwarder {
-            scheme,
+            schemes: PhantomData,
             table: T::keyed(alloc, capacity, key)?,
             idle,
             turn: 0,
@@ -234,6 +319,23 @@ impl<S: Scheme, T: ConnTable> Forwarder<S, T> {
                 unstored: false,
             };
         };
+        if !refused && ready.is_anybody_up() {
+            let turn = self.turn;
+            let renewed = renew(
+                &mut self.table,
+                self.idle,
+                clock,
+                ready,
+                flow,
+                turn,
+                version.number(),
+            );
+            self.turn = turn_after(turn, renewed.note);
+            return Served {
+                choice: sent(&renewed.entry),
+                unstored: !renewed.stored,
+            };
+        }
         let stood = stand(&mut self.table, self.idle, flow, clock);
         if let Some(entry) = if_up(stood, ready) {
             return Served {

@@ -47,7 +47,7 @@ fn stand_in(rt: &HostRuntime) -> Option<File> {
 pub enum FileFault {
     /// There was no memory for its buffer.
     Memory,
-    /// The system refused it, or opening it would have emptied a file that is read.
+    /// The system refused it, or what is written would have come to a file that is read.
     Refused,
 }
 
@@ -73,6 +73,11 @@ impl Refusal {
             ErrorKind::OutOfMemory => FileFault::Memory,
             _ => FileFault::Refused,
         }
+    }
+
+    /// Whether it isn't the system's: what is written would have come to a file that is read.
+    pub fn is_of_one_file(self) -> bool {
+        self.code.is_none() && self.kind == ErrorKind::InvalidInput
     }
 
     /// The error, which prints the system's words.
@@ -125,8 +130,8 @@ fn identity(rt: &HostRuntime, path: &str) -> Option<(u64, u64)> {
     }
 }
 
-// Whether a path names a regular file, which opening it for output empties.
-fn would_be_emptied(rt: &HostRuntime, path: &str) -> bool {
+// Whether a path names a regular file, of which writing changes what is read.
+fn is_regular(rt: &HostRuntime, path: &str) -> bool {
     match metadata(rt, path) {
         Ok(found) => found.is_file(),
         Err(_) => false,
@@ -137,6 +142,15 @@ fn would_be_emptied(rt: &HostRuntime, path: &str) -> bool {
 fn path_read(path: &str) -> &str {
     if is_standard(path) {
         "/dev/stdin"
+    } else {
+        path
+    }
+}
+
+// The path of what is written, where a standard stream has one too.
+fn path_written(path: &str) -> &str {
+    if is_standard(path) {
+        "/dev/stdout"
     } else {
         path
     }
@@ -260,7 +274,8 @@ enum Writer<'a> {
     Standard(BufWriter<Printer<'a, HostRuntime>>),
 }
 
-/// An output that is made, or emptied, at the first write. It isn't where that would empty one of the files that are read.
+/// An output that is made, or emptied, at the first write. It is refused where it is one of the files that are read, whatever
+/// each of them is called: standard input and standard output may be files too.
 #[derive(Drop)]
 pub struct OutputFile<'a> {
     rt: &'a HostRuntime,
@@ -282,23 +297,24 @@ impl<'a> OutputFile<'a> {
         }
     }
 
-    // Whether a file that is read would be emptied.
-    fn would_empty_what_is_read(&self) -> bool {
-        would_be_emptied(self.rt, self.path)
+    // Whether it is a file that is read.
+    fn is_what_is_read(&self) -> bool {
+        let path = path_written(self.path);
+        is_regular(self.rt, path)
             && self
                 .read
                 .iter()
-                .any(|read| are_one(self.rt, self.path, path_read(read)))
+                .any(|read| are_one(self.rt, path, path_read(read)))
     }
 
     fn open(&self) -> io::Result<Writer<'a>> {
         let alloc: Global = self.rt.alloc();
+        if self.is_what_is_read() {
+            return Err(io::Error::from(ErrorKind::InvalidInput));
+        }
         if is_standard(self.path) {
             let writer = BufWriter::with_capacity(alloc, BUFFER, io::writer(self.rt))?;
             return Ok(Writer::Standard(writer));
-        }
-        if self.would_empty_what_is_read() {
-            return Err(io::Error::from(ErrorKind::InvalidInput));
         }
         let file = File::create(self.rt, self.path)?;
         Ok(Writer::File(BufWriter::with_capacity(alloc, BUFFER, file)?))

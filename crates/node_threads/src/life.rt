@@ -1,54 +1,29 @@
 //! One life of a node: its threads are started, fed and joined.
-ghost use Rattle.std.specs.Prelude.{◌≡◌, ◌≤◌, ◌<◌, ◌+◌, ◌++◌, ◌∷◌, [], ℕ, Bool, List, take, length, None, IfOk, OnOk, All};
-ghost use Rattle.cluster_core.specs.Setups.{Fixed, rules_for};
-ghost use Rattle.version_board.specs.Seats.{IsWatcherOf};
-ghost use Rattle.cluster_node.specs.declared.outcomes.Outcome.{Outcome};
-ghost use Rattle.node_records.specs.Works.{IsOf};
-ghost use Rattle.node_records.specs.Ends.{all_handled};
-ghost use Rattle.cluster_node.specs.Rules.{Rules};
-ghost use Rattle.cluster_node.specs.declared.packets.Packet.{Packet};
-ghost use Rattle.node_records.specs.declared.command.Command.{Command};
-ghost use Rattle.node_records.specs.Losses.{ending};
-ghost use Rattle.node_records.specs.Histories.{past_of, NoneWaits};
-ghost use Rattle.node_records.specs.Journals.{JournalView, Tells, Drives, IsServed};
-ghost use Rattle.stats_book.specs.Counts.{Counted};
-ghost use Rattle.node_duties.specs.Counts.{AreRead, Counts, IsWork, served_from, with_lost};
-ghost use Rattle.node_duties.specs.Going.{Going, IsDriven, IsEnded, Begins, IsLived};
+ghost use Rattle.std.specs.Prelude.{◌≡◌, ◌≢◌, ◌+◌, List, length, Some, None, IfOk, IsErrOf, All};
+ghost use Rattle.cluster_core.specs.Setups.{rules_for};
+ghost use Rattle.node_duties.specs.Counts.{IsWork};
+ghost use Rattle.node_duties.specs.Going.{Begins, IsLived};
+ghost use Rattle.node_duties.specs.declared.fault.RunFault.TheVariants.{Memory};
 
 use crate::begun::Begun;
-use cluster_core::Setup;
 use cluster_node::Outcome;
 use connection_table::ConnTable;
 use hash_laws::FlowHash;
-use left_right::ReadHandle;
 use node_duties::{
-    CountsOwn, Current, Desk, Gate, Inputs, Outfit, Output, Part, Plan, Post, Progress, RunFault,
-    Stage, Tally, WorkerRun, drive, fault_of, gather, stops_at, work,
+    CountsOwn, Desk, Gate, Inputs, Outfit, Plan, Progress, RunFault, WorkerRun, drive, gather,
+    stops_at, work,
 };
-use node_records::{Journal, WorkerRecord, are_of};
-use pool_versions::Catalogue;
-use rtrb::{Consumer, RingBuffer};
+use node_ends::end_driven;
+use node_rings::Laid;
 use selection::Scheme;
 use stats_book::Names;
 use std::alloc::{AllocError, Global};
 use std::sync::Wait;
 use std::thread;
-use std::thread::{PromisedHandle, Scope, Threads};
-use version_board::{Watcher, WordBoard};
+use std::thread::{JoinHandle, PromisedHandle, Scope, Threads};
 
 // What a worker's thread answers: what it did, or why it did not do all.
 type Answer<S, T, B> = Result<WorkerRun<S, T, B>, RunFault>;
-
-/// The rings of a life: what its workers own, the driver's ends and the mux's ends.
-#[derive(Drop)]
-pub struct Laid<'a, S: Scheme, B: Names> {
-    /// One for each worker.
-    pub outfits: Vec<Outfit<'a, S, B>>,
-    /// The driver's ends.
-    pub inputs: Inputs,
-    /// The mux's ends.
-    pub outputs: Vec<Consumer<Output>>,
-}
 
 /// What a life leaves.
 #[derive(Drop)]
@@ -64,120 +39,6 @@ pub struct LifeRun<S: Scheme, B: Names> {
 struct Started<S: Scheme, T: ConnTable, B: Names> {
     handles: Vec<PromisedHandle<Answer<S, T, B>, CountsOwn>>,
     fault: Option<RunFault>,
-}
-
-// A worker's place to read versions. One that isn't had is a thread that couldn't be started.
-fn reader_of<S: Scheme, R: Wait + Drop>(
-    stage: &Stage<S, R>,
-) -> Result<ReadHandle<Current<S>>, RunFault> {
-    match stage.handle() {
-        Ok(reader) => Ok(reader),
-        Err(_) => Err(RunFault::ThreadLost),
-    }
-}
-
-// What the workers see of their driver's versions: for each seat of the board a place to read.
-fn post_all<'a, S: Scheme, R: Wait + Drop>(
-    alloc: Global,
-    board: &'a WordBoard,
-    stage: &Stage<S, R>,
-    seats: Vec<Watcher>,
-) -> Result<Vec<Post<'a, S>>, RunFault>
-    requires { All (λ w. IsWatcherOf board.now w) seats.items }
-    ensures { IfOk result (λ v. length v.items ≡ length seats.items) }
-{
-    let mut posts = Vec::new(alloc);
-    for seat in seats {
-        let reader = reader_of(stage)?;
-        let Ok(()) = posts.push(Post::new(board, seat, reader)) else {
-            return Err(RunFault::Memory);
-        };
-    }
-    Ok(posts)
-}
-
-impl<'a, S: Scheme, B: Names> Laid<'a, S, B> {
-    // Nothing for no worker.
-    fn empty(alloc: Global) -> Laid<'a, S, B>
-        ensures { length result.outfits.items ≡ 0 }
-    {
-        Laid {
-            outfits: Vec::new(alloc),
-            inputs: Inputs {
-                rings: Vec::new(alloc),
-            },
-            outputs: Vec::new(alloc),
-        }
-    }
-
-    // The rings of one worker more, each of so many places, and what it owns.
-    fn add(
-        &mut self,
-        alloc: Global,
-        post: Post<'a, S>,
-        places: u32,
-        part: Part<B>,
-        number: u16,
-    ) -> Result<(), AllocError>
-        ensures { OnOk result (length self.new.outfits.items ≡ length self.old.outfits.items + 1) }
-    {
-        let (input, ring) = RingBuffer::new(alloc, places as usize)?;
-        self.inputs.rings.push(input)?;
-        let (out, output) = RingBuffer::new(alloc, places as usize)?;
-        self.outputs.push(output)?;
-        self.outfits.push(Outfit {
-            post,
-            ring,
-            out,
-            part,
-            number,
-        })?;
-        Ok(())
-    }
-}
-
-// The rings of a life, each of so many places, and what its workers own.
-fn lay<'a, S: Scheme, B: Names>(
-    alloc: Global,
-    posts: Vec<Post<'a, S>>,
-    places: u32,
-    tally: &mut Tally<B>,
-) -> Result<Laid<'a, S, B>, AllocError>
-    requires { length posts.items < tally.old.shares.parts }
-    ensures outfits { IfOk result (λ l. length l.outfits.items ≡ length posts.entry.items) }
-    ensures parts { OnOk result (tally.new.shares.parts + length posts.entry.items ≡ tally.old.shares.parts) }
-    ensures same { OnOk result ((tally.new.shares ≡ record tally.old.shares { parts = tally.new.shares.parts }) × (tally.new.lost ≡ tally.old.lost)) }
-{
-    let mut laid = Laid::empty(alloc);
-    let mut number = 0u16;
-    for post in posts {
-        let part = tally.part();
-        laid.add(alloc, post, places, part, number)?;
-        number = number.wrapping_add(1);
-    }
-    Ok(laid)
-}
-
-/// For each seat of the board a place to read versions, its rings, each of so many places, and a part of the counts.
-pub fn lay_all<'a, S: Scheme, R: Wait + Drop, B: Names>(
-    alloc: Global,
-    board: &'a WordBoard,
-    stage: &Stage<S, R>,
-    seats: Vec<Watcher>,
-    places: u32,
-    tally: &mut Tally<B>,
-) -> Result<Laid<'a, S, B>, RunFault>
-    requires watchers { All (λ w. IsWatcherOf board.now w) seats.items }
-    requires enough { length seats.items < tally.old.shares.parts }
-    ensures outfits { IfOk result (λ l. length l.outfits.items ≡ length seats.items) }
-    ensures parts { OnOk result (tally.new.shares.parts + length seats.items ≡ tally.old.shares.parts) }
-    ensures same { OnOk result ((tally.new.shares ≡ record tally.old.shares { parts = tally.new.shares.parts }) × (tally.new.lost ≡ tally.old.lost)) }
-{
-    let posts = post_all(alloc, board, stage, seats)?;
-    match lay(alloc, posts, places, tally) {
-        Ok(laid) => Ok(laid),
-        Err(_) => Err(RunFault::Memory),
-    }
 }
 
 // Starts the workers, up to the first that can't be started.
@@ -234,7 +95,10 @@ struct Joined<S: Scheme, T: ConnTable, B: Names> {
 }
 
 // The fault that comes first of two.
-fn first_of(fault: Option<RunFault>, other: RunFault) -> RunFault {
+fn first_of(fault: Option<RunFault>, other: RunFault) -> RunFault
+    ensures memory { fault ≡ Some Memory → result ≡ Memory }
+    ensures other { fault ≢ Some Memory → result ≡ other }
+{
     match fault {
         Some(RunFault::Memory) => RunFault::Memory,
         _ => other,
@@ -297,130 +161,6 @@ fn give_up<S: Scheme, T: ConnTable, B: Names, R: Threads + Wait>(
     }
 }
 
-// What the workers counted is added to their driver's tally, and their records are kept.
-fn muster<S: Scheme, T: ConnTable, B: Names>(
-    alloc: Global,
-    tally: &mut Tally<B>,
-    runs: Vec<WorkerRun<S, T, B>>,
-) -> Result<Vec<WorkerRecord<S, T>>, AllocError>
-    requires { All (λ w. IsWork w.record w.tally.lost w.tally.shares) runs.items }
-    ensures parts { OnOk result (tally.new.shares.parts ≡ tally.old.shares.parts + length runs.items) }
-    ensures counts { (os : List Outcome) (n : ℕ) → Counts tally.old.lost tally.old.shares os → IfOk result (λ v. Counts tally.new.lost tally.new.shares (os ++ served_from n 0 (all_handled v.items))) }
-{
-    let mut workers = Vec::new(alloc);
-    for done in runs {
-        let WorkerRun {
-            record,
-            tally: counted,
-        } = done;
-        tally.merge(counted);
-        workers.push(record)?;
-    }
-    Ok(workers)
-}
-
-// Compares the versions that a life's workers used with the catalogue's, and by what they were prepared with the cluster's.
-fn compare<S: Scheme, H: FlowHash, T: ConnTable>(
-    setup: &Setup<S, H>,
-    catalogue: &Catalogue,
-    workers: &[WorkerRecord<S, T>],
-) -> Result<(), RunFault>
-    ensures { OnOk result (All (λ w. IsOf (λ s z. S.pick s z) (rules_for (λ s z. S.pick s z) (λ h. H.plain h) setup.now catalogue.now) w) workers.now) }
-{
-    if !are_of(setup, catalogue, workers) {
-        return Err(RunFault::Foreign);
-    }
-    Ok(())
-}
-
-// A life ended with a restart or a stop, and another begins. Its workers' versions are compared first. The answer is how
-// many packets were lost.
-fn end_life<S: Scheme, H: FlowHash, T: ConnTable>(
-    journal: &mut Journal,
-    setup: &Setup<S, H>,
-    catalogue: &Catalogue,
-    workers: &[WorkerRecord<S, T>],
-    drained: bool,
-) -> Result<u64, RunFault>
-    ensures going { let rules = rules_for (λ s z. S.pick s z) (λ h. H.plain h) setup.now catalogue.now in
-        (packets : List Packet) (cs : List Command) (n : ℕ) (places : ℕ) → Going rules packets cs n places journal.old → OnOk result (Going rules packets (cs ++ ending drained ∷ []) n places journal.new) }
-    ensures counts { (lost : Bool) (shares : Counted) → Counts lost shares (journal.old.outcomes ++ served_from journal.old.node 0 (all_handled workers.now)) → IfOk result (λ left. Counts lost (with_lost left shares) journal.new.outcomes) }
-{
-    compare(setup, catalogue, workers)?;
-    match journal.end_life(workers, drained) {
-        Ok(left) => Ok(left),
-        Err(fault) => Err(fault_of(fault)),
-    }
-}
-
-// The last life ended. So are they here.
-fn end<S: Scheme, H: FlowHash, T: ConnTable>(
-    journal: &mut Journal,
-    setup: &Setup<S, H>,
-    catalogue: &Catalogue,
-    workers: &[WorkerRecord<S, T>],
-) -> Result<(), RunFault>
-    ensures ended { let rules = rules_for (λ s z. S.pick s z) (λ h. H.plain h) setup.now catalogue.now in
-        (packets : List Packet) → Drives rules packets journal.old → OnOk result (Tells rules packets journal.new × NoneWaits (past_of rules packets journal.new.node journal.new.events)) }
-    ensures served { OnOk result (IsServed journal.old journal.new) }
-    ensures counts { (lost : Bool) (shares : Counted) → Counts lost shares (journal.old.outcomes ++ served_from journal.old.node 0 (all_handled workers.now)) → OnOk result (Counts lost shares journal.new.outcomes) }
-{
-    compare(setup, catalogue, workers)?;
-    match journal.end(workers, true) {
-        Ok(()) => Ok(()),
-        Err(fault) => Err(fault_of(fault)),
-    }
-}
-
-// A life that was driven ends as its commands say. The workers' records are compared with what was placed on them, and
-// written after the driver's steps. What was lost at a stop is counted.
-fn end_driven<S: Scheme, H: FlowHash, T: ConnTable, G, B: Names, R: Wait>(
-    rt: &R,
-    alloc: Global,
-    plan: Plan<'_, S, H, G, B>,
-    from: usize,
-    driven: Progress<S, B>,
-    runs: Vec<WorkerRun<S, T, B>>,
-) -> Result<Progress<S, B>, RunFault>
-    requires driven { let rules = rules_for (λ s z. S.pick s z) (λ h. H.plain h) plan.setup.now plan.catalogue.now in IsDriven rules plan.packets.now plan.commands.now plan.node plan.ring from driven.at driven.journal }
-    requires of { All (λ w. IsWork w.record w.tally.lost w.tally.shares) runs.items }
-    requires some { 0 < driven.tally.shares.parts }
-    requires counts { AreRead plan.packets.now → Counts driven.tally.lost driven.tally.shares driven.journal.outcomes }
-    ensures ended { let rules = rules_for (λ s z. S.pick s z) (λ h. H.plain h) plan.entry.setup.now plan.entry.catalogue.now in IfOk result (λ d. IsEnded rules plan.entry.packets.now plan.entry.commands.now plan.entry.node plan.entry.ring from d.at d.journal) }
-    ensures parts { IfOk result (λ d. d.tally.shares.parts ≡ driven.tally.shares.parts + length runs.items) }
-    ensures counts { AreRead plan.entry.packets.now → IfOk result (λ d. Counts d.tally.lost d.tally.shares d.journal.outcomes) }
-{
-    let _ = from;
-    let Progress {
-        journal,
-        newest,
-        at,
-        tally,
-    } = driven;
-    let mut journal = journal;
-    let mut tally = tally;
-    let workers = muster(alloc, &mut tally, runs)?;
-    if at < plan.commands.len() {
-        let drained = !stops_at(plan.commands, at);
-        let records = workers.as_slice();
-        let lost = end_life(&mut journal, plan.setup, plan.catalogue, records, drained)?;
-        tally.lose(rt, plan.book, lost);
-        return Ok(Progress {
-            journal,
-            newest,
-            at,
-            tally,
-        });
-    }
-    end(&mut journal, plan.setup, plan.catalogue, workers.as_slice())?;
-    Ok(Progress {
-        journal,
-        newest,
-        at,
-        tally,
-    })
-}
-
 // The workers get no more to serve. Where the life ends with a stop they are told to halt, and else each ring gets a closing
 // mark.
 fn end_feed<S: Scheme, H: FlowHash, G: Gate, B: Names, R: Wait, W: Wait + Drop>(
@@ -440,10 +180,62 @@ fn end_feed<S: Scheme, H: FlowHash, G: Gate, B: Names, R: Wait, W: Wait + Drop>(
 }
 
 // What is reported where a worker did not do all: that a driver was refused memory comes first.
-fn told_first<P: Drop>(driven: Result<P, RunFault>, fault: RunFault) -> RunFault {
+fn told_first<P: Drop>(driven: Result<P, RunFault>, fault: RunFault) -> RunFault
+    ensures memory { IsErrOf driven Memory → result ≡ Memory }
+    ensures fault { (IsErrOf driven Memory → ⊥) → result ≡ fault }
+{
     match driven {
         Err(RunFault::Memory) => RunFault::Memory,
         _ => fault,
+    }
+}
+
+// The threads of a life, which were all started, and the rings that feed the workers.
+#[derive(Drop)]
+struct Crew<S: Scheme, T: ConnTable, B: Names> {
+    handles: Vec<PromisedHandle<Answer<S, T, B>, CountsOwn>>,
+    mux: JoinHandle<Result<Vec<Outcome>, AllocError>>,
+    inputs: Inputs,
+}
+
+// Drives a life whose threads were all started, and joins them.
+fn drive_crew<
+    S: Scheme,
+    H: FlowHash,
+    T: ConnTable,
+    G: Gate,
+    B: Names,
+    R: Threads + Wait,
+    W: Wait + Drop,
+>(
+    rt: &R,
+    alloc: Global,
+    plan: Plan<'_, S, H, G, B>,
+    progress: Progress<S, B>,
+    desk: &mut Desk<'_, S, W>,
+    crew: Crew<S, T, B>,
+) -> Result<LifeRun<S, B>, RunFault>
+    requires { Begins (rules_for (λ s z. S.pick s z) (λ h. H.plain h) plan.setup.now plan.catalogue.now) plan.packets.now plan.commands.now plan.node plan.ring progress.at progress.journal progress.tally.lost progress.tally.shares }
+    ensures { IfOk result (λ r. IsLived (rules_for (λ s z. S.pick s z) (λ h. H.plain h) plan.entry.setup.now plan.entry.catalogue.now) plan.entry.packets.now plan.entry.commands.now plan.entry.node plan.entry.ring progress.at (progress.tally.shares.parts + length crew.handles.items) r.progress.at r.progress.journal r.progress.tally.lost r.progress.tally.shares) }
+{
+    let Crew {
+        handles,
+        mux,
+        inputs,
+    } = crew;
+    let mut inputs = inputs;
+    let from = progress.at;
+    let driven = drive(rt, alloc, plan, progress, desk, &mut inputs);
+    end_feed(rt, plan, &driven, desk, &mut inputs);
+    let runs = join_all(rt, alloc, handles);
+    let sent = mux.join(rt);
+    let sent = sent?;
+    match runs {
+        Err(fault) => Err(told_first(driven, fault)),
+        Ok(runs) => {
+            let progress = end_driven(rt, alloc, plan, from, driven?, runs)?;
+            Ok(LifeRun { progress, sent })
+        }
     }
 }
 
@@ -478,7 +270,6 @@ where
     } = laid;
     let mut inputs = inputs;
     let mut desk = desk;
-    let from = progress.at;
     let started: Started<S, T, B> = start(scope, rt, alloc, plan, outfits);
     let Started { handles, fault } = started;
     if let Some(fault) = fault {
@@ -487,18 +278,12 @@ where
     let Ok(mux) = scope.spawn(move || gather(rt, alloc, outputs)) else {
         return Err(give_up(rt, alloc, &mut inputs, handles, RunFault::ThreadLost));
     };
-    let driven = drive(rt, alloc, plan, progress, &mut desk, &mut inputs);
-    end_feed(rt, plan, &driven, &mut desk, &mut inputs);
-    let runs = join_all(rt, alloc, handles);
-    let sent = mux.join(rt);
-    let sent = sent?;
-    match runs {
-        Err(fault) => Err(told_first(driven, fault)),
-        Ok(runs) => {
-            let progress = end_driven(rt, alloc, plan, from, driven?, runs)?;
-            Ok(LifeRun { progress, sent })
-        }
-    }
+    let crew = Crew {
+        handles,
+        mux,
+        inputs,
+    };
+    drive_crew(rt, alloc, plan, progress, &mut desk, crew)
 }
 
 // Takes apart what a life begins with.

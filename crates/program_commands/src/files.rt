@@ -1,4 +1,7 @@
 //! The commands that play a scenario, over files.
+ghost use Rattle.std.specs.Prelude.{◌≡◌, IfErr};
+ghost use Rattle.command_faults.specs.declared.fault.CliFault.TheVariants.{NoRandom};
+
 use crate::reasons::Trouble;
 use command_faults::CliFault;
 use connection_table::TableKey;
@@ -11,6 +14,7 @@ use scenario_play::Wanted;
 use std::fs::File;
 use std::io;
 use std::io::{BufReader, ErrorKind, Read, Write};
+use std::random::RandomSource;
 
 /// The paths of a command's files. `explain` has no output.
 #[derive(Clone, Copy)]
@@ -56,11 +60,14 @@ fn text_into<R: Read + Drop>(file: R, text: &mut Vec<u8>) -> Result<(), Trouble>
     }
 }
 
-/// A key that nobody else knows, or the fixed key where the system has none. No answer depends on it.
-pub fn table_key(rt: &HostRuntime) -> TableKey {
+/// A key that nobody else knows. No answer depends on it. Where the system gives no random bytes there is none, since flows
+/// can be chosen for a key that is known.
+pub fn table_key(rt: &impl RandomSource) -> Result<TableKey, CliFault>
+    ensures { IfErr result (λ fault. fault ≡ NoRandom) }
+{
     match TableKey::drawn(rt) {
-        Ok(key) => key,
-        Err(_) => TableKey::fixed(),
+        Ok(key) => Ok(key),
+        Err(_) => Err(CliFault::NoRandom),
     }
 }
 
@@ -101,6 +108,7 @@ fn trouble_of(fault: CliFault, input: &InputFile<'_>, output: Option<Refusal>) -
         fault,
         system,
         head: input.head(),
+        of_report: false,
     }
 }
 
@@ -113,16 +121,13 @@ fn flushed(output: &mut OutputFile<'_>) -> Result<(), CliFault> {
 }
 
 // Prints the report: on standard output, or on standard error where what is sent goes to standard output.
-fn printed(rt: &HostRuntime, text: &[u8], to_error: bool) -> Result<(), CliFault> {
+fn printed(rt: &HostRuntime, text: &[u8], to_error: bool) -> Result<(), Trouble> {
     let done = if to_error {
         rt.stderr().write_all(text)
     } else {
         io::writer(rt).write_all(text)
     };
-    match done {
-        Ok(()) => Ok(()),
-        Err(_) => Err(CliFault::Write),
-    }
+    done.map_err(|error| Trouble::of_report(&error))
 }
 
 /// The devices of a command over files, each opened at its first call. The report is kept until the output is written out.
@@ -162,7 +167,7 @@ impl<'x> Devices<'x> {
         let report = report.into_inner();
         let outcome = match (flushed(&mut output), outcome) {
             (Err(fault), _) => Err(fault),
-            (Ok(()), Ok(())) => return Ok(printed(rt, report.text(), to_error)?),
+            (Ok(()), Ok(())) => return printed(rt, report.text(), to_error),
             (Ok(()), Err(fault)) => Err(of_output(of_input(fault, &input), &output, &report)),
         };
         outcome.map_err(|fault| trouble_of(fault, &input, output.refusal()))
@@ -176,6 +181,7 @@ pub fn simulate_files<'x>(
     text: &[u8],
     wanted: Wanted,
 ) -> Result<(), Trouble> {
+    let key = table_key(rt)?;
     let Devices {
         input,
         output,
@@ -187,7 +193,7 @@ pub fn simulate_files<'x>(
     let mut report = report;
     let outcome = simulate_keyed(
         rt.alloc(),
-        table_key(rt),
+        key,
         text,
         &mut input,
         &mut output,
@@ -211,9 +217,9 @@ pub fn explain_files(
     one: u64,
     other: u64,
 ) -> Result<(), Trouble> {
+    let key = table_key(rt)?;
     let mut input = FromRead::new(InputFile::new(rt, files.input));
     let mut report = ToWrite::new(io::writer(rt));
-    let key = table_key(rt);
     match explain_keyed(rt.alloc(), key, text, &mut input, one, other, &mut report) {
         Ok(()) => Ok(()),
         Err(fault) => {

@@ -5,8 +5,12 @@ use fault_words::words_of;
 use late_files::{Head, Refusal};
 use pcap_file::PcapFault;
 use scenario::ScenarioFault;
+use shown_text::shown;
 use std::alloc::Global;
 use std::io;
+
+/// The most records of INPUT.
+const MOST_RECORDS: u32 = 1_000_000_000;
 
 /// A fault of a command, what the system said where it refused a file, and the first bytes of INPUT.
 #[derive(Clone, Copy)]
@@ -14,6 +18,8 @@ pub struct Trouble {
     pub fault: CliFault,
     pub system: Option<Refusal>,
     pub head: Head,
+    /// Whether it is the report that couldn't be written.
+    pub of_report: bool,
 }
 
 impl Trouble {
@@ -23,6 +29,15 @@ impl Trouble {
             fault,
             system: Some(Refusal::of(error)),
             head: Head::empty(),
+            of_report: false,
+        }
+    }
+
+    /// That of a report which couldn't be written.
+    pub fn of_report(error: &io::Error) -> Trouble {
+        Trouble {
+            of_report: true,
+            ..Trouble::of_system(CliFault::Write, error)
         }
     }
 }
@@ -33,6 +48,7 @@ impl From<CliFault> for Trouble {
             fault,
             system: None,
             head: Head::empty(),
+            of_report: false,
         }
     }
 }
@@ -47,14 +63,34 @@ pub struct Files<'a> {
     pub records: Option<u32>,
 }
 
-/// What is said of a fault, None where nothing more is known or memory was refused.
+/// What is said of a fault, None where nothing more is known or memory was refused. A terminal can show it, whatever the files
+/// are called and whatever the scenario says.
 pub fn reason(alloc: Global, trouble: &Trouble, files: &Files<'_>) -> Option<String> {
+    let scenario = shown(alloc, files.paths.scenario).ok()?;
+    let input = shown(alloc, files.paths.input).ok()?;
+    let output = shown(alloc, files.paths.output).ok()?;
+    let paths = Paths {
+        scenario: scenario.as_str(),
+        input: input.as_str(),
+        output: output.as_str(),
+    };
+    reason_by(alloc, trouble, &Files { paths, ..*files })
+}
+
+// The same, of paths that a terminal can show.
+fn reason_by(alloc: Global, trouble: &Trouble, files: &Files<'_>) -> Option<String> {
     match trouble.fault {
         CliFault::OpenScenario | CliFault::ReadScenario => {
             system(alloc, files.paths.scenario, trouble.system)
         }
         CliFault::OpenInput => system(alloc, files.paths.input, trouble.system),
+        CliFault::Write if trouble.of_report => system(alloc, "the report", trouble.system),
         CliFault::OpenOutput | CliFault::Write => system(alloc, files.paths.output, trouble.system),
+        CliFault::NoRandom => plain(alloc, "the system gives no random bytes, of which the tables' key is drawn"),
+        CliFault::ThreadLost => plain(
+            alloc,
+            "a thread couldn't be started: allow more threads, or take fewer balancers and workers",
+        ),
         CliFault::TooLong => {
             let path = files.paths.scenario;
             format!(in alloc; "{path}: expected at most 1048576 bytes").ok()
@@ -67,12 +103,19 @@ pub fn reason(alloc: Global, trouble: &Trouble, files: &Files<'_>) -> Option<Str
 // What the system said of a file.
 fn system(alloc: Global, path: &str, refusal: Option<Refusal>) -> Option<String> {
     match refusal {
+        Some(refusal) if refusal.is_of_one_file() => {
+            format!(in alloc; "{path}: found a file that is read, expected another one").ok()
+        }
         Some(refusal) => {
             let error = refusal.error();
             format!(in alloc; "{path}: {error}").ok()
         }
-        None => String::from_str(alloc, path).ok(),
+        None => plain(alloc, path),
     }
+}
+
+fn plain(alloc: Global, words: &str) -> Option<String> {
+    String::from_str(alloc, words).ok()
 }
 
 fn capture(
@@ -82,6 +125,9 @@ fn capture(
     files: &Files<'_>,
 ) -> Option<String> {
     match fault {
+        PcapFault::TooLong if files.records == Some(MOST_RECORDS) => {
+            record(alloc, files, "expected at most 1000000000 records")
+        }
         PcapFault::TooLong => record(alloc, files, "expected a record of at most 262144 bytes"),
         PcapFault::Read => match trouble.system {
             Some(refusal) => {

@@ -14,12 +14,13 @@ use Rattle.scenario.specs.Plain.{PlainService, PlainVersion}
 use Rattle.scenario.specs.Drafts.{service_keys, version_keys, word_of, service_draft, service_in, version_draft, version_in}
 use Rattle.scenario.specs.Meaning.{PlainDraft, Plan, common_keys, root_keys, nodes_of, versions_in, steps_in, draft_of, draft_in, service_of, version_of, with_versions, with_draft, with_format, plan_of_draft, plan_of}
 use Rattle.scenario.specs.Alike.{AreAlike, FormatsMeanTheSame}
+use Rattle.scenario.specs.declared.playing.Played.{Played}
 use Rattle.scenario.specs.declared.formats.Format.TheVariants.{One, Two}
 use Rattle.scenario.specs.declared.setup.Choices.{Choices}
 use Rattle.scenario.specs.declared.setup.Limits.{Limits}
 
 -- a first one and the others
-parts : {B : Type 0} (o : Option B) (r : Option (List B)) (xs : List B) → option_and_then (λ b. option_map (λ rest. b ∷ rest) r) o ≡ Some xs → (b : B) × (rest : List B) × (o ≡ Some b) × (r ≡ Some rest) × (xs ≡ b ∷ rest)
+pub parts : {B : Type 0} (o : Option B) (r : Option (List B)) (xs : List B) → option_and_then (λ b. option_map (λ rest. b ∷ rest) r) o ≡ Some xs → (b : B) × (rest : List B) × (o ≡ Some b) × (r ≡ Some rest) × (xs ≡ b ∷ rest)
 parts None r xs h = absurd cc
 parts (Some b) None xs h = absurd cc
 parts (Some b) (Some rest) xs h = (b, rest, refl, refl, (let e : b ∷ rest ≡ xs = cc in sym e))
@@ -172,16 +173,16 @@ module _ (ms ns : Members) (a : AreAlike ms ns) where
       when_both (has_only (root_keys One) ms) (has_only (root_keys Two) ns) (draft_of One ms) (draft_of Two ns) d
       (λ e. one_key_more (codes "idle") common_keys ns (a.keys ∙ e)) (λ g. draft_of_same d vs g k) h
 
-  with_same : (p : Plan) (o : Option PlainDraft) → draft_in One ms ≡ o → with_draft o ≡ Ok p → with_draft (draft_in Two ns) ≡ Ok p
+  with_same : (played : Played) (p : Plan) (o : Option PlainDraft) → draft_in One ms ≡ o → with_draft played o ≡ Ok p → with_draft played (draft_in Two ns) ≡ Ok p
   unfolding plan_of_draft
-  with_same p None e h = absurd cc
-  with_same p (Some d) e h = go (all_of version_of d.versions) refl h
+  with_same played p None e h = absurd cc
+  with_same played p (Some d) e h = go (all_of version_of d.versions) refl h
     where
-      go : (o : Option (List (PlainVersion Member))) → all_of version_of d.versions ≡ o → with_versions d o ≡ Ok p → with_draft (draft_in Two ns) ≡ Ok p
+      go : (o : Option (List (PlainVersion Member))) → all_of version_of d.versions ≡ o → with_versions played d o ≡ Ok p → with_draft played (draft_in Two ns) ≡ Ok p
       go None g k = absurd cc
-      go (Some vs) g k = ap with_draft (draft_same d vs e g) ∙ ap (with_versions d) g ∙ k
+      go (Some vs) g k = ap (with_draft played) (draft_same d vs e g) ∙ ap (with_versions played d) g ∙ k
 
 pub formats_mean_the_same : FormatsMeanTheSame
 unfolding plan_of
-formats_mean_the_same ms ns p a h =
-    ap (λ o. with_format o ns) a.two ∙ with_same ms ns a p (draft_in One ms) refl (sym (ap (λ o. with_format o ms) a.one) ∙ h)
+formats_mean_the_same played ms ns p a h =
+    ap (λ o. with_format played o ns) a.two ∙ with_same ms ns a played p (draft_in One ms) refl (sym (ap (λ o. with_format played o ms) a.one) ∙ h)

@@ -1,8 +1,9 @@
 -- A draft's fault is its document's.
-use Rattle.std.proofs.Common.{◌≡◌, ℕ, List, Option, Some, None, Result, Ok, Err, IfErr, ◌∙◌, ap, subst}
+use Rattle.std.proofs.Common.{◌≡◌, ℕ, List, Option, Some, None, Result, Ok, Err, IfErr, IsErrAnd, ◌∙◌, sym, ap, subst}
 use Rattle.scenario.specs.Plain.{PlainVersion}
 use Rattle.scenario.specs.Steps.{PlainStep}
 use Rattle.scenario.specs.Meaning.{PlainDraft, Plan, with_steps, with_pools, with_versions, with_draft, with_format, plan_of_draft, plan_of, format_of, draft_in, IsDocument, IsRefused, IsDraftRefused}
+use Rattle.scenario.specs.declared.playing.Played.{Played}
 use Rattle.scenario.specs.declared.formats.Format.{Format}
 use Rattle.scenario.specs.declared.fault.ScenarioFault.{ScenarioFault}
 use Rattle.scenario.specs.declared.fault.ScenarioFault.TheVariants as fault
@@ -22,48 +23,53 @@ abbrev IsLateIn : Result Plan ScenarioFault → Type 0
 IsLateIn (Ok p) = Unit {0}
 IsLateIn (Err e) = IsLate e
 
-late_steps : (d : PlainDraft) (vs : List (PlainVersion Member)) (o : Option (List PlainStep)) → IsLateIn (with_steps d vs o)
-late_steps d vs None = tt
-late_steps d vs (Some steps) = tt
+late_steps : (played : Played) (d : PlainDraft) (vs : List (PlainVersion Member)) (o : Option (List PlainStep)) → IsLateIn (with_steps played d vs o)
+late_steps played d vs None = tt
+late_steps played d vs (Some steps) = tt
 
-late_pools : (d : PlainDraft) (vs : List (PlainVersion Member)) (o : Option PoolFault) → IsLateIn (with_pools d vs o)
-late_pools d vs None = late_steps d vs _
-late_pools d vs (Some f) = tt
+late_pools : (played : Played) (d : PlainDraft) (vs : List (PlainVersion Member)) (o : Option PoolFault) → IsLateIn (with_pools played d vs o)
+late_pools played d vs None = late_steps played d vs _
+late_pools played d vs (Some f) = tt
 
-late_versions : (d : PlainDraft) (o : Option (List (PlainVersion Member))) → IsLateIn (with_versions d o)
-late_versions d None = tt
-late_versions d (Some vs) = late_pools d vs _
+late_versions : (played : Played) (d : PlainDraft) (o : Option (List (PlainVersion Member))) → IsLateIn (with_versions played d o)
+late_versions played d None = tt
+late_versions played d (Some vs) = late_pools played d vs _
 
-late_draft : (d : PlainDraft) (e : ScenarioFault) → plan_of_draft d ≡ Err e → IsLate e
+late_draft : (played : Played) (d : PlainDraft) (e : ScenarioFault) → plan_of_draft played d ≡ Err e → IsLate e
 unfolding plan_of_draft
-late_draft d e is = let P : Result Plan ScenarioFault → Type 0 = IsLateIn in subst P is (late_versions d _)
+late_draft played d e is = let P : Result Plan ScenarioFault → Type 0 = IsLateIn in subst P is (late_versions played d _)
 
-late_refused : (text : List ℕ) (ms : Members) (e : ScenarioFault) → IsDocument text ms → IsLate e → plan_of ms ≡ Err e → IsRefused text e
-late_refused text ms fault.TooLong document late is = absurd late
-late_refused text ms fault.BadToml document late is = absurd late
-late_refused text ms fault.BadFormat document late is = absurd late
-late_refused text ms fault.BadKey document late is = absurd late
-late_refused text ms fault.BadMember document late is = (ms, document, is)
-late_refused text ms (fault.Pool f) document late is = (ms, document, is)
-late_refused text ms (fault.BadStep n) document late is = (ms, document, is)
-late_refused text ms fault.Memory document late is = absurd late
+late_refused : (played : Played) (text : List ℕ) (ms : Members) (e : ScenarioFault) → IsDocument text ms → IsLate e → plan_of played ms ≡ Err e → IsRefused played text e
+late_refused played text ms fault.TooLong document late is = absurd late
+late_refused played text ms fault.BadToml document late is = absurd late
+late_refused played text ms fault.BadFormat document late is = absurd late
+late_refused played text ms fault.BadKey document late is = absurd late
+late_refused played text ms fault.BadMember document late is = (ms, document, is)
+late_refused played text ms (fault.Pool f) document late is = (ms, document, is)
+late_refused played text ms (fault.BadStep n) document late is = (ms, document, is)
+late_refused played text ms fault.Memory document late is = absurd late
 
 -- what a document of a format says is what its draft says
-pub document_says : (ms : Members) (f : Format) (d : PlainDraft) → format_of ms ≡ Some f → draft_in f ms ≡ Some d → plan_of ms ≡ plan_of_draft d
+pub document_says : (played : Played) (ms : Members) (f : Format) (d : PlainDraft) → format_of ms ≡ Some f → draft_in f ms ≡ Some d → plan_of played ms ≡ plan_of_draft played d
 unfolding plan_of
-document_says ms f d same is = ap (λ p. with_format p ms) same ∙ ap with_draft is
+document_says played ms f d same is = ap (λ p. with_format played p ms) same ∙ ap (with_draft played) is
 
-one_refused : (text : List ℕ) (ms : Members) (d : PlainDraft) (e : ScenarioFault) → IsDocument text ms → plan_of ms ≡ plan_of_draft d → IsDraftRefused d e → IsRefused text e
-one_refused text ms d fault.Memory document same refused = tt
-one_refused text ms d fault.TooLong document same refused = late_refused text ms fault.TooLong document (late_draft d fault.TooLong refused) (same ∙ refused)
-one_refused text ms d fault.BadToml document same refused = late_refused text ms fault.BadToml document (late_draft d fault.BadToml refused) (same ∙ refused)
-one_refused text ms d fault.BadFormat document same refused = late_refused text ms fault.BadFormat document (late_draft d fault.BadFormat refused) (same ∙ refused)
-one_refused text ms d fault.BadKey document same refused = late_refused text ms fault.BadKey document (late_draft d fault.BadKey refused) (same ∙ refused)
-one_refused text ms d fault.BadMember document same refused = late_refused text ms fault.BadMember document (late_draft d fault.BadMember refused) (same ∙ refused)
-one_refused text ms d (fault.Pool f) document same refused = late_refused text ms (fault.Pool f) document (late_draft d (fault.Pool f) refused) (same ∙ refused)
-one_refused text ms d (fault.BadStep n) document same refused = late_refused text ms (fault.BadStep n) document (late_draft d (fault.BadStep n) refused) (same ∙ refused)
+one_refused : (played : Played) (text : List ℕ) (ms : Members) (d : PlainDraft) (e : ScenarioFault) → IsDocument text ms → plan_of played ms ≡ plan_of_draft played d → IsDraftRefused played d e → IsRefused played text e
+one_refused played text ms d fault.Memory document same refused = tt
+one_refused played text ms d fault.TooLong document same refused = late_refused played text ms fault.TooLong document (late_draft played d fault.TooLong refused) (same ∙ refused)
+one_refused played text ms d fault.BadToml document same refused = late_refused played text ms fault.BadToml document (late_draft played d fault.BadToml refused) (same ∙ refused)
+one_refused played text ms d fault.BadFormat document same refused = late_refused played text ms fault.BadFormat document (late_draft played d fault.BadFormat refused) (same ∙ refused)
+one_refused played text ms d fault.BadKey document same refused = late_refused played text ms fault.BadKey document (late_draft played d fault.BadKey refused) (same ∙ refused)
+one_refused played text ms d fault.BadMember document same refused = late_refused played text ms fault.BadMember document (late_draft played d fault.BadMember refused) (same ∙ refused)
+one_refused played text ms d (fault.Pool f) document same refused = late_refused played text ms (fault.Pool f) document (late_draft played d (fault.Pool f) refused) (same ∙ refused)
+one_refused played text ms d (fault.BadStep n) document same refused = late_refused played text ms (fault.BadStep n) document (late_draft played d (fault.BadStep n) refused) (same ∙ refused)
 
-pub refused_above : (text : List ℕ) (ms : Members) (f : Format) (d : PlainDraft) (r : Result Scenario ScenarioFault) → IsDocument text ms → format_of ms ≡ Some f → draft_in f ms ≡ Some d →
-    IfErr r (IsDraftRefused d) → IfErr r (IsRefused text)
-refused_above text ms f d (Ok s) document same is refused = tt
-refused_above text ms f d (Err e) document same is refused = one_refused text ms d e document (document_says ms f d same is) refused
+-- a fault that is passed on
+pub passed_on : (r : Result Scenario ScenarioFault) (e : ScenarioFault) (P : ScenarioFault → Type 0) → IsErrAnd r (λ f. f ≡ e) → P e → IfErr r P
+passed_on (Ok s) e P is h = tt
+passed_on (Err f) e P is h = subst P (sym is) h
+
+pub refused_above : (played : Played) (text : List ℕ) (ms : Members) (f : Format) (d : PlainDraft) (r : Result Scenario ScenarioFault) → IsDocument text ms → format_of ms ≡ Some f → draft_in f ms ≡ Some d →
+    IfErr r (IsDraftRefused played d) → IfErr r (IsRefused played text)
+refused_above played text ms f d (Ok s) document same is refused = tt
+refused_above played text ms f d (Err e) document same is refused = one_refused played text ms d e document (document_says played ms f d same is) refused

@@ -4,6 +4,7 @@ use Rattle.std.specs.Cmp.Lexicographic.{pointwise}
 use Rattle.toml.specs.Data.{Members, get_member}
 use Rattle.scenario.specs.Lookups.{has_only}
 use Rattle.scenario.specs.Meaning.{Plan, common_keys, format_of, plan_of}
+use Rattle.scenario.specs.declared.playing.Played.{Played}
 use Rattle.scenario.specs.declared.formats.Format.TheVariants.{One, Two}
 
 -- two documents, of format 1 and 2, that say the same at every other key; either has the keys of format 1, or both don't
@@ -13,6 +14,6 @@ pub record AreAlike (ms ns : Members) : Type 0 where
   pub keys : has_only common_keys ns ≡ has_only common_keys ms
   pub others : (key : List ℕ) → pointwise nat_eq key (codes "format") ≡ false → get_member key ns ≡ get_member key ms
 
--- a scenario that the first one means, the second one means too
+-- a scenario that the first one means, the second one means too, however it is played
 abbrev pub FormatsMeanTheSame : Type 0
-FormatsMeanTheSame = (ms ns : Members) (plan : Plan) → AreAlike ms ns → plan_of ms ≡ Ok plan → plan_of ns ≡ Ok plan
+FormatsMeanTheSame = (played : Played) (ms ns : Members) (plan : Plan) → AreAlike ms ns → plan_of played ms ≡ Ok plan → plan_of played ns ≡ Ok plan

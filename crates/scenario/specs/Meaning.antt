@@ -1,4 +1,4 @@
--- Which scenario a text means, and which fault it has.
+-- Which scenario a text means, and which fault it has, by how it is played.
 use Rattle.std.specs.Prelude.{◌≡◌, ℕ, ◌≤◌, ◌<◌, ◌^◌, ◌&&◌, ◌==◌, nat_le, if◌then◌else◌, List, [], ◌∷◌, map, length, codes, Option, Some, None, option_and_then, option_map, Result, Ok, Err, IsUtf8, string_bytes, is_none, ⊤}
 use Rattle.std.specs.List.{position_or_len}
 use Rattle.toml.specs.Data.{Data, Members, as_str}
@@ -12,7 +12,8 @@ use Rattle.scenario.specs.Lookups.{number_at, items_at, all_items, all_of, has_o
 use Rattle.scenario.specs.Words.{choices_of, limits_of}
 use Rattle.scenario.specs.Plain.{PlainService, PlainVersion, plain_version, first_refused}
 use Rattle.scenario.specs.Drafts.{version_in, plain_version_draft}
-use Rattle.scenario.specs.Steps.{PlainStep, plain_step, step_of_text}
+use Rattle.scenario.specs.Steps.{PlainStep, plain_step, step_for}
+use Rattle.scenario.specs.declared.playing.Played.{Played}
 use Rattle.scenario.specs.declared.formats.Format.{Format}
 use Rattle.scenario.specs.declared.formats.Format.TheVariants.{One, Two}
 use Rattle.scenario.specs.declared.setup.Choices.{Choices}
@@ -95,25 +96,25 @@ service_of s = option_map (λ members. record { vip = s.vip; proto = s.proto; po
 abbrev pub version_of : PlainVersion (Option Member) → Option (PlainVersion Member)
 version_of v = option_map (λ services. record { number = v.number; services = services }) (all_of service_of v.services)
 
--- the first step that is none
-abbrev pub first_bad_step : ℕ → ℕ → List (List ℕ) → ℕ
-first_bad_step nodes workers texts = position_or_len (λ t. is_none (step_of_text nodes workers t)) texts
+-- the first step that is none of a scenario that is played so
+abbrev pub first_bad_step : Played → ℕ → ℕ → List (List ℕ) → ℕ
+first_bad_step played nodes workers texts = position_or_len (λ t. is_none (step_for played nodes workers t)) texts
 
-abbrev pub with_steps : PlainDraft → List (PlainVersion Member) → Option (List PlainStep) → Result Plan ScenarioFault
-with_steps d versions None = Err (fault.BadStep (first_bad_step (length d.nodes) d.limits.workers d.steps))
-with_steps d versions (Some steps) = Ok (record { choices = d.choices; limits = d.limits; nodes = d.nodes; versions = versions; steps = steps })
+abbrev pub with_steps : Played → PlainDraft → List (PlainVersion Member) → Option (List PlainStep) → Result Plan ScenarioFault
+with_steps played d versions None = Err (fault.BadStep (first_bad_step played (length d.nodes) d.limits.workers d.steps))
+with_steps played d versions (Some steps) = Ok (record { choices = d.choices; limits = d.limits; nodes = d.nodes; versions = versions; steps = steps })
 
-abbrev pub with_pools : PlainDraft → List (PlainVersion Member) → Option PoolFault → Result Plan ScenarioFault
-with_pools d versions None = with_steps d versions (all_of (step_of_text (length d.nodes) d.limits.workers) d.steps)
-with_pools d versions (Some f) = Err (fault.Pool f)
+abbrev pub with_pools : Played → PlainDraft → List (PlainVersion Member) → Option PoolFault → Result Plan ScenarioFault
+with_pools played d versions None = with_steps played d versions (all_of (step_for played (length d.nodes) d.limits.workers) d.steps)
+with_pools played d versions (Some f) = Err (fault.Pool f)
 
-abbrev pub with_versions : PlainDraft → Option (List (PlainVersion Member)) → Result Plan ScenarioFault
-with_versions d None = Err fault.BadMember
-with_versions d (Some versions) = with_pools d versions (first_refused d.choices.size [] versions)
+abbrev pub with_versions : Played → PlainDraft → Option (List (PlainVersion Member)) → Result Plan ScenarioFault
+with_versions played d None = Err fault.BadMember
+with_versions played d (Some versions) = with_pools played d versions (first_refused d.choices.size [] versions)
 
 -- the scenario of a draft, or its first fault: a bad member word, then a fault of the pools, then the first bad step
-unfoldable pub plan_of_draft : PlainDraft → Result Plan ScenarioFault
-plan_of_draft d = with_versions d (all_of version_of d.versions)
+unfoldable pub plan_of_draft : Played → PlainDraft → Result Plan ScenarioFault
+plan_of_draft played d = with_versions played d (all_of version_of d.versions)
 
 -- the format of a document
 abbrev pub format_of : Members → Option Format
@@ -124,17 +125,17 @@ format_of ms = option_map (λ n. if n == 1 then One else Two) (number_at 1 2 (co
 abbrev pub pools_of : Members → Option (ℕ × List (PlainVersion Member))
 pools_of ms = option_and_then (λ f. option_and_then (λ d. option_map (λ versions. (d.choices.size, versions)) (all_of version_of d.versions)) (draft_in f ms)) (format_of ms)
 
-abbrev pub with_draft : Option PlainDraft → Result Plan ScenarioFault
-with_draft None = Err fault.BadKey
-with_draft (Some d) = plan_of_draft d
+abbrev pub with_draft : Played → Option PlainDraft → Result Plan ScenarioFault
+with_draft played None = Err fault.BadKey
+with_draft played (Some d) = plan_of_draft played d
 
-abbrev pub with_format : Option Format → Members → Result Plan ScenarioFault
-with_format None ms = Err fault.BadFormat
-with_format (Some f) ms = with_draft (draft_in f ms)
+abbrev pub with_format : Played → Option Format → Members → Result Plan ScenarioFault
+with_format played None ms = Err fault.BadFormat
+with_format played (Some f) ms = with_draft played (draft_in f ms)
 
--- what a document says: a scenario, or its first fault
-unfoldable pub plan_of : Members → Result Plan ScenarioFault
-plan_of ms = with_format (format_of ms) ms
+-- what a document says: a scenario that is played so, or its first fault
+unfoldable pub plan_of : Played → Members → Result Plan ScenarioFault
+plan_of played ms = with_format played (format_of ms) ms
 
 -- the text is a document whose members are these
 pub record IsDocument (text : List ℕ) (ms : Members) : Type 0 where
@@ -142,24 +143,24 @@ pub record IsDocument (text : List ℕ) (ms : Members) : Type 0 where
   pub utf8 : IsUtf8 text
   pub parsed : parse_document text ≡ Some ms
 
--- the text means this scenario
-pub record Means (text : List ℕ) (s : Scenario) : Type 0 where
+-- the text means this scenario, which is played so
+pub record Means (played : Played) (text : List ℕ) (s : Scenario) : Type 0 where
   pub members : Members
   pub document : IsDocument text members
-  pub plan : plan_of members ≡ Ok (plan_view s)
+  pub plan : plan_of played members ≡ Ok (plan_view s)
   pub sized : s.catalogue.size ≡ s.size
 
--- why a text is refused
-abbrev pub IsRefused : List ℕ → ScenarioFault → Type 0
-IsRefused text fault.TooLong = 2 ^ 20 < length text
-IsRefused text fault.BadToml = (length text ≤ 2 ^ 20) × (IsUtf8 text → parse_document text ≡ None)
-IsRefused text fault.Memory = ⊤
-IsRefused text e = (ms : Members) × IsDocument text ms × (plan_of ms ≡ Err e)
+-- why a text is refused as a scenario that is played so
+abbrev pub IsRefused : Played → List ℕ → ScenarioFault → Type 0
+IsRefused played text fault.TooLong = 2 ^ 20 < length text
+IsRefused played text fault.BadToml = (length text ≤ 2 ^ 20) × (IsUtf8 text → parse_document text ≡ None)
+IsRefused played text fault.Memory = ⊤
+IsRefused played text e = (ms : Members) × IsDocument text ms × (plan_of played ms ≡ Err e)
 
 -- why a draft is refused
-abbrev pub IsDraftRefused : PlainDraft → ScenarioFault → Type 0
-IsDraftRefused d fault.Memory = ⊤
-IsDraftRefused d e = plan_of_draft d ≡ Err e
+abbrev pub IsDraftRefused : Played → PlainDraft → ScenarioFault → Type 0
+IsDraftRefused played d fault.Memory = ⊤
+IsDraftRefused played d e = plan_of_draft played d ≡ Err e
 
 -- why versions are refused
 abbrev pub IsPoolRefused : ℕ → List (PlainVersion Member) → PoolFault → Type 0
@@ -167,10 +168,10 @@ IsPoolRefused size vs pool.Memory = ⊤
 IsPoolRefused size vs f = first_refused size [] vs ≡ Some f
 
 -- why steps are refused
-abbrev pub AreStepsRefused : ℕ → ℕ → List (List ℕ) → ScenarioFault → Type 0
-AreStepsRefused nodes workers texts fault.Memory = ⊤
-AreStepsRefused nodes workers texts (fault.BadStep n) = (all_of (step_of_text nodes workers) texts ≡ None) × (n ≡ first_bad_step nodes workers texts)
-AreStepsRefused nodes workers texts e = ⊥
+abbrev pub AreStepsRefused : Played → ℕ → ℕ → List (List ℕ) → ScenarioFault → Type 0
+AreStepsRefused played nodes workers texts fault.Memory = ⊤
+AreStepsRefused played nodes workers texts (fault.BadStep n) = (all_of (step_for played nodes workers) texts ≡ None) × (n ≡ first_bad_step played nodes workers texts)
+AreStepsRefused played nodes workers texts e = ⊥
 
 -- the catalogue of some versions that were added in order
 pub record IsCatalogueOf (size : ℕ) (vs : List (PlainVersion Member)) (c : Pools) : Type 0 where

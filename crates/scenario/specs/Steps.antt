@@ -1,5 +1,5 @@
--- What a step's words say.
-use Rattle.std.specs.Prelude.{ℕ, Bool, ◌==◌, nat_lt, if◌then◌else◌, List, [], ◌∷◌, ◌++◌, map, codes, Option, Some, None, option_and_then, option_map}
+-- What a step's words say, and which scenarios may have it.
+use Rattle.std.specs.Prelude.{ℕ, Bool, true, false, ◌==◌, nat_lt, if◌then◌else◌, List, [], ◌∷◌, ◌++◌, map, codes, Option, Some, None, option_and_then, option_map}
 use Rattle.std.specs.List.{list_any, range_with_len}
 use Rattle.std.specs.Str.{bytes_eq}
 use Rattle.maglev_texts.specs.Parsing.{decimal_of, pieces}
@@ -7,6 +7,8 @@ use Rattle.scenario_steps.specs.declared.Step.{Step}
 use Rattle.scenario_steps.specs.declared.Step.TheVariants as code
 use Rattle.scenario.specs.declared.step.Kind.{Kind}
 use Rattle.scenario.specs.declared.step.Kind.TheVariants as kind
+use Rattle.scenario.specs.declared.playing.Played.{Played}
+use Rattle.scenario.specs.declared.playing.Played.TheVariants.{InTurn, OnThreads}
 
 -- a step, with plain lists
 pub data PlainStep : Type 0 where
@@ -105,3 +107,15 @@ step_of_words nodes workers (word ∷ words) = option_and_then (λ k. step_of no
 -- the step that a text is: words joined by single spaces
 abbrev pub step_of_text : ℕ → ℕ → List ℕ → Option PlainStep
 step_of_text nodes workers text = step_of_words nodes workers (pieces 32 text)
+
+-- the steps of a scenario that is played so: in turn none is a stop, and on threads none a full, hold or drain
+abbrev pub allows : Played → PlainStep → Bool
+allows InTurn (stop n) = false
+allows OnThreads (full n marks) = false
+allows OnThreads (hold n) = false
+allows OnThreads (drain n) = false
+allows played step = true
+
+-- the step that a text is, where a scenario that is played so may have it
+unfoldable pub step_for : Played → ℕ → ℕ → List ℕ → Option PlainStep
+step_for played nodes workers text = option_and_then (λ step. if allows played step then Some step else None) (step_of_text nodes workers text)

@@ -20,7 +20,7 @@ pub enum ScenarioFault {
     BadMember,
     /// The versions, added in order, have this fault. It isn't `PoolFault::Memory`.
     Pool(PoolFault),
-    /// This step, from 0, isn't one, and all before it are.
+    /// This step, from 0, isn't one of a scenario that is played so, and all before it are.
     BadStep(u32),
     /// Memory was refused.
     Memory,

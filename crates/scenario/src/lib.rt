@@ -1,7 +1,7 @@
 //! Scenarios: what a TOML document says that a cluster is and what happens to it.
 //!
-//! [`read`] answers the scenario that a text means, or the first of its faults. Which one is a function of the document's
-//! members, stated apart from the code: `plan_of` in `specs/Meaning.antt`.
+//! [`read`] answers the scenario that a text means, or the first of its faults. Which one is a function of how it is played
+//! and of the document's members, stated apart from the code: `plan_of` in `specs/Meaning.antt`.
 #![tactic(auto)]
 
 mod building;
@@ -11,6 +11,7 @@ mod formats;
 mod keys;
 mod laws;
 mod lookup;
+mod playing;
 mod reading;
 mod setup;
 mod step;
@@ -21,6 +22,7 @@ pub use draft::{MOST_STEPS, ROOT_KEYS, has_root_keys, is_root_key};
 pub use fault::ScenarioFault;
 pub use formats::{Format, format_of, member_in};
 pub use laws::formats_mean_the_same;
+pub use playing::Played;
 pub use reading::{Scenario, pools_in, read};
 pub use scenario_steps::Step;
 pub use setup::LONGEST_IDLE;

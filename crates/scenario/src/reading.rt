@@ -2,15 +2,17 @@
 ghost use Rattle.std.specs.Prelude.{◌≡◌, ◌≤◌, length, map, string_bytes, option_map, IfOk, IfErr, Ok, Some};
 ghost use Rattle.toml.specs.View.{table_view};
 ghost use Rattle.scenario.specs.Lookups.{all_of};
-ghost use Rattle.scenario.specs.Steps.{plain_step, step_of_text};
+ghost use Rattle.scenario.specs.Steps.{plain_step, step_for};
 ghost use Rattle.scenario.specs.Plain.{plain_version};
+ghost use Rattle.scenario.specs.declared.playing.Played.{Played};
 ghost use Rattle.scenario.specs.Meaning.{pools_of, IsDocument, IsRefused, IsDraftRefused, IsLimited, AreStepsRefused, HasLimits, Means, plan_of, plan_of_draft, plan_view, plain_draft, pool_refused};
 
 use crate::building::{catalogue_of, versions_of};
 use crate::draft::{Draft, draft_in};
 use crate::fault::ScenarioFault;
 use crate::formats::format_of;
-use crate::step::read_step;
+use crate::playing::Played;
+use crate::step::step_for;
 use crate::words::{SchemeKind, SpreadKind};
 use hash_laws::AnyHash;
 use maglev_table::TableSize;
@@ -55,7 +57,7 @@ pub struct Scenario {
 // The document that a text is.
 fn document(alloc: Global, text: &[u8]) -> Result<Table, ScenarioFault>
     ensures ok { IfOk result (λ t. IsDocument text.now (table_view t)) }
-    ensures refused { IfErr result (IsRefused text.now) }
+    ensures refused { IfErr result (λ fault. (played : Played) → IsRefused played text.now fault) }
 {
     if text.len() > LONGEST {
         return Err(ScenarioFault::TooLong);
@@ -69,18 +71,19 @@ fn document(alloc: Global, text: &[u8]) -> Result<Table, ScenarioFault>
 
 fn steps_of(
     alloc: Global,
+    played: Played,
     texts: &[String],
     nodes: u16,
     workers: u16,
 ) -> Result<Vec<Step>, ScenarioFault>
     requires { length texts.now ≤ 100000 }
-    ensures ok { IfOk result (λ v. all_of (step_of_text nodes workers) (map string_bytes texts.now) ≡ Some (map plain_step v.items)) }
+    ensures ok { IfOk result (λ v. all_of (step_for played nodes workers) (map string_bytes texts.now) ≡ Some (map plain_step v.items)) }
     ensures long { IfOk result (λ v. length v.items ≡ length texts.now) }
-    ensures refused { IfErr result (AreStepsRefused nodes workers (map string_bytes texts.now)) }
+    ensures refused { IfErr result (AreStepsRefused played nodes workers (map string_bytes texts.now)) }
 {
     let mut steps: Vec<Step> = Vec::new(alloc);
     for (n, text) in texts.iter().enumerate() {
-        let Some(step) = read_step(alloc, text.as_bytes(), nodes, workers)? else {
+        let Some(step) = step_for(alloc, played, text.as_bytes(), nodes, workers)? else {
             return Err(ScenarioFault::BadStep(n as u32));
         };
         let Ok(()) = steps.push(step) else {
@@ -99,14 +102,14 @@ fn pool_refused(fault: PoolFault) -> ScenarioFault
     }
 }
 
-// The scenario of a draft.
+// The scenario of a draft, which is played so.
 #[tactic(auto, unfolding(crate::specs::Meaning::plan_of_draft))]
-fn scenario_of(alloc: Global, draft: Draft) -> Result<Scenario, ScenarioFault>
+fn scenario_of(alloc: Global, played: Played, draft: Draft) -> Result<Scenario, ScenarioFault>
     requires { IsLimited draft }
-    ensures ok { IfOk result (λ s. plan_of_draft (plain_draft draft) ≡ Ok (plan_view s)) }
+    ensures ok { IfOk result (λ s. plan_of_draft played (plain_draft draft) ≡ Ok (plan_view s)) }
     ensures sized { IfOk result (λ s. s.catalogue.size ≡ s.size) }
     ensures limits { IfOk result HasLimits }
-    ensures refused { IfErr result (IsDraftRefused (plain_draft draft)) }
+    ensures refused { IfErr result (IsDraftRefused played (plain_draft draft)) }
 {
     let Draft {
         choices,
@@ -122,7 +125,8 @@ fn scenario_of(alloc: Global, draft: Draft) -> Result<Scenario, ScenarioFault>
         Ok(catalogue) => catalogue,
         Err(fault) => return Err(pool_refused(fault)),
     };
-    let steps = steps_of(alloc, steps.as_slice(), nodes.len() as u16, limits.workers)?;
+    let count = nodes.len() as u16;
+    let steps = steps_of(alloc, played, steps.as_slice(), count, limits.workers)?;
     Ok(Scenario {
         size: choices.size,
         hash: choices.hash,
@@ -159,12 +163,12 @@ pub fn pools_in(
     Ok(Some((draft.choices.size, versions)))
 }
 
-/// Reads a scenario: a TOML 1.1 document in UTF-8 of format 1 or 2.
+/// Reads a scenario that is played so: a TOML 1.1 document in UTF-8 of format 1 or 2.
 #[tactic(auto, unfolding(crate::specs::Meaning::plan_of))]
-pub fn read(alloc: Global, text: &[u8]) -> Result<Scenario, ScenarioFault>
-    ensures means { IfOk result (Means text.now) }
+pub fn read(alloc: Global, played: Played, text: &[u8]) -> Result<Scenario, ScenarioFault>
+    ensures means { IfOk result (Means played text.now) }
     ensures limits { IfOk result HasLimits }
-    ensures refused { IfErr result (IsRefused text.now) }
+    ensures refused { IfErr result (IsRefused played text.now) }
 {
     let table = document(alloc, text)?;
     let Some(format) = format_of(&table) else {
@@ -173,5 +177,5 @@ pub fn read(alloc: Global, text: &[u8]) -> Result<Scenario, ScenarioFault>
     let Some(draft) = draft_in(alloc, format, &table)? else {
         return Err(ScenarioFault::BadKey);
     };
-    scenario_of(alloc, draft)
+    scenario_of(alloc, played, draft)
 }

@@ -1,8 +1,9 @@
 //! The steps of a scenario as texts.
 ghost use Rattle.std.specs.Prelude.{◌≡◌, ◌<◌, ◌≤◌, map, option_map, IfOk, IfSome, length, []};
 ghost use Rattle.std.specs.Str.{bytes_eq};
-ghost use Rattle.scenario.specs.Steps.{below, new_number, numbers_after, marks_of, install_of, live_of, full_of, number_of, node_of, kind_of, step_of, step_of_text, plain_step};
+ghost use Rattle.scenario.specs.Steps.{below, new_number, numbers_after, marks_of, install_of, live_of, full_of, number_of, node_of, kind_of, step_of, step_of_text, step_for, plain_step};
 
+use crate::playing::Played;
 use maglev_texts::{decimal, pieces};
 use scenario_steps::Step;
 use std::alloc::{AllocError, Global};
@@ -208,7 +209,7 @@ fn step_of(
 }
 
 // The step that a text is, of words joined by single spaces, in a cluster of so many nodes and workers a node.
-pub(crate) fn read_step(
+fn read_step(
     alloc: Global,
     text: &[u8],
     nodes: u16,
@@ -223,5 +224,26 @@ pub(crate) fn read_step(
     match kind_of(word) {
         Some(kind) => step_of(alloc, kind, rest, nodes, workers),
         None => Ok(None),
+    }
+}
+
+// The step that a text is, where a scenario that is played so may have it.
+#[tactic(auto, unfolding(crate::specs::Steps::step_for))]
+pub(crate) fn step_for(
+    alloc: Global,
+    played: Played,
+    text: &[u8],
+    nodes: u16,
+    workers: u16,
+) -> Result<Option<Step>, AllocError>
+    ensures { IfOk result (λ o. option_map plain_step o ≡ step_for played nodes workers text.now) }
+{
+    let Some(step) = read_step(alloc, text, nodes, workers)? else {
+        return Ok(None);
+    };
+    if played.allows(&step) {
+        Ok(Some(step))
+    } else {
+        Ok(None)
     }
 }

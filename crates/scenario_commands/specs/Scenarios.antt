@@ -1,5 +1,5 @@
 -- The commands that play a scenario over a capture.
-use Rattle.std.specs.Prelude.{◌≡◌, ◌≢◌, ◌⊎◌, ℕ, List, Some, None}
+use Rattle.std.specs.Prelude.{◌≡◌, ◌≢◌, ◌⊎◌, ℕ, List, None}
 use Rattle.std.specs.Io.KnownBytes.{Appends}
 use Rattle.pool_versions.specs.declared.catalogue.PoolFault.{PoolFault}
 use Rattle.pool_versions.specs.declared.catalogue.PoolFault.TheVariants as pool
@@ -8,6 +8,8 @@ use Rattle.pcap_file.specs.declared.format.PcapFault.{PcapFault}
 use Rattle.pcap_file.specs.declared.format.PcapFault.TheVariants as capture
 use Rattle.scenario.specs.declared.fault.ScenarioFault.{ScenarioFault}
 use Rattle.scenario.specs.declared.fault.ScenarioFault.TheVariants as read
+use Rattle.scenario.specs.declared.playing.Played.{Played}
+use Rattle.scenario.specs.declared.playing.Played.TheVariants.{InTurn}
 use Rattle.scenario.specs.declared.reading.Scenario.{Scenario}
 use Rattle.scenario.specs.Meaning.{Means, IsRefused}
 use Rattle.simulation.specs.declared.fault.SimulationFault.{SimulationFault}
@@ -17,7 +19,6 @@ use Rattle.scenario_play.specs.declared.asking.Asked.{Asked}
 use Rattle.scenario_play.specs.Described.{cluster_in, choice_in, plan_in, lookups_in}
 use Rattle.scenario_play.specs.Answers.{Answers}
 use Rattle.scenario_play.specs.Kept.{KeepsPromises}
-use Rattle.scenario_play.specs.Knowing.{first_stop_of}
 use Rattle.command_faults.specs.declared.fault.CliFault.{CliFault}
 use Rattle.command_faults.specs.declared.fault.CliFault.TheVariants.{Write, TooLong, BadMember, BadToml, BadFormat, BadKey, Pool, BadStep, Capture, Memory}
 
@@ -47,37 +48,27 @@ run_fault (run.Capture fault) = capture_fault fault
 run_fault run.Write = Write
 run_fault run.Memory = Memory
 
--- the text means a scenario, and this is its first step that is for threads alone
-pub record StepFails (fault : CliFault) (text : List ℕ) : Type 0 where
-  pub scenario : Scenario
-  pub means : Means text scenario
-  pub place : ℕ
-  pub first : first_stop_of scenario.steps.items ≡ Some place
-  pub named : fault ≡ BadStep place
-
--- the scenario that the text means, none of whose steps is for threads alone, was played over the input, the output got what was sent, and the report the text that
--- answers what was asked; and the run keeps the promises
+-- the scenario that the text means, which is played in turn, was played over the input, the output got what was sent, and the
+-- report the text that answers what was asked; and the run keeps the promises
 pub record Plays (asked : Asked) (text : List ℕ) (input input' output output' report report' : Tape) : Type 0 where
   pub scenario : Scenario
-  pub means : Means text scenario
-  pub played : first_stop_of scenario.steps.items ≡ None
+  pub means : Means InTurn text scenario
   pub answer : List ℕ
   pub answers : Answers (cluster_in scenario) (choice_in scenario) (plan_in scenario) (lookups_in scenario) asked input input' output output' answer
   pub kept : KeepsPromises scenario answers.course
   pub written : Appends report.bytes report'.bytes answer
   pub unfailed : Unfailed report report'
 
--- the text is no scenario, for this fault
-pub record ScenarioFails (fault : CliFault) (text : List ℕ) : Type 0 where
+-- the text is no scenario that is played so, for this fault
+pub record ScenarioFails (played : Played) (fault : CliFault) (text : List ℕ) : Type 0 where
   pub why : ScenarioFault
   pub named : fault ≡ scenario_fault why
-  pub refused : IsRefused text why
+  pub refused : IsRefused played text why
 
 -- the text means a scenario, and its run stopped by this fault
 pub record RunFails (fault : CliFault) (text : List ℕ) (input input' output output' : Tape) : Type 0 where
   pub scenario : Scenario
-  pub means : Means text scenario
-  pub played : first_stop_of scenario.steps.items ≡ None
+  pub means : Means InTurn text scenario
   pub why : SimulationFault
   pub named : fault ≡ run_fault why
   pub stopped : Stopped (cluster_in scenario) (choice_in scenario) (plan_in scenario) input input' output output' why
@@ -85,8 +76,7 @@ pub record RunFails (fault : CliFault) (text : List ℕ) (input input' output ou
 -- the same as when the scenario was played, but the report was given up
 pub record ReportFails (fault : CliFault) (asked : Asked) (text : List ℕ) (input input' output output' report report' : Tape) : Type 0 where
   pub scenario : Scenario
-  pub means : Means text scenario
-  pub played : first_stop_of scenario.steps.items ≡ None
+  pub means : Means InTurn text scenario
   pub answer : List ℕ
   pub answers : Answers (cluster_in scenario) (choice_in scenario) (plan_in scenario) (lookups_in scenario) asked input input' output output' answer
   pub named : fault ≡ Write
@@ -96,17 +86,17 @@ pub record ReportFails (fault : CliFault) (asked : Asked) (text : List ℕ) (inp
 abbrev pub unkept : ℕ → Tape
 unkept calls = record { bytes = None; failures = 0; interruptions = 0; calls = calls }
 
--- a command over a scenario stopped by this fault: the text is no scenario, or has a step that is for threads alone, and
--- nothing was called; or the run stopped, and nothing was reported; or the report was given up
+-- a command over a scenario stopped by this fault: the text is no scenario that is played in turn, and nothing was called; or
+-- the run stopped, and nothing was reported; or the report was given up
 abbrev pub PlayFails : CliFault → Asked → List ℕ → Tape → Tape → Tape → Tape → Tape → Tape → Type 0 → Type 0 → Type 0
 PlayFails fault asked text input input' output output' report report' Uncalled Unreported =
-    ((ScenarioFails fault text ⊎ StepFails fault text) × Uncalled)
+    (ScenarioFails InTurn fault text × Uncalled)
     ⊎ ((RunFails fault text input input' output output' × Unreported)
     ⊎ ReportFails fault asked text input input' output output' report report')
 
 -- the same of a command that keeps no output, and so never fails in writing it
 abbrev pub ExplainFails : CliFault → ℕ → ℕ → List ℕ → Tape → Tape → Tape → Tape → Type 0 → Type 0 → Type 0
 ExplainFails fault one other text input input' report report' Uncalled Unreported =
-    ((ScenarioFails fault text ⊎ StepFails fault text) × Uncalled)
+    (ScenarioFails InTurn fault text × Uncalled)
     ⊎ (((calls : ℕ) × RunFails fault text input input' (unkept 0) (unkept calls) × (fault ≢ Write) × Unreported)
     ⊎ ((calls : ℕ) × ReportFails fault (Asked.Events one other) text input input' (unkept 0) (unkept calls) report report'))

@@ -7,8 +7,8 @@ use command_faults::{CliFault, put_text};
 use connection_table::TableKey;
 use pcap_file::{PcapFault, Sink, Source};
 use pool_versions::PoolFault;
-use scenario::{ScenarioFault, read};
-use scenario_play::{Asked, Wanted, first_stop, play_scenario};
+use scenario::{Played, ScenarioFault, read};
+use scenario_play::{Asked, Wanted, play_scenario};
 use simulation::SimulationFault;
 use std::alloc::Global;
 
@@ -71,14 +71,10 @@ fn play<I: Source, O: Sink, R: Sink>(
     ensures stopped { IfErr result (λ fault. PlayFails fault asked scenario.now (I.tape input.old) (I.tape input.new) (O.tape output.old) (O.tape output.new) (R.tape report.old) (R.tape report.new)
         ((input.new ≡ input.old) × (output.new ≡ output.old) × (report.new ≡ report.old)) (report.new ≡ report.old)) }
 {
-    let scenario = match read(alloc, scenario) {
+    let scenario = match read(alloc, Played::InTurn, scenario) {
         Ok(scenario) => scenario,
         Err(fault) => return Err(scenario_fault(fault)),
     };
-    match first_stop(scenario.steps.as_slice()) {
-        Some(step) => return Err(CliFault::BadStep(step)),
-        None => {}
-    }
     match play_scenario(alloc, key, scenario, asked, input, output) {
         Ok(text) => put_text(report, text.as_str()),
         Err(fault) => Err(run_fault(fault)),
@@ -89,8 +85,8 @@ fn play<I: Source, O: Sink, R: Sink>(
 /// writes the report, with what is wanted before it: a line for each event, and then a line for each flow that was split,
 /// and how many there were.
 ///
-/// The devices aren't called before the scenario was accepted and none of its steps is `stop`, and the output isn't before
-/// the input's header was. After a fault that isn't `Write` nothing is in the report, and the output is cut between records.
+/// The devices aren't called before the scenario was accepted, which may have no step `stop`, and the output isn't before the
+/// input's header was. After a fault that isn't `Write` nothing is in the report, and the output is cut between records.
 pub fn simulate<I: Source, O: Sink, R: Sink>(
     alloc: Global,
     scenario: &[u8],
@@ -132,7 +128,7 @@ pub fn simulate_keyed<I: Source, O: Sink, R: Sink>(
 }
 
 /// The command `explain`: plays a scenario over a capture, and writes why the packets of two of its events went where they
-/// went. Events are counted from 0. What the cluster sends is kept nowhere. A step `stop` is refused as in [`simulate`].
+/// went. Events are counted from 0. What the cluster sends is kept nowhere. A step `stop` is none, as in [`simulate`].
 pub fn explain_run<I: Source, R: Sink>(
     alloc: Global,
     scenario: &[u8],

@@ -2,4 +2,3 @@ pub mod Described
 pub mod Answers
 pub mod Kept
 pub mod Notebooks
-pub mod Knowing

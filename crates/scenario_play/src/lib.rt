@@ -4,11 +4,9 @@
 
 mod answering;
 mod asking;
-mod knowing;
 mod notes;
 mod playing;
 
 pub use answering::is_cut;
 pub use asking::{Asked, Wanted};
-pub use knowing::first_stop;
 pub use playing::play_scenario;

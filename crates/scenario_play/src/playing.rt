@@ -179,7 +179,8 @@ fn play_named<I: Source, O: Sink>(
 /// Plays a scenario over a capture, and answers what is asked of the run. What the cluster sends is written as another
 /// capture, which is begun once the input's header was accepted. Whatever goes wrong but a write, the output is cut between
 /// records. The connection tables and the book of splits hash by the key. The memory of a run that succeeds isn't given back
-/// until the program ends: to give it back entry by entry takes a twentieth of a run.
+/// until the program ends: to give it back entry by entry takes a twentieth of a run. A step `stop`, which no scenario has
+/// that was read as one played in turn, is played as the restart that it is in a course.
 ///
 /// By the clause `kept` the run keeps the promises. For a scheme to which the turn doesn't matter, two packets of one flow
 /// that were sent to different backends were chosen under versions that pick these backends. Where the scheme is Maglev,

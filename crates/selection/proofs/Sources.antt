@@ -22,10 +22,12 @@ pub readied_same : {S : Type 0} (scheme : S) (size : ℕ) (v w : Version) → Ar
 readied_same {S} scheme size v w same =
     let services : map (readied_of scheme size) v.services.items ≡ map (readied_of scheme size) w.services.items
     = by_parts scheme size v.services.items ∙ ap (map (readied_parts scheme size)) same.services ∙ sym (by_parts scheme size w.services.items) in
-    ap (λ (n : ℕ). at_number n (map (readied_of scheme size) v.services.items)) same.number ∙ ap (λ (ss : List (ReadiedService S)). at_number w.number ss) services
+    ap (λ (n : ℕ). made n (map (readied_of scheme size) v.services.items) (map parts_of v.services.items)) same.number
+    ∙ ap (λ (ss : List (ReadiedService S)). made w.number ss (map parts_of v.services.items)) services
+    ∙ ap (λ (ps : List Parts). made w.number (map (readied_of scheme size) w.services.items) ps) same.services
   where
-    at_number : ℕ → List (ReadiedService S) → Readied S
-    at_number n ss = record { scheme = scheme; size = size; number = n; services = ss }
+    made : ℕ → List (ReadiedService S) → List Parts → Readied S
+    made n ss ps = record { scheme = scheme; size = size; number = n; services = ss; source = ps }
 
 -- the up backends of a flow
 pub ups_same : {S : Type 0} (scheme : S) (v w : Version) (x : Flow) → AreSame v w → candidates_under v x ≡ candidates_under w x

@@ -6,6 +6,7 @@ use Rattle.pool_versions.specs.declared.backend.Backend.{Backend}
 use Rattle.pool_versions.specs.declared.service.Service.{Service}
 use Rattle.pool_versions.specs.declared.service.Version.{Version}
 use Rattle.pool_versions.specs.Pool.{ups}
+use Rattle.pool_versions.specs.Same.{Parts, parts_of}
 use Rattle.selection.specs.Candidates.{Candidates, candidates_in}
 
 -- a service with its up backends and their weights, for a scheme and a size
@@ -24,15 +25,18 @@ serves_readied x s = (s.vip == x.dst) && ((s.proto == x.proto) && (s.port == x.d
 abbrev pub readied_of : {S : Type 0} → S → ℕ → Service → ReadiedService S
 readied_of scheme size s = record { scheme = scheme; size = size; vip = s.vip; proto = s.proto; port = s.port; ups = candidates_in s.members.items }
 
--- a version with its services, for a scheme and a size
+-- a version with its services, for a scheme and a size; and what it was made from, those that are down among it
 pub record Readied (S : Type 0) : Type 0 where
   pub scheme : S
   pub size : ℕ
   pub number : ℕ
   pub services : List (ReadiedService S)
+  pub source : List Parts
 
 abbrev pub readied_version : {S : Type 0} → S → ℕ → Version → Readied S
-readied_version scheme size v = record { scheme = scheme; size = size; number = v.number; services = map (readied_of scheme size) v.services.items }
+readied_version scheme size v = record {
+    scheme = scheme; size = size; number = v.number;
+    services = map (readied_of scheme size) v.services.items; source = map parts_of v.services.items }
 
 -- each service is for the scheme and the size
 abbrev pub AreFor : {S : Type 0} → S → ℕ → List (ReadiedService S) → Type 0

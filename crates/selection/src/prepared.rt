@@ -34,16 +34,21 @@ pub struct PreparedVersion<S: Scheme> {
 
 impl<S: Scheme> Model for PreparedVersion<S> {
     ghost use Rattle.std.specs.HashMap.{get};
-    ghost use Rattle.std.specs.Prelude.{◌≡◌};
+    ghost use Rattle.std.specs.Prelude.{◌≡◌, map};
     ghost use Rattle.std.specs.Arc.{arc_value};
+    ghost use Rattle.pool_versions.specs.Same.{parts_of};
     ghost use Rattle.selection.specs.Places.{same_key, ArePlaced};
     ghost use Rattle.selection.specs.Readied.{Readied, AreFor, readied_version};
 
     ghost Value = { Readied S };
 
-    ghost view = { λ a. record { scheme = a.scheme; size = a.size; number = a.number; services = a.services.items } };
+    ghost view = { λ a. record { scheme = a.scheme; size = a.size; number = a.number; services = a.services.items; source = map parts_of (arc_value a.version).services.items } };
 
-    ghost invariant = { λ a. AreFor a.scheme a.size a.services.items × ArePlaced (get same_key a.places) a.services.items × (record { scheme = a.scheme; size = a.size; number = a.number; services = a.services.items } ≡ readied_version a.scheme a.size (arc_value a.version)) };
+    ghost invariant = {
+        λ a. AreFor a.scheme a.size a.services.items × ArePlaced (get same_key a.places) a.services.items
+        × (record { scheme = a.scheme; size = a.size; number = a.number; services = a.services.items; source = map parts_of (arc_value a.version).services.items }
+            ≡ readied_version a.scheme a.size (arc_value a.version))
+    };
 }
 
 // How many members are up.
@@ -92,27 +97,51 @@ fn shared_copy(alloc: Global, version: &Version) -> Result<Arc<Version>, AllocEr
     }
 }
 
+// No version before. The reference that isn't there has the scheme's lifetime.
+fn no_version<'a, S: Scheme>(_scheme: &'a S) -> Option<&'a PreparedVersion<S>> {
+    None
+}
+
+// What the version before has for the flows of a service.
+fn like_before<'a, S: Scheme>(
+    before: Option<&'a PreparedVersion<S>>,
+    service: &Service,
+) -> Option<&'a Ready<S>> {
+    before?.first_of(ServiceKey::of_service(service))
+}
+
 impl<S: Scheme> PreparedVersion<S> {
-    // A version of no services, before which nothing was prepared.
-    fn of_no_services(
+    // Prepares a version, after the one before if there is one.
+    fn prepare(
         alloc: Global,
         scheme: &S,
         size: TableSize,
-    ) -> Result<PreparedVersion<S>, AllocError> {
-        let version = Version {
-            number: 0,
-            services: Vec::new(alloc),
-        };
-        let Ok(version) = Arc::new(alloc, version) else {
-            return Err(AllocError);
-        };
+        version: &Version,
+        before: Option<&PreparedVersion<S>>,
+    ) -> Result<PreparedVersion<S>, PrepareFault>
+        ensures made { IfOk result (λ p. p ≡ readied_version scheme.now size version.now) }
+        ensures ups { IfOk result (λ p. (x : Flow) → ups_for x p.services ≡ candidates_under version.now x) }
+        ensures too_many { IsErrOf result PrepareFault.TooMany ↔ (list_any (has_more_ups size) version.now.services.items ≡ true) }
+    {
+        if any_has_more_ups(version.services.as_slice(), size) {
+            return Err(PrepareFault::TooMany);
+        }
+        let mut services: Vec<Ready<S>> = Vec::new(alloc);
+        for service in &version.services {
+            let like = like_before(before, service);
+            let ready = Ready::make(alloc, scheme, size, service, like)?;
+            let Ok(()) = services.push(ready) else {
+                return Err(PrepareFault::Memory);
+            };
+        }
+        let places = places_of(alloc, services.as_slice())?;
         Ok(PreparedVersion {
             scheme: *scheme,
             size,
-            number: 0,
-            services: Vec::new(alloc),
-            places: HashMap::new(alloc),
-            version,
+            number: version.number,
+            services,
+            places,
+            version: shared_copy(alloc, version)?,
         })
     }
 
@@ -128,11 +157,7 @@ impl<S: Scheme> PreparedVersion<S> {
         ensures ups { IfOk result (λ p. (x : Flow) → ups_for x p.services ≡ candidates_under version.now x) }
         ensures too_many { IsErrOf result PrepareFault.TooMany ↔ (list_any (has_more_ups size) version.now.services.items ≡ true) }
     {
-        if any_has_more_ups(version.services.as_slice(), size) {
-            return Err(PrepareFault::TooMany);
-        }
-        let nothing = Self::of_no_services(alloc, scheme, size)?;
-        Self::make_after(alloc, scheme, size, version, &nothing)
+        Self::prepare(alloc, scheme, size, version, no_version(scheme))
     }
 
     /// The same. A service may have the up backends, of the same weights, that a service of its address, protocol and port
@@ -149,26 +174,7 @@ impl<S: Scheme> PreparedVersion<S> {
         ensures ups { IfOk result (λ p. (x : Flow) → ups_for x p.services ≡ candidates_under version.now x) }
         ensures too_many { IsErrOf result PrepareFault.TooMany ↔ (list_any (has_more_ups size) version.now.services.items ≡ true) }
     {
-        if any_has_more_ups(version.services.as_slice(), size) {
-            return Err(PrepareFault::TooMany);
-        }
-        let mut services: Vec<Ready<S>> = Vec::new(alloc);
-        for service in &version.services {
-            let like = before.first_of(ServiceKey::of_service(service));
-            let ready = Ready::make(alloc, scheme, size, service, like)?;
-            let Ok(()) = services.push(ready) else {
-                return Err(PrepareFault::Memory);
-            };
-        }
-        let places = places_of(alloc, services.as_slice())?;
-        Ok(PreparedVersion {
-            scheme: *scheme,
-            size,
-            number: version.number,
-            services,
-            places,
-            version: shared_copy(alloc, version)?,
-        })
+        Self::prepare(alloc, scheme, size, version, Some(before))
     }
 
     /// The version's number.
@@ -192,14 +198,16 @@ impl<S: Scheme> PreparedVersion<S> {
         self.size
     }
 
-    /// The version that it was made from. This is that version's preparation, for the scheme and the size that it has.
+    /// The version that it was made from, with the members that are down, all weights and the members' order. This is that
+    /// version's preparation, for the scheme and the size that it has.
     pub fn version(&self) -> &Version
         ensures { self.now ≡ readied_version self.now.scheme self.now.size result.now }
     {
         &self.version
     }
 
-    /// The same, for who keeps it longer than the tables. It costs no copy, and is refused only where it has too many owners.
+    /// The same, for who keeps it longer than the tables. It is counted as one more owner, and nothing is copied. It is
+    /// refused only where there are too many owners.
     pub fn share_version(&self) -> Result<Arc<Version>, AllocError>
         ensures { IfOk result (λ v. self.now ≡ readied_version self.now.scheme self.now.size (arc_value v)) }
     {

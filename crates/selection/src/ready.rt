@@ -1,5 +1,5 @@
 //! One service of a version, prepared for a scheme.
-ghost use Rattle.std.specs.Prelude.{◌≡◌, ◌↔◌, true, length, IfOk, IfErr, Contains};
+ghost use Rattle.std.specs.Prelude.{◌≡◌, ◌↔◌, true, [], length, IfOk, IfErr, IsFalse, Contains};
 ghost use Rattle.std.specs.List.{list_any};
 ghost use Rattle.pool_versions.specs.Pool.{ups, AscendsByName};
 ghost use Rattle.std.specs.Arc.{arc_value};
@@ -161,6 +161,13 @@ impl<S: Scheme> Ready<S> {
         ensures { result ≡ S.pick self.now.scheme self.now.size self.now.ups flow.now turn }
     {
         self.scheme.choose(self.prepared(), flow, turn)
+    }
+
+    /// Whether the service has a backend that is up.
+    pub fn is_anybody_up(&self) -> bool
+        ensures { IsFalse result ↔ (self.now.ups.backends ≡ []) }
+    {
+        !self.choices.ups().is_empty()
     }
 
     /// What the scheme prepared.

@@ -1,10 +1,10 @@
-use Rattle.std.proofs.Common.{◌≡◌, ◌⊎◌, List, ℕ, subst, inl, inr, string_bytes, refl, ap, sym, ◌∙◌}
-use Rattle.scenario_play.specs.Knowing.{first_stop_of}
+use Rattle.std.proofs.Common.{◌≡◌, ◌⊎◌, List, ℕ, subst, inl, inr, string_bytes, refl}
 use Rattle.std.proofs.lemmas.Result.{IfOk-weaker, IfErr-weaker}
 use Rattle.std.specs.Io.KnownBytes.{Appends}
 use Rattle.pcap_file.specs.Device.{Unfailed, PutRefused}
+use Rattle.scenario.specs.declared.playing.Played.TheVariants.{InTurn}
 use Rattle.command_faults.specs.declared.fault.CliFault.TheVariants.{Write}
-use Rattle.scenario_commands.specs.Scenarios.{Plays, ScenarioFails, StepFails, RunFails, ReportFails}
+use Rattle.scenario_commands.specs.Scenarios.{Plays, ScenarioFails, RunFails, ReportFails}
 use Rattle.scenario_commands.proofs.playing.play.Goals as goal
 
 pub returns-in-Ok-play_scenario-clause-played : goal.returns-in-Ok-play_scenario-clause-played
@@ -15,7 +15,6 @@ returns-in-Ok-play_scenario-clause-played g c =
     (λ _ written. record {
       scenario = c.in-Ok.scenario;
       means = c.in-Ok.ensures.means;
-      played = ap (λ l. first_stop_of l) (sym c.as_slice.ensures.value) ∙ sym c.in-None.ensures;
       answer = string_bytes c.in-Ok-play_scenario.text;
       answers = c.in-Ok-play_scenario.ensures.ok;
       kept = c.in-Ok-play_scenario.ensures.kept c.in-Ok-play_scenario.ensures.ok;
@@ -27,13 +26,12 @@ returns-in-Ok-play_scenario-clause-played g c =
 pub returns-in-Ok-play_scenario-clause-stopped : goal.returns-in-Ok-play_scenario-clause-stopped
 returns-in-Ok-play_scenario-clause-stopped g c =
     IfErr-weaker c.put_text.result (λ fault. (fault ≡ Write) × PutRefused c.as_str.result.now (g.R.Sink.tape c.args.report.now) (g.R.Sink.tape c.put_text.new.sink))
-    (λ fault. ((ScenarioFails fault c.args.scenario.now ⊎ StepFails fault c.args.scenario.now) × ((c.play_scenario.new.input ≡ c.args.input.now) × (c.play_scenario.new.output ≡ c.args.output.now) × (c.put_text.new.sink ≡ c.args.report.now)))
+    (λ fault. (ScenarioFails InTurn fault c.args.scenario.now × ((c.play_scenario.new.input ≡ c.args.input.now) × (c.play_scenario.new.output ≡ c.args.output.now) × (c.put_text.new.sink ≡ c.args.report.now)))
     ⊎ ((RunFails fault c.args.scenario.now (g.I.Source.tape c.args.input.now) (g.I.Source.tape c.play_scenario.new.input) (g.O.Sink.tape c.args.output.now) (g.O.Sink.tape c.play_scenario.new.output) × (c.put_text.new.sink ≡ c.args.report.now))
     ⊎ ReportFails fault c.args.asked c.args.scenario.now (g.I.Source.tape c.args.input.now) (g.I.Source.tape c.play_scenario.new.input) (g.O.Sink.tape c.args.output.now) (g.O.Sink.tape c.play_scenario.new.output) (g.R.Sink.tape c.args.report.now) (g.R.Sink.tape c.put_text.new.sink)))
     (λ _ is. inr (inr (record {
       scenario = c.in-Ok.scenario;
       means = c.in-Ok.ensures.means;
-      played = ap (λ l. first_stop_of l) (sym c.as_slice.ensures.value) ∙ sym c.in-None.ensures;
       answer = string_bytes c.in-Ok-play_scenario.text;
       answers = c.in-Ok-play_scenario.ensures.ok;
       named = is.0;
@@ -47,23 +45,9 @@ returns-in-Err-play_scenario-clause-stopped g c =
       record {
         scenario = c.in-Ok.scenario;
         means = c.in-Ok.ensures.means;
-        played = ap (λ l. first_stop_of l) (sym c.as_slice.ensures.value) ∙ sym c.in-None.ensures;
         why = c.in-Err-play_scenario.fault;
         named = c.run_fault.ensures;
         stopped = c.in-Err-play_scenario.ensures.stopped;
       },
       refl,
     ))
-
-pub returns-in-Some-clause-stopped : goal.returns-in-Some-clause-stopped
-returns-in-Some-clause-stopped g c =
-    inl (
-      inr (record {
-        scenario = c.in-Ok.scenario;
-        means = c.in-Ok.ensures.means;
-        place = c.in-Some.step;
-        first = ap (λ l. first_stop_of l) (sym c.as_slice.ensures.value) ∙ sym c.in-Some.ensures;
-        named = refl;
-      }),
-      (refl, refl, refl),
-    )

@@ -1,0 +1,15 @@
+use Rattle.std.proofs.Common.{refl}
+use Rattle.node_records.specs.Ends.{all_handled}
+use Rattle.node_duties.proofs.Counting.{counts_served}
+use Rattle.cluster_node.specs.Rules.{Rules}
+use Rattle.cluster_core.specs.Setups.{rules_for}
+use Rattle.node_ends.proofs.end.Goals as goal
+
+pub returns-in-Ok-clause-ended : goal.returns-in-Ok-clause-ended
+returns-in-Ok-clause-ended g c = λ packets d.
+    let rules : Rules = rules_for (λ s z. g.S.Scheme.pick s z) (λ h. g.H.FlowHash.plain h) c.args.setup.now c.args.catalogue.now in
+    let all = c.in_ok-compare.ensures in
+    (c.in-Ok.ensures.tells rules packets d all, c.in-Ok.ensures.drained rules packets d all refl)
+
+pub returns-in-Ok-clause-counts : goal.returns-in-Ok-clause-counts
+returns-in-Ok-clause-counts g c = λ lost shares had. counts_served c.end.new.self c.args.journal.now (all_handled c.args.workers.now) lost shares c.in-Ok.ensures.after had

@@ -1,0 +1,152 @@
+//! How a life of a node ends, once its threads are joined: what its workers did is compared with what was placed on them, and
+//! written after the driver's steps.
+#![tactic(auto)]
+
+ghost use Rattle.std.specs.Prelude.{◌≡◌, ◌<◌, ◌+◌, ◌++◌, ◌∷◌, [], ℕ, Bool, List, length, IfOk, OnOk, All};
+ghost use Rattle.cluster_core.specs.Setups.{rules_for};
+ghost use Rattle.cluster_node.specs.declared.outcomes.Outcome.{Outcome};
+ghost use Rattle.cluster_node.specs.declared.packets.Packet.{Packet};
+ghost use Rattle.node_records.specs.Works.{IsOf};
+ghost use Rattle.node_records.specs.Ends.{all_handled};
+ghost use Rattle.node_records.specs.declared.command.Command.{Command};
+ghost use Rattle.node_records.specs.Losses.{ending};
+ghost use Rattle.node_records.specs.Histories.{past_of, NoneWaits};
+ghost use Rattle.node_records.specs.Journals.{Tells, Drives, IsServed};
+ghost use Rattle.stats_book.specs.Counts.{Counted};
+ghost use Rattle.node_duties.specs.Counts.{AreRead, Counts, IsWork, served_from, with_lost};
+ghost use Rattle.node_duties.specs.Going.{Going, IsDriven, IsEnded};
+
+use cluster_core::Setup;
+use connection_table::ConnTable;
+use hash_laws::FlowHash;
+use node_duties::{Plan, Progress, RunFault, Tally, WorkerRun, fault_of, stops_at};
+use node_records::{Journal, WorkerRecord, are_of};
+use pool_versions::Catalogue;
+use selection::Scheme;
+use stats_book::Names;
+use std::alloc::{AllocError, Global};
+use std::sync::Wait;
+
+// What the workers counted is added to their driver's tally, and their records are kept.
+fn muster<S: Scheme, T: ConnTable, B: Names>(
+    alloc: Global,
+    tally: &mut Tally<B>,
+    runs: Vec<WorkerRun<S, T, B>>,
+) -> Result<Vec<WorkerRecord<S, T>>, AllocError>
+    requires { All (λ w. IsWork w.record w.tally.lost w.tally.shares) runs.items }
+    ensures parts { OnOk result (tally.new.shares.parts ≡ tally.old.shares.parts + length runs.items) }
+    ensures counts { (os : List Outcome) (n : ℕ) → Counts tally.old.lost tally.old.shares os → IfOk result (λ v. Counts tally.new.lost tally.new.shares (os ++ served_from n 0 (all_handled v.items))) }
+{
+    let mut workers = Vec::new(alloc);
+    for done in runs {
+        let WorkerRun {
+            record,
+            tally: counted,
+        } = done;
+        tally.merge(counted);
+        workers.push(record)?;
+    }
+    Ok(workers)
+}
+
+// Compares the versions that a life's workers used with the catalogue's, and by what they were prepared with the cluster's.
+fn compare<S: Scheme, H: FlowHash, T: ConnTable>(
+    setup: &Setup<S, H>,
+    catalogue: &Catalogue,
+    workers: &[WorkerRecord<S, T>],
+) -> Result<(), RunFault>
+    ensures { OnOk result (All (λ w. IsOf (λ s z. S.pick s z) (rules_for (λ s z. S.pick s z) (λ h. H.plain h) setup.now catalogue.now) w) workers.now) }
+{
+    if !are_of(setup, catalogue, workers) {
+        return Err(RunFault::Foreign);
+    }
+    Ok(())
+}
+
+// A life ended with a restart or a stop, and another begins. Its workers' versions are compared first. The answer is how
+// many packets were lost.
+fn end_life<S: Scheme, H: FlowHash, T: ConnTable>(
+    journal: &mut Journal,
+    setup: &Setup<S, H>,
+    catalogue: &Catalogue,
+    workers: &[WorkerRecord<S, T>],
+    drained: bool,
+) -> Result<u64, RunFault>
+    ensures going { let rules = rules_for (λ s z. S.pick s z) (λ h. H.plain h) setup.now catalogue.now in
+        (packets : List Packet) (cs : List Command) (n : ℕ) (places : ℕ) → Going rules packets cs n places journal.old → OnOk result (Going rules packets (cs ++ ending drained ∷ []) n places journal.new) }
+    ensures counts { (lost : Bool) (shares : Counted) → Counts lost shares (journal.old.outcomes ++ served_from journal.old.node 0 (all_handled workers.now)) → IfOk result (λ left. Counts lost (with_lost left shares) journal.new.outcomes) }
+{
+    compare(setup, catalogue, workers)?;
+    match journal.end_life(workers, drained) {
+        Ok(left) => Ok(left),
+        Err(fault) => Err(fault_of(fault)),
+    }
+}
+
+// The last life ended. So are they here.
+fn end<S: Scheme, H: FlowHash, T: ConnTable>(
+    journal: &mut Journal,
+    setup: &Setup<S, H>,
+    catalogue: &Catalogue,
+    workers: &[WorkerRecord<S, T>],
+) -> Result<(), RunFault>
+    ensures ended { let rules = rules_for (λ s z. S.pick s z) (λ h. H.plain h) setup.now catalogue.now in
+        (packets : List Packet) → Drives rules packets journal.old → OnOk result (Tells rules packets journal.new × NoneWaits (past_of rules packets journal.new.node journal.new.events)) }
+    ensures served { OnOk result (IsServed journal.old journal.new) }
+    ensures counts { (lost : Bool) (shares : Counted) → Counts lost shares (journal.old.outcomes ++ served_from journal.old.node 0 (all_handled workers.now)) → OnOk result (Counts lost shares journal.new.outcomes) }
+{
+    compare(setup, catalogue, workers)?;
+    match journal.end(workers, true) {
+        Ok(()) => Ok(()),
+        Err(fault) => Err(fault_of(fault)),
+    }
+}
+
+/// A life that was driven ends as its commands say. The workers' records are compared with what was placed on them, and
+/// written after the driver's steps. What was lost at a stop is counted. Memory is reported first, then Foreign, then RingLost.
+pub fn end_driven<S: Scheme, H: FlowHash, T: ConnTable, G, B: Names, R: Wait>(
+    rt: &R,
+    alloc: Global,
+    plan: Plan<'_, S, H, G, B>,
+    from: usize,
+    driven: Progress<S, B>,
+    runs: Vec<WorkerRun<S, T, B>>,
+) -> Result<Progress<S, B>, RunFault>
+    requires driven { let rules = rules_for (λ s z. S.pick s z) (λ h. H.plain h) plan.setup.now plan.catalogue.now in IsDriven rules plan.packets.now plan.commands.now plan.node plan.ring from driven.at driven.journal }
+    requires of { All (λ w. IsWork w.record w.tally.lost w.tally.shares) runs.items }
+    requires some { 0 < driven.tally.shares.parts }
+    requires counts { AreRead plan.packets.now → Counts driven.tally.lost driven.tally.shares driven.journal.outcomes }
+    ensures ended { let rules = rules_for (λ s z. S.pick s z) (λ h. H.plain h) plan.entry.setup.now plan.entry.catalogue.now in IfOk result (λ d. IsEnded rules plan.entry.packets.now plan.entry.commands.now plan.entry.node plan.entry.ring from d.at d.journal) }
+    ensures parts { IfOk result (λ d. d.tally.shares.parts ≡ driven.tally.shares.parts + length runs.items) }
+    ensures counts { AreRead plan.entry.packets.now → IfOk result (λ d. Counts d.tally.lost d.tally.shares d.journal.outcomes) }
+{
+    let _ = from;
+    let Progress {
+        journal,
+        newest,
+        at,
+        tally,
+    } = driven;
+    let mut journal = journal;
+    let mut tally = tally;
+    let workers = muster(alloc, &mut tally, runs)?;
+    if at < plan.commands.len() {
+        let drained = !stops_at(plan.commands, at);
+        let records = workers.as_slice();
+        let lost = end_life(&mut journal, plan.setup, plan.catalogue, records, drained)?;
+        tally.lose(rt, plan.book, lost);
+        return Ok(Progress {
+            journal,
+            newest,
+            at,
+            tally,
+        });
+    }
+    end(&mut journal, plan.setup, plan.catalogue, workers.as_slice())?;
+    Ok(Progress {
+        journal,
+        newest,
+        at,
+        tally,
+    })
+}
