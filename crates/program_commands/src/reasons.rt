@@ -91,7 +91,10 @@ fn reason_by(alloc: Global, trouble: &Trouble, files: &Files<'_, '_>) -> Option<
         CliFault::OpenInput => system(alloc, files.paths.input, trouble.system),
         CliFault::Write if trouble.of_report => system(alloc, "the report", trouble.system),
         CliFault::OpenOutput | CliFault::Write => system(alloc, files.paths.output, trouble.system),
-        CliFault::NoRandom => plain(alloc, "the system gives no random bytes, of which the tables' key is drawn"),
+        CliFault::NoRandom => plain(
+            alloc,
+            "the system gives no random bytes, of which the tables' key is drawn",
+        ),
         CliFault::ThreadLost => plain(
             alloc,
             "a thread couldn't be started: allow more threads, or take fewer balancers and workers",

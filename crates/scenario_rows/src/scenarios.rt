@@ -482,9 +482,19 @@ fn counts_at_their_limits(rt: HostRuntime) {
         let found = fault_of_steps(&rt, rt.alloc(), *count);
         same_fault(&rt, found, *wanted, 1);
     }
-    same_fault(&rt, read(rt.alloc(), Played::InTurn, b"").err(), Some(BadFormat), 2);
+    same_fault(
+        &rt,
+        read(rt.alloc(), Played::InTurn, b"").err(),
+        Some(BadFormat),
+        2,
+    );
     let text = b"format = 1\n# \xff";
-    same_fault(&rt, read(rt.alloc(), Played::InTurn, text).err(), Some(BadToml), 3);
+    same_fault(
+        &rt,
+        read(rt.alloc(), Played::InTurn, text).err(),
+        Some(BadToml),
+        3,
+    );
 }
 
 // The scenario with these steps, read as one that is played so.
@@ -505,13 +515,33 @@ type PlayedRow = (Played, &'static str, Option<ScenarioFault>);
 const PLAYED: [PlayedRow; 11] = [
     (Played::InTurn, "'stop 0', 'take'", Some(BadStep(0))),
     (Played::InTurn, "'take', 'stop 0'", Some(BadStep(0))),
-    (Played::InTurn, "'take 1', 'stop 2', 'stop 0'", Some(BadStep(1))),
-    (Played::InTurn, "'take 1', 'restart 0', 'stop 0'", Some(BadStep(2))),
-    (Played::InTurn, "'hold 0', 'full 0 0', 'full 0', 'drain 0'", None),
+    (
+        Played::InTurn,
+        "'take 1', 'stop 2', 'stop 0'",
+        Some(BadStep(1)),
+    ),
+    (
+        Played::InTurn,
+        "'take 1', 'restart 0', 'stop 0'",
+        Some(BadStep(2)),
+    ),
+    (
+        Played::InTurn,
+        "'hold 0', 'full 0 0', 'full 0', 'drain 0'",
+        None,
+    ),
     (Played::OnThreads, "'full 0 0', 'take'", Some(BadStep(0))),
-    (Played::OnThreads, "'take 1', 'hold 0', 'take'", Some(BadStep(1))),
+    (
+        Played::OnThreads,
+        "'take 1', 'hold 0', 'take'",
+        Some(BadStep(1)),
+    ),
     (Played::OnThreads, "'take', 'hold 0'", Some(BadStep(0))),
-    (Played::OnThreads, "'stop 0', 'drain 0', 'full 0'", Some(BadStep(1))),
+    (
+        Played::OnThreads,
+        "'stop 0', 'drain 0', 'full 0'",
+        Some(BadStep(1)),
+    ),
     (Played::OnThreads, "'stop 2'", Some(BadStep(0))),
     (Played::OnThreads, "'take 1', 'restart 0', 'stop 0'", None),
 ];
@@ -530,5 +560,9 @@ fn a_stop_is_read(rt: HostRuntime) {
         &rt,
         "a scenario",
     );
-    holds(&rt, matches!(scenario.steps.get(0), Some(Step::Stop(1))), "stop 1");
+    holds(
+        &rt,
+        matches!(scenario.steps.get(0), Some(Step::Stop(1))),
+        "stop 1",
+    );
 }
