@@ -8,7 +8,7 @@ use node_duties::{Current, prepare_after};
 fn a_version_of_another_number_is_not_found(rt: HostRuntime) {
     let alloc = rt.alloc();
     let setup = setup(&rt, alloc, SumHash, 1);
-    let second = version(&rt, alloc, 2, true);
+    let second = version(&rt, alloc, &(2, 1, [true; 3], 1));
     let shown = prepare_after(alloc, &setup, &second, &None).expect(&rt, "memory");
     let current: Current<Sums> = Current {
         version: Some(shown),
