@@ -1,0 +1,4 @@
+pub mod Counting
+pub mod Ranked
+pub mod Faults
+pub mod Filled
