@@ -80,9 +80,11 @@ def test_table():
     prints("table of one name", [*seven, "A"], alone)
     faults("eight names of seven slots", [*seven, *"ABCDEFGH"], "TooMany")
     prints("table of equal weights", [*seven, "A*4", "B*4", "C*4"], rows)
+    prints("table of equal weights in another order", [*seven, "C*4", "A*4", "B*4"], rows)
     twice = "size 7 backends 3\n0 B\n1 A\n2 B\n3 C\n4 A\n5 C\n6 A\ncount A 3\ncount B 2\ncount C 2\n"
     prints("table of a name that counts twice", [*seven, "A*2", "B", "C"], twice)
     prints("the same in another order", [*seven, "C*1", "B", "A*2"], twice)
+    prints("the same in a third order", [*seven, "C", "A*2", "B*1"], twice)
     thrice = "size 7 backends 3\n0 A\n1 A\n2 B\n3 C\n4 A\n5 B\n6 A\ncount A 4\ncount B 2\ncount C 1\n"
     prints("table of a name that counts three times", [*seven, "A*3", "B", "C"], thrice)
     heavy = "size 7 backends 2\n0 A\n1 A\n2 B\n3 A\n4 A\n5 A\n6 A\ncount A 6\ncount B 1\n"
@@ -97,7 +99,11 @@ def test_table():
     faults("an empty name", [*seven, ""], "BadName")
     faults("a name of 33 bytes", [*seven, "a" * 33], "BadName")
     faults("a name that isn't ASCII", [*seven, "é"], "BadName")
-    faults("the size before the hash", ["table", "--size", "8", "--hash", "md5", "_"], "BadSize")
+    for word in "_-":
+        faults(f"the size before the hash and {word}", ["table", "--size", "8", "--hash", "md5", word], "BadSize")
+        faults(f"the hash before {word}", ["table", "--size", "7", "--hash", "md5", word], "BadHash")
+    faults("a name that isn't one before a double name", [*seven, "A", "A", ""], "BadName")
+    faults("a double name before too many", [*seven, *"ABACDEFG"], "DoubleName")
     rows = "size 7 backends 2\n0 B\n1 B\n2 B\n3 C\n4 C\n5 C\n6 B\ncount B 4\ncount C 3\n"
     prints("table of two names", [*seven, "B", "C"], rows)
     for slots, names in [
@@ -134,14 +140,20 @@ def test_pick():
     found = "tcp 10.0.0.1:1000>192.0.2.1:80 slot 6 backend A\n"
     prints("pick of a TCP datagram", words, found, stdin=TCP.encode())
     prints("pick with a newline", words, found, stdin=TCP.encode() + b"\n")
-    prints("pick of a UDP datagram", words, "udp 10.0.0.1:1000>192.0.2.1:53 slot 4 backend C\n", stdin=UDP.upper().encode())
+    for text in [UDP, UDP.upper(), UDP.upper() + "\n"]:
+        prints("pick of a UDP datagram", words, "udp 10.0.0.1:1000>192.0.2.1:53 slot 4 backend C\n", stdin=text.encode())
     prints("a UDP length of 7", words, "drop BadTransport\n", stdin=UDP.replace("00080000", "00070000").encode())
     prints("no datagram", words, "drop Truncated\n", stdin=b"")
+    prints("no datagram but a newline", words, "drop Truncated\n", stdin=b"\n")
+    # A header of 65,512 bytes in all, and zeros.
+    large = bytes.fromhex("4500ffe8000000004011000000000000000000000000000000080000").ljust(65_512, b"\0")
+    prints("a datagram that is too large", ["pick", "--no-check", *words[1:]], "drop TooLarge\n", stdin=large.hex().encode())
     prints("a fragment", words, "drop Fragment\n", stdin=TCP.replace("00004006aecd", "200040068ecd").encode())
     wrong = TCP.replace("aecd", "aece").encode()
     prints("a wrong checksum", words, "drop BadChecksum\n", stdin=wrong)
     prints("a wrong checksum that isn't tested", ["pick", "--no-check", *words[1:]], found, stdin=wrong)
-    faults("one digit", words, "BadHex", stdin=b"4")
+    for text in ["4", "4g", "45\n\n", " 45", "0" * 524_289]:
+        faults(f"no digits of bytes: {text[:9]!r}", words, "BadHex", stdin=text.encode())
     faults("a size that isn't listed", ["pick", "--size", "8", "--hash", "sum", "A"], "BadSize", stdin=b"4")
     faults("an input that is too long", words, "TooLong", stdin=b"0" * 524290)
     faults("a double name before the input", [*words, "A"], "DoubleName", stdin=b"4")
@@ -162,7 +174,16 @@ def test_compare():
     prints("a member goes down", [*words, "--old", old, "--new", "A@10.8.0.1 B@10.8.0.2/down C@10.8.0.3"], moved)
     lines = "".join(f"{slot} A@10.8.0.1 A@10.8.0.9\n" for slot in range(7))
     prints("an address changes", [*words, "--old", "A@10.8.0.1", "--new", "A@10.8.0.9"], "size 7 old 1 new 1 differ 7\n" + lines)
-    prints("nobody is up", [*words, "--old", "A@10.8.0.1/down", "--new", "B@10.8.0.1/down"], "size 7 old 0 new 0 differ 0\n")
+    prints("the same in another order", [*words, "--old", old, "--new", "C@10.8.0.3 B@10.8.0.2/down A@10.8.0.1"], moved)
+    prints("nothing changes", [*words, "--old", old, "--new", old], "size 7 old 3 new 3 differ 0\n")
+    lines = "".join(f"{slot} A@10.8.0.1 A@10.8.0.9\n" for slot in range(8191))
+    large = ["compare", "--size", "8191", "--hash", "sum", "--old", "A@10.8.0.1", "--new", "A@10.8.0.9"]
+    prints("a text of more than 65,536 bytes", large, "size 8191 old 1 new 1 differ 8191\n" + lines)
+    nobody = "A@10.8.0.1/down"
+    for other in [nobody, "B@10.8.0.1/down"]:
+        prints("nobody is up", [*words, "--old", nobody, "--new", other], "size 7 old 0 new 0 differ 0\n")
+    lines = "".join(f"{slot} B@1.2.3.4 -\n" for slot in range(7))
+    prints("nobody is up any more", [*words, "--old", "B@1.2.3.4", "--new", nobody], "size 7 old 1 new 0 differ 7\n" + lines)
     heavier = "size 7 old 3 new 3 differ 3\n0 B@10.8.0.2 A@10.8.0.1\n4 C@10.8.0.3 A@10.8.0.1\n5 A@10.8.0.1 B@10.8.0.2\n"
     prints("a weight changes", [*words, "--old", old, "--new", "A@10.8.0.1*3 B@10.8.0.2 C@10.8.0.3"], heavier)
     equal = "A@10.8.0.1*5 B@10.8.0.2*5 C@10.8.0.3*5 D@10.8.0.4*16/down"
@@ -174,6 +195,18 @@ def test_compare():
     faults("a double member", [*words, "--old", old, "--new", "A@10.8.0.1 A@10.8.0.2"], "DoubleName")
     eight = " ".join(f"{name}@10.8.0.1" for name in "ABCDEFGH")
     faults("eight members of seven slots", [*words, "--old", old, "--new", eight], "TooMany")
+    one, two, down = "A@1.2.3.4", "A@1.2.3.4 A@1.2.3.5", eight + "/down"
+    for name, earlier, later, fault in [
+        ("no list and one", "", one, "BadMember"),
+        ("a member that isn't one before a double one", two, "A", "BadMember"),
+        ("two spaces", one, "A@1.2.3.4  B@1.2.3.5", "BadMember"),
+        ("a double member behind eight", down, two, "DoubleName"),
+        ("a double member before eight", two, down, "DoubleName"),
+        ("eight members of which one is down", one, down, "TooMany"),
+    ]:
+        faults(name, [*words, "--old", earlier, "--new", later], fault)
+    faults("a size before the lists", ["compare", "--size", "8", "--hash", "sum", "--old", "", "--new", ""], "BadSize")
+    faults("a hash before the lists", ["compare", "--size", "7", "--hash", "md5", "--old", "", "--new", one], "BadHash")
     misused("compare with one list", [*words, "--old", old])
 
 
@@ -275,11 +308,13 @@ def lists(name, text, letters, forwards):
 
 
 def lists_of(name, text, data, forwards):
-    """The same for a capture."""
+    """The same for a capture. All that is printed is what the model says."""
     status, out, err, _ = simulated(text, data, ["--list"])
     lines = [line.split(" ", 1) for line in out.decode().split("packets ")[0].splitlines()]
     found = {int(place): line.split(": ")[1] for place, line in lines if ": forward" in line or ": drop" in line}
     check(name, (status, err) == (0, b"") and found == forwards, f"{status} {found} {err!r}")
+    expected = model.Run(text, data)
+    check(f"{name}, in full", out.decode() == expected.listing() + expected.report(), repr(out))
 
 
 def stops(name, text, data, fault, output, words=()):
@@ -306,6 +341,7 @@ def test_simulate_rows():
     simulates("two nodes, two versions", apart, capture("xx"), report(2, 2))
     lists("two nodes, two versions, listed", apart, "xx", {3: "forward A@10.8.0.1 from 1", 5: "forward C@10.8.0.3 from 2"})
     explains("a split", apart, "xx", 3, 5, "split slot 5 version 1 A@10.8.0.1 version 2 C@10.8.0.3")
+    explains("the same the other way round", apart, "xx", 5, 3, "split slot 5 version 2 C@10.8.0.3 version 1 A@10.8.0.1")
     weighed = scenario(["install 0 1", "install 1 2", "take 2"], versions=(ALL, A_HEAVY)).replace("format = 1", "format = 2")
     lists("a weight changes", weighed, "xx", {3: "forward A@10.8.0.1 from 1", 5: "forward B@10.8.0.2 from 2"})
     explains("a split by weights", weighed, "xx", 3, 5, "split slot 5 version 1 A@10.8.0.1 version 2 B@10.8.0.2")
@@ -327,6 +363,7 @@ def test_simulate_rows():
     lists("an entry stands and is dropped", text, "xyyxyzx", {2: a1, 5: a2, 7: a2, 9: a1, 11: a2, 13: a2, 15: c2})
     explains("why it changed", text, "xyyxyzx", 9, 15, "split slot 5 version 1 A@10.8.0.1 version 2 C@10.8.0.3")
     text = scenario(["live 0", "install 0 1", "full 0 1", "take 4", "full 0 0 1 2", "take 1"], workers=3)
+    lists("full rings, listed", text, "yyyyy", {2: a1, 4: a1, 6: a1, 8: a1, 9: "drop RingsFull"})
     _, out, _, _ = simulated(text, capture("yyyyy"), ["--list"])
     arrivals = [line.split(": ")[1] for line in out.decode().splitlines() if " arrive " in line]
     check("full rings", arrivals == ["placed 0", "placed 2", "placed 2", "placed 0", "drop RingsFull"], repr(arrivals))
@@ -404,6 +441,8 @@ def test_splits():
     one = told(1006, "3 5", 5, a1, c2, "moved") + counts(1, 0, 1)
     simulates("one split", apart, capture("xx"), one + report(2, 2), words=["--splits"])
     simulates("no split", apart, capture("yy"), counts(1, 0, 0) + report(2, 2), words=["--splits"])
+    unsent = counts(0, 0, 0) + report(1, 0, drops="drop NoVersion 1\n")
+    simulates("no send", scenario(["take 1"]), capture("y"), unsent, words=["--splits"])
     _, listing, _, _ = simulated(apart, capture("xx"), ["--list"])
     whole = listing.decode().replace(report(2, 2), "") + one + report(2, 2)
     simulates("a listing and a split", apart, capture("xx"), whole, words=["--splits", "--list"])
@@ -416,6 +455,8 @@ def test_splits():
     steps = ["live 0", "install 0 1", "take 1", "install 0 2", "take 1", "install 0 3", "take 1"]
     lines = told(1000, "2 5", 6, a1, "2 B@10.8.0.2", "down") + counts(1, 1, 0)
     simulates("down, then back", scenario(steps, [ALL, A_DOWN, ALL]), capture("yyy"), lines + report(3, 3), words=["--splits"])
+    unseen = scenario([*steps[:4], *steps[5:]], [ALL, A_DOWN, ALL])
+    simulates("down and back, unseen", unseen, capture("yy"), counts(1, 0, 0) + report(2, 2), words=["--splits"])
     # Last the flow is served under version 3, where A is down, by an entry of version 2, where it was up.
     text = scenario(["install 0 1", "install 1 2", "take 2", "install 1 3", "take 2"], [ALL, B_DOWN, A_DOWN])
     lines = told(1006, "3 5", 5, a1, c2, "moved") + told(1006, "5 8", 5, c2, a1, "moved") + told(1006, "8 10", 5, a1, c2, "down")
@@ -456,6 +497,13 @@ def test_spreading_and_waiting():
 9 serve 0 0 2: forward C@10.8.0.3 from 2
 """
     simulates("a hold and a drain", text, capture("zyzx"), events + report(4, 4), words=["--list"])
+    # Frames wait at two workers of two nodes, in queues that wrap; a restart forgets those of its node alone.
+    steps = ["install 0 1", "install 1 1", "hold 1", "take 6", "drain 1", "hold 0", "hold 1", "take 8", "restart 0", "drain 1"]
+    text, data = scenario(steps, workers=2), capture("yzyyxxyxzzxyyx")
+    expected = model.Run(text, data)
+    simulates("frames wait", text, data, expected.listing() + expected.report(), expected.output(), ["--list"])
+    flows = [letter for one in records_of(expected.output()) for letter in "xyz" if one[40:] == packet(letter)]
+    check("the flows of the frames", "".join(flows) == "yyxyxzxyxz", repr(flows))
     # Lost records use up numbers, and may be delivered again.
     text = scenario(["live 0", "install 0 1", "lose 1", "take 1", "lose 9", "again 0", "again 2"])
     events = """0 install 0 1: installed
@@ -507,6 +555,10 @@ def test_simulate_captures():
     check("a record that is too long", is_right, repr(answer))
     two = scenario(["install 0 1", "take 2"])
     stops("a header of a record that is too long", two, HEAD + record(P) + long[:16], "TooLong", output)
+    # It is met by a step that takes, by one that loses, and after the last step.
+    for steps in [["take 3", "again 0"], ["take 1", "lose 1", "again 0"], ["take 1"]]:
+        met = scenario(["live 0", "install 0 1", *steps])
+        stops(f"a record that is too long, {steps}", met, HEAD + record(P) + long[:16], "TooLong", output, ["--list"])
     # Either byte order, microseconds or nanoseconds.
     for name, order, magic, fraction in [
         ("big-endian, microseconds", ">", 0xA1B2C3D4, 999999),
@@ -516,10 +568,64 @@ def test_simulate_captures():
         head = struct.pack(order + "IHHiIII", magic, 2, 4, 0, 0, 65535, 101)
         data = head + struct.pack(order + "4I", 1, fraction, len(P), len(P)) + P
         simulates(name, text, data, report(1, 1), output)
-    stops("pcapng", text, bytes.fromhex("0a0d0d0a") + bytes(40), "BadMagic", None)
     stops("a version that isn't 2.4", text, HEAD[:7] + b"\x03" + HEAD[8:], "BadVersion", None)
-    stops("Linux cooked capture", text, HEAD[:23] + b"\x71", "BadLink", None)
-    stops("an empty file", text, b"", "ShortHeader", None)
+    explain = ["explain", "s.toml", "in.pcap", "1", "2"]
+    for name, data, fault in [
+        ("pcapng", bytes.fromhex("0a0d0d0a") + bytes(40), "BadMagic"),
+        ("pcapng, another version and link", bytes.fromhex("0a0d0d0a") + HEAD[4:5] + b"\x01" + HEAD[6:23] + b"\x71", "BadMagic"),
+        ("a version that isn't 2.4 and another link", HEAD[:5] + b"\x01" + HEAD[6:23] + b"\x71", "BadVersion"),
+        ("Linux cooked capture", HEAD[:23] + b"\x71", "BadLink"),
+        ("an empty file", b"", "ShortHeader"),
+    ]:
+        stops(name, text, data, fault, None)
+        answer = with_files(text, data, lambda folder: run(explain, cwd=folder))
+        check(f"{name}, explained", answer == (1, b"", f"fault: {fault}\n".encode()), repr(answer))
+    answer = with_files(text, HEAD + record(P) + long[:16], lambda folder: run(explain, cwd=folder))
+    check("a record that is too long, explained", answer == (1, b"", b"fault: TooLong\n"), repr(answer))
+
+
+def test_cuts():
+    """A capture of two records, cut after each byte from its header on: the records that are whole are sent, and a cut inside
+    of one is reported."""
+    text, data = scenario(["install 0 1", "install 1 2", "take 2"]), capture("xy")
+    whole = model.Run(text, data).output()
+    check("two records", (len(data), len(whole)) == (24 + 2 * 56, 24 + 2 * 80))
+    for length in range(24, 136):
+        records, inside = divmod(length - 24, 56)
+        written = report(records, records, cut="yes" if inside else "no")
+        simulates(f"{length} bytes of a capture", text, data[:length], written, whole[: 24 + 80 * records])
+
+
+def datagram_of(length):
+    """A datagram of so many bytes, with a wrong checksum."""
+    return P[:2] + length.to_bytes(2, "big") + P[4:] + bytes([7]) * (length - len(P))
+
+
+def test_limits():
+    """Runs at the limits of what is accepted."""
+    # More than 1,000 records, and a listing of more than 65,536 bytes.
+    events = "0 install 0 1: installed\n"
+    for place in range(1200):
+        events += f"{2 * place + 1} arrive 0 {place}: placed 0\n{2 * place + 2} serve 0 0 1: forward A@10.8.0.1 from 1\n"
+    many = scenario(["live 0", "install 0 1", "take 1200"])
+    simulates("many records", many, capture("y" * 1200), events + report(1200, 1200), WRITTEN_HEAD + SENT_RECORD * 1200, ["--list"])
+    check("a long listing", len(events) > 65_536)
+    # The largest datagram that a tunnel can carry, and one of a byte more.
+    text = scenario(["live 0", "install 0 1", "take 1"], more="check = false\n")
+    largest = datagram_of(65_511)
+    status, out, err, made = simulated(text, HEAD + record(largest))
+    check("the largest datagram", (status, out, err) == (0, report(1, 1).encode(), b""), f"{status} {out!r} {err!r}")
+    is_right = made[:24] == WRITTEN_HEAD and made[32:40] == bytes.fromhex("ffff0000") * 2 and made[64:] == largest
+    check("the largest datagram, what is written", is_right and len(made) == 24 + 16 + 65_535)
+    simulates("a datagram that is too large", text, HEAD + record(datagram_of(65_512)), report(1, 0, drops="drop TooLarge 1\n"), WRITTEN_HEAD)
+    # 64 nodes of 16 workers, each with a table for 1,000,000 entries.
+    text = scenario(["live 0 63", "install 0 1", "install 63 1", "take 2"], [ALL], workers=16)
+    text = text.replace("capacity = 2", "capacity = 1000000").replace('["10.9.0.1", "10.9.0.2"]', listed([f"10.9.1.{node}" for node in range(64)]))
+    events = "0 install 0 1: installed\n1 install 63 1: installed\n2 arrive 0 0: placed 6\n3 serve 0 6 1: forward A@10.8.0.1 from 1\n"
+    events += "4 arrive 63 1: placed 6\n5 serve 63 6 1: forward A@10.8.0.1 from 1\n"
+    status, out, err, made = simulated(text, capture("yy"), ["--list"])
+    check("the largest cluster", (status, out, err) == (0, (events + report(2, 2)).encode(), b""), f"{status} {out!r} {err!r}")
+    check("the largest cluster, what is written", len(made) == 24 + 2 * 80)
 
 
 def unprinted(arguments, folder):
@@ -568,7 +674,8 @@ def test_simulate_faults():
     stops("no input", good, None, "OpenInput", None)
     stops("a bad scenario and no input", scenario(["take"]), None, "BadStep 0", None)
     stops("a stop and no input", scenario(["take 1", "stop 1"]), None, "BadStep 1", None)
-    stops("a step that isn't one behind a stop", scenario(["stop 0", "take"]), HEAD, "BadStep 1", None)
+    stops("a step that isn't one behind a stop", scenario(["stop 0", "take"]), HEAD, "BadStep 0", None)
+    stops("a stop behind a step that isn't one", scenario(["take", "stop 0"]), HEAD, "BadStep 0", None)
     stops("two stops", scenario(["take 1", "stop 1", "stop 0"]), HEAD, "BadStep 1", None)
     words = ["explain", "s.toml", "in.pcap", "0", "1"]
     answer = with_files(good, None, lambda folder: run(words, cwd=folder))
@@ -643,6 +750,14 @@ def stops_in_traffic(name, text, data):
     check(f"{name}: node 1 sends what came to it", len(sent) == 8 - lost and all(one[28:32] == bytes([10, 9, 0, 2]) for one in sent[4 - lost :]), repr(sent))
 
 
+def runs_with_a_restart(name, text):
+    """Node 0 restarts, and sends y four times in its two lives. The records that are sent, without their outer checksums."""
+    made = runs(name, text, capture("yzyzyzyz"), report(8, 8, lost=1))
+    sent = [without_sum(one) for one in records_of(made)]
+    check(f"{name}: node 0 sends y four times, in two lives", sent[:4] == [sent_to(1, 1000, 1)] * 4, repr(sent))
+    return sent
+
+
 def test_run_rows():
     """A cluster on threads. What may differ by the schedule is left open."""
     held = scenario(["install 0 1", "hold 0"], workers=2)
@@ -651,16 +766,18 @@ def test_run_rows():
     for step in ["drain 1", "full 0 1", "full 0"]:
         breaks_off(f"the step {step}", scenario(["take 1", "install 0 1", step], workers=2), HEAD, "BadStep 2")
     steps = ["install 0 1", "install 1 1", "take 3", "lose 1", "again 0", "install 0 2", "install 1 2", "take 2", "restart 0", "take 2"]
-    text = scenario(steps, workers=2, more="ring = 16\n").replace("capacity = 2", "capacity = 8")
+    few = scenario(steps, workers=2, more="ring = 16\n")
+    text = few.replace("capacity = 2", "capacity = 8")
     for _ in range(20):
-        made = runs("two nodes with a restart", text, capture("yzyzyzyz"), report(8, 8, lost=1))
-        sent = [without_sum(one) for one in records_of(made)]
-        check("node 0 sends y four times, in two lives", sent[:4] == [sent_to(1, 1000, 1)] * 4, repr(sent))
+        sent = runs_with_a_restart("two nodes with a restart", text)
         later = sorted(sent[4:])
         b_first, a_first = (sorted([sent_to(2, 1000, 1), sent_to(2, 1001, one), *[sent_to(2, 1001, 1)] * 2]) for one in (2, 1))
         check("node 1 sends y once and z three times", later in (b_first, a_first), repr(sent))
     for _ in range(5):
-        runs("the same with a limit of no time", limited(text, 0), capture("yzyzyzyz"), report(8, 8, lost=1))
+        runs_with_a_restart("the same with a limit of no time", limited(text, 0))
+        runs_with_a_restart("the same with two entries", few)
+        runs_with_a_restart("the same with two entries and a limit of no time", limited(few, 0))
+        stops_in_traffic("two nodes of two entries with a stop", few.replace("restart 0", "stop 0"), capture("yzyzyzyz"))
     text = text.replace("restart 0", "stop 0")
     for _ in range(20):
         stops_in_traffic("two nodes with a stop", text, capture("yzyzyzyz"))
@@ -683,8 +800,17 @@ def test_run_rows():
     runs("drops of a driver", drops, capture("y") + record(fragment), both, WRITTEN_HEAD)
 
 
+def runs_as_simulated(name, text, data):
+    """A run sends what is sent simulated, node by node, and reports the same."""
+    status, printed, _, simulation = simulated(text, data)
+    check(f"{name}, simulated", status == 0, text)
+    by_node = sorted(records_of(simulation), key=lambda one: one[28:32])
+    runs(f"{name} on threads", text, data, printed.decode(), WRITTEN_HEAD + b"".join(by_node))
+
+
 def test_run_as_simulated():
     """With one worker a node, one version, no restart and room in the rings each node sends what it sends simulated."""
+    runs_as_simulated("a repeat", scenario(["install 0 1", "install 1 1", "take 4", "again 1", "take 9"]), capture("xyzyx"))
     for seed in range(20):
         source = random.Random(seed)
         nodes = source.randrange(1, 4)
@@ -696,11 +822,13 @@ def test_run_as_simulated():
         text = scenario(steps, scheme=source.choice(["maglev", "plain", "round"]))
         text = text.replace('["10.9.0.1", "10.9.0.2"]', listed([f"10.9.0.{node + 1}" for node in range(nodes)]))
         text = text.replace('"turn"', source.choice(['"turn"', '"hash"']))
-        data = random_capture(source)
-        status, printed, _, simulation = simulated(text, data)
-        check(f"scenario {seed}, simulated", status == 0, text)
-        by_node = sorted(records_of(simulation), key=lambda one: one[28:32])
-        runs(f"scenario {seed} on threads", text, data, printed.decode(), WRITTEN_HEAD + b"".join(by_node))
+        runs_as_simulated(f"scenario {seed}", text, random_capture(source))
+
+
+def runs_both_ways(name, text, letters, lines, rest):
+    """`run --splits` prints these lines and the report, and without the option the report alone; what is sent is the same."""
+    made = runs(name, text, capture(letters), lines + rest, words=["--splits"])
+    runs(f"{name}, without its splits", text, capture(letters), rest, made)
 
 
 def test_run_splits():
@@ -708,21 +836,20 @@ def test_run_splits():
     a1, c2 = "1 A@10.8.0.1", "2 C@10.8.0.3"
     apart = scenario(["install 0 1", "install 1 2", "take 2"])
     lines = told(1006, "2 5", 5, a1, c2, "moved") + counts(1, 0, 1)
-    runs("run: one split", apart, capture("xx"), lines + report(2, 2), words=["--splits"])
-    runs("run: no split", apart, capture("yy"), counts(1, 0, 0) + report(2, 2), words=["--splits"])
+    runs_both_ways("run: one split", apart, "xx", lines, report(2, 2))
+    runs_both_ways("run: no split", apart, "yy", counts(1, 0, 0), report(2, 2))
     runs("run: no send", scenario(["take 1"]), capture("y"), counts(0, 0, 0) + report(1, 0, drops="drop NoVersion 1\n"), words=["--splits"])
     steps = ["install 0 1", "install 1 1", "take 4", "restart 0", "install 0 2", "take 4"]
     lines = told(1006, "3 9", 5, a1, c2, "moved") + told(1006, "9 16", 5, c2, a1, "moved") + counts(2, 0, 2)
     for _ in range(10):
-        made = runs("run: splits by a restart", scenario(steps), capture("xxyyxxyy"), lines + report(8, 8), words=["--splits"])
-        runs("the same without its splits", scenario(steps), capture("xxyyxxyy"), report(8, 8), made)
+        runs_both_ways("run: splits by a restart", scenario(steps), "xxyyxxyy", lines, report(8, 8))
     alone = scenario(["live 0", "install 0 1", "take 1", "restart 0", "install 0 2", "take 1"], [ALL, A_DOWN])
     lines = told(1000, "2 6", 6, a1, "2 B@10.8.0.2", "down") + counts(1, 1, 0)
-    for verb in (simulates, runs):
-        verb(f"{verb.__name__}: a packet a life", alone, capture("yy"), lines + report(2, 2), words=["--splits"])
+    simulates("a packet a life", alone, capture("yy"), lines + report(2, 2), words=["--splits"])
+    runs_both_ways("run: a packet a life", alone, "yy", lines, report(2, 2))
     text = scenario(["install 0 1", "install 1 1", "take 3"], scheme="round")
     lines = told(1006, "4 7", 5, "1 B@10.8.0.2", a1, "moved") + counts(2, 0, 1)
-    runs("run: a split by turns", text, capture("yxx"), lines + report(3, 3), words=["--splits"])
+    runs_both_ways("run: a split by turns", text, "yxx", lines, report(3, 3))
 
 
 def steps_by_lives(source, nodes, _workers):
@@ -753,7 +880,9 @@ def test_run_faults():
     good = scenario(["install 0 1", "take 1"])
     breaks_off("run: no TOML", "format = ", HEAD, "BadToml")
     breaks_off("run: an unknown key before a step", "color = 1\n" + scenario(["hold 0"]), HEAD, "BadKey")
-    breaks_off("run: a step that isn't one before one that isn't known", scenario(["hold 0", "take"]), HEAD, "BadStep 1")
+    breaks_off("run: a step that isn't one behind one that isn't known", scenario(["full 0 0", "take"]), HEAD, "BadStep 0")
+    breaks_off("run: a step that isn't known behind one that is", scenario(["take 1", "hold 0", "take"]), HEAD, "BadStep 1")
+    breaks_off("run: a step that isn't known behind one that isn't one", scenario(["take", "hold 0"]), HEAD, "BadStep 0")
     breaks_off("run: no scenario", None, HEAD, "OpenScenario")
     breaks_off("run: no input", good, None, "OpenInput")
     breaks_off("run: a step that isn't known and no input", scenario(["hold 0"]), None, "BadStep 0")

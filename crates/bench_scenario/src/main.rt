@@ -3,7 +3,7 @@
 //! Argument: how many times. Prints how many steps there are, or the fault.
 #![tactic(auto)]
 
-use scenario::read;
+use scenario::{Played, read};
 use std::alloc::Global;
 use std::env;
 use std::io::Read;
@@ -12,7 +12,7 @@ use std::io::Read;
 fn answer(alloc: Global, text: &[u8], times: u32) -> anyhow::Result<String> {
     let mut answer = String::new(alloc);
     for _ in 0..times {
-        answer = match read(alloc, text) {
+        answer = match read(alloc, Played::InTurn, text) {
             Ok(scenario) => {
                 let steps = scenario.steps.len();
                 format!(in alloc; "steps {steps}")?

@@ -3,3 +3,4 @@ pub mod Ruled
 pub mod Told
 pub mod Halts
 pub mod Audited
+pub mod Known

@@ -1,11 +1,13 @@
 -- The command that runs a scenario's cluster on threads.
-use Rattle.std.specs.Prelude.{◌≡◌, ◌⊎◌, Bool, List, ℕ}
+use Rattle.std.specs.Prelude.{◌≡◌, ◌⊎◌, Bool, List, ℕ, None}
 use Rattle.std.specs.Io.KnownBytes.{Appends}
 use Rattle.pcap_file.specs.Device.{Tape, Unfailed, PutRefused}
 use Rattle.node_duties.specs.declared.fault.RunFault.{RunFault}
 use Rattle.node_duties.specs.declared.fault.RunFault.TheVariants as threads
+use Rattle.scenario.specs.declared.playing.Played.TheVariants.{OnThreads}
 use Rattle.scenario.specs.declared.reading.Scenario.{Scenario}
 use Rattle.scenario.specs.Meaning.{Means}
+use Rattle.cluster_commands.specs.Knowing.{first_unknown_of}
 use Rattle.cluster_play.specs.declared.stop.RunStop.{RunStop}
 use Rattle.cluster_play.specs.declared.stop.RunStop.TheVariants.{UnknownStep, Simulation, Threads}
 use Rattle.cluster_play.specs.Runs.{Ran, Halted}
@@ -31,17 +33,19 @@ stop_fault (Threads fault) = threads_fault fault
 -- report the run's, behind its splits where they are asked for; and the run keeps the promises
 pub record Runs (splits : Bool) (text : List ℕ) (input input' output output' report report' : Tape) : Type 0 where
   pub scenario : Scenario
-  pub means : Means text scenario
+  pub means : Means OnThreads text scenario
   pub answer : List ℕ
   pub ran : Ran scenario splits input input' output output' answer
   pub kept : KeepsPromises scenario ran.head.link ran.records ran.history
   pub written : Appends report.bytes report'.bytes answer
   pub unfailed : Unfailed report report'
 
--- the text means a scenario, and its run stopped by this fault
+-- the text means a scenario that is played on threads, so that a cluster on threads knows each step, and its run stopped by
+-- this fault
 pub record RunStops (fault : CliFault) (text : List ℕ) (input input' output output' : Tape) : Type 0 where
   pub scenario : Scenario
-  pub means : Means text scenario
+  pub means : Means OnThreads text scenario
+  pub known : first_unknown_of scenario.steps.items ≡ None
   pub why : RunStop
   pub named : fault ≡ stop_fault why
   pub stopped : Halted scenario input input' output output' why
@@ -49,16 +53,16 @@ pub record RunStops (fault : CliFault) (text : List ℕ) (input input' output ou
 -- the same as when the cluster ran, but the report was given up
 pub record RunReportFails (fault : CliFault) (splits : Bool) (text : List ℕ) (input input' output output' report report' : Tape) : Type 0 where
   pub scenario : Scenario
-  pub means : Means text scenario
+  pub means : Means OnThreads text scenario
   pub answer : List ℕ
   pub ran : Ran scenario splits input input' output output' answer
   pub named : fault ≡ Write
   pub refused : PutRefused answer report report'
 
--- the command stopped by this fault: the text is no scenario, and nothing was called; or the run stopped, and nothing was
--- reported; or the report was given up
+-- the command stopped by this fault: the text is no scenario that is played on threads, and nothing was called; or the run
+-- stopped, and nothing was reported; or the report was given up
 abbrev pub RunCommandFails : CliFault → Bool → List ℕ → Tape → Tape → Tape → Tape → Tape → Tape → Type 0 → Type 0 → Type 0
 RunCommandFails fault splits text input input' output output' report report' Uncalled Unreported =
-    (ScenarioFails fault text × Uncalled)
+    (ScenarioFails OnThreads fault text × Uncalled)
     ⊎ ((RunStops fault text input input' output output' × Unreported)
     ⊎ RunReportFails fault splits text input input' output output' report report')

@@ -7,7 +7,7 @@ use command_faults::{CliFault, put_text};
 use connection_table::TableKey;
 use node_threads::RunFault;
 use pcap_file::{Sink, Source};
-use scenario::read;
+use scenario::{Played, read};
 use scenario_commands::{run_fault, scenario_fault};
 use std::alloc::Global;
 use std::sync::Wait;
@@ -39,9 +39,9 @@ fn stop_fault(stop: RunStop) -> CliFault
 /// capture, node by node. Then it writes the report, which ends in `audit agrees`, with what is reported of its splits
 /// before it where `splits` holds.
 ///
-/// The devices aren't called before the scenario was accepted and none of its steps is `full`, `hold` or `drain`. After a
-/// fault that isn't `Write` nothing is in the report, and the output is as it was. Where memory was refused while the output
-/// was written, it is cut between records.
+/// The devices aren't called before the scenario was accepted, which may have no step `full`, `hold` or `drain`. After a fault
+/// that isn't `Write` nothing is in the report, and the output is as it was. Where memory was refused while the output was
+/// written, it is cut between records.
 pub fn run<T: Threads + Wait + Sync, I: Source, O: Sink, R: Sink>(
     rt: &T,
     alloc: Global,
@@ -77,7 +77,7 @@ pub fn run_keyed<T: Threads + Wait + Sync, I: Source, O: Sink, R: Sink>(
     ensures stopped { IfErr result (λ fault. RunCommandFails fault splits scenario.now (I.tape input.old) (I.tape input.new) (O.tape output.old) (O.tape output.new) (R.tape report.old) (R.tape report.new)
         ((input.new ≡ input.old) × (output.new ≡ output.old) × (report.new ≡ report.old)) (report.new ≡ report.old)) }
 {
-    let scenario = match read(alloc, scenario) {
+    let scenario = match read(alloc, Played::OnThreads, scenario) {
         Ok(scenario) => scenario,
         Err(fault) => return Err(scenario_fault(fault)),
     };

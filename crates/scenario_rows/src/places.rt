@@ -1,7 +1,7 @@
 //! The places at which a scenario is refused, and that reading refuses it there.
 
 use fault_places::{Flaw, Key, Place, key_place, member_place, pool_place};
-use scenario::{ScenarioFault, format_of, pools_in};
+use scenario::{Played, ScenarioFault, format_of, pools_in};
 use std::alloc::Global;
 use std::process::Abort;
 
@@ -32,7 +32,7 @@ fn place_with(rt: &impl Abort, alloc: Global, old: &str, new: &str) -> Option<Pl
     let table = toml::table_from_str(alloc, text.as_str()).expect(rt, "a document");
     let format = format_of(&table).expect(rt, "a format");
     let place = key_place(alloc, format, &table).expect(rt, "memory");
-    let fault = scenario::read(alloc, text.as_bytes()).err();
+    let fault = scenario::read(alloc, Played::InTurn, text.as_bytes()).err();
     assert_eq!(rt; fault == Some(ScenarioFault::BadKey), place.is_some());
     place
 }
@@ -124,7 +124,7 @@ fn word_with(rt: &impl Abort, alloc: Global, old: &str, new: &str) -> Option<Pla
     let table = toml::table_from_str(alloc, text.as_str()).expect(rt, "a document");
     let format = format_of(&table).expect(rt, "a format");
     let place = member_place(alloc, format, &table).expect(rt, "memory");
-    let fault = scenario::read(alloc, text.as_bytes()).err();
+    let fault = scenario::read(alloc, Played::InTurn, text.as_bytes()).err();
     assert_eq!(rt; fault == Some(ScenarioFault::BadMember), place.is_some());
     place
 }
@@ -153,7 +153,7 @@ fn pool_place_with(rt: &impl Abort, alloc: Global, old: &str, new: &str) -> Opti
     let pools = pools_in(alloc, &table).expect(rt, "memory");
     let (size, versions) = pools.expect(rt, "versions");
     let place = pool_place(alloc, size, versions.as_slice()).expect(rt, "memory");
-    let fault = scenario::read(alloc, text.as_bytes()).err();
+    let fault = scenario::read(alloc, Played::InTurn, text.as_bytes()).err();
     assert_eq!(rt;
         matches!(fault, Some(ScenarioFault::Pool(_))),
         place.is_some()

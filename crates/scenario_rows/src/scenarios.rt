@@ -4,7 +4,7 @@ use five_tuple::Flow;
 use hash_laws::AnyHash;
 use pool_versions::PoolFault;
 use scenario::ScenarioFault::{BadFormat, BadKey, BadMember, BadStep, BadToml, Pool, TooLong};
-use scenario::{Scenario, ScenarioFault, SchemeKind, SpreadKind, Step, read};
+use scenario::{Played, Scenario, ScenarioFault, SchemeKind, SpreadKind, Step, read};
 use std::alloc::Global;
 use std::process::Abort;
 
@@ -60,7 +60,7 @@ fn read_changed(
         .as_str()
         .replacen(alloc, second.0, second.1, 1)
         .expect(rt, "memory");
-    read(alloc, twice.as_bytes())
+    read(alloc, Played::InTurn, twice.as_bytes())
 }
 
 fn fault(
@@ -157,9 +157,9 @@ fn weights_of_members(rt: HostRuntime) {
 fn a_whole_scenario(rt: HostRuntime) {
     let alloc = rt.alloc();
     let steps =
-        "steps = [\"install 1 4294967295\", \"live\", \"live 1 0\", \"take 2\", \"lose 0\", \"again 7\", \"full 0\", \"full 1 0\", \"hold 0\", \"drain 0\", \"restart 1\", \"stop 0\"]\n";
+        "steps = [\"install 1 4294967295\", \"live\", \"live 1 0\", \"take 2\", \"lose 0\", \"again 7\", \"full 0\", \"full 1 0\", \"hold 0\", \"drain 0\", \"restart 1\"]\n";
     let whole = text(&rt, alloc, steps);
-    let scenario = read(alloc, whole.as_bytes()).expect(&rt, "a scenario");
+    let scenario = read(alloc, Played::InTurn, whole.as_bytes()).expect(&rt, "a scenario");
     assert_eq!(rt; scenario.size.slots(), 7);
     assert_eq!(rt; scenario.hash, AnyHash::Sum);
     assert_eq!(rt; scenario.scheme, SchemeKind::Maglev);
@@ -189,7 +189,7 @@ fn a_whole_scenario(rt: HostRuntime) {
     assert_eq!(rt; ups.len(), 2);
     assert!(rt; scenario.catalogue.get(1).is_some() && scenario.catalogue.get(3).is_none());
     let steps = scenario.steps.as_slice();
-    assert_eq!(rt; steps.len(), 12);
+    assert_eq!(rt; steps.len(), 11);
     assert!(rt;
         matches!(
             &steps[0],
@@ -209,7 +209,6 @@ fn a_whole_scenario(rt: HostRuntime) {
     assert!(rt; matches!(&steps[8], Step::Hold(0)));
     assert!(rt; matches!(&steps[9], Step::Drain(0)));
     assert!(rt; matches!(&steps[10], Step::Restart(1)));
-    assert!(rt; matches!(&steps[11], Step::Stop(0)));
 }
 
 #[test]
@@ -409,6 +408,41 @@ fn counts_at_their_limits(rt: HostRuntime) {
     assert_eq!(rt; fault_of_steps(&rt, alloc, 100_000), None);
     assert_eq!(rt; fault_of_steps(&rt, alloc, 100_001), Some(BadKey));
     assert_eq!(rt; fault_of_steps(&rt, alloc, 150_000), Some(TooLong));
-    assert_eq!(rt; read(alloc, b"").err(), Some(BadFormat));
-    assert_eq!(rt; read(alloc, b"format = 1\n# \xff").err(), Some(BadToml));
+    assert_eq!(rt; read(alloc, Played::InTurn, b"").err(), Some(BadFormat));
+    assert_eq!(rt; read(alloc, Played::InTurn, b"format = 1\n# \xff").err(), Some(BadToml));
+}
+
+// The scenario with these steps, read as one that is played so.
+fn read_as(
+    rt: &impl Abort,
+    alloc: Global,
+    played: Played,
+    steps: &str,
+) -> Result<Scenario, ScenarioFault> {
+    let line = format!(in alloc; "steps = [{steps}]\n").expect(rt, "memory");
+    let whole = text(rt, alloc, line.as_str());
+    read(alloc, played, whole.as_bytes())
+}
+
+#[test]
+fn steps_by_how_it_is_played(rt: HostRuntime) {
+    let alloc = rt.alloc();
+    let (in_turn, on_threads) = (Played::InTurn, Played::OnThreads);
+    for (played, steps, fault) in [
+        (in_turn, "'stop 0', 'take'", Some(BadStep(0))),
+        (in_turn, "'take', 'stop 0'", Some(BadStep(0))),
+        (in_turn, "'take 1', 'stop 2', 'stop 0'", Some(BadStep(1))),
+        (in_turn, "'take 1', 'restart 0', 'stop 0'", Some(BadStep(2))),
+        (in_turn, "'hold 0', 'full 0 0', 'full 0', 'drain 0'", None),
+        (on_threads, "'full 0 0', 'take'", Some(BadStep(0))),
+        (on_threads, "'take 1', 'hold 0', 'take'", Some(BadStep(1))),
+        (on_threads, "'take', 'hold 0'", Some(BadStep(0))),
+        (on_threads, "'stop 0', 'drain 0', 'full 0'", Some(BadStep(1))),
+        (on_threads, "'stop 2'", Some(BadStep(0))),
+        (on_threads, "'take 1', 'restart 0', 'stop 0'", None),
+    ] {
+        assert_eq!(rt; read_as(&rt, alloc, played, steps).err(), fault, "{steps}");
+    }
+    let scenario = read_as(&rt, alloc, on_threads, "'stop 1'").expect(&rt, "a scenario");
+    assert!(rt; matches!(scenario.steps.get(0), Some(Step::Stop(1))));
 }

@@ -278,7 +278,7 @@ static NO_SCENARIOS: [(Words<'static>, CliFault); 6] = [
         },
         CliFault::BadStep(2),
     ),
-    // The first stop is named, after a step that isn't one.
+    // A stop isn't one, and the first is named.
     (
         Words {
             steps: "'install 0 1', 'restart 0', 'stop 0'",
@@ -298,7 +298,7 @@ static NO_SCENARIOS: [(Words<'static>, CliFault); 6] = [
             steps: "'stop 0', 'stop 1', 'tale 1'",
             ..PLAIN
         },
-        CliFault::BadStep(2),
+        CliFault::BadStep(0),
     ),
 ];
 

@@ -175,8 +175,8 @@ static UNKNOWN: [(&str, u32); 4] = [
     ("'install 0 1', 'hold 0'", 1),
     ("'drain 1', 'full 0'", 0),
     ("'take 1', 'lose 1', 'full 0 0'", 2),
-    // A step that isn't one is named first.
-    ("'hold 0', 'hold 2'", 1),
+    // One behind it that is none of any command isn't named.
+    ("'hold 0', 'hold 2'", 0),
 ];
 
 // No device is called.
