@@ -2,3 +2,4 @@ pub mod Counting
 pub mod Ranked
 pub mod Faults
 pub mod Filled
+pub mod Written

@@ -2,16 +2,19 @@
 #![tactic(auto)]
 
 ghost use Rattle.std.specs.Prelude.{◌≡◌, ◌≢◌, length};
+ghost use Rattle.maglev_ffi.specs.ManySlots.{slots_answer, slots_of};
 ghost use Rattle.maglev_ffi.specs.Slots.{slot_answer, differing_answer};
 ghost use Rattle.maglev_ffi.specs.Tables.{IsAnswer, IsTableOf};
 
 mod entrants;
 mod fault;
 mod filling;
+mod flows;
 mod hashes;
 
+use fault::Fault;
 use five_tuple::Flow;
-use hash_laws::FlowHash;
+pub use flows::MaglevFlow;
 use maglev_table::TableSize;
 use std::alloc::Global;
 
@@ -64,7 +67,28 @@ pub extern "C" fn maglev_slot(
         dport,
         proto,
     };
-    (hash.hash(b'f', &flow.bytes()) % u64::from(size.slots())) as u32
+    flows::slot_of(size, &hash, flow)
+}
+
+/// The slots of many flows: that of each flow at its place. Answers 0, or the number of a fault, and the slots are then as they
+/// were.
+#[unsafe(no_mangle)]
+pub extern "C" fn maglev_slots(size: u32, hash: u32, flows: &[MaglevFlow], slots: &mut [u32]) -> u32
+    ensures answer { result ≡ slots_answer size hash (length flows.now) (length slots.old) }
+    ensures each { result ≡ 0 → slots.new ≡ slots_of size hash flows.now }
+    ensures unchanged { result ≢ 0 → slots.new ≡ slots.old }
+{
+    let Some(size) = TableSize::new(size) else {
+        return Fault::BadSize.number();
+    };
+    let Some(hash) = hashes::hash_of(hash) else {
+        return Fault::BadHash.number();
+    };
+    if slots.len() != flows.len() {
+        return Fault::BadRoom.number();
+    }
+    flows::write_by(size, hash, flows, slots);
+    0
 }
 
 /// At how many slots two tables of one size differ, 2^64 - 1 where their sizes differ.
@@ -83,6 +107,3 @@ pub extern "C" fn maglev_differing(old: &[u32], new: &[u32]) -> usize
     }
     count
 }
-
-#[cfg(test)]
-mod tests;
