@@ -154,6 +154,32 @@ def test_exceptions():
     check("slots that differ", maglev.differing([0, 1, 2, 0, 1, 2, 0], [0, 1, 2, 0, 2, 1, 0]) == 2)
 
 
+def bare(folder, target):
+    """A caller without a C library, linked with the archive in a folder for a machine by the kit; what its run answered, if it ran."""
+    kit = pathlib.Path(did(["rt", "doc"])[1].decode().split()[0]).parent / "toolchain" / "bin"
+    headers = did([COMPILER, "-print-file-name=include"])[1].decode().strip()
+    options = ["-O1", "-ffreestanding", "-fno-builtin", "-nostdinc", "-isystem", headers, "-I", TOP / "share" / "include"]
+    linked = ["-nostdlib", "-static", "-fuse-ld=lld", "-B", kit, folder / "libmaglev.a", "-o", folder / "bare"]
+    made = did([kit / "clang", f"--target={target}", *options, TOP / "tests" / "embed_bare.c", *linked])
+    check(f"a caller without a C library, for {target}", made[0] == 0, made[2].decode())
+    machine, here = target.partition("-")[0], os.uname().machine
+    by = [] if machine == here else [tool for tool in (f"qemu-{machine}", f"qemu-{machine}-static") if shutil.which(tool)][:1]
+    if machine != here and not by:
+        print(f"qemu-{machine} isn't installed: what it shows is skipped")
+        return None
+    return did([*by, folder / "bare"])
+
+
+def test_machines():
+    """The archive needs no C library. That of another machine is built and linked too, and runs where qemu is."""
+    check("a run without a C library", bare(MADE, "x86_64-unknown-linux-gnu") == (0, b"", b""))
+    other = MADE / "other"
+    other.mkdir()
+    made = did([sys.executable, TOP / "bin" / "library.py", other, "aarch64-unknown-linux-gnu"])
+    check("the library for AArch64", made[0] == 0, made[2].decode())
+    check("its run", bare(other, "aarch64-unknown-linux-gnu") in (None, (0, b"", b"")))
+
+
 def test_data_plane():
     """The example of a data plane picks what simulate sent."""
     played = did([PROGRAM, "simulate", "--list", TOP / "examples" / "failover.toml", TOP / "examples" / "failover.pcap", MADE / "sent.pcap"])[1]
