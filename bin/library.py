@@ -48,7 +48,10 @@ def archive(target):
         raise Missing(f"the crate {CRATE} isn't proved")
     if target == HERE:
         return made.read_bytes()
-    with tempfile.TemporaryDirectory(dir=build.CRATES / CRATE / "out") as folder:
+    # Not below a folder that is copied.
+    room = build.CRATES / "maglev" / "out"
+    room.mkdir(exist_ok=True)
+    with tempfile.TemporaryDirectory(dir=room) as folder:
         build.make_tree(pathlib.Path(folder), CRATE, build.stands_on())
         crate = pathlib.Path(folder) / "crates" / CRATE
         done = build.rt_in(crate, "lib", "--target", target)
