@@ -986,7 +986,8 @@ def test_verbose_of_files():
             return run(["simulate", "-v", "s.toml", "in.pcap", "out.pcap"], cwd=folder, stdout=report)
 
     status, _, err = with_files(good, HEAD + record(P), unprinted_report)
-    check("verbose: a report that can't be written", (status, err.decode()) == (1, f"fault: Write\nthe report: {full}\n"), f"{status} {err!r}")
+    is_right = status == 1 and err.decode().startswith(f"fault: Write\nthe report: {full}") and err.count(b"\n") == 2
+    check("verbose: a report that can't be written", is_right, f"{status} {err!r}")
 
 
 def test_standard_streams_that_are_one_file():

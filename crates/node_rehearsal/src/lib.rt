@@ -1,6 +1,6 @@
 //! A node's run on one thread, in one of the orders that its threads might take. Its records are those that threads make; at
 //! a stop they are those of workers that served nothing in that life. What it promises is what a run on threads promises.
-//! The tests compare it with the replay of its history, and play the worked examples step by step.
+//! The tests of `node_schedules` compare it with the replay of its history.
 #![tactic(auto)]
 
 ghost use Rattle.std.specs.Prelude.{◌≡◌, ◌<◌, ◌++◌, ◌∷◌, [], ℕ, List, true, length, IfOk, OnOk, IsTrue, is_some};
@@ -25,9 +25,6 @@ use pool_versions::Catalogue;
 use selection::{PreparedVersion, Scheme};
 use std::alloc::{AllocError, Global};
 use std::sync::Arc;
-
-#[cfg(test)]
-mod tests;
 
 /// A queue of so many places for each worker, the oldest packet in front.
 #[derive(Drop)]

@@ -55,17 +55,17 @@ impl From<CliFault> for Trouble {
 
 /// What is known of a command's files.
 #[derive(Clone, Copy)]
-pub struct Files<'a> {
+pub struct Files<'a, 'b> {
     pub paths: Paths<'a>,
     /// The scenario's text, as far as it could be read.
-    pub text: &'a [u8],
+    pub text: &'b [u8],
     /// The records of INPUT in front of the fault, where it could be read again.
     pub records: Option<u32>,
 }
 
 /// What is said of a fault, None where nothing more is known or memory was refused. A terminal can show it, whatever the files
 /// are called and whatever the scenario says.
-pub fn reason(alloc: Global, trouble: &Trouble, files: &Files<'_>) -> Option<String> {
+pub fn reason(alloc: Global, trouble: &Trouble, files: &Files<'_, '_>) -> Option<String> {
     let scenario = shown(alloc, files.paths.scenario).ok()?;
     let input = shown(alloc, files.paths.input).ok()?;
     let output = shown(alloc, files.paths.output).ok()?;
@@ -74,11 +74,16 @@ pub fn reason(alloc: Global, trouble: &Trouble, files: &Files<'_>) -> Option<Str
         input: input.as_str(),
         output: output.as_str(),
     };
-    reason_by(alloc, trouble, &Files { paths, ..*files })
+    let shown = Files {
+        paths,
+        text: files.text,
+        records: files.records,
+    };
+    reason_by(alloc, trouble, &shown)
 }
 
 // The same, of paths that a terminal can show.
-fn reason_by(alloc: Global, trouble: &Trouble, files: &Files<'_>) -> Option<String> {
+fn reason_by(alloc: Global, trouble: &Trouble, files: &Files<'_, '_>) -> Option<String> {
     match trouble.fault {
         CliFault::OpenScenario | CliFault::ReadScenario => {
             system(alloc, files.paths.scenario, trouble.system)
@@ -86,7 +91,10 @@ fn reason_by(alloc: Global, trouble: &Trouble, files: &Files<'_>) -> Option<Stri
         CliFault::OpenInput => system(alloc, files.paths.input, trouble.system),
         CliFault::Write if trouble.of_report => system(alloc, "the report", trouble.system),
         CliFault::OpenOutput | CliFault::Write => system(alloc, files.paths.output, trouble.system),
-        CliFault::NoRandom => plain(alloc, "the system gives no random bytes, of which the tables' key is drawn"),
+        CliFault::NoRandom => plain(
+            alloc,
+            "the system gives no random bytes, of which the tables' key is drawn",
+        ),
         CliFault::ThreadLost => plain(
             alloc,
             "a thread couldn't be started: allow more threads, or take fewer balancers and workers",
@@ -122,7 +130,7 @@ fn capture(
     alloc: Global,
     fault: PcapFault,
     trouble: &Trouble,
-    files: &Files<'_>,
+    files: &Files<'_, '_>,
 ) -> Option<String> {
     match fault {
         PcapFault::TooLong if files.records == Some(MOST_RECORDS) => {
@@ -169,7 +177,7 @@ fn header(alloc: Global, fault: PcapFault, path: &str, head: &[u8]) -> Option<St
 }
 
 // What is wrong with a record of INPUT.
-fn record(alloc: Global, files: &Files<'_>, what: &str) -> Option<String> {
+fn record(alloc: Global, files: &Files<'_, '_>, what: &str) -> Option<String> {
     let path = files.paths.input;
     match files.records {
         Some(records) => format!(in alloc; "{path}, record {records}: {what}").ok(),

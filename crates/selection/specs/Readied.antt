@@ -35,8 +35,12 @@ pub record Readied (S : Type 0) : Type 0 where
 
 abbrev pub readied_version : {S : Type 0} → S → ℕ → Version → Readied S
 readied_version scheme size v = record {
-    scheme = scheme; size = size; number = v.number;
-    services = map (readied_of scheme size) v.services.items; source = map parts_of v.services.items }
+  scheme = scheme;
+  size = size;
+  number = v.number;
+  services = map (readied_of scheme size) v.services.items;
+  source = map parts_of v.services.items;
+}
 
 -- each service is for the scheme and the size
 abbrev pub AreFor : {S : Type 0} → S → ℕ → List (ReadiedService S) → Type 0

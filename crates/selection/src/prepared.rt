@@ -44,11 +44,9 @@ impl<S: Scheme> Model for PreparedVersion<S> {
 
     ghost view = { λ a. record { scheme = a.scheme; size = a.size; number = a.number; services = a.services.items; source = map parts_of (arc_value a.version).services.items } };
 
-    ghost invariant = {
-        λ a. AreFor a.scheme a.size a.services.items × ArePlaced (get same_key a.places) a.services.items
+    ghost invariant = { λ a. AreFor a.scheme a.size a.services.items × ArePlaced (get same_key a.places) a.services.items
         × (record { scheme = a.scheme; size = a.size; number = a.number; services = a.services.items; source = map parts_of (arc_value a.version).services.items }
-            ≡ readied_version a.scheme a.size (arc_value a.version))
-    };
+        ≡ readied_version a.scheme a.size (arc_value a.version)) };
 }
 
 // How many members are up.

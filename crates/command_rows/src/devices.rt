@@ -3,6 +3,7 @@ ghost use Rattle.std.specs.Prelude.{None};
 ghost use Rattle.pcap_file.specs.Host.{taped};
 
 use pcap_file::{CallCounts, DeviceFault, Sink, Source};
+use std::alloc::Global;
 
 /// A source that gives 16 bytes a call, and fails at one call.
 #[derive(Drop)]
@@ -18,6 +19,22 @@ pub(crate) struct FailingSink {
     pub(crate) bytes: Vec<u8>,
     pub(crate) fails_at: u64,
     pub(crate) counts: CallCounts,
+}
+
+pub(crate) fn source(bytes: &[u8], fails_at: u64) -> FailingSource<'_> {
+    FailingSource {
+        bytes,
+        fails_at,
+        counts: CallCounts::none(),
+    }
+}
+
+pub(crate) fn sink(alloc: Global, fails_at: u64) -> FailingSink {
+    FailingSink {
+        bytes: Vec::new(alloc),
+        fails_at,
+        counts: CallCounts::none(),
+    }
 }
 
 impl Source for FailingSource<'_> {
