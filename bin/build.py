@@ -1,7 +1,7 @@
 #!/usr/bin/env python3
-"""build.py NAME: proves and builds a program of this repository with all that it uses, as many crates side by side as
-there are processors and memory for, those with the longest way to the program first. It prints a line for each crate when it
-is proved; where one isn't, its lines. `build.py --sources NAME` only lists what the program is built from.
+"""build.py NAME: proves and builds a program of this repository, or a static library, with all that it uses, as many crates
+side by side as there are processors and memory for, those with the longest way to NAME first. It prints a line for each crate
+when it is proved; where one isn't, its lines. `build.py --sources NAME` only lists what NAME is built from.
 
 `rt` keeps others out of each crate that it reads, so that two runs of it over one lower crate wait for each other. So each
 library is proved in a tree of its own, whose files are links to those here. `build.py --rt WORD..` is `rt WORD..`, which
@@ -214,17 +214,27 @@ def write_sources(name):
     (CRATES / name / "out" / "sources").write_text(f'paths="{words}"\n')
 
 
+def archive_of(name):
+    """Where the archive of a static library is built."""
+    return CRATES / name / "out" / f"lib{name}.a"
+
+
+def is_static(name):
+    """Whether crates.txt has it as a static library."""
+    return any(head.split()[1:] == ["staticlib"] for head, _ in listed([name]))
+
+
 def is_current(name):
-    """Whether a program was built, and nothing of what it is built from is newer."""
-    program = CRATES / name / "out" / name
+    """Whether a program, or a static library, was built, and nothing of what it is built from is newer."""
+    program = archive_of(name) if is_static(name) else CRATES / name / "out" / name
     return program.exists() and all(path.stat().st_mtime <= program.stat().st_mtime for path in sources(name))
 
 
 def prove_program(name, progress):
-    """Proves and builds the program, over proved libraries. What rt answered; and the seconds."""
+    """Proves and builds the program, over proved libraries. Whether that worked."""
     start = time.monotonic()
     # rt run proves what it builds, and builds what it runs.
-    done = rt_in(CRATES / name, "run", "--", "--help")
+    done = rt_in(CRATES / name, *(["lib"] if is_static(name) else ["run", "--", "--help"]))
     return progress.takes(name, done, time.monotonic() - start)
 
 
@@ -246,7 +256,7 @@ def build(name):
         if not (done and prove_program(name, progress)):
             return False
         # What was changed since the build began is newer.
-        os.utime(out / name, (start, start))
+        os.utime(archive_of(name) if is_static(name) else out / name, (start, start))
         write_sources(name)
     return True
 

@@ -182,7 +182,8 @@ def test_install():
         help_text = (TOP / "tests" / "texts" / "maglev.txt").read_bytes()
         check("the installed program", did([prefix / "bin" / "maglev", "--help"], cwd="/") == (0, help_text, b""))
         share = TOP / "share"
-        files = [path.relative_to(share) for path in share.rglob("*") if path.is_file()]
+        kinds = ("man", "bash-completion", "fish", "zsh")
+        files = [path.relative_to(share) for kind in kinds for path in (share / kind).rglob("*") if path.is_file()]
         same = [(prefix / "share" / name).read_bytes() == (share / name).read_bytes() for name in files]
         check("what is beside it", len(same) == 4 and all(same))
         documents = [path.relative_to(TOP / "docs") for path in (TOP / "docs").rglob("*") if path.is_file()]

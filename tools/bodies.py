@@ -14,7 +14,7 @@ TOP = pathlib.Path(__file__).resolve().parent.parent
 CRATES = TOP / "crates"
 EDITS = TOP / "edits"
 
-FUNCTION = re.compile(r"^[ ]*(pub(?:\(\w+\))? )?(?:const )?fn (\w+)", re.M)
+FUNCTION = re.compile(r'^[ ]*(pub(?:\(\w+\))? )?(?:const )?(?:extern "C" )?fn (\w+)', re.M)
 OWNER = re.compile(r"^(?:pub )?(impl|trait)\b(.*)$", re.M)
 TOKEN = re.compile(r'"(?:\\.|[^"\\])*"|\'(?:\\.|[^\'\\])\'|//[^\n]*|\b(?:ensures|requires)\b|[][(){};]')
 # A function that does nothing when it runs: its clauses are a law, and no body can be wrong.

@@ -39,6 +39,11 @@ PROMISES = [
         ],
     ),
     (
+        "libmaglev: the table for programs in other languages",
+        "These functions of `maglev_ffi`.",
+        [("maglev_ffi", "lib", f"maglev_{name}") for name in ("table", "slot", "slots", "differing")],
+    ),
+    (
         "`simulate` and `explain`: a scenario's events over a capture's records, and what is written",
         "`simulate` and `explain_run` of `scenario_commands`.",
         [("scenario_commands", "playing", "simulate"), ("scenario_commands", "playing", "explain_run")],
@@ -109,7 +114,7 @@ class Repository:
 
     def __init__(self):
         self.definitions, self.imports = {}, {}
-        for crate in re.findall(r"^(\w+):", (TOP / "crates.txt").read_text(), re.MULTILINE):
+        for crate in re.findall(r"^(\w+)(?: staticlib)?:", (TOP / "crates.txt").read_text(), re.MULTILINE):
             for path in sorted((TOP / "crates" / crate / "specs").glob("*.antt")):
                 if path.stem != "Lib":
                     self.read(path)
@@ -172,7 +177,7 @@ def clauses_of(crate, module, function):
     """The lines of a public function's contract, and what its file brings in."""
     path = TOP / "crates" / crate / "src" / f"{module}.rt"
     lines = path.read_text().splitlines()
-    starts = [place for place, line in enumerate(lines) if re.match(rf" *pub fn {function}[<(]", line)]
+    starts = [place for place, line in enumerate(lines) if re.match(rf' *pub (extern "C" )?fn {function}[<(]', line)]
     if len(starts) != 1:
         sys.exit(f"definitions.py: {path} has {len(starts)} public functions {function}")
     kept, indent = [], re.match(" *", lines[starts[0]]).group()
@@ -212,8 +217,8 @@ def named_by_contracts(definitions):
         is_public, of_trait = True, False
         for line in lines:
             text = line.strip()
-            if re.match(r"(pub(\(crate\))? )?(const )?fn ", text):
-                is_public = text.startswith("pub fn") or (of_trait and line.startswith("    "))
+            if re.match(r'(pub(\(crate\))? )?(const )?(extern "C" )?fn ', text):
+                is_public = text.startswith(("pub fn", "pub extern")) or (of_trait and line.startswith("    "))
             elif text.startswith(("impl", "pub trait", "pub struct", "pub enum", "struct", "enum")):
                 is_public, of_trait = True, text.startswith("pub trait") or " for " in text
             elif is_public and not text.startswith(("//", "ghost use", "use")):

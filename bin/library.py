@@ -1,0 +1,85 @@
+#!/usr/bin/env python3
+"""library.py FOLDER [TARGET]: writes libmaglev.a, and libmaglev.so.0 where a linker is there, into a folder.
+
+The archive has the object of the crate maglev_ffi, which is proved before it is built, and the heap of share/lib/heap.c.
+TARGET is the machine that it is for, x86_64-unknown-linux-gnu if none is named. Status 3: it can't be built, and a line says why.
+"""
+import os
+import pathlib
+import shutil
+import subprocess
+import sys
+import tempfile
+
+import build
+
+CRATE = "maglev_ffi"
+HERE = "x86_64-unknown-linux-gnu"
+HEAP = build.TOP / "share" / "lib" / "heap.c"
+# The whole archive with nothing left open, tables of addresses that can't be written, and the C library alone behind it.
+SHARED = ["-shared", "-Wl,-soname,libmaglev.so.0", "-Wl,-z,defs", "-Wl,-z,now", "-Wl,-z,relro"]
+
+
+class Missing(Exception):
+    """What the library can't be built without."""
+
+
+def kit():
+    """The kit's folder of tools."""
+    if not shutil.which("rt"):
+        raise Missing("there is no rt on the PATH, which proves it")
+    told = subprocess.run(["rt", "doc"], capture_output=True, check=True, text=True).stdout
+    return pathlib.Path(told.split()[0]).parent / "toolchain" / "bin"
+
+
+def compiler(target):
+    """The C compiler of a machine: CC, or the first that is there. The kit's makes objects for each, and links nothing."""
+    if target == HERE:
+        words = [os.environ.get("CC"), "cc", "gcc", "clang"]
+    else:
+        words = [os.environ.get("CC"), f"{target.split('-')[0]}-linux-gnu-gcc"]
+    return next((shutil.which(word) for word in words if word and shutil.which(word)), None)
+
+
+def archive(target):
+    """The archive of the crate for a machine, as bytes."""
+    made = build.archive_of(CRATE)
+    if not build.is_current(CRATE) and not build.build(CRATE):
+        raise Missing(f"the crate {CRATE} isn't proved")
+    if target == HERE:
+        return made.read_bytes()
+    # Not below a folder that is copied.
+    room = build.CRATES / "maglev" / "out"
+    room.mkdir(exist_ok=True)
+    with tempfile.TemporaryDirectory(dir=room) as folder:
+        build.make_tree(pathlib.Path(folder), CRATE, build.stands_on())
+        crate = pathlib.Path(folder) / "crates" / CRATE
+        done = build.rt_in(crate, "lib", "--target", target)
+        if done.returncode:
+            raise Missing(f"rt lib --target {target}: {done.stdout}{done.stderr}")
+        return (crate / "out" / made.name).read_bytes()
+
+
+def write(folder, target):
+    """Writes the library of a machine into a folder."""
+    tools, cc = kit(), compiler(target)
+    if target == HERE and not cc:
+        raise Missing("there is no C compiler, which makes its heap")
+    whole = folder / "libmaglev.a"
+    whole.write_bytes(archive(target))
+    with tempfile.TemporaryDirectory() as room:
+        heap = str(pathlib.Path(room) / "heap.o")
+        by = [cc] if cc else [str(tools / "clang"), f"--target={target}"]
+        subprocess.run([*by, "-O2", "-fPIC", "-c", "-o", heap, str(HEAP)], check=True)
+        subprocess.run([str(tools / "llvm-ar"), "rs", str(whole), heap], check=True, capture_output=True)
+    if cc:
+        words = ["-Wl,--whole-archive", str(whole), "-Wl,--no-whole-archive"]
+        subprocess.run([cc, *SHARED, "-o", str(folder / "libmaglev.so.0"), *words], check=True)
+
+
+if __name__ == "__main__":
+    try:
+        write(pathlib.Path(sys.argv[1]), sys.argv[2] if len(sys.argv) > 2 else HERE)
+    except Missing as why:
+        print(f"library: libmaglev isn't built: {why}", file=sys.stderr)
+        sys.exit(3)

@@ -1,0 +1,213 @@
+#!/usr/bin/env python3
+"""Tests of libmaglev through C and Python: beside the program's `table` and `pick` over random cases, its faults, memory that is
+refused, the example of a data plane, and what bin/install puts below a prefix.
+
+embed.py [SEED [COUNT]]: by default COUNT is 1,000. What a tool that isn't installed would show is skipped with a word. The last
+line is 'N passed, N failed'.
+"""
+import doctest
+import os
+import pathlib
+import random
+import shutil
+import subprocess
+import sys
+import tempfile
+
+from harness import PROGRAM, TOP, check, run_tests
+
+EXAMPLES = TOP / "examples" / "embed"
+SEED, COUNT = [int(word) for word in sys.argv[1:3] + ["1", "1000"][len(sys.argv) - 1:]][:2]
+STRICT = ["-Wall", "-Wextra", "-Wpedantic", "-Werror", "-I", str(TOP / "share" / "include")]
+COMPILER = next((word for word in (os.environ.get("CC", "cc"), "gcc", "clang") if shutil.which(word)), None)
+WRAPPED = ["-Wl,--wrap=malloc,--wrap=realloc,--wrap=free", "-lpthread"]
+LETTERS = "ABCDEFGHIJKLMNOPQRSTUVWXYZabcdefghijklmnopqrstuvwxyz0123456789"
+FOLDER = tempfile.TemporaryDirectory()
+MADE = pathlib.Path(FOLDER.name)
+
+
+def did(words, **more):
+    """Runs a command, and gives status and both outputs."""
+    done = subprocess.run([str(word) for word in words], capture_output=True, timeout=600, check=False, **more)
+    return done.returncode, done.stdout, done.stderr
+
+
+def compiled(source, *options, name=None):
+    """Compiles and links a caller with the archive, and gives its program; none where that can't be done."""
+    program = MADE / (name or source.stem)
+    words = [COMPILER, "-O2", "-std=c11", *STRICT, source, MADE / "libmaglev.a", *options, "-o", program]
+    status, _, err = did(words)
+    return program if status == 0 else check(f"{source.name} {options} is compiled", False, err.decode())
+
+
+def test_a_build():
+    """The library is built, and the module finds it."""
+    made = did([sys.executable, TOP / "bin" / "library.py", MADE])
+    check("the library is built", made[0] == 0, made[2].decode())
+    os.environ["LIBMAGLEV"] = str(MADE / "libmaglev.so.0")
+    sys.path.insert(0, str(EXAMPLES))
+    import maglev
+
+    shown = doctest.testmod(maglev)
+    check("the module's own example", (shown.failed, shown.attempted) == (0, 1), shown)
+
+
+def test_header():
+    """The header is one of C++ too, and the library needs memory and copies of it alone."""
+    if shutil.which("g++"):
+        text = b'#include "maglev.h"\nint main() { return 0; }\n'
+        check("the header in C++", did(["g++", *STRICT, "-x", "c++", "-fsyntax-only", "-"], input=text)[0] == 0)
+    if shutil.which("nm"):
+        named = {line.split()[-1] for line in did(["nm", "-u", MADE / "libmaglev.a"])[1].decode().splitlines() if " U " in line}
+        heap = {"rattle_alloc", "rattle_realloc", "rattle_dealloc"}
+        check("what it needs", named == {"malloc", "realloc", "free", "memcpy", "memmove", "memset"} | heap, named)
+        shown = did(["nm", "-D", "--defined-only", MADE / "libmaglev.so.0"])[1].decode().split()[2::3]
+        check("what it shows", shown == [f"maglev_{name}" for name in ("differing", "slot", "slots", "table")], shown)
+
+
+def test_calls():
+    """Faults and their numbers, each allocation refused in turn, and calls from threads; also under sanitizers and valgrind."""
+    source = TOP / "tests" / "embed_calls.c"
+    plain = compiled(source, *WRAPPED)
+    if plain:
+        answer = did([plain])
+        check("calls in C", answer == (0, b"calls 73 wrong 0\n", b""), answer)
+    if plain and shutil.which("valgrind"):
+        answer = did(["valgrind", "-q", "--leak-check=full", "--error-exitcode=9", plain])
+        check("calls under valgrind", answer == (0, b"calls 73 wrong 0\n", b""), answer)
+    hollow = ["-fsanitize=address,undefined", "-fno-sanitize-recover=all"]
+    if did([COMPILER, *hollow, "-x", "c", "-", "-o", MADE / "hollow"], input=b"int main(void) { return 0; }")[0]:
+        print("sanitizers aren't installed: what they show is skipped")
+        return
+    watched = compiled(source, *hollow, *WRAPPED, name="watched")
+    answer = did([watched]) if watched else None
+    check("calls under sanitizers", answer == (0, b"calls 73 wrong 0\n", b""), answer)
+
+
+def random_case(rng):
+    """A size, a hash, names with weights, and a flow."""
+    size = rng.choice([7, 7, 13, 13, 251, 251, 251, 1021] if rng.random() < 0.98 else [8191, 65537])
+    names = {"".join(rng.choices(LETTERS, k=1)) + "".join(rng.choices(LETTERS + "-.", k=rng.randrange(9))) for _ in range(rng.randint(1, min(size, 40)))}
+    names = rng.sample(sorted(names), len(names))
+    weights = [rng.randint(1, 16) for _ in names] if rng.random() < 0.5 else []
+    flow = (rng.getrandbits(32), rng.getrandbits(32), rng.getrandbits(16), rng.getrandbits(16), rng.choice([6, 17]))
+    return size, rng.choice(["fnv", "sha256", "sum"]), names, weights, flow
+
+
+def datagram(flow):
+    """A datagram of a flow, as hex. Its checksum isn't that of the header."""
+    src, dst, sport, dport, proto = flow
+    ports = sport.to_bytes(2, "big") + dport.to_bytes(2, "big")
+    payload = ports + (bytes(8) + b"\x50" + bytes(7) if proto == 6 else b"\x00\x08\x00\x00")
+    head = b"\x45\x00" + (20 + len(payload)).to_bytes(2, "big") + bytes(4) + bytes([64, proto]) + bytes(2)
+    return (head + src.to_bytes(4, "big") + dst.to_bytes(4, "big") + payload).hex().encode()
+
+
+def compare(case, callers):
+    """What the program prints of a case, beside both callers in C and the module."""
+    import maglev
+
+    size, hash_word, names, weights, flow = case
+    words = [f"{name}*{weight}" for name, weight in zip(names, weights)] or names
+    asked = ["--size", str(size), "--hash", hash_word, *words]
+    table = did([PROGRAM, "table", *asked])[1]
+    pick = did([PROGRAM, "pick", "--no-check", *asked], input=datagram(flow))[1]
+    owners = [line.split()[1] for line in table.decode().splitlines()[1 : size + 1]]
+    slot = maglev.slot_of(size, hash_word, maglev.Flow(*flow))
+    line = f" slot {slot} backend {owners[slot]}\n".encode()
+    in_c = [did([caller, size, hash_word, *words], input=" ".join(map(str, flow)).encode())[1] for caller in callers]
+    return in_c[0] == table and maglev.table(size, hash_word, names, weights) == owners and pick.endswith(line) and in_c[1] == line[1:]
+
+
+def test_random_cases():
+    """1,000 random tables and flows."""
+    callers = [compiled(EXAMPLES / "table.c"), compiled(EXAMPLES / "flows.c")]
+    rng = random.Random(SEED)
+    for number in range(COUNT if all(callers) else 0):
+        case = random_case(rng)
+        check(f"case {number} of seed {SEED}", compare(case, callers), case)
+
+
+def raised(call, *words):
+    """The name of what a call raises."""
+    try:
+        call(*words)
+    except Exception as error:  # noqa: BLE001
+        return type(error).__name__
+    return None
+
+
+def test_exceptions():
+    """Each fault has its exception; where several reasons hold the first is raised."""
+    import maglev
+
+    rows = [("BadSize", 8, "md5", [""]), ("BadSize", -1, "sum", ["A"]), ("BadSize", 2**32 + 7, "sum", ["A"]), ("BadHash", 7, "md5", [""])]
+    rows += [("BadName", 7, "sum", []), ("BadName", 7, "sum", ["A", "B\nC"]), ("BadName", 7, "sum", ["A", "A", "é"], [1]), ("BadName", 7, "sum", ["a" * 33])]
+    rows += [("TooMany", 7, "sum", list("AABCDEFG"), [1]), ("BadWeight", 7, "sum", ["A", "A"], [1]), ("BadWeight", 7, "sum", ["A"], [257])]
+    rows += [("DoubleName", 7, "sum", ["A", "B", "A"], [1, 2, 3]), (None, 7, "sum", ["A", "B"], [16, 1])]
+    for fault, *words in rows:
+        check(f"{fault} of {words}", raised(maglev.table, *words) == fault, raised(maglev.table, *words))
+    check("slots of a bad size", raised(maglev.slots_of, 8, "md5", []) == "BadSize")
+    check("slots by a bad hash", raised(maglev.slots_of, 7, "md5", []) == "BadHash")
+    check("no slots", maglev.slots_of(7, "sum", []) == [])
+    check("tables of two sizes", raised(maglev.differing, [0] * 7, [0] * 13) == "BadRoom")
+    check("slots that differ", maglev.differing([0, 1, 2, 0, 1, 2, 0], [0, 1, 2, 0, 2, 1, 0]) == 2)
+
+
+def bare(folder, target):
+    """A caller without a C library, linked with the archive in a folder for a machine by the kit; what its run answered, if it ran."""
+    kit = pathlib.Path(did(["rt", "doc"])[1].decode().split()[0]).parent / "toolchain" / "bin"
+    headers = did([COMPILER, "-print-file-name=include"])[1].decode().strip()
+    options = ["-O1", "-ffreestanding", "-fno-builtin", "-nostdinc", "-isystem", headers, "-I", TOP / "share" / "include"]
+    linked = ["-nostdlib", "-static", "-fuse-ld=lld", "-B", kit, folder / "libmaglev.a", "-o", folder / "bare"]
+    made = did([kit / "clang", f"--target={target}", *options, TOP / "tests" / "embed_bare.c", *linked])
+    check(f"a caller without a C library, for {target}", made[0] == 0, made[2].decode())
+    machine, here = target.partition("-")[0], os.uname().machine
+    by = [] if machine == here else [tool for tool in (f"qemu-{machine}", f"qemu-{machine}-static") if shutil.which(tool)][:1]
+    if machine != here and not by:
+        print(f"qemu-{machine} isn't installed: what it shows is skipped")
+        return None
+    return did([*by, folder / "bare"])
+
+
+def test_machines():
+    """The archive needs no C library. That of another machine is built and linked too, and runs where qemu is."""
+    check("a run without a C library", bare(MADE, "x86_64-unknown-linux-gnu") == (0, b"", b""))
+    other = MADE / "other"
+    other.mkdir()
+    made = did([sys.executable, TOP / "bin" / "library.py", other, "aarch64-unknown-linux-gnu"])
+    check("the library for AArch64", made[0] == 0, made[2].decode())
+    check("its run", bare(other, "aarch64-unknown-linux-gnu") in (None, (0, b"", b"")))
+
+
+def test_data_plane():
+    """The example of a data plane picks what simulate sent."""
+    played = did([PROGRAM, "simulate", "--list", TOP / "examples" / "failover.toml", TOP / "examples" / "failover.pcap", MADE / "sent.pcap"])[1]
+    (MADE / "listing").write_bytes(played)
+    status, out, err = did([sys.executable, EXAMPLES / "failover.py", MADE / "listing"])
+    lines = out.decode().splitlines()
+    check("it ends well", (status, err) == (0, b""), err)
+    check("each packet that was forwarded", len(lines) == played.count(b": forward "), out)
+    check("choices that are new, and one that was remembered", [line.split()[4] for line in lines].count("remembered,") == 1, out)
+    check("servers of clients", [line.split()[3] for line in lines] == "web-1 web-2 web-2 web-3 web-1 web-3 web-3 web-3 web-3".split(), out)
+
+
+def test_install():
+    """A caller is compiled by pkg-config from what bin/install puts below a prefix."""
+    prefix = MADE / "prefix"
+    status, _, err = did([TOP / "bin" / "install", prefix])
+    files = ["include/maglev.h", "lib/libmaglev.a", "lib/libmaglev.so", "lib/libmaglev.so.0", "lib/pkgconfig/maglev.pc"]
+    check("bin/install", status == 0 and all((prefix / name).exists() for name in files), err)
+    options = [f"-I{prefix}/include", f"-L{prefix}/lib", "-lmaglev"]
+    if shutil.which("pkg-config"):
+        told = did(["pkg-config", "--cflags", "--libs", "maglev"], env={**os.environ, "PKG_CONFIG_PATH": str(prefix / "lib" / "pkgconfig")})
+        check("pkg-config", told[1].decode().split() == options, told)
+    words = [COMPILER, "-std=c11", EXAMPLES / "table.c", *options, f"-Wl,-rpath,{prefix}/lib", "-o", MADE / "shared"]
+    check("a caller of the shared library", did(words)[0] == 0)
+    asked = ["7", "sum", "A", "B", "C*2"]
+    ours, theirs = did([MADE / "shared", *asked]), did([PROGRAM, "table", "--size", "7", "--hash", *asked[1:]])
+    check("what it prints", ours == theirs and ours[0] == 0, ours)
+
+
+if __name__ == "__main__":
+    sys.exit(run_tests(globals()))
