@@ -4,6 +4,7 @@
 The archive has the object of the crate maglev_ffi, which is proved before it is built, and the heap of share/lib/heap.c.
 TARGET is the machine that it is for, x86_64-unknown-linux-gnu if none is named. Status 3: it can't be built, and a line says why.
 """
+import fcntl
 import os
 import pathlib
 import shutil
@@ -41,11 +42,20 @@ def compiler(target):
     return next((shutil.which(word) for word in words if word and shutil.which(word)), None)
 
 
+def proved():
+    """Where the archive of the crate is, which is proved and built first where its code is newer. Of two calls at once one does so."""
+    out = build.CRATES / CRATE / "out"
+    out.mkdir(exist_ok=True)
+    with open(out / "library", "w") as held:
+        fcntl.flock(held, fcntl.LOCK_EX)
+        if not build.is_current(CRATE) and not build.build(CRATE):
+            raise Missing(f"the crate {CRATE} isn't proved")
+    return build.archive_of(CRATE)
+
+
 def archive(target):
     """The archive of the crate for a machine, as bytes."""
-    made = build.archive_of(CRATE)
-    if not build.is_current(CRATE) and not build.build(CRATE):
-        raise Missing(f"the crate {CRATE} isn't proved")
+    made = proved()
     if target == HERE:
         return made.read_bytes()
     # Not below a folder that is copied.
