@@ -113,14 +113,14 @@ static NO_SCENARIOS: [(&str, &str, CliFault); 6] = [
         B_DOWN,
         CliFault::BadStep(2),
     ),
-    // The first stop is named, after a step that isn't one.
+    // The first step that the command can't play is named.
     (
         "'install 0 1', 'restart 0', 'stop 0'",
         B_DOWN,
         CliFault::BadStep(2),
     ),
     ("'take 1', 'stop 1', 'stop 0'", B_DOWN, CliFault::BadStep(1)),
-    ("'stop 0', 'stop 1', 'tale 1'", B_DOWN, CliFault::BadStep(2)),
+    ("'stop 0', 'stop 1', 'tale 1'", B_DOWN, CliFault::BadStep(0)),
 ];
 
 #[test]
@@ -136,8 +136,8 @@ static UNKNOWN: [(&str, u32); 4] = [
     ("'install 0 1', 'hold 0'", 1),
     ("'drain 1', 'full 0'", 0),
     ("'take 1', 'lose 1', 'full 0 0'", 2),
-    // A step that isn't one is named first.
-    ("'hold 0', 'hold 2'", 1),
+    // It is named also before a step that isn't one.
+    ("'hold 0', 'hold 2'", 0),
 ];
 
 #[test]
