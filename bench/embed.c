@@ -1,6 +1,7 @@
 /* embed NAMES: times `maglev_table` of b1 .. bNAMES at 65537 slots beside the common algorithm in C over the same text, which both
  * split, sort and hash each time; and `maglev_slots` of a million flows beside C. Of nine rounds, in turns, the fastest counts. */
 #include "maglev.h"
+#include "population.h"
 
 #include <stdio.h>
 #include <stdlib.h>
@@ -18,12 +19,6 @@ static double now(void) {
     struct timespec t;
     clock_gettime(CLOCK_MONOTONIC, &t);
     return (double)t.tv_sec * 1e3 + (double)t.tv_nsec / 1e6;
-}
-
-static uint64_t fnv(uint8_t tag, const uint8_t *bytes, size_t len) {
-    uint64_t state = (0xcbf29ce484222325u ^ tag) * 0x100000001b3u;
-    for (size_t i = 0; i < len; i++) state = (state ^ bytes[i]) * 0x100000001b3u;
-    return state;
 }
 
 static int by_name(const void *one, const void *other) {
@@ -48,14 +43,7 @@ static void populate(int32_t *owner, uint32_t *next, const uint32_t *skip, uint3
     memset(owner, 0xff, SLOTS * sizeof *owner);
     for (uint32_t taken = 0;;)
         for (uint32_t who = 0; who < count; who++) {
-            uint32_t slot = next[who];
-            while (owner[slot] >= 0) {
-                slot += skip[who];
-                if (slot >= SLOTS) slot -= SLOTS;
-            }
-            owner[slot] = (int32_t)who;
-            slot += skip[who];
-            next[who] = slot >= SLOTS ? slot - SLOTS : slot;
+            next[who] = take_turn(owner, SLOTS, next[who], skip[who], who);
             if (++taken == SLOTS) return;
         }
 }
@@ -68,8 +56,8 @@ static void table(const char *text, size_t len, uint32_t count, uint32_t *slots)
     if (!names || !next || !skip || !owner) exit(1);
     sorted(text, len, names, count);
     for (uint32_t i = 0; i < count; i++) {
-        next[i] = (uint32_t)(fnv('o', (const uint8_t *)names[i].name, names[i].len) % SLOTS);
-        skip[i] = (uint32_t)(fnv('k', (const uint8_t *)names[i].name, names[i].len) % (SLOTS - 1) + 1);
+        next[i] = (uint32_t)(fnv('o', names[i].name, names[i].len) % SLOTS);
+        skip[i] = (uint32_t)(fnv('k', names[i].name, names[i].len) % (SLOTS - 1) + 1);
     }
     populate(owner, next, skip, count);
     for (uint32_t s = 0; s < SLOTS; s++) slots[s] = names[owner[s]].place;

@@ -1,18 +1,13 @@
 /* The common algorithm of Maglev's population (Maglev, section 3.4), N names at 65537 slots, again and again: what
    bench/populate.sh runs beside crates/bench_populate. A third argument 1 gives the names weights from 1 to 16. Prints the sum
    over the slots of slot times owner. */
-#include <stdint.h>
+#include "population.h"
+
 #include <stdio.h>
 #include <stdlib.h>
 #include <string.h>
 
 enum { SLOTS = 65537 };
-
-static uint64_t fnv(uint8_t tag, const char *text) {
-    uint64_t state = (0xcbf29ce484222325u ^ tag) * 0x100000001b3u;
-    for (; *text; text++) state = (state ^ (uint8_t)*text) * 0x100000001b3u;
-    return state;
-}
 
 static void populate(int32_t *owner, uint32_t *next, const uint32_t *offset, const uint32_t *skip, const uint8_t *weight,
                      uint32_t lists) {
@@ -24,14 +19,7 @@ static void populate(int32_t *owner, uint32_t *next, const uint32_t *offset, con
     for (uint32_t taken = 0, pass = 1;; pass = pass < most ? pass + 1 : 1)
         for (uint32_t who = 0; who < lists; who++) {
             if (weight[who] < pass) continue;
-            uint32_t slot = next[who];
-            while (owner[slot] >= 0) {
-                slot += skip[who];
-                if (slot >= SLOTS) slot -= SLOTS;
-            }
-            owner[slot] = (int32_t)who;
-            slot += skip[who];
-            next[who] = slot >= SLOTS ? slot - SLOTS : slot;
+            next[who] = take_turn(owner, SLOTS, next[who], skip[who], who);
             if (++taken == SLOTS) return;
         }
 }
@@ -44,9 +32,9 @@ int main(int argc, char **argv) {
     for (uint32_t i = 0; i < lists; i++) {
         char name[16];
         snprintf(name, sizeof name, "b%u", i + 1);
-        offset[i] = (uint32_t)(fnv('o', name) % SLOTS);
-        skip[i] = (uint32_t)(fnv('k', name) % (SLOTS - 1) + 1);
-        weight[i] = weighed ? (uint8_t)(fnv('f', name) % 16 + 1) : 1;
+        offset[i] = (uint32_t)(fnv('o', name, strlen(name)) % SLOTS);
+        skip[i] = (uint32_t)(fnv('k', name, strlen(name)) % (SLOTS - 1) + 1);
+        weight[i] = weighed ? (uint8_t)(fnv('f', name, strlen(name)) % 16 + 1) : 1;
     }
     uint64_t sum = 0;
     for (uint32_t t = 0; t < times; t++) {

@@ -2,8 +2,9 @@
    writes it by hand in C: buffered files, a chained map of flows, and the flows in the order of their last use. What
    bench/simulate.sh runs beside the program; what both write is compared byte for byte.
    simulate SLOTS ENTRIES INPUT OUTPUT NAME ADDRESS NAME ADDRESS .. (names in ascending order, Ethernet in a little-endian capture) */
+#include "population.h"
+
 #include <arpa/inet.h>
-#include <stdint.h>
 #include <stdio.h>
 #include <stdlib.h>
 #include <string.h>
@@ -11,12 +12,6 @@
 enum { FLOW = 13, LONGEST = 262144, BUFFER = 1 << 20 };
 
 static const uint8_t HEAD[24] = {0xd4, 0xc3, 0xb2, 0xa1, 2, 0, 4, 0, 0, 0, 0, 0, 0, 0, 0, 0, 0xff, 0xff, 0, 0, 101, 0, 0, 0};
-
-static uint64_t fnv(uint8_t tag, const uint8_t *bytes, size_t count) {
-    uint64_t state = (0xcbf29ce484222325u ^ tag) * 0x100000001b3u;
-    for (size_t at = 0; at < count; at++) state = (state ^ bytes[at]) * 0x100000001b3u;
-    return state;
-}
 
 static uint16_t word(const uint8_t *at) { return (uint16_t)(at[0] << 8 | at[1]); }
 

@@ -1,15 +1,10 @@
 /* What `maglev table --size SLOTS --hash fnv NAME..` prints, as one writes it in C: a mark a slot and a running position a name.
    What bench/table.sh runs beside the program. */
-#include <stdint.h>
+#include "population.h"
+
 #include <stdio.h>
 #include <stdlib.h>
 #include <string.h>
-
-static uint64_t fnv(uint8_t tag, const char *text) {
-    uint64_t state = (0xcbf29ce484222325u ^ tag) * 0x100000001b3u;
-    for (; *text; text++) state = (state ^ (uint8_t)*text) * 0x100000001b3u;
-    return state;
-}
 
 static int by_name(const void *one, const void *other) { return strcmp(*(char *const *)one, *(char *const *)other); }
 
@@ -21,8 +16,8 @@ int main(int words, char **word) {
     uint32_t *owner = malloc(slots * sizeof *owner);
     uint8_t *taken = calloc(slots, 1);
     for (uint32_t who = 0; who < count; who++) {
-        next[who] = fnv('o', names[who]) % slots;
-        skip[who] = fnv('k', names[who]) % (slots - 1) + 1;
+        next[who] = fnv('o', names[who], strlen(names[who])) % slots;
+        skip[who] = fnv('k', names[who], strlen(names[who])) % (slots - 1) + 1;
     }
     for (uint32_t done = 0, who = 0; done < slots; done++, who = who + 1 == count ? 0 : who + 1) {
         while (taken[next[who]]) {
