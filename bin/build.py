@@ -214,6 +214,12 @@ def write_sources(name):
     (CRATES / name / "out" / "sources").write_text(f'paths="{words}"\n')
 
 
+def toolchain():
+    """The kit's folder of tools: compilers, linkers, archivers."""
+    told = subprocess.run(["rt", "doc"], capture_output=True, check=True, text=True).stdout
+    return pathlib.Path(told.split()[0]).parent / "toolchain" / "bin"
+
+
 def archive_of(name):
     """Where the archive of a static library is built."""
     return CRATES / name / "out" / f"lib{name}.a"

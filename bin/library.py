@@ -25,14 +25,6 @@ class Missing(Exception):
     """What the library can't be built without."""
 
 
-def kit():
-    """The kit's folder of tools."""
-    if not shutil.which("rt"):
-        raise Missing("there is no rt on the PATH, which proves it")
-    told = subprocess.run(["rt", "doc"], capture_output=True, check=True, text=True).stdout
-    return pathlib.Path(told.split()[0]).parent / "toolchain" / "bin"
-
-
 def compiler(target):
     """The C compiler of a machine: CC, or the first that is there. The kit's makes objects for each, and links nothing."""
     if target == HERE:
@@ -72,7 +64,9 @@ def archive(target):
 
 def write(folder, target):
     """Writes the library of a machine into a folder."""
-    tools, cc = kit(), compiler(target)
+    if not shutil.which("rt"):
+        raise Missing("there is no rt on the PATH, which proves it")
+    tools, cc = build.toolchain(), compiler(target)
     if target == HERE and not cc:
         raise Missing("there is no C compiler, which makes its heap")
     whole = folder / "libmaglev.a"

@@ -16,6 +16,9 @@ import tempfile
 
 from harness import PROGRAM, TOP, check, run_tests
 
+sys.path.append(str(TOP / "bin"))
+import build
+
 EXAMPLES = TOP / "examples" / "embed"
 SEED, COUNT = [int(word) for word in sys.argv[1:3] + ["1", "1000"][len(sys.argv) - 1:]][:2]
 STRICT = ["-Wall", "-Wextra", "-Wpedantic", "-Werror", "-I", str(TOP / "share" / "include")]
@@ -156,7 +159,7 @@ def test_exceptions():
 
 def bare(folder, target):
     """A caller without a C library, linked with the archive in a folder for a machine by the kit; what its run answered, if it ran."""
-    kit = pathlib.Path(did(["rt", "doc"])[1].decode().split()[0]).parent / "toolchain" / "bin"
+    kit = build.toolchain()
     headers = did([COMPILER, "-print-file-name=include"])[1].decode().strip()
     options = ["-O1", "-ffreestanding", "-fno-builtin", "-nostdinc", "-isystem", headers, "-I", TOP / "share" / "include"]
     linked = ["-nostdlib", "-static", "-fuse-ld=lld", "-B", kit, folder / "libmaglev.a", "-o", folder / "bare"]

@@ -304,8 +304,8 @@ def test_no_random_bytes():
         folder = pathlib.Path(name)
         (folder / "s.toml").write_text(scenario())
         (folder / "in.pcap").write_bytes(head() + record(P))
+        environment = {"LD_PRELOAD": growths.compiled(folder, "refuse_random.c")}
         for words in [["simulate", "s.toml", "in.pcap", "out.pcap"], ["run", "s.toml", "in.pcap", "out.pcap"], ["explain", "s.toml", "in.pcap", "2", "2"]]:
-            environment = {"LD_PRELOAD": growths.compiled(folder, "refuse_random.c")}
             done = subprocess.run([growths.PROGRAM, *words], cwd=folder, capture_output=True, env=environment, timeout=60)
             answer = (done.returncode, done.stdout, done.stderr)
             check(f"{words[0]} without random bytes", answer == (1, b"", b"fault: NoRandom\n"), repr(answer))

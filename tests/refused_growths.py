@@ -112,8 +112,7 @@ CASES = [
 
 def compiled(folder, source="refuse.c"):
     """The library that refuses."""
-    kit = pathlib.Path(subprocess.run(["rt", "doc"], capture_output=True, check=True, text=True).stdout.split()[0]).parent
-    tools = kit / "toolchain" / "bin"
+    tools = build.toolchain()
     library = str(pathlib.Path(folder) / source.replace(".c", ".so"))
     options = ["-shared", "-fPIC", "-O1", "-nostdlib", "-fuse-ld=lld", "-B", str(tools)]
     subprocess.run([str(tools / "clang"), *options, "-o", library, str(TOP / "tests" / source)], check=True)

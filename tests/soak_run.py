@@ -280,18 +280,24 @@ def case(name, text, data):
     return name, text, data, model.Run(text, data)
 
 
-def judged(text, data, expected, folder):
-    """The faults of one run."""
+def reported(text, data, expected, folder):
+    """What one run prints, and its faults."""
     (folder / "s.toml").write_text(text)
     (folder / "in.pcap").write_bytes(data)
     words = [PROGRAM, "run", "s.toml", "in.pcap", "out.pcap"]
     try:
         done = subprocess.run(words, cwd=folder, capture_output=True, timeout=120)
     except subprocess.TimeoutExpired:
-        return ["it doesn't end in two minutes"]
+        return "", ["it doesn't end in two minutes"]
     if done.returncode or done.stderr:
-        return [f"status {done.returncode}: {done.stderr!r}"]
-    return list(faults_of(expected, done.stdout.decode(), (folder / "out.pcap").read_bytes()))
+        return "", [f"status {done.returncode}: {done.stderr!r}"]
+    printed = done.stdout.decode()
+    return printed, list(faults_of(expected, printed, (folder / "out.pcap").read_bytes()))
+
+
+def judged(text, data, expected, folder):
+    """The faults of one run."""
+    return reported(text, data, expected, folder)[1]
 
 
 def stopped_in_traffic(folder):
@@ -301,9 +307,9 @@ def stopped_in_traffic(folder):
     expected = model.Run(text, data)
     lost = 0
     for _ in range(20):
-        yield from judged(text, data, expected, folder)
-        done = subprocess.run([PROGRAM, "run", "s.toml", "in.pcap", "out.pcap"], cwd=folder, capture_output=True, timeout=120)
-        lost += b"drop LostAtRestart" in done.stdout
+        printed, faults = reported(text, data, expected, folder)
+        yield from faults
+        lost += "drop LostAtRestart" in printed
     if not lost:
         yield "nothing was lost"
 
