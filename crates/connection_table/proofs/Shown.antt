@@ -7,7 +7,7 @@ use Rattle.five_tuple.specs.declared.Flow.{Flow}
 use Rattle.connection_table.specs.declared.table.Entry.{Entry}
 use Rattle.connection_table.specs.declared.slot.Slot.{Slot}
 use Rattle.connection_table.specs.Touches.{same_flow, Touch, last_touch, without}
-use Rattle.connection_table.specs.Recency.{put_over, stored}
+use Rattle.connection_table.specs.Recency.{at_clock, moved, put_over, retouched, stored}
 use Rattle.connection_table.specs.Slots.{before_of, entry_of, shown, AreFull}
 use Rattle.connection_table.proofs.Standing.{same_flow-true}
 use Rattle.connection_table.proofs.Links.{same_sym}
@@ -82,6 +82,18 @@ none_when (Some v) h = let k : false ≡ true = h refl in absurd (cc)
 pub unwraps_weaker : {V : Type 0} (o : Option V) (P Q : V → Type 0) (r : V) → ((w : V) → P w → Q w) → UnwrapsOrElse o P r → UnwrapsOrElse o Q r
 unwraps_weaker None P Q r f u = f r u
 unwraps_weaker (Some x) P Q r f u = u
+
+-- a slot that has an entry isn't vacant
+pub before_full : (s : Slot) (e : Entry) → before_of s ≡ Some e → (s.vacant ≡ false) × (entry_of s ≡ e)
+before_full s e h = go s.vacant refl h
+  where
+    go : (b : Bool) → s.vacant ≡ b → (if b then None else Some (entry_of s)) ≡ Some e → (s.vacant ≡ false) × (entry_of s ≡ e)
+    go true v k = absurd (cc)
+    go false v k = (v, cc)
+
+-- to touch an entry is to store it at the clock
+pub stored_touch : (capacity clock : ℕ) (x : Flow) (e : Entry) (ts : List Touch) → last_touch x ts ≡ Some e → stored capacity x (at_clock clock e) ts ≡ retouched clock x ts
+stored_touch capacity clock x e ts h = ap (λ (o : Option Entry). put_over o capacity x (at_clock clock e) ts) h ∙ sym (ap (λ (o : Option Entry). moved clock x o ts) h)
 
 -- what is found isn't vacant
 pub full_found : (x : Flow) (es : List (Flow × Slot)) (h : Slot) → AreFull es → Some h ≡ lookup (same_flow x) es → h.vacant ≡ false

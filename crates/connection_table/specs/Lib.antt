@@ -1,4 +1,5 @@
 pub mod Touches
 pub mod Recency
+pub mod Renewal
 pub mod Tables
 pub mod Slots

@@ -33,15 +33,6 @@ impl Model for LruTable {
     ghost invariant = { λ t. (0 < t.cache.cap) × AreFull t.cache.entries };
 }
 
-// What is answered of a flow's entry.
-#[inline(always)]
-fn ask<N, F: FnOnce(Option<Entry>) -> (Entry, N)>(next: F, held: Option<Entry>) -> (Entry, N)
-    requires { F.pre next held }
-    ensures { F.post next held result }
-{
-    next(held)
-}
-
 impl ConnTable for LruTable {
     ghost capacity = { λ t. t.limit };
 
@@ -77,11 +68,13 @@ impl ConnTable for LruTable {
         Ok(())
     }
 
-    fn renew<N, F: FnOnce(Option<Entry>) -> (Entry, N)>(
+    fn renew<K: FnOnce(&Entry) -> bool, M: FnOnce() -> Entry>(
         &mut self,
         flow: Flow,
-        next: F,
-    ) -> Renewed<N> {
+        clock: u64,
+        keeps: K,
+        makes: M,
+    ) -> Renewed {
         let nobody = &self.nobody;
         let vacant = ||
             ensures { result.vacant ≡ true }
@@ -94,21 +87,25 @@ impl ConnTable for LruTable {
             }
         };
         let Ok(slot) = self.cache.get_or_insert_mut(flow, vacant) else {
-            let (entry, note) = ask(next, None);
-            return Renewed {
+            let entry = makes();
+            return Renewed::Made {
                 entry,
-                note,
                 stored: false,
             };
         };
-        let (entry, note) = ask(next, before(slot));
-        let renewed = Renewed {
+        if let Some(entry) = before(slot) {
+            if keeps(&entry) {
+                slot.last = clock;
+                return Renewed::Kept(entry);
+            }
+        }
+        let entry = makes();
+        let made = Renewed::Made {
             entry,
-            note,
             stored: true,
         };
-        *slot = slot_of(&renewed.entry);
-        renewed
+        *slot = slot_of(&entry);
+        made
     }
 
     fn clear(&mut self) {

@@ -1,6 +1,8 @@
 //! What a table of connections is.
-ghost use Rattle.std.specs.Prelude.{◌≡◌, ◌≤◌, ◌<◌, ℕ, List, [], length, IfOk, OnOk, OnErr, IsSome, IsOk, IsTrue, MatchBool};
+ghost use Rattle.std.specs.Prelude.{◌≡◌, ◌≤◌, ◌<◌, ℕ, List, [], length, IfOk, OnOk, OnErr, IsSome, IsOk};
 ghost use Rattle.connection_table.specs.Recency.{looked, retouched, stored};
+ghost use Rattle.std.specs.Fn.{FnOnceReturnsAt};
+ghost use Rattle.connection_table.specs.Renewal.{IsRenewed};
 ghost use Rattle.connection_table.specs.Touches.{Touch, last_touch};
 
 use crate::key::TableKey;
@@ -16,15 +18,13 @@ pub struct Entry {
     pub last: u64,
 }
 
-/// What came of a flow's entry that was renewed.
+/// What became of a flow's entry.
 #[derive(Clone, Copy)]
-pub struct Renewed<N> {
-    /// The flow's new entry.
-    pub entry: Entry,
-    /// What was noted beside it.
-    pub note: N,
-    /// Whether it is in the table.
-    pub stored: bool,
+pub enum Renewed {
+    /// It remains, touched. This is the entry before that.
+    Kept(Entry),
+    /// This is the flow's entry now, if it was stored.
+    Made { entry: Entry, stored: bool },
 }
 
 /// A bounded table of flows with their entries. Each flow is in it once; the most recently used is in front.
@@ -93,33 +93,31 @@ pub trait ConnTable: Drop + Sized {
         self.touch(flow, entry.last)
     }
 
-    /// Looks a flow up, and stores the entry that `next` answers to the one that is there. What `next` notes beside it is handed
-    /// out. `next` is called once, also where memory for a new entry is refused, and then nothing changes. Memory is never
-    /// refused for a flow that is there.
-    fn renew<N, F: FnOnce(Option<Entry>) -> (Entry, N)>(
+    /// Looks a flow up once. Where `keeps` holds of its entry, that is touched at this clock. Otherwise, and where there is none,
+    /// the entry that `makes` answers is stored. Memory is never refused for a flow that is there, and where it is refused
+    /// nothing changes.
+    fn renew<K: FnOnce(&Entry) -> bool, M: FnOnce() -> Entry>(
         &mut self,
         flow: Flow,
-        next: F,
-    ) -> Renewed<N>
-        requires { F.pre next (last_touch flow (entries self.old)) }
-        ensures next { F.post next (last_touch flow (entries self.old)) (result.entry, result.note) }
-        ensures kept { MatchBool result.stored
-            (entries self.new ≡ stored (capacity self.old) flow result.entry (entries self.old))
-            (entries self.new ≡ entries self.old) }
-        ensures there { IsSome (last_touch flow (entries self.old)) → IsTrue result.stored }
+        clock: u64,
+        keeps: K,
+        makes: M,
+    ) -> Renewed
+        requires keeps { K.IsAlwaysCallable keeps }
+        requires makes { M.pre makes }
+        ensures renewed { IsRenewed (FnOnceReturnsAt K.FnOnce keeps) (M.post makes) (capacity self.old) clock flow result (entries self.old) (entries self.new) }
         ensures capacity { capacity self.new ≡ capacity self.old }
     {
-        let held = self.peek(&flow);
-        let (entry, note) = next(held);
-        let mut renewed = Renewed {
-            entry,
-            note,
-            stored: true,
-        };
-        if self.store(flow, renewed.entry).is_err() {
-            renewed.stored = false;
+        if let Some(entry) = self.peek(&flow) {
+            if keeps(&entry) {
+                let _ = self.touch(&flow, clock);
+                return Renewed::Kept(entry);
+            }
         }
-        renewed
+        let entry = makes();
+        let lent = &entry;
+        let stored = self.store(flow, *lent).is_ok();
+        Renewed::Made { entry, stored }
     }
 
     /// Empties it.

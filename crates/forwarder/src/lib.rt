@@ -4,14 +4,13 @@
 //! and its backend is up, the flow's packets go to that backend, whatever the pools' newer versions say.
 #![tactic(auto)]
 
-ghost use Rattle.std.specs.Prelude.{◌≡◌, ◌≤◌, ◌<◌, ◌+◌, ◌%◌, ◌^◌, ◌∷◌, [], ℕ, List, length, Option, Some, None, IsTrue, IfOk, IfSome, IsNone, IsSome, IsFalse, MatchBool, if◌then◌else◌};
+ghost use Rattle.std.specs.Prelude.{◌≡◌, ◌≤◌, ◌<◌, ◌∷◌, [], ℕ, List, length, Option, Some, None, false, IsTrue, IfOk, IfSome, IsNone, IsSome, IsFalse, MatchBool};
 ghost use Rattle.connection_table.specs.Recency.{moved, stored};
 ghost use Rattle.connection_table.specs.Touches.{Touch, in_time, last_touch};
-ghost use Rattle.selection.specs.Readied.{ReadiedService};
+ghost use Rattle.selection.specs.Readied.{ready_for};
 ghost use Rattle.forwarder.specs.declared.Choice.TheVariants.{Forward};
 ghost use Rattle.forwarder.specs.Forwarding.{Forwarding, unused};
-ghost use Rattle.forwarder.specs.PrivateRenewal.{IsRenewal};
-ghost use Rattle.forwarder.specs.Serving.{Serving, kept, told_after, told_in, stands_in, after_told, forwarding_of, serving_of, told, IsForward};
+ghost use Rattle.forwarder.specs.Serving.{Serving, kept, clock_with, told_after, told_in, stands_in, after_told, forwarding_of, serving_of, told, IsForward};
 
 use connection_table::{ConnTable, Entry, Renewed, TableKey};
 use five_tuple::Flow;
@@ -52,7 +51,6 @@ pub struct Forwarder<S: Scheme, T: ConnTable> {
 
 impl<S: Scheme, T: ConnTable> Model for Forwarder<S, T> {
     ghost use Rattle.forwarder.specs.declared.Choice.TheVariants.{Forward};
-    ghost use Rattle.forwarder.specs.PrivateRenewal.{IsRenewal};
     ghost use Rattle.forwarder.specs.Forwarding.{Forwarding};
 
     ghost Value = { Forwarding };
@@ -124,86 +122,35 @@ fn keep<T: ConnTable>(table: &mut T, stood: bool, flow: Flow, entry: Entry, refu
     }
 }
 
-// The entry where it is not past the limit.
+// Whether an entry stands, and its backend is up.
 #[inline(always)]
-fn if_in_time(held: Option<Entry>, idle: Option<u64>, clock: u64) -> Option<Entry>
-    ensures { result ≡ in_time idle clock held }
+fn stays<S: Scheme>(entry: &Entry, idle: Option<u64>, clock: u64, ready: &Ready<S>) -> bool
+    ensures { MatchBool result (kept (in_time idle clock (Some entry.now)) ready.now.ups ≡ Some entry.now) (kept (in_time idle clock (Some entry.now)) ready.now.ups ≡ None) }
 {
-    let entry = held?;
-    match idle {
-        None => Some(entry),
-        Some(limit) => {
-            if limit < clock.saturating_sub(entry.last) {
-                None
-            } else {
-                Some(entry)
-            }
+    if let Some(limit) = idle {
+        if limit < clock.saturating_sub(entry.last) {
+            return false;
         }
     }
+    ready.is_up(&entry.backend)
 }
 
-// A flow's next entry, after the one that is in the table, and whether the scheme was asked for it.
+// A flow's new entry, where somebody is up.
 #[inline(always)]
-fn next_entry<S: Scheme>(
-    held: Option<Entry>,
-    idle: Option<u64>,
-    clock: u64,
-    ready: &Ready<S>,
-    flow: &Flow,
-    turn: u64,
-    version: u32,
-) -> (Entry, bool)
+fn new_entry<S: Scheme>(ready: &Ready<S>, flow: &Flow, turn: u64, version: u32, clock: u64) -> Entry
     requires { ready.now.ups.backends ≡ [] → ⊥ }
-    ensures { IsRenewal (S.pick ready.now.scheme ready.now.size ready.now.ups flow.now turn) clock version (kept (in_time idle clock held) ready.now.ups) result.0 result.1 }
+    ensures picked { S.pick ready.now.scheme ready.now.size ready.now.ups flow.now turn ≡ Some result.backend }
+    ensures version { result.version ≡ version }
+    ensures clock { result.last ≡ clock }
 {
-    if let Some(entry) = if_up(if_in_time(held, idle, clock), ready) {
-        let touched = Entry {
-            last: clock,
-            ..entry
-        };
-        return (touched, false);
-    }
     match ready.choose(flow, turn) {
-        Some(backend) => {
-            let entry = Entry {
-                backend,
-                version,
-                last: clock,
-            };
-            (entry, true)
-        }
+        Some(backend) => Entry {
+            backend,
+            version,
+            last: clock,
+        },
         None => unreachable!(),
     }
-}
-
-// Renews the flow's entry where somebody is up: by one look-up in the table.
-#[inline(always)]
-fn renew<S: Scheme, T: ConnTable>(
-    table: &mut T,
-    idle: Option<u64>,
-    clock: u64,
-    ready: &Ready<S>,
-    flow: &Flow,
-    turn: u64,
-    version: u32,
-) -> Renewed<bool>
-    requires { ready.now.ups.backends ≡ [] → ⊥ }
-    ensures renewal { IsRenewal (S.pick ready.now.scheme ready.now.size ready.now.ups flow.now turn) clock version (kept (in_time idle clock (last_touch flow.now (T.entries table.old))) ready.now.ups) result.entry result.note }
-    ensures kept { MatchBool result.stored (T.entries table.new ≡ stored (T.capacity table.old) flow.now result.entry (T.entries table.old)) (T.entries table.new ≡ T.entries table.old) }
-    ensures there { IsSome (last_touch flow.now (T.entries table.old)) → IsTrue result.stored }
-    ensures capacity { T.capacity table.new ≡ T.capacity table.old }
-{
-    table.renew(*flow, |held| {
-        next_entry(held, idle, clock, ready, flow, turn, version)
-    })
-}
-
-// The turn that follows.
-#[inline(always)]
-fn turn_after(turn: u64, asked: bool) -> u64
-    ensures { result ≡ (if asked then (turn + 1) % 2 ^ 64 else turn) }
-{
-    if asked { turn.wrapping_add(1) } else { turn }
 }
 
 impl<S: Scheme, T: ConnTable> Forwarder<S, T> {
@@ -294,7 +241,6 @@ impl<S: Scheme, T: ConnTable> Forwarder<S, T> {
     }
 
     // Serves one packet.
-    #[tactic(auto, using(crate::proofs::Tables::store_over, crate::proofs::Tables::touch_stores, crate::proofs::Tables::touched_is))]
     #[inline(always)]
     fn serve_once(
         &mut self,
@@ -311,31 +257,91 @@ impl<S: Scheme, T: ConnTable> Forwarder<S, T> {
         ensures refused { IsTrue refused → IsNone (stands_in self.old flow.now at) → IsForward result.choice → IsTrue result.unstored }
         ensures there { IsTrue result.unstored → IsFalse refused → IsNone (last_touch flow.now self.old.entries) }
     {
-        let clock = self.clock.max(at);
-        self.clock = clock;
         let Some(ready) = version.ready(flow) else {
+            self.tick(at);
             return Served {
                 choice: Choice::NoService,
                 unstored: false,
             };
         };
-        if !refused && ready.is_anybody_up() {
-            let turn = self.turn;
-            let renewed = renew(
-                &mut self.table,
-                self.idle,
-                clock,
-                ready,
-                flow,
-                turn,
-                version.number(),
-            );
-            self.turn = turn_after(turn, renewed.note);
-            return Served {
-                choice: sent(&renewed.entry),
-                unstored: !renewed.stored,
-            };
+        if refused || !ready.is_anybody_up() {
+            return self.serve_in_steps(version, ready, flow, at, refused);
         }
+        self.renew(version, ready, flow, at)
+    }
+
+    // The clock with a packet of this time.
+    #[inline(always)]
+    fn tick(&mut self, at: u64) -> u64
+        ensures clock { result ≡ clock_with self.old at }
+        ensures ticked { self.new ≡ (record self.old { clock = clock_with self.old at }) }
+    {
+        self.clock = self.clock.max(at);
+        self.clock
+    }
+
+    // Serves a packet where somebody is up and no entry is refused: by one look-up in the table.
+    #[tactic(auto, using(crate::proofs::Tables::touch_stores))]
+    #[inline(always)]
+    fn renew(
+        &mut self,
+        version: &PreparedVersion<S>,
+        ready: &Ready<S>,
+        flow: &Flow,
+        at: u64,
+    ) -> Served
+        requires ready { ready_for flow.now version.now.services ≡ Some ready.now }
+        requires own { (ready.now.scheme ≡ version.now.scheme) × (ready.now.size ≡ version.now.size) }
+        requires somebody { ready.now.ups.backends ≡ [] → ⊥ }
+        ensures choice { let s = serving_of version.now flow.now at false in
+            result.choice ≡ (told_in (S.pick version.now.scheme version.now.size) self.old s).choice }
+        ensures after { let s = serving_of version.now flow.now at result.unstored in
+            self.new ≡ after_told (told_in (S.pick version.now.scheme version.now.size) self.old s) self.old }
+        ensures due { IsTrue result.unstored → IsNone (stands_in self.old flow.now at) × IsForward result.choice }
+        ensures there { IsTrue result.unstored → IsNone (last_touch flow.now self.old.entries) }
+    {
+        let clock = self.tick(at);
+        let idle = self.idle;
+        let turn = self.turn;
+        let number = version.number();
+        let keeps = |entry: &Entry| stays(entry, idle, clock, ready);
+        let makes = || new_entry(ready, flow, turn, number, clock);
+        match self.table.renew(*flow, clock, keeps, makes) {
+            Renewed::Kept(entry) => Served {
+                choice: sent(&entry),
+                unstored: false,
+            },
+            Renewed::Made { entry, stored } => {
+                self.turn = turn.wrapping_add(1);
+                Served {
+                    choice: sent(&entry),
+                    unstored: !stored,
+                }
+            }
+        }
+    }
+
+    // Serves a packet in any case: looks its entry up, asks the scheme, and stores.
+    #[tactic(auto, using(crate::proofs::Tables::store_over, crate::proofs::Tables::touch_stores, crate::proofs::Tables::touched_is))]
+    fn serve_in_steps(
+        &mut self,
+        version: &PreparedVersion<S>,
+        ready: &Ready<S>,
+        flow: &Flow,
+        at: u64,
+        refused: bool,
+    ) -> Served
+        requires ready { ready_for flow.now version.now.services ≡ Some ready.now }
+        requires own { (ready.now.scheme ≡ version.now.scheme) × (ready.now.size ≡ version.now.size) }
+        ensures choice { let s = serving_of version.now flow.now at refused in
+            result.choice ≡ (told_in (S.pick version.now.scheme version.now.size) self.old s).choice }
+        ensures after { let s = serving_of version.now flow.now at result.unstored in
+            self.new ≡ after_told (told_in (S.pick version.now.scheme version.now.size) self.old s) self.old }
+        ensures due { IsTrue result.unstored → IsNone (stands_in self.old flow.now at) × IsForward result.choice }
+        ensures refused { IsTrue refused → IsNone (stands_in self.old flow.now at) → IsForward result.choice → IsTrue result.unstored }
+        ensures there { IsTrue result.unstored → IsFalse refused → IsNone (last_touch flow.now self.old.entries) }
+    {
+        let clock = self.tick(at);
         let stood = stand(&mut self.table, self.idle, flow, clock);
         if let Some(entry) = if_up(stood, ready) {
             return Served {
