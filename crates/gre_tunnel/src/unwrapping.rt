@@ -1,24 +1,24 @@
 // A tunnelled datagram is unwrapped.
-ghost use Rattle.std.specs.Prelude.{◌≡◌, ◌≤◌, ◌+◌, length, Ok, Err, MatchResult};
-ghost use Rattle.byteorder.specs.Endian.{big_from};
+ghost use Rattle.std.specs.Prelude.{◌≡◌, ◌≤◌, length, Ok, Err, MatchResult};
 ghost use Rattle.gre_tunnel.specs.Gre.{has_sum, gre_len, gre_fault, gre_answer, carried};
 
 use super::{GreFault, Inner};
-use byteorder::{BigEndian, ByteOrder};
-use ip_headers::{header_sum, read_ipv4};
+use ip_headers::{ETHERTYPE_IPV4, GRE, header_sum, read_ipv4, u16_at};
 
-fn word_at(bytes: &[u8], at: usize) -> u16
-    requires { at + 2 ≤ length bytes.now }
-    ensures { result ≡ big_from at 2 bytes.now }
-{
-    BigEndian::read_u16(&bytes[at..])
-}
+// The first word of a GRE header (RFC 2784, 2.1): whether there is a checksum, the bits 1 to 5 over ten others, and the version.
+const HAS_SUM: u16 = 0x8000;
+
+const RESERVED: u16 = 0x1f;
+
+const BELOW_RESERVED: u32 = 10;
+
+const VERSION: u16 = 0x07;
 
 fn has_sum(payload: &[u8]) -> bool
     requires { 4 ≤ length payload.now }
     ensures { result ≡ has_sum payload.now }
 {
-    word_at(payload, 0) / 0x8000 == 1
+    u16_at(payload, 0) & HAS_SUM != 0
 }
 
 fn gre_len(payload: &[u8]) -> usize
@@ -35,14 +35,14 @@ fn gre_fault(payload: &[u8]) -> Option<GreFault>
     if payload.len() < 4 || payload.len() < gre_len(payload) {
         return Some(GreFault::NotGre);
     }
-    let first = word_at(payload, 0);
-    if first / 0x400 % 32 != 0 {
+    let first = u16_at(payload, 0);
+    if (first >> BELOW_RESERVED) & RESERVED != 0 {
         return Some(GreFault::ReservedBits);
     }
-    if first % 8 != 0 {
+    if first & VERSION != 0 {
         return Some(GreFault::BadVersion);
     }
-    if word_at(payload, 2) != 0x0800 {
+    if u16_at(payload, 2) != ETHERTYPE_IPV4 {
         return Some(GreFault::BadType);
     }
     if has_sum(payload) && header_sum(payload) != 0 {
@@ -60,7 +60,7 @@ pub fn unwrap(bytes: &[u8]) -> Result<Inner<'_>, GreFault>
     let Ok(datagram) = read_ipv4(bytes, true) else {
         return Err(GreFault::NotGre);
     };
-    if datagram.proto != 47 {
+    if datagram.proto != GRE {
         return Err(GreFault::NotGre);
     }
     let payload = datagram.payload;

@@ -3,9 +3,12 @@ ghost use Rattle.std.specs.Prelude.{◌≡◌, ◌≤◌, length, false, Ok, Err
 ghost use Rattle.ip_headers.specs.Sum.{word_sum, folded};
 ghost use Rattle.ip_headers.specs.Ipv4.{has, header_len, total_len, header_fault, ipv4_answer, view};
 
-use super::{IpFault, Ipv4View};
+use super::{IpFault, Ipv4View, LEAST_HEADER};
 use crate::checksum::folded_sum;
 use crate::places::{u16_at, u32_at};
+
+// The bit that more fragments follow, and the fragment offset (RFC 791, 3.1).
+const FRAGMENT: u16 = 0x3fff;
 
 fn header_length(bytes: &[u8]) -> usize
     requires { 1 ≤ length bytes.now }
@@ -30,14 +33,16 @@ fn is_not_ipv4(bytes: &[u8]) -> bool
 fn is_truncated(bytes: &[u8]) -> bool
     ensures { result ≡ has false bytes.now IpFault.Truncated }
 {
-    bytes.len() < 20 || bytes.len() < header_length(bytes) || bytes.len() < total_length(bytes)
+    bytes.len() < LEAST_HEADER
+        || bytes.len() < header_length(bytes)
+        || bytes.len() < total_length(bytes)
 }
 
 fn is_bad_header(bytes: &[u8]) -> bool
     requires { 20 ≤ length bytes.now }
     ensures { result ≡ has false bytes.now IpFault.BadHeader }
 {
-    header_length(bytes) < 20 || total_length(bytes) < header_length(bytes)
+    header_length(bytes) < LEAST_HEADER || total_length(bytes) < header_length(bytes)
 }
 
 // A header without options, as most are, has a branch of its own: there the compiler knows the length
@@ -46,8 +51,8 @@ fn is_bad_header(bytes: &[u8]) -> bool
 fn header_folded(header: &[u8]) -> u16
     ensures { result ≡ folded (word_sum header.now) }
 {
-    if header.len() == 20 {
-        folded_sum(&header[..20])
+    if header.len() == LEAST_HEADER {
+        folded_sum(&header[..LEAST_HEADER])
     } else {
         folded_sum(header)
     }
@@ -65,7 +70,7 @@ fn is_fragment(bytes: &[u8]) -> bool
     requires { 20 ≤ length bytes.now }
     ensures { result ≡ has false bytes.now IpFault.Fragment }
 {
-    u16_at(bytes, 6) % 0x4000 != 0
+    u16_at(bytes, 6) & FRAGMENT != 0
 }
 
 // The first fault of a header, if it has one.
@@ -111,7 +116,7 @@ pub fn read_ipv4(bytes: &[u8], check: bool) -> Result<Ipv4View<'_>, IpFault>
         sum: u16_at(bytes, 10),
         src: u32_at(bytes, 12),
         dst: u32_at(bytes, 16),
-        options: &bytes[20..header],
+        options: &bytes[LEAST_HEADER..header],
         payload: &bytes[header..total],
     })
 }

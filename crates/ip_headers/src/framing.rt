@@ -2,7 +2,7 @@
 ghost use Rattle.std.specs.Prelude.{◌≡◌, Ok, Err, MatchResult};
 ghost use Rattle.ip_headers.specs.Ipv4.{frame_answer};
 
-use super::{IpFault, Link};
+use super::{ETHERNET_HEADER, ETHERTYPE_IPV4, IpFault, Link};
 use crate::places::u16_at;
 
 /// The bytes of a frame from where its datagram begins: all of them, or those after an Ethernet
@@ -13,13 +13,13 @@ pub fn read_frame(link: Link, frame: &[u8]) -> Result<&[u8], IpFault>
 {
     match link {
         Link::Ethernet => {
-            if frame.len() < 14 {
+            if frame.len() < ETHERNET_HEADER {
                 return Err(IpFault::Truncated);
             }
-            if u16_at(frame, 12) != 0x0800 {
+            if u16_at(frame, 12) != ETHERTYPE_IPV4 {
                 return Err(IpFault::NotIpv4);
             }
-            Ok(&frame[14..])
+            Ok(&frame[ETHERNET_HEADER..])
         }
         Link::RawIp | Link::Ipv4 => Ok(frame),
     }

@@ -2,6 +2,7 @@
 ghost use Rattle.std.specs.Prelude.{◌≡◌};
 ghost use Rattle.ip_headers.specs.Outer.{outer_header};
 
+use super::GRE;
 use crate::checksum::header_sum;
 use byteorder::{BigEndian, ByteOrder};
 
@@ -12,7 +13,7 @@ pub fn write_outer(out: &mut [u8; 20], total: u16, src: u32, dst: u32)
     ensures { out.new ≡ outer_header total src dst }
 {
     *out = [
-        0x45, 0, 0, 0, 0, 0, 0x40, 0, 64, 47, 0, 0, 0, 0, 0, 0, 0, 0, 0, 0,
+        0x45, 0, 0, 0, 0, 0, 0x40, 0, 64, GRE, 0, 0, 0, 0, 0, 0, 0, 0, 0, 0,
     ];
     BigEndian::write_u16(&mut out[2..4], total);
     BigEndian::write_u32(&mut out[12..16], src);

@@ -2,7 +2,7 @@
 ghost use Rattle.std.specs.Prelude.{◌≡◌};
 ghost use Rattle.ip_headers.specs.Ipv4.{is_bad_tcp, is_bad_udp, ports_answer};
 
-use super::{IpFault, Ipv4View, Ports};
+use super::{IpFault, Ipv4View, Ports, TCP, UDP};
 use crate::places::u16_at;
 
 fn is_bad_tcp(payload: &[u8]) -> bool
@@ -32,8 +32,8 @@ pub fn read_ports(datagram: &Ipv4View<'_>) -> Result<Ports, IpFault>
 {
     let payload = datagram.payload;
     let is_bad = match datagram.proto {
-        6 => is_bad_tcp(payload),
-        17 => is_bad_udp(payload),
+        TCP => is_bad_tcp(payload),
+        UDP => is_bad_udp(payload),
         _ => return Err(IpFault::NotTcpUdp),
     };
     if is_bad {
