@@ -1,17 +1,19 @@
 //! Fills the slots of a table.
-ghost use Rattle.std.specs.Prelude.{◌≡◌, ◌≤◌, ◌<◌, ◌^◌, true, [], length, map, slice_index, IfOk, IfErr, OnOk, OnErr, None};
+ghost use Rattle.std.specs.Prelude.{◌≡◌, ◌≤◌, ◌<◌, ◌^◌, true, [], length, map, slice_index, All, IfOk, IfErr, OnOk, OnErr, None};
 ghost use Rattle.std.specs.List.{list_all};
 ghost use Rattle.maglev_table.specs.NameText.{is_name};
 ghost use Rattle.maglev_table.specs.Turns.{Owners};
-ghost use Rattle.maglev_ffi.specs.Tables.{names_in, are_weights, first_fault, names_fault, IsTable, IsTableOf, Refuses, NamesRefuse, AreDistinct, places_of};
+ghost use Rattle.table_entrants.specs.Ranking.{AreDistinct, places_of};
+ghost use Rattle.maglev_ffi.specs.Tables.{names_in, are_weights, first_fault, names_fault, IsTable, IsTableOf, Refuses, NamesRefuse};
 
-use crate::entrants::{Entrant, are_names, are_weights, lists_of, ranked, weights_of};
+use crate::entrants::{are_names, are_weights, ranked};
 use crate::fault::Fault;
 use crate::hashes::hash_of;
 use hash_laws::{AnyHash, FlowHash};
-use maglev_table::{Table, TableSize, populate};
+use maglev_table::{Table, TableSize};
 use maglev_texts::pieces;
 use std::alloc::Global;
+use table_entrants::{Entrant, table_of};
 
 // The first fault of some names and weights, but that a name is there twice.
 fn names_fault(size: TableSize, words: &[&[u8]], weights: &[u8]) -> Option<Fault>
@@ -34,10 +36,11 @@ fn write(table: &Table, entrants: &[Entrant], slots: &mut [u32])
     requires room { length slots.old ≡ length table.now.owners }
     requires small { length table.now.owners < 2 ^ 32 }
     requires lists { table.now.lists ≡ length entrants.now }
+    requires places { All (λ e. e.place < 2 ^ 32) entrants.now }
     ensures { slots.new ≡ map (λ who. slice_index (places_of entrants.now) who) table.now.owners }
 {
     for slot in 0..slots.len() {
-        slots[slot] = entrants[table.slot(slot as u32) as usize].place;
+        slots[slot] = entrants[table.slot(slot as u32) as usize].place as u32;
     }
 }
 
@@ -61,9 +64,7 @@ fn fill_of<H: FlowHash>(
         return Err(fault);
     }
     let entrants = ranked(alloc, words, weights)?;
-    let lists = lists_of(alloc, size, hash, entrants.as_slice())?;
-    let turns = weights_of(alloc, entrants.as_slice())?;
-    let table = match populate(alloc, size, lists.as_slice(), turns.as_slice()) {
+    let table = match table_of(alloc, size, hash, entrants.as_slice()) {
         Ok(table) => table,
         Err(_) => return Err(Fault::Memory),
     };

@@ -4,7 +4,7 @@ ghost use Rattle.command_faults.specs.Printing.{Prints, BreaksOff};
 ghost use Rattle.table_commands.specs.Refusals.{AreFew, IsTableWork};
 ghost use Rattle.table_commands.specs.Pick.{longest, without_newline, IsHexOf, found_line, pick_line, HexFails, InputFails, IsPickLine, IsPickLineOf, IsShort, PickFailsWith, PickFails};
 
-use super::names::{Entrants, lists_of, names_for};
+use super::names::{name_at, names_for};
 use cluster_core::{Packet, read_packet};
 use command_faults::{CliFault, put_text};
 use five_tuple::Flow;
@@ -12,10 +12,11 @@ use hash_laws::{AnyHash, FlowHash};
 use hex::FromHexError;
 use ip_headers::Link;
 use listing::CauseText;
-use maglev_table::{Name, TableSize, Weight, populate};
+use maglev_table::TableSize;
 use maglev_texts::FlowText;
 use pcap_file::{Sink, Source, fill};
 use std::alloc::{AllocError, Global};
+use table_entrants::{Entrant, table_of};
 
 /// The longest input: two digits for each byte of 262,144, and a newline.
 const LONGEST: usize = 524_289;
@@ -75,23 +76,18 @@ fn found_line<H: FlowHash>(
     alloc: Global,
     size: TableSize,
     hash: &H,
-    names: &[Name],
-    weights: &[Weight],
+    entrants: &[Entrant],
     flow: Flow,
 ) -> Result<String, CliFault>
-    requires some { 0 < length names.now }
-    requires few { length names.now ≤ size }
-    requires weighed { length weights.now ≡ length names.now }
-    ensures line { IfOk result (λ s. string_bytes s ≡ found_line (H.plain hash.now) size names.now weights.now flow) }
+    ensures line { IfOk result (λ s. string_bytes s ≡ found_line (H.plain hash.now) size entrants.now flow) }
     ensures fault { IfErr result (λ fault. fault ≡ CliFault.Memory) }
 {
-    let lists = lists_of(alloc, size, hash, names)?;
-    let table = match populate(alloc, size, lists.as_slice(), weights) {
+    let table = match table_of(alloc, size, hash, entrants) {
         Ok(table) => table,
         Err(_) => return Err(CliFault::Memory),
     };
     let slot = (hash.hash(b'f', &flow.bytes()) % u64::from(size.slots())) as u32;
-    let name = &names[table.slot(slot) as usize];
+    let name = name_at(&table, entrants, slot);
     let text = FlowText(flow);
     match format!(in alloc; "{text} slot {slot} backend {name}\n") {
         Ok(line) => Ok(line),
@@ -104,18 +100,14 @@ fn line_of<H: FlowHash>(
     alloc: Global,
     size: TableSize,
     hash: &H,
-    names: &[Name],
-    weights: &[Weight],
+    entrants: &[Entrant],
     packet: Packet,
 ) -> Result<String, CliFault>
-    requires some { 0 < length names.now }
-    requires few { length names.now ≤ size }
-    requires weighed { length weights.now ≡ length names.now }
-    ensures line { IfOk result (λ s. string_bytes s ≡ pick_line (H.plain hash.now) size names.now weights.now packet) }
+    ensures line { IfOk result (λ s. string_bytes s ≡ pick_line (H.plain hash.now) size entrants.now packet) }
     ensures fault { IfErr result (λ fault. fault ≡ CliFault.Memory) }
 {
     let cause = match packet {
-        Packet::Good { flow, .. } => return found_line(alloc, size, hash, names, weights, flow),
+        Packet::Good { flow, .. } => return found_line(alloc, size, hash, entrants, flow),
         Packet::Bad(cause) => CauseText(cause),
     };
     match format!(in alloc; "drop {cause}\n") {
@@ -158,20 +150,13 @@ fn pick_with<H: FlowHash, R: Source, S: Sink>(
     ensures silent { IfErr result (λ fault. fault ≢ CliFault.Write → out.new ≡ out.old) }
     ensures fault { IfErr result (λ fault. PickFailsWith fault size (map (λ w. w.now) words.now) (R.tape input.old).bytes) }
 {
-    let Entrants { names, weights } = names_for(alloc, size, words)?;
+    let entrants = names_for(alloc, size, words)?;
     let bytes = match datagram_of(alloc, input) {
         Ok(bytes) => bytes,
         Err(fault) => return Err(fault),
     };
     let packet = read_packet(Link::Ipv4, bytes.as_slice(), 0, check);
-    let line = line_of(
-        alloc,
-        size,
-        hash,
-        names.as_slice(),
-        weights.as_slice(),
-        packet,
-    )?;
+    let line = line_of(alloc, size, hash, entrants.as_slice(), packet)?;
     match put_text(out, line.as_str()) {
         Ok(()) => Ok(()),
         Err(fault) => Err(fault),

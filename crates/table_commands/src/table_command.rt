@@ -3,13 +3,14 @@ ghost use Rattle.table_commands.specs.Text.{IsTableText, IsTableTextOf};
 ghost use Rattle.command_faults.specs.Printing.{Prints, BreaksOff};
 ghost use Rattle.table_commands.specs.Refusals.{TableFails, WordsFail, AreNames, IsTableWork};
 
-use super::names::{Entrants, lists_of, names_for};
+use super::names::names_for;
 use super::table_text::table_text_of;
 use command_faults::{CliFault, put_text};
 use hash_laws::{AnyHash, FlowHash};
-use maglev_table::{TableSize, populate};
+use maglev_table::TableSize;
 use pcap_file::Sink;
 use std::alloc::Global;
+use table_entrants::table_of;
 
 fn table_with<H: FlowHash, S: Sink>(
     alloc: Global,
@@ -26,13 +27,12 @@ fn table_with<H: FlowHash, S: Sink>(
     ensures few { OnOk result (length (map (λ w. w.now) words.now) ≤ size) }
     ensures fault { IfErr result (λ fault. WordsFail fault size (map (λ w. w.now) words.now)) }
 {
-    let Entrants { names, weights } = names_for(alloc, size, words)?;
-    let lists = lists_of(alloc, size, hash, names.as_slice())?;
-    let table = match populate(alloc, size, lists.as_slice(), weights.as_slice()) {
+    let entrants = names_for(alloc, size, words)?;
+    let table = match table_of(alloc, size, hash, entrants.as_slice()) {
         Ok(table) => table,
         Err(_) => return Err(CliFault::Memory),
     };
-    let text = table_text_of(alloc, size, names.as_slice(), &table)?;
+    let text = table_text_of(alloc, size, entrants.as_slice(), &table)?;
     match put_text(out, text.as_str()) {
         Ok(()) => Ok(()),
         Err(fault) => Err(fault),
