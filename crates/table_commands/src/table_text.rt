@@ -38,7 +38,11 @@ fn push_slot_lines(
     Ok(())
 }
 
-fn push_count_lines(text: &mut String, entrants: &[Entrant], counts: &[u32]) -> Result<(), AllocError>
+fn push_count_lines(
+    text: &mut String,
+    entrants: &[Entrant],
+    counts: &[u32],
+) -> Result<(), AllocError>
     requires { length counts.now ≡ length entrants.now }
     ensures { OnOk result (string_bytes text.new ≡ string_bytes text.old
         ++ counts_text (names_of entrants.now) counts.now (length entrants.now)) }
