@@ -243,5 +243,27 @@ def test_install():
     check("what it prints", ours == theirs and ours[0] == 0, ours)
 
 
+def path_without(tools, room):
+    """A PATH without some tools: for each of its folders one with links to all else that is there."""
+    folders = [pathlib.Path(folder) for folder in os.environ["PATH"].split(os.pathsep) if os.path.isdir(folder)]
+    for place, folder in enumerate(folders):
+        (room / str(place)).mkdir(parents=True)
+        for tool in folder.iterdir():
+            if tool.name not in tools:
+                (room / str(place) / tool.name).symlink_to(tool)
+    return os.pathsep.join(str(room / str(place)) for place in range(len(folders)))
+
+
+def test_missing_tools():
+    """Where the kit or a C compiler is missing bin/install says so, and installs the rest."""
+    rows = [("there is no rt on the PATH, which proves it", ["rt"]), ("there is no C compiler, which makes its heap", ["cc", "gcc", "clang"])]
+    for place, (why, tools) in enumerate(rows):
+        prefix, room = MADE / f"prefix{place}", MADE / f"path{place}"
+        env = {name: word for name, word in os.environ.items() if name != "CC"}
+        status, _, err = did([TOP / "bin" / "install", prefix], env={**env, "PATH": path_without(tools, room)})
+        check(f"bin/install: {why}", (status, err.decode()) == (0, f"library: libmaglev isn't built: {why}\n"), err)
+        check("it installs the program alone", (prefix / "bin" / "maglev").exists() and not (prefix / "lib").exists())
+
+
 if __name__ == "__main__":
     sys.exit(run_tests(globals()))
