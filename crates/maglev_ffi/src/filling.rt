@@ -1,6 +1,7 @@
 //! Fills the slots of a table.
 ghost use Rattle.std.specs.Prelude.{◌≡◌, ◌≤◌, ◌<◌, ◌^◌, true, [], length, map, slice_index, All, IfOk, IfErr, OnOk, OnErr, None};
 ghost use Rattle.std.specs.List.{list_all};
+ghost use Rattle.hash_laws.specs.Any.{plain_of};
 ghost use Rattle.maglev_table.specs.NameText.{is_name};
 ghost use Rattle.maglev_table.specs.Turns.{Owners};
 ghost use Rattle.table_entrants.specs.Ranking.{AreDistinct, places_of};
@@ -9,7 +10,7 @@ ghost use Rattle.maglev_ffi.specs.Tables.{names_in, are_weights, first_fault, na
 use crate::entrants::{are_names, are_weights, ranked};
 use crate::fault::Fault;
 use crate::hashes::hash_of;
-use hash_laws::{AnyHash, FlowHash};
+use hash_laws::AnyHash;
 use maglev_table::{Table, TableSize};
 use maglev_texts::pieces;
 use std::alloc::Global;
@@ -44,17 +45,17 @@ fn write(table: &Table, entrants: &[Entrant], slots: &mut [u32])
     }
 }
 
-fn fill_of<H: FlowHash>(
+fn fill_of(
     alloc: Global,
     size: TableSize,
-    hash: &H,
+    hash: &AnyHash,
     words: &[&[u8]],
     weights: &[u8],
     slots: &mut [u32],
 ) -> Result<(), Fault>
     requires room { length slots.old ≡ size }
     requires small { size ≤ 65537 }
-    ensures table { OnOk result (IsTable (H.plain hash.now) size (map (λ w. w.now) words.now) weights.now slots.new) }
+    ensures table { OnOk result (IsTable (plain_of hash.now) size (map (λ w. w.now) words.now) weights.now slots.new) }
     ensures unchanged { OnErr result (slots.new ≡ slots.old) }
     ensures accepted { OnOk result (names_fault size (map (λ w. w.now) words.now) weights.now ≡ None) }
     ensures distinct { OnOk result (AreDistinct (map (λ w. w.now) words.now)) }

@@ -1,7 +1,6 @@
 -- Words that are names, and the names of those who share a table.
-use Rattle.std.proofs.Common.{◌≡◌, ℕ, ◌<◌, Bool, true, false, List, [], map, length, get_or, Option, Some, None, sym, ◌∙◌}
-use Rattle.std.specs.Prelude.{unwrap_or, is_some, option_map, if◌then◌else◌}
-use Rattle.std.specs.List.{range_with_len}
+use Rattle.std.proofs.Common.{◌≡◌, ℕ, Bool, true, false, List, [], map, length, Option, Some, None, sym, ◌∙◌}
+use Rattle.std.specs.Prelude.{unwrap_or, option_map, if◌then◌else◌}
 use Rattle.std.proofs.lemmas.List.{get_or-map, length-map}
 use Rattle.std.proofs.lemmas.List.FromFn.{length-map-range_with_len}
 use Rattle.maglev_table.specs.NameText.{is_name}

@@ -1,4 +1,4 @@
-use Rattle.std.proofs.Common.{◌<◌, [], List, ℕ, get_or, length, arith, ap, ◌∙◌}
+use Rattle.std.proofs.Common.{◌<◌, [], ℕ, get_or, length, arith, ap, ◌∙◌}
 use Rattle.table_entrants.specs.Ranking.{names_of}
 use Rattle.table_entrants.proofs.Ranked.{read_name}
 use Rattle.table_commands.proofs.names.name_at.Goals as goal

@@ -1,4 +1,4 @@
-use Rattle.std.proofs.Common.{length, ℕ, ap, refl, sym, ◌∙◌, append_assoc}
+use Rattle.std.proofs.Common.{length, ℕ, ap, sym, ◌∙◌, append_assoc}
 use Rattle.std.proofs.lemmas.List.FromFn.{length-map-range_with_len}
 use Rattle.maglev_table.specs.Turns.{slots_of, all_slots_of}
 use Rattle.std.proofs.lemmas.List.{length-map}
