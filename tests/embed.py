@@ -35,10 +35,10 @@ def did(words, **more):
     return done.returncode, done.stdout, done.stderr
 
 
-def compiled(source, *options, name=None):
-    """Compiles and links a caller with the archive, and gives its program; none where that can't be done."""
-    program = MADE / (name or source.stem)
-    words = [COMPILER, "-O2", "-std=c11", *STRICT, source, MADE / "libmaglev.a", *options, "-o", program]
+def compiled(source, *options, name=None, compiler=COMPILER, folder=MADE):
+    """Compiles and links a caller with the archive of a folder, and gives its program; none where that can't be done."""
+    program = folder / (name or source.stem)
+    words = [compiler, "-O2", "-std=c11", *STRICT, source, folder / "libmaglev.a", *options, "-o", program]
     status, _, err = did(words)
     return program if status == 0 else check(f"{source.name} {options} is compiled", False, err.decode())
 
@@ -107,7 +107,7 @@ def datagram(flow):
 
 
 def compare(case, callers):
-    """What the program prints of a case, beside both callers in C and the module."""
+    """What the program prints of a case, beside both callers in C, each the words that run it, and the module."""
     import maglev
 
     size, hash_word, names, weights, flow = case
@@ -118,17 +118,23 @@ def compare(case, callers):
     owners = [line.split()[1] for line in table.decode().splitlines()[1 : size + 1]]
     slot = maglev.slot_of(size, hash_word, maglev.Flow(*flow))
     line = f" slot {slot} backend {owners[slot]}\n".encode()
-    in_c = [did([caller, size, hash_word, *words], input=" ".join(map(str, flow)).encode())[1] for caller in callers]
+    in_c = [did([*caller, size, hash_word, *words], input=" ".join(map(str, flow)).encode())[1] for caller in callers]
     return in_c[0] == table and maglev.table(size, hash_word, names, weights) == owners and pick.endswith(line) and in_c[1] == line[1:]
+
+
+def compare_cases(count, callers, where=""):
+    """Compares so many random cases."""
+    rng = random.Random(SEED)
+    for number in range(count):
+        case = random_case(rng)
+        check(f"case {number} of seed {SEED}{where}", compare(case, callers), case)
 
 
 def test_random_cases():
     """1,000 random tables and flows."""
     callers = [compiled(EXAMPLES / "table.c"), compiled(EXAMPLES / "flows.c")]
-    rng = random.Random(SEED)
-    for number in range(COUNT if all(callers) else 0):
-        case = random_case(rng)
-        check(f"case {number} of seed {SEED}", compare(case, callers), case)
+    if all(callers):
+        compare_cases(COUNT, [[caller] for caller in callers])
 
 
 def raised(call, *words):
@@ -157,6 +163,14 @@ def test_exceptions():
     check("slots that differ", maglev.differing([0, 1, 2, 0, 1, 2, 0], [0, 1, 2, 0, 2, 1, 0]) == 2)
 
 
+def runner(target):
+    """The words that run a program of a machine: none here, qemu's name for another; None where it isn't installed."""
+    machine = target.partition("-")[0]
+    if machine == os.uname().machine:
+        return []
+    return next(([tool] for tool in (f"qemu-{machine}", f"qemu-{machine}-static") if shutil.which(tool)), None)
+
+
 def bare(folder, target):
     """A caller without a C library, linked with the archive in a folder for a machine by the kit; what its run answered, if it ran."""
     kit = build.toolchain()
@@ -165,12 +179,27 @@ def bare(folder, target):
     linked = ["-nostdlib", "-static", "-fuse-ld=lld", "-B", kit, folder / "libmaglev.a", "-o", folder / "bare"]
     made = did([kit / "clang", f"--target={target}", *options, TOP / "tests" / "embed_bare.c", *linked])
     check(f"a caller without a C library, for {target}", made[0] == 0, made[2].decode())
-    machine, here = target.partition("-")[0], os.uname().machine
-    by = [] if machine == here else [tool for tool in (f"qemu-{machine}", f"qemu-{machine}-static") if shutil.which(tool)][:1]
-    if machine != here and not by:
-        print(f"qemu-{machine} isn't installed: what it shows is skipped")
+    by = runner(target)
+    if by is None:
+        print(f"qemu for {target} isn't installed: what it shows is skipped")
         return None
     return did([*by, folder / "bare"])
+
+
+def from_c(folder, target):
+    """Callers in C for a machine: calls, faults and refused memory, and a twentieth of the random cases."""
+    machine = target.partition("-")[0]
+    cross, by = shutil.which(f"{machine}-linux-gnu-gcc"), runner(target)
+    if cross is None or by is None:
+        print(f"a C compiler or qemu for {target} isn't installed: what callers in C show there is skipped")
+        return
+    sources = [(TOP / "tests" / "embed_calls.c", WRAPPED), (EXAMPLES / "table.c", []), (EXAMPLES / "flows.c", [])]
+    made = [compiled(source, *options, "-static", compiler=cross, folder=folder) for source, options in sources]
+    if not all(made):
+        return
+    answer = did([*by, made[0]])
+    check(f"calls in C for {target}", answer == (0, b"calls 73 wrong 0\n", b""), answer)
+    compare_cases(COUNT // 20, [[*by, caller] for caller in made[1:]], f" for {target}")
 
 
 def test_machines():
@@ -178,9 +207,11 @@ def test_machines():
     check("a run without a C library", bare(MADE, "x86_64-unknown-linux-gnu") == (0, b"", b""))
     other = MADE / "other"
     other.mkdir()
-    made = did([sys.executable, TOP / "bin" / "library.py", other, "aarch64-unknown-linux-gnu"])
+    target = "aarch64-unknown-linux-gnu"
+    made = did([sys.executable, TOP / "bin" / "library.py", other, target])
     check("the library for AArch64", made[0] == 0, made[2].decode())
-    check("its run", bare(other, "aarch64-unknown-linux-gnu") in (None, (0, b"", b"")))
+    check("its run", bare(other, target) in (None, (0, b"", b"")))
+    from_c(other, target)
 
 
 def test_data_plane():
@@ -210,6 +241,28 @@ def test_install():
     asked = ["7", "sum", "A", "B", "C*2"]
     ours, theirs = did([MADE / "shared", *asked]), did([PROGRAM, "table", "--size", "7", "--hash", *asked[1:]])
     check("what it prints", ours == theirs and ours[0] == 0, ours)
+
+
+def path_without(tools, room):
+    """A PATH without some tools: for each of its folders one with links to all else that is there."""
+    folders = [pathlib.Path(folder) for folder in os.environ["PATH"].split(os.pathsep) if os.path.isdir(folder)]
+    for place, folder in enumerate(folders):
+        (room / str(place)).mkdir(parents=True)
+        for tool in folder.iterdir():
+            if tool.name not in tools:
+                (room / str(place) / tool.name).symlink_to(tool)
+    return os.pathsep.join(str(room / str(place)) for place in range(len(folders)))
+
+
+def test_missing_tools():
+    """Where the kit or a C compiler is missing bin/install says so, and installs the rest."""
+    rows = [("there is no rt on the PATH, which proves it", ["rt"]), ("there is no C compiler, which makes its heap", ["cc", "gcc", "clang"])]
+    for place, (why, tools) in enumerate(rows):
+        prefix, room = MADE / f"prefix{place}", MADE / f"path{place}"
+        env = {name: word for name, word in os.environ.items() if name != "CC"}
+        status, _, err = did([TOP / "bin" / "install", prefix], env={**env, "PATH": path_without(tools, room)})
+        check(f"bin/install: {why}", (status, err.decode()) == (0, f"library: libmaglev isn't built: {why}\n"), err)
+        check("it installs the program alone", (prefix / "bin" / "maglev").exists() and not (prefix / "lib").exists())
 
 
 if __name__ == "__main__":

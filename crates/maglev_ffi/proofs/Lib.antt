@@ -1,5 +1,5 @@
 pub mod Counting
-pub mod Ranked
+pub mod Named
 pub mod Faults
 pub mod Filled
 pub mod Written

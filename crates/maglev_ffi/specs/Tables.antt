@@ -1,20 +1,14 @@
 -- What a table is filled with, and when that is refused.
-use Rattle.std.specs.Prelude.{◌≡◌, ℕ, ◌<◌, ◌==◌, ◌&&◌, ◌||◌, nat_le, nat_lt, Bool, true, not, if◌then◌else◌, List, [], map, length, suc, slice_index, slice_index_or, Option, Some, None, is_some, ◌⊎◌}
-use Rattle.std.specs.List.{list_all, range_with_len, IsDistinct}
-use Rattle.std.specs.List.Sorted.{IsPermutation}
-use Rattle.std.specs.Str.{bytes_eq}
-use Rattle.std.specs.Cmp.Lexicographic.{slice_cmp}
-use Rattle.std.specs.Ordering.{nat_cmp}
-use Rattle.std.specs.declared.cmp.Ordering.TheVariants.{Less}
+use Rattle.std.specs.Prelude.{◌≡◌, ℕ, ◌==◌, ◌&&◌, ◌||◌, nat_le, nat_lt, Bool, true, not, if◌then◌else◌, List, [], map, length, slice_index, slice_index_or, Option, Some, None, is_some, ◌⊎◌}
+use Rattle.std.specs.List.{list_all, range_with_len}
 use Rattle.hash_laws.specs.declared.any.AnyHash.{AnyHash}
 use Rattle.hash_laws.specs.Any.{plain_of}
 use Rattle.maglev_table.specs.Sizes.{is_table_size}
 use Rattle.maglev_table.specs.NameText.{is_name}
-use Rattle.maglev_table.specs.Turns.{preference_of}
-use Rattle.maglev_table.specs.Weights.{weighted_maglev}
 use Rattle.maglev_texts.specs.Parsing.{pieces}
+use Rattle.table_entrants.specs.Ranking.{IsRanked, AreDistinct, places_of, owners_of}
+use Rattle.table_entrants.specs.declared.entrant.Entrant.{Entrant}
 use Rattle.maglev_ffi.specs.Slots.{hash_of_number}
-use Rattle.maglev_ffi.specs.declared.entrants.Entrant.{Entrant}
 use Rattle.maglev_ffi.specs.declared.fault.Fault.{Fault}
 use Rattle.maglev_ffi.specs.declared.fault.Fault.TheVariants.{BadSize, BadHash, BadRoom, BadName, TooMany, BadWeight, DoubleName, Memory}
 
@@ -40,30 +34,15 @@ entrant_at names weights i = record { name = slice_index_or names i []; weight =
 abbrev pub entrants_of : List (List ℕ) → List ℕ → List Entrant
 entrants_of names weights = map (entrant_at names weights) (range_with_len 0 (length names))
 
-abbrev pub names_of : List Entrant → List (List ℕ)
-names_of entrants = map (λ e. e.name) entrants
-
-abbrev pub places_of : List Entrant → List ℕ
-places_of entrants = map (λ e. e.place) entrants
-
--- the names with their weights and places, in ascending order of bytes
-pub record IsRanked (names : List (List ℕ)) (weights : List ℕ) (entrants : List Entrant) : Type 0 where
-  pub permutation : IsPermutation (entrants_of names weights) entrants
-  pub ascending : (i : ℕ) → suc i < length entrants → slice_cmp nat_cmp (slice_index_or (names_of entrants) i []) (slice_index_or (names_of entrants) (suc i) []) ≡ Less
-
 -- for each slot the place of the name that takes it, where the names take their turns in ascending order
 pub record IsTable (plain : List ℕ → ℕ) (size : ℕ) (names : List (List ℕ)) (weights slots : List ℕ) : Type 0 where
   pub entrants : List Entrant
-  pub ranked : IsRanked names weights entrants
-  pub filled : slots ≡ map (λ who. slice_index (places_of entrants) who) (weighted_maglev (map (λ e. preference_of plain e.name size) entrants) (map (λ e. e.weight) entrants) size)
+  pub ranked : IsRanked (entrants_of names weights) entrants
+  pub filled : slots ≡ map (λ who. slice_index (places_of entrants) who) (owners_of plain size entrants)
 
 -- the same, for the hash of a number and the names of a text
 abbrev pub IsTableOf : ℕ → ℕ → List ℕ → List ℕ → List ℕ → Type 0
 IsTableOf number size text weights slots = (hash : AnyHash) × (hash_of_number number ≡ Some hash) × IsTable (plain_of hash) size (names_in text) weights slots
-
--- no name is there twice
-abbrev pub AreDistinct : List (List ℕ) → Type 0
-AreDistinct names = IsDistinct bytes_eq names
 
 -- the first fault of some names and weights, but for a name that is there twice
 unfoldable pub names_fault : ℕ → List (List ℕ) → List ℕ → Option Fault

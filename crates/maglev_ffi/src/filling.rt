@@ -1,17 +1,20 @@
 //! Fills the slots of a table.
-ghost use Rattle.std.specs.Prelude.{◌≡◌, ◌≤◌, ◌<◌, ◌^◌, true, [], length, map, slice_index, IfOk, IfErr, OnOk, OnErr, None};
+ghost use Rattle.std.specs.Prelude.{◌≡◌, ◌≤◌, ◌<◌, ◌^◌, true, [], length, map, slice_index, All, IfOk, IfErr, OnOk, OnErr, None};
 ghost use Rattle.std.specs.List.{list_all};
+ghost use Rattle.hash_laws.specs.Any.{plain_of};
 ghost use Rattle.maglev_table.specs.NameText.{is_name};
 ghost use Rattle.maglev_table.specs.Turns.{Owners};
-ghost use Rattle.maglev_ffi.specs.Tables.{names_in, are_weights, first_fault, names_fault, IsTable, IsTableOf, Refuses, NamesRefuse, AreDistinct, places_of};
+ghost use Rattle.table_entrants.specs.Ranking.{AreDistinct, places_of};
+ghost use Rattle.maglev_ffi.specs.Tables.{names_in, are_weights, first_fault, names_fault, IsTable, IsTableOf, Refuses, NamesRefuse};
 
-use crate::entrants::{Entrant, are_names, are_weights, lists_of, ranked, weights_of};
+use crate::entrants::{are_names, are_weights, ranked};
 use crate::fault::Fault;
 use crate::hashes::hash_of;
-use hash_laws::{AnyHash, FlowHash};
-use maglev_table::{Table, TableSize, populate};
+use hash_laws::AnyHash;
+use maglev_table::{Table, TableSize};
 use maglev_texts::pieces;
 use std::alloc::Global;
+use table_entrants::{Entrant, table_of};
 
 // The first fault of some names and weights, but that a name is there twice.
 fn names_fault(size: TableSize, words: &[&[u8]], weights: &[u8]) -> Option<Fault>
@@ -34,24 +37,25 @@ fn write(table: &Table, entrants: &[Entrant], slots: &mut [u32])
     requires room { length slots.old ≡ length table.now.owners }
     requires small { length table.now.owners < 2 ^ 32 }
     requires lists { table.now.lists ≡ length entrants.now }
+    requires places { All (λ e. e.place < 2 ^ 32) entrants.now }
     ensures { slots.new ≡ map (λ who. slice_index (places_of entrants.now) who) table.now.owners }
 {
     for slot in 0..slots.len() {
-        slots[slot] = entrants[table.slot(slot as u32) as usize].place;
+        slots[slot] = entrants[table.slot(slot as u32) as usize].place as u32;
     }
 }
 
-fn fill_of<H: FlowHash>(
+fn fill_of(
     alloc: Global,
     size: TableSize,
-    hash: &H,
+    hash: &AnyHash,
     words: &[&[u8]],
     weights: &[u8],
     slots: &mut [u32],
 ) -> Result<(), Fault>
     requires room { length slots.old ≡ size }
     requires small { size ≤ 65537 }
-    ensures table { OnOk result (IsTable (H.plain hash.now) size (map (λ w. w.now) words.now) weights.now slots.new) }
+    ensures table { OnOk result (IsTable (plain_of hash.now) size (map (λ w. w.now) words.now) weights.now slots.new) }
     ensures unchanged { OnErr result (slots.new ≡ slots.old) }
     ensures accepted { OnOk result (names_fault size (map (λ w. w.now) words.now) weights.now ≡ None) }
     ensures distinct { OnOk result (AreDistinct (map (λ w. w.now) words.now)) }
@@ -61,9 +65,7 @@ fn fill_of<H: FlowHash>(
         return Err(fault);
     }
     let entrants = ranked(alloc, words, weights)?;
-    let lists = lists_of(alloc, size, hash, entrants.as_slice())?;
-    let turns = weights_of(alloc, entrants.as_slice())?;
-    let table = match populate(alloc, size, lists.as_slice(), turns.as_slice()) {
+    let table = match table_of(alloc, size, hash, entrants.as_slice()) {
         Ok(table) => table,
         Err(_) => return Err(Fault::Memory),
     };

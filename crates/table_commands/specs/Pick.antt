@@ -1,5 +1,5 @@
 -- The command `pick`: the flow of a datagram, its slot and its backend, or why it is dropped.
-use Rattle.std.specs.Prelude.{◌≡◌, ◌<◌, ◌≤◌, ℕ, ◌-◌, ◌++◌, Bool, true, false, ◌==◌, if◌then◌else◌, List, [], map, take, length, slice_index, slice_index_or, Option, Some, None, Ok, Err, IfSome, codes}
+use Rattle.std.specs.Prelude.{◌≡◌, ◌<◌, ◌≤◌, ℕ, ◌-◌, ◌++◌, Bool, true, false, ◌==◌, if◌then◌else◌, List, take, length, slice_index, Option, Some, None, Ok, Err, IfSome, codes}
 use Rattle.std.specs.Fmt.{decimal}
 use Rattle.hash_laws.specs.declared.any.AnyHash.{AnyHash}
 use Rattle.hash_laws.specs.Any.{hash_of_word, plain_of}
@@ -14,7 +14,9 @@ use Rattle.cluster_core.specs.Reading.{packet_read}
 use Rattle.listing.specs.Names.{cause_name}
 use Rattle.selection.specs.Picks.{slot_of_flow}
 use Rattle.maglev_texts.specs.Printing.{flow_text}
-use Rattle.table_commands.specs.Text.{owners_of_names, AreInOrder}
+use Rattle.table_entrants.specs.Ranking.{names_of, owners_of, IsRanked}
+use Rattle.table_entrants.specs.declared.entrant.Entrant.{Entrant}
+use Rattle.table_commands.specs.Text.{entrants_of, name_at}
 use Rattle.table_commands.specs.Refusals.{AreListed, AreFew, WordsFail}
 use Rattle.command_faults.specs.declared.fault.CliFault.{CliFault}
 use Rattle.command_faults.specs.declared.fault.CliFault.TheVariants.{BadSize, BadHash, BadName, DoubleName, TooMany, Write, BadHex, TooLong, Read, Memory}
@@ -27,10 +29,6 @@ without_newline text = if slice_index text (length text - 1) == 10 then take (le
 abbrev pub packet_of : Bool → List ℕ → Packet
 packet_of check bytes = packet_read Ipv4 bytes 0 check
 
--- the name that a slot of a table names
-abbrev pub name_at : List (List ℕ) → List ℕ → ℕ → List ℕ
-name_at names owners slot = slice_index_or names (slice_index owners slot) []
-
 -- `FLOW slot I backend NAME`
 abbrev pub flow_line : Flow → ℕ → List ℕ → List ℕ
 flow_line x slot name = flow_text x ++ (codes " slot " ++ (decimal slot ++ (codes " backend " ++ (name ++ codes "\n"))))
@@ -39,15 +37,15 @@ flow_line x slot name = flow_text x ++ (codes " slot " ++ (decimal slot ++ (code
 abbrev pub drop_line : List ℕ → List ℕ
 drop_line cause = codes "drop " ++ (cause ++ codes "\n")
 
--- the line of a flow over some names in ascending order, of these weights
-abbrev pub found_line : (List ℕ → ℕ) → ℕ → List (List ℕ) → List ℕ → Flow → List ℕ
-found_line plain size names weights x =
-    flow_line x (slot_of_flow plain size x) (name_at names (owners_of_names plain size names weights) (slot_of_flow plain size x))
+-- the line of a flow over some names, which take their turns in their order
+abbrev pub found_line : (List ℕ → ℕ) → ℕ → List Entrant → Flow → List ℕ
+found_line plain size entrants x =
+    flow_line x (slot_of_flow plain size x) (name_at (names_of entrants) (owners_of plain size entrants) (slot_of_flow plain size x))
 
 -- the line of the command `pick`
-abbrev pub pick_line : (List ℕ → ℕ) → ℕ → List (List ℕ) → List ℕ → Packet → List ℕ
-pick_line plain size names weights (Good x _ _) = found_line plain size names weights x
-pick_line plain size names weights (Bad cause) = drop_line (cause_name cause)
+abbrev pub pick_line : (List ℕ → ℕ) → ℕ → List Entrant → Packet → List ℕ
+pick_line plain size entrants (Good x _ _) = found_line plain size entrants x
+pick_line plain size entrants (Bad cause) = drop_line (cause_name cause)
 
 -- the text is hexadecimal digits and at most one newline, and they are these bytes
 abbrev pub IsHexOf : List ℕ → List ℕ → Type 0
@@ -64,7 +62,7 @@ longest = 524289
 -- the line of a datagram, where the input tells it
 abbrev pub IsPickLine : (List ℕ → ℕ) → ℕ → List (List ℕ) → Bool → Option (List ℕ) → List ℕ → Type 0
 IsPickLine plain size words check input line =
-    (names : List (List ℕ)) × (weights : List ℕ) × AreInOrder words names weights × (bytes : List ℕ) × IfSome input (IsHexOf bytes) × (line ≡ pick_line plain size names weights (packet_of check bytes))
+    (entrants : List Entrant) × IsRanked (entrants_of words) entrants × (bytes : List ℕ) × IfSome input (IsHexOf bytes) × (line ≡ pick_line plain size entrants (packet_of check bytes))
 
 -- the same, for the hash that a word names
 abbrev pub IsPickLineOf : List ℕ → ℕ → List (List ℕ) → Bool → Option (List ℕ) → List ℕ → Type 0

@@ -1,14 +1,15 @@
-ghost use Rattle.std.specs.Prelude.{◌≡◌, ◌≢◌, map, IfOk, OnOk, IfErr};
+ghost use Rattle.std.specs.Prelude.{◌≡◌, ◌≢◌, string_bytes, IfOk, OnOk, IfErr};
+ghost use Rattle.hash_laws.specs.Any.{plain_of};
 ghost use Rattle.pool_versions.specs.Pool.{ranked};
-ghost use Rattle.selection.specs.Candidates.{among};
+ghost use Rattle.selection.specs.Candidates.{candidates_in};
 ghost use Rattle.selection.specs.Picks.{table_of_ups};
 ghost use Rattle.command_faults.specs.Printing.{Prints, BreaksOff};
-ghost use Rattle.table_commands.specs.Compare.{IsCompareText, IsCompareTextOf, ListsFail, CompareFails, AreGood};
+ghost use Rattle.table_commands.specs.Compare.{IsCompareText, IsCompareTextOf, ListsFail, CompareFails};
 
 use super::compare_text::compare_text_of;
 use super::members::lists_in;
 use command_faults::{CliFault, put_text};
-use hash_laws::{AnyHash, FlowHash};
+use hash_laws::AnyHash;
 use maglev_table::TableSize;
 use pcap_file::Sink;
 use pool_versions::{Member, Service, backends_of, weights_of};
@@ -28,46 +29,43 @@ fn ranked(alloc: Global, members: Vec<Member>) -> Result<Vec<Member>, AllocError
     service.ranked(alloc)
 }
 
-// The table of members that are up.
-fn table_of<H: FlowHash>(
+// The table of those of some members that are up.
+fn table_of(
     alloc: Global,
     size: TableSize,
-    hash: &H,
-    members: &[Member],
+    hash: &AnyHash,
+    members: Vec<Member>,
 ) -> Result<MaglevTable, AllocError>
-    ensures { IfOk result (λ t. t ≡ table_of_ups (H.plain hash.now) size (among (map (λ m. m.backend) members.now) (map (λ m. m.weight) members.now))) }
+    ensures { IfOk result (λ t. t ≡ table_of_ups (plain_of hash.now) size (candidates_in members.items)) }
 {
+    let members = ranked(alloc, members)?;
     let scheme = Maglev { hash: *hash };
-    let ups = backends_of(alloc, members)?;
-    let weights = weights_of(alloc, members)?;
+    let ups = backends_of(alloc, members.as_slice())?;
+    let weights = weights_of(alloc, members.as_slice())?;
     match scheme.table(alloc, size, ups.as_slice(), weights.as_slice()) {
         Ok(table) => Ok(table),
         Err(_) => Err(AllocError),
     }
 }
 
-fn compare_with<H: FlowHash, S: Sink>(
+// The text that compares the tables of two lists of members.
+fn text_for(
     alloc: Global,
     size: TableSize,
-    hash: &H,
+    hash: &AnyHash,
     old: &str,
     new: &str,
-    out: &mut S,
-) -> Result<(), CliFault>
-    ensures written { OnOk result (Prints (IsCompareText (H.plain hash.now) size old.now new.now) (S.tape out.old) (S.tape out.new)) }
-    ensures broken { IfErr result (λ fault. fault ≡ CliFault.Write → BreaksOff (IsCompareText (H.plain hash.now) size old.now new.now) (S.tape out.old) (S.tape out.new)) }
-    ensures silent { IfErr result (λ fault. fault ≢ CliFault.Write → out.new ≡ out.old) }
+) -> Result<String, CliFault>
+    ensures text { IfOk result (λ s. IsCompareText (plain_of hash.now) size old.now new.now (string_bytes s)) }
     ensures fault { IfErr result (λ fault. ListsFail fault size old.now new.now) }
+    ensures unwritten { IfErr result (λ fault. fault ≢ CliFault.Write) }
 {
     let lists = lists_in(alloc, size, old, new)?;
-    let old = ranked(alloc, lists.old)?;
-    let new = ranked(alloc, lists.new)?;
-    let before = table_of(alloc, size, hash, old.as_slice())?;
-    let after = table_of(alloc, size, hash, new.as_slice())?;
-    let text = compare_text_of(alloc, &before, &after)?;
-    match put_text(out, text.as_str()) {
-        Ok(()) => Ok(()),
-        Err(fault) => Err(fault),
+    let before = table_of(alloc, size, hash, lists.old)?;
+    let after = table_of(alloc, size, hash, lists.new)?;
+    match compare_text_of(alloc, &before, &after) {
+        Ok(text) => Ok(text),
+        Err(_) => Err(CliFault::Memory),
     }
 }
 
@@ -95,7 +93,11 @@ pub fn compare<S: Sink>(
     let Some(hash) = AnyHash::of_word(hash) else {
         return Err(CliFault::BadHash);
     };
-    match compare_with(alloc, size, &hash, old, new, out) {
+    let text = match text_for(alloc, size, &hash, old, new) {
+        Ok(text) => text,
+        Err(fault) => return Err(fault),
+    };
+    match put_text(out, text.as_str()) {
         Ok(()) => Ok(()),
         Err(fault) => Err(fault),
     }

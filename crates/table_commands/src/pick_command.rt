@@ -1,10 +1,11 @@
 ghost use Rattle.std.specs.Prelude.{◌≡◌, ◌+◌, ◌<◌, ◌≤◌, ◌≢◌, map, length, IfOk, IfErr, IfSome, OnOk, string_bytes, All, Ok};
+ghost use Rattle.hash_laws.specs.Any.{plain_of};
 ghost use Rattle.pcap_file.specs.Device.{Unfailed, ReadRefused};
 ghost use Rattle.command_faults.specs.Printing.{Prints, BreaksOff};
 ghost use Rattle.table_commands.specs.Refusals.{AreFew, IsTableWork};
 ghost use Rattle.table_commands.specs.Pick.{longest, without_newline, IsHexOf, found_line, pick_line, HexFails, InputFails, IsPickLine, IsPickLineOf, IsShort, PickFailsWith, PickFails};
 
-use super::names::{Entrants, lists_of, names_for};
+use super::names::{name_at, names_for};
 use cluster_core::{Packet, read_packet};
 use command_faults::{CliFault, put_text};
 use five_tuple::Flow;
@@ -12,10 +13,11 @@ use hash_laws::{AnyHash, FlowHash};
 use hex::FromHexError;
 use ip_headers::Link;
 use listing::CauseText;
-use maglev_table::{Name, TableSize, Weight, populate};
+use maglev_table::TableSize;
 use maglev_texts::FlowText;
 use pcap_file::{Sink, Source, fill};
 use std::alloc::{AllocError, Global};
+use table_entrants::{Entrant, table_of};
 
 /// The longest input: two digits for each byte of 262,144, and a newline.
 const LONGEST: usize = 524_289;
@@ -71,27 +73,22 @@ fn bytes_of(alloc: Global, text: &[u8]) -> Result<Vec<u8>, CliFault>
 }
 
 // The name that the flow's slot names in the table of some names, and the slot.
-fn found_line<H: FlowHash>(
+fn found_line(
     alloc: Global,
     size: TableSize,
-    hash: &H,
-    names: &[Name],
-    weights: &[Weight],
+    hash: &AnyHash,
+    entrants: &[Entrant],
     flow: Flow,
 ) -> Result<String, CliFault>
-    requires some { 0 < length names.now }
-    requires few { length names.now ≤ size }
-    requires weighed { length weights.now ≡ length names.now }
-    ensures line { IfOk result (λ s. string_bytes s ≡ found_line (H.plain hash.now) size names.now weights.now flow) }
+    ensures line { IfOk result (λ s. string_bytes s ≡ found_line (plain_of hash.now) size entrants.now flow) }
     ensures fault { IfErr result (λ fault. fault ≡ CliFault.Memory) }
 {
-    let lists = lists_of(alloc, size, hash, names)?;
-    let table = match populate(alloc, size, lists.as_slice(), weights) {
+    let table = match table_of(alloc, size, hash, entrants) {
         Ok(table) => table,
         Err(_) => return Err(CliFault::Memory),
     };
     let slot = (hash.hash(b'f', &flow.bytes()) % u64::from(size.slots())) as u32;
-    let name = &names[table.slot(slot) as usize];
+    let name = name_at(&table, entrants, slot);
     let text = FlowText(flow);
     match format!(in alloc; "{text} slot {slot} backend {name}\n") {
         Ok(line) => Ok(line),
@@ -100,22 +97,18 @@ fn found_line<H: FlowHash>(
 }
 
 // The line of a datagram's flow and backend, or of its drop.
-fn line_of<H: FlowHash>(
+fn line_of(
     alloc: Global,
     size: TableSize,
-    hash: &H,
-    names: &[Name],
-    weights: &[Weight],
+    hash: &AnyHash,
+    entrants: &[Entrant],
     packet: Packet,
 ) -> Result<String, CliFault>
-    requires some { 0 < length names.now }
-    requires few { length names.now ≤ size }
-    requires weighed { length weights.now ≡ length names.now }
-    ensures line { IfOk result (λ s. string_bytes s ≡ pick_line (H.plain hash.now) size names.now weights.now packet) }
+    ensures line { IfOk result (λ s. string_bytes s ≡ pick_line (plain_of hash.now) size entrants.now packet) }
     ensures fault { IfErr result (λ fault. fault ≡ CliFault.Memory) }
 {
     let cause = match packet {
-        Packet::Good { flow, .. } => return found_line(alloc, size, hash, names, weights, flow),
+        Packet::Good { flow, .. } => return found_line(alloc, size, hash, entrants, flow),
         Packet::Bad(cause) => CauseText(cause),
     };
     match format!(in alloc; "drop {cause}\n") {
@@ -140,40 +133,30 @@ fn datagram_of<R: Source>(alloc: Global, input: &mut R) -> Result<Vec<u8>, CliFa
     }
 }
 
-fn pick_with<H: FlowHash, R: Source, S: Sink>(
+// The line of the datagram that the input has.
+fn line_for<R: Source>(
     alloc: Global,
     size: TableSize,
-    hash: &H,
+    hash: &AnyHash,
     check: bool,
     words: &[&str],
     input: &mut R,
-    out: &mut S,
-) -> Result<(), CliFault>
-    requires { 0 < length words.now }
-    ensures written { OnOk result (Prints (IsPickLine (H.plain hash.now) size (map (λ w. w.now) words.now) check (R.tape input.old).bytes) (S.tape out.old) (S.tape out.new)) }
-    ensures broken { IfErr result (λ fault. fault ≡ CliFault.Write → BreaksOff (IsPickLine (H.plain hash.now) size (map (λ w. w.now) words.now) check (R.tape input.old).bytes) (S.tape out.old) (S.tape out.new)) }
+) -> Result<String, CliFault>
+    ensures line { IfOk result (λ s. IsPickLine (plain_of hash.now) size (map (λ w. w.now) words.now) check (R.tape input.old).bytes (string_bytes s)) }
     ensures accepted { OnOk result (AreFew size (map (λ w. w.now) words.now) × IsShort (R.tape input.old).bytes) }
     ensures unfailed { OnOk result (Unfailed (R.tape input.old) (R.tape input.new)) }
     ensures read { IfErr result (λ fault. fault ≡ CliFault.Read → ReadRefused (longest + 1) (R.tape input.old) (R.tape input.new)) }
-    ensures silent { IfErr result (λ fault. fault ≢ CliFault.Write → out.new ≡ out.old) }
     ensures fault { IfErr result (λ fault. PickFailsWith fault size (map (λ w. w.now) words.now) (R.tape input.old).bytes) }
+    ensures unwritten { IfErr result (λ fault. fault ≢ CliFault.Write) }
 {
-    let Entrants { names, weights } = names_for(alloc, size, words)?;
+    let entrants = names_for(alloc, size, words)?;
     let bytes = match datagram_of(alloc, input) {
         Ok(bytes) => bytes,
         Err(fault) => return Err(fault),
     };
     let packet = read_packet(Link::Ipv4, bytes.as_slice(), 0, check);
-    let line = line_of(
-        alloc,
-        size,
-        hash,
-        names.as_slice(),
-        weights.as_slice(),
-        packet,
-    )?;
-    match put_text(out, line.as_str()) {
-        Ok(()) => Ok(()),
+    match line_of(alloc, size, hash, entrants.as_slice(), packet) {
+        Ok(line) => Ok(line),
         Err(fault) => Err(fault),
     }
 }
@@ -207,7 +190,11 @@ pub fn pick<R: Source, S: Sink>(
     let Some(hash) = AnyHash::of_word(hash) else {
         return Err(CliFault::BadHash);
     };
-    match pick_with(alloc, size, &hash, check, words, input, out) {
+    let line = match line_for(alloc, size, &hash, check, words, input) {
+        Ok(line) => line,
+        Err(fault) => return Err(fault),
+    };
+    match put_text(out, line.as_str()) {
         Ok(()) => Ok(()),
         Err(fault) => Err(fault),
     }

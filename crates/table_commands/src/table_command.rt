@@ -1,41 +1,38 @@
-ghost use Rattle.std.specs.Prelude.{◌≡◌, ◌<◌, ◌≤◌, ◌≢◌, map, length, IfErr, OnOk};
+ghost use Rattle.std.specs.Prelude.{◌≡◌, ◌<◌, ◌≢◌, map, length, string_bytes, IfOk, IfErr, OnOk};
+ghost use Rattle.hash_laws.specs.Any.{plain_of};
 ghost use Rattle.table_commands.specs.Text.{IsTableText, IsTableTextOf};
 ghost use Rattle.command_faults.specs.Printing.{Prints, BreaksOff};
-ghost use Rattle.table_commands.specs.Refusals.{TableFails, WordsFail, AreNames, IsTableWork};
+ghost use Rattle.table_commands.specs.Refusals.{AreFew, TableFails, WordsFail, IsTableWork};
 
-use super::names::{Entrants, lists_of, names_for};
+use super::names::names_for;
 use super::table_text::table_text_of;
 use command_faults::{CliFault, put_text};
-use hash_laws::{AnyHash, FlowHash};
-use maglev_table::{TableSize, populate};
+use hash_laws::AnyHash;
+use maglev_table::TableSize;
 use pcap_file::Sink;
 use std::alloc::Global;
+use table_entrants::table_of;
 
-fn table_with<H: FlowHash, S: Sink>(
+// The text of the table of the names that words are.
+fn text_for(
     alloc: Global,
     size: TableSize,
-    hash: &H,
+    hash: &AnyHash,
     words: &[&str],
-    out: &mut S,
-) -> Result<(), CliFault>
-    requires { 0 < length words.now }
-    ensures written { OnOk result (Prints (IsTableText (H.plain hash.now) size (map (λ w. w.now) words.now)) (S.tape out.old) (S.tape out.new)) }
-    ensures broken { IfErr result (λ fault. fault ≡ CliFault.Write → BreaksOff (IsTableText (H.plain hash.now) size (map (λ w. w.now) words.now)) (S.tape out.old) (S.tape out.new)) }
-    ensures silent { IfErr result (λ fault. fault ≢ CliFault.Write → out.new ≡ out.old) }
-    ensures names { OnOk result (AreNames (map (λ w. w.now) words.now)) }
-    ensures few { OnOk result (length (map (λ w. w.now) words.now) ≤ size) }
+) -> Result<String, CliFault>
+    ensures text { IfOk result (λ s. IsTableText (plain_of hash.now) size (map (λ w. w.now) words.now) (string_bytes s)) }
+    ensures few { OnOk result (AreFew size (map (λ w. w.now) words.now)) }
     ensures fault { IfErr result (λ fault. WordsFail fault size (map (λ w. w.now) words.now)) }
+    ensures unwritten { IfErr result (λ fault. fault ≢ CliFault.Write) }
 {
-    let Entrants { names, weights } = names_for(alloc, size, words)?;
-    let lists = lists_of(alloc, size, hash, names.as_slice())?;
-    let table = match populate(alloc, size, lists.as_slice(), weights.as_slice()) {
+    let entrants = names_for(alloc, size, words)?;
+    let table = match table_of(alloc, size, hash, entrants.as_slice()) {
         Ok(table) => table,
         Err(_) => return Err(CliFault::Memory),
     };
-    let text = table_text_of(alloc, size, names.as_slice(), &table)?;
-    match put_text(out, text.as_str()) {
-        Ok(()) => Ok(()),
-        Err(fault) => Err(fault),
+    match table_text_of(alloc, size, entrants.as_slice(), &table) {
+        Ok(text) => Ok(text),
+        Err(_) => Err(CliFault::Memory),
     }
 }
 
@@ -67,7 +64,11 @@ pub fn table<S: Sink>(
     let Some(hash) = AnyHash::of_word(hash) else {
         return Err(CliFault::BadHash);
     };
-    match table_with(alloc, size, &hash, words, out) {
+    let text = match text_for(alloc, size, &hash, words) {
+        Ok(text) => text,
+        Err(fault) => return Err(fault),
+    };
+    match put_text(out, text.as_str()) {
         Ok(()) => Ok(()),
         Err(fault) => Err(fault),
     }

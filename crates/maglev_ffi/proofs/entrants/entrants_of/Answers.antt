@@ -2,7 +2,7 @@ use Rattle.std.proofs.Common.{◌∙◌, ◌++◌, ◌∷◌, [], List, sym, ap,
 use Rattle.std.specs.List.{range_with_len}
 use Rattle.std.proofs.lemmas.List.FromFn.{map-range_with_len_more}
 use Rattle.maglev_ffi.specs.Tables.{entrant_at}
-use Rattle.maglev_ffi.specs.declared.entrants.Entrant.{Entrant}
+use Rattle.table_entrants.specs.declared.entrant.Entrant.{Entrant}
 use Rattle.maglev_ffi.proofs.entrants.entrants_of.Goals as goal
 
 pub loop-place-preserved : goal.loop-place-preserved

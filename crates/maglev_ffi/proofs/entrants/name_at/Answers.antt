@@ -1,6 +1,7 @@
 use Rattle.std.proofs.Common.{[], get_or}
 use Rattle.maglev_table.specs.NameText.{is_name}
-use Rattle.maglev_ffi.proofs.Ranked.{is_made, all_named}
+use Rattle.table_entrants.proofs.Ranked.{all_named}
+use Rattle.maglev_ffi.proofs.Named.{is_made}
 use Rattle.maglev_ffi.proofs.entrants.name_at.Goals as goal
 
 pub unwrap-requires : goal.unwrap-requires

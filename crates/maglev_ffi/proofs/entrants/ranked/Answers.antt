@@ -1,31 +1,14 @@
-use Rattle.std.proofs.Common.{rules, ◌≡◌, ◌<◌, ◌≢◌, map, List, ℕ, suc, get_or, [], Less, subst, true, false, length, IsPermutation}
-use Rattle.std.specs.Cmp.Lexicographic.{slice_cmp}
-use Rattle.std.specs.Ordering.{nat_cmp}
-use Rattle.std.specs.List.Sorted.{IsSortedBy}
-use Rattle.maglev_ffi.specs.declared.entrants.Entrant.{Entrant}
-use Rattle.maglev_ffi.specs.Tables.{entrants_of, names_of}
-use Rattle.maglev_ffi.proofs.Ranked.{by_name, by_name_is_order, compares_by_name, double_names, distinct_names}
+use Rattle.std.proofs.Common.{List, ℕ, map, rules, subst, sym, ap, ◌∙◌}
+use Rattle.maglev_ffi.proofs.Named.{names_again}
+use Rattle.table_entrants.specs.Ranking.{names_of, AreDistinct}
 use Rattle.maglev_ffi.proofs.entrants.ranked.Goals as goal
 
-pub returns-then-not-ascends-clause-fault : goal.returns-then-not-ascends-clause-fault
-returns-then-not-ascends-clause-fault c =
-    let answer : c.ascends.result ≡ false = search rules in
-    let n = c.ascends.ensures.not answer in
-    let perm : IsPermutation (entrants_of (map (λ w. w.now) c.args.words.now) c.args.weights.now) c.sort_by.new.self.items = subst (λ (xs : List Entrant). IsPermutation xs c.sort_by.new.self.items) c.in_ok-entrants.ensures c.sort_by.ensures.permutation in
-    let sorted : IsSortedBy by_name c.sort_by.new.self.items = c.in_ok-sort_by.ensures.sorted by_name by_name_is_order (compares_by_name (λ a r q k. search rules)) in
-    let items = c.as_slice.ensures.value in
-    let low : suc n.0 < length c.sort_by.new.self.items = subst (λ (xs : List Entrant). suc n.0 < length xs) items n.1 in
-    let apart : slice_cmp nat_cmp (get_or (names_of c.sort_by.new.self.items) n.0 []) (get_or (names_of c.sort_by.new.self.items) (suc n.0) []) ≢ Less =
-    subst (λ (xs : List Entrant). slice_cmp nat_cmp (get_or (names_of xs) n.0 []) (get_or (names_of xs) (suc n.0) []) ≢ Less) items n.2 in
-    double_names _ c.args.weights.now c.sort_by.new.self.items n.0 perm sorted low apart
+pub returns-in-Ok-clause-distinct : goal.returns-in-Ok-clause-distinct
+returns-in-Ok-clause-distinct c =
+    let names = ap names_of c.in_ok-entrants.ensures ∙ names_again (map (λ w. w.now) c.args.words.now) c.args.weights.now in
+    subst (λ (ns : List (List ℕ)). AreDistinct ns) names c.in-Ok.ensures.distinct
 
-pub returns-clause-ranked : goal.returns-clause-ranked
-returns-clause-ranked c =
-    let answer : c.ascends.result ≡ true = c.if-not-ascends.false in
-    record {
-      permutation = subst (λ (xs : List Entrant). IsPermutation xs c.sort_by.new.self.items) c.in_ok-entrants.ensures c.sort_by.ensures.permutation;
-      ascending = subst (λ (xs : List Entrant). (i : ℕ) → suc i < length xs → slice_cmp nat_cmp (get_or (names_of xs) i []) (get_or (names_of xs) (suc i) []) ≡ Less) c.as_slice.ensures.value (c.ascends.ensures.ascending answer);
-    }
-
-pub returns-clause-distinct : goal.returns-clause-distinct
-returns-clause-distinct c = distinct_names _ c.args.weights.now _ (returns-clause-ranked c)
+pub returns-in-Err-DoubleName-clause-fault : goal.returns-in-Err-DoubleName-clause-fault
+returns-in-Err-DoubleName-clause-fault c = λ once.
+    let names = ap names_of c.in_ok-entrants.ensures ∙ names_again (map (λ w. w.now) c.args.words.now) c.args.weights.now in
+    c.in-Err-DoubleName.ensures.double (search rules) (subst (λ (ns : List (List ℕ)). AreDistinct ns) (sym names) once)

@@ -1,6 +1,6 @@
 use Rattle.std.proofs.Common.{get_or, map, arith, ◌∙◌, sym}
 use Rattle.std.proofs.lemmas.List.{get_or-map, length-map, ext_get_or}
-use Rattle.maglev_ffi.specs.Tables.{places_of}
+use Rattle.table_entrants.specs.Ranking.{places_of}
 use Rattle.maglev_ffi.proofs.filling.write.Goals as goal
 
 pub returns : goal.returns

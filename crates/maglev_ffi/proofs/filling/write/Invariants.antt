@@ -1,5 +1,5 @@
 use Rattle.std.proofs.Common.{◌≡◌, ◌≤◌, ◌<◌, ℕ, length, get_or}
-use Rattle.maglev_ffi.specs.Tables.{places_of}
+use Rattle.table_entrants.specs.Ranking.{places_of}
 use Rattle.maglev_ffi.proofs.filling.write.Given as goal
 
 abbrev pub invariant-loop-slot : goal.invariant-loop-slot

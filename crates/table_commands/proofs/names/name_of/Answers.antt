@@ -1,4 +1,4 @@
-use Rattle.std.proofs.Common.{◌∙◌, sym, rules}
+use Rattle.std.proofs.Common.{rules}
 use Rattle.table_commands.proofs.Entrants.{read_as}
 use Rattle.table_commands.proofs.names.name_of.Goals as goal
 

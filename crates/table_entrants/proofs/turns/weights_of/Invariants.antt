@@ -1,5 +1,5 @@
 use Rattle.std.proofs.Common.{◌≡◌, map, take}
-use Rattle.maglev_ffi.proofs.entrants.weights_of.Given as goal
+use Rattle.table_entrants.proofs.turns.weights_of.Given as goal
 
 abbrev pub invariant-loop-entrant : goal.invariant-loop-entrant
 invariant-loop-entrant l = l.weights.items ≡ map (λ e. e.weight) (take l.entrant-index l.entrants)

@@ -1,7 +1,7 @@
 use Rattle.std.proofs.Common.{◌≡◌, map, take}
 use Rattle.std.specs.List.{All}
 use Rattle.maglev_table.specs.Turns.{preference_of}
-use Rattle.maglev_ffi.proofs.entrants.lists_of.Given as goal
+use Rattle.table_entrants.proofs.turns.lists_of.Given as goal
 
 abbrev pub invariant-loop-entrant : goal.invariant-loop-entrant
 invariant-loop-entrant g l = record {

@@ -1,9 +1,9 @@
 use Rattle.std.proofs.Common.{◌≡◌, ◌<◌, ◌-◌, ◌≢◌, ◌∙◌, List, ℕ, suc, get_or, [], Ordering, Less, sym, ap, subst, length, arith}
 use Rattle.std.specs.Cmp.Lexicographic.{slice_cmp}
 use Rattle.std.specs.Ordering.{nat_cmp}
-use Rattle.maglev_ffi.specs.Tables.{names_of}
-use Rattle.maglev_ffi.proofs.Ranked.{read_name, not_less, is_less, ascending_more}
-use Rattle.maglev_ffi.proofs.entrants.ascends.Goals as goal
+use Rattle.table_entrants.specs.Ranking.{names_of}
+use Rattle.table_entrants.proofs.Ranked.{read_name, not_less, is_less, ascending_more}
+use Rattle.table_entrants.proofs.order.ascends.Goals as goal
 
 pub returns-then-ne-clause-not : goal.returns-then-ne-clause-not
 returns-then-ne-clause-not c e =

@@ -9,8 +9,6 @@ use Rattle.std.specs.Ordering.{nat_cmp, ordering_index, eq_by_cmp, is_lt, orderi
 use Rattle.std.specs.List.{list_all, range_with_len, IsDistinct, AllByRecursion}
 use Rattle.std.specs.List.Sorted.{IsSortedBy, IsStrictlySortedBy}
 use Rattle.std.specs.Str.{bytes_eq}
-use Rattle.std.specs.Prelude.{Option, Some, None, MatchOption, IsSome}
-use Rattle.maglev_table.specs.NameText.{is_name}
 use Rattle.std.specs.FinMap.{slice_cmp-IsAntisymmetric, nat_cmp-IsAntisymmetric}
 use Rattle.std.proofs.lemmas.Bool.{cases_eq, false≢true}
 use Rattle.std.proofs.lemmas.Cmp.{nat_list_cmp_total, nat_list_eq_equiv}
@@ -20,8 +18,8 @@ use Rattle.std.proofs.lemmas.List.Sorted.{ranks_by, IsPermutation-map, IsPermuta
 use Rattle.std.proofs.lemmas.Map.Keys.{IsDistinct-from_sorted, IsDistinct-IsPermutation}
 use Rattle.std.proofs.lemmas.Map.Text.{is_eq-slice_cmp}
 use Rattle.std.proofs.lemmas.List.FromFn.{length-map-range_with_len, get_or-map-range_with_len}
-use Rattle.maglev_ffi.specs.Tables.{entrant_at, entrants_of, names_of, IsRanked, AreDistinct}
-use Rattle.maglev_ffi.specs.declared.entrants.Entrant.{Entrant}
+use Rattle.table_entrants.specs.Ranking.{names_of, IsRanked, AreDistinct}
+use Rattle.table_entrants.specs.declared.entrant.Entrant.{Entrant}
 
 abbrev pub nobody : Entrant
 nobody = record { name = []; weight = 1; place = 0 }
@@ -127,39 +125,33 @@ tie_step x y Greater e a b = let r : slice_cmp nat_cmp y x ≡ Less = nat_list_c
 tie : (x y : List ℕ) → is_lt (slice_cmp nat_cmp y x) ≡ false → slice_cmp nat_cmp x y ≢ Less → x ≡ y
 tie x y a b = tie_step x y (slice_cmp nat_cmp x y) refl a b
 
-names_from : (names : List (List ℕ)) (weights : List ℕ) (a n : ℕ) → a + n ≡ length names → names_of (map (entrant_at names weights) (range_with_len a n)) ≡ map (λ i. get_or names i []) (range_with_len a n)
-names_from names weights a zero e = refl
-names_from names weights a (suc n) e = ap (λ (ns : List (List ℕ)). get_or names a [] ∷ ns) (names_from names weights (a + 1) n (omega arith))
-
-each_in_turn : (names : List (List ℕ)) → map (λ i. get_or names i []) (range_with_len 0 (length names)) ≡ names
-each_in_turn names =
-    let f : ℕ → List ℕ = λ i. get_or names i [] in
-    ext_get_or [] (map f (range_with_len 0 (length names))) names (length-map-range_with_len f 0 (length names))
-    (λ i l. get_or-map-range_with_len f 0 (length names) i i [] (let len = length-map-range_with_len f 0 (length names) in omega arith) (omega arith))
-
--- the names of the entrants are the names
-names_again : (names : List (List ℕ)) (weights : List ℕ) → names_of (entrants_of names weights) ≡ names
-names_again names weights = names_from names weights 0 (length names) (omega arith) ∙ each_in_turn names
+-- names that are numbered in turn
+pub named_in_turn : (f : ℕ → Entrant) (n : ℕ) (names : List (List ℕ)) → length names ≡ n → ((i : ℕ) → i < n → (f i).name ≡ get_or names i []) → names_of (map f (range_with_len 0 n)) ≡ names
+named_in_turn f n names len each =
+    let es : List Entrant = map f (range_with_len 0 n) in
+    let many : length es ≡ n = length-map-range_with_len f 0 n in
+    let all : length (names_of es) ≡ length es = length-map es (λ (e : Entrant). e.name) in
+    ext_get_or [] (names_of es) names (omega arith)
+    (λ i l. get_or-map (λ (e : Entrant). e.name) es i nobody [] (omega arith)
+    ∙ ap (λ (e : Entrant). e.name) (get_or-map-range_with_len f 0 n i i nobody (omega arith) (omega arith)) ∙ each i (omega arith))
 
 -- the names, in another order
-names_moved : (names : List (List ℕ)) (weights : List ℕ) (es : List Entrant) → IsPermutation (entrants_of names weights) es → IsPermutation names (names_of es)
-names_moved names weights es moved =
-    subst (λ (ns : List (List ℕ)). IsPermutation ns (names_of es)) (names_again names weights) (IsPermutation-map (λ (n : Entrant). n.name) (entrants_of names weights) es moved)
+names_moved : (given es : List Entrant) → IsPermutation given es → IsPermutation (names_of given) (names_of es)
+names_moved given es moved = IsPermutation-map (λ (n : Entrant). n.name) given es moved
 
-pub distinct_names : (names : List (List ℕ)) (weights : List ℕ) (es : List Entrant) → IsRanked names weights es → AreDistinct names
-distinct_names names weights es r =
+pub distinct_names : (given es : List Entrant) → IsRanked given es → AreDistinct (names_of given)
+distinct_names given es r =
     let len : length (names_of es) ≡ length es = length-map es (λ (n : Entrant). n.name) in
-    distinct_words names (names_of es) (names_moved names weights es r.permutation) (λ i l. r.ascending i (omega arith))
+    distinct_words (names_of given) (names_of es) (names_moved given es r.permutation) (λ i l. r.ascending i (omega arith))
 
-pub double_names : (names : List (List ℕ)) (weights : List ℕ) (es : List Entrant) (i : ℕ) → IsPermutation (entrants_of names weights) es → IsSortedBy by_name es → suc i < length es
-    → slice_cmp nat_cmp (get_or (names_of es) i []) (get_or (names_of es) (suc i) []) ≢ Less → AreDistinct names → ⊥
-double_names names weights es i moved sorted low apart =
+pub double_names : (given es : List Entrant) (i : ℕ) → IsPermutation given es → IsSortedBy by_name es → suc i < length es
+    → slice_cmp nat_cmp (get_or (names_of es) i []) (get_or (names_of es) (suc i) []) ≢ Less → AreDistinct (names_of given) → ⊥
+double_names given es i moved sorted low apart =
     let len : length (names_of es) ≡ length es = length-map es (λ (n : Entrant). n.name) in
-    double_words names (names_of es) i (names_moved names weights es moved) (omega arith) (tie _ _ (sorted_names es i sorted low) apart)
+    double_words (names_of given) (names_of es) i (names_moved given es moved) (omega arith) (tie _ _ (sorted_names es i sorted low) apart)
 
-pub many_ranked : (names : List (List ℕ)) (weights : List ℕ) (es : List Entrant) → IsRanked names weights es → length es ≡ length names
-many_ranked names weights es r =
-    length_permutation _ _ r.permutation ∙ length-map-range_with_len (entrant_at names weights) 0 (length names)
+pub many_ranked : (given es : List Entrant) → IsRanked given es → length es ≡ length given
+many_ranked given es r = length_permutation _ _ r.permutation
 
 and_here : (a b : Bool) → (a && b) ≡ true → a ≡ true
 and_here true b h = refl
@@ -174,8 +166,3 @@ pub all_named : {X : Type 0} (test : List ℕ → Bool) (f : X → List ℕ) (ws
 all_named test f [] h k d l = absurd (omega arith)
 all_named test f (w ∷ ws) h zero d l = and_here (test (f w)) _ h
 all_named test f (w ∷ ws) h (suc k) d l = all_named test f ws (and_there (test (f w)) _ h) k d (omega arith)
-
--- what a name is made of
-pub is_made : (o : Option (List ℕ)) (t : List ℕ) → MatchOption o (is_name t ≡ false) (λ name. (name ≡ t) × (is_name t ≡ true)) → is_name t ≡ true → IsSome o
-is_made None t m h = absurd (false≢true (sym m ∙ h))
-is_made (Some x) t m h = search rules

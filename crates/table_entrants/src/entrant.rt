@@ -1,0 +1,31 @@
+//! Who shares a table, and why they can't be put in order.
+ghost use Rattle.std.specs.Prelude.{◌≡◌};
+ghost use Rattle.table_entrants.specs.declared.entrant.OrderFault.TheVariants.{Memory};
+
+use maglev_table::{Name, Weight};
+use std::alloc::AllocError;
+
+/// A name, its weight, and its place among the names as they were given.
+#[derive(Clone, Copy)]
+pub struct Entrant {
+    pub name: Name,
+    pub weight: Weight,
+    pub place: usize,
+}
+
+/// Why names aren't put in order.
+#[derive(Clone, Copy, Debug, PartialEq, Eq, Drop)]
+pub enum OrderFault {
+    /// A name is there twice.
+    DoubleName,
+    /// Memory was refused.
+    Memory,
+}
+
+impl From<AllocError> for OrderFault {
+    ghost from_gives = { λ _ fault. fault ≡ Memory };
+
+    fn from(_error: AllocError) -> OrderFault {
+        OrderFault::Memory
+    }
+}
