@@ -951,7 +951,41 @@ def test_verbose_of_a_scenario():
     for words in [("simulate", "s.toml", "in.pcap", "out.pcap"), ("explain", "s.toml", "in.pcap", "0", "1")]:
         says(f"a stop, by {words[0]}", stop, HEAD, "BadStep 1", f'steps[1], line 9: found "stop 0", expected {kinds}\n', words)
     says("explain", good.replace('"maglev"', "1"), HEAD, "BadKey", 'scheme, line 7: found 1, expected "maglev", "plain" or "round"\n', ("explain", "s.toml", "in.pcap", "0", "1"))
-    simulates("verbose: no fault", good, HEAD + record(P), report(1, 1), WRITTEN_HEAD + SENT_RECORD, ["-v"])
+    quiet = scenario(["install 0 1", "install 1 1", "take 1"])
+    simulates("verbose: no fault", quiet, HEAD + record(P), report(1, 1), WRITTEN_HEAD + SENT_RECORD, ["-v"])
+
+
+def warns(name, steps, expected, words=("simulate", "-v", "s.toml", "in.pcap", "out.pcap")):
+    """The command's report is as without `--verbose`, and these lines stand behind it on standard error."""
+    text = scenario(steps)
+    with_it = with_files(text, capture("yz"), lambda folder: run(words, cwd=folder))
+    without = with_files(text, capture("yz"), lambda folder: run([word for word in words if word != "-v"], cwd=folder))
+    lines = "".join(f"warning: {line}\n" for line in expected)
+    check(f"warned: {name}", with_it == (0, without[1], lines.encode()) and without[::2] == (0, b""), f"{with_it} {without}")
+
+
+def test_warnings():
+    """What a scenario that is played may not mean as it was meant."""
+    bare = "node {} is live when packets come, and never has a version"
+    lacks = "step {} installs version {} on node {}, which the catalogue lacks"
+    on_threads = ("run", "-v", "s.toml", "in.pcap", "out.pcap")
+    for name, steps, expected in [
+        ("nothing", ["install 0 1", "install 1 2", "take 2"], []),
+        ("a node without a version", ["install 0 1", "take 2"], [bare.format(1)]),
+        ("one that isn't live", ["install 0 1", "live 0", "take 2"], []),
+        ("one that is live too late", ["install 0 1", "live 0", "take 2", "live 0 1", "lose 1"], []),
+        ("one that is live again", ["install 0 1", "live 0", "take 1", "live 1", "again 0"], [bare.format(1)]),
+        ("no packet", ["live 0 1"], []),
+        ("an unknown version", ["install 0 1", "install 1 1", "install 0 7", "take 2"], [lacks.format(2, 7, 0)]),
+        ("unknown versions alone", ["install 0 7", "install 1 0", "take 2"], [lacks.format(0, 7, 0), lacks.format(1, 0, 1), bare.format(0), bare.format(1)]),
+        ("a version that comes late", ["take 1", "install 0 1", "install 1 1", "take 1"], []),
+    ]:
+        warns(name, steps, expected)
+        warns(f"{name}, by run", steps, expected, on_threads)
+    many = [lacks.format(step, 7, 0) for step in range(25)]
+    warns("many", ["install 0 7"] * 25, many[:20] + ["5 more of these"])
+    warns("a stop", ["install 0 1", "take 1", "stop 0"], [bare.format(1)], on_threads)
+    warns("explain", ["install 0 1", "take 2"], [bare.format(1)], ("explain", "-v", "s.toml", "in.pcap", "1", "2"))
 
 
 def test_verbose_of_files():

@@ -258,6 +258,19 @@ def test_repeats():
     check("memory of repeats", peaks[1] < peaks[0] + 8192, repr(peaks))
 
 
+def test_waiting_repeats():
+    """One record comes again 90,000 times at a node that is held. One of 60,000 bytes takes no more memory than one of 40, and no
+    more where all of them are served at the end than where a restart loses them."""
+    peaks = []
+    for last, length, line in [("restart 0", 40, "drop LostAtRestart 90000"), ("restart 0", 60_000, "drop LostAtRestart 90000"), ("drain 0", 60_000, "forwarded 90001")]:
+        steps = ["install 0 1", "take 1", "hold 0", *["again 0"] * 90_000, last]
+        ended, lines, peak, _ = measured(scenario(steps), head() + record(P + bytes(length - 40)))
+        peaks.append(peak)
+        check(f"repeats of {length} bytes that wait, then {last}", ended and line in lines, repr(lines))
+    # The larger records are 5,400,000 kilobytes, and a list of the servings would be 12,600.
+    check("memory of repeats that wait", max(peaks) < peaks[0] + 8192, repr(peaks))
+
+
 # How many flows are chosen, and in how many bits their hashes by the fixed key agree: in those that say in which of the 4,096
 # groups a map of so many flows keeps one.
 FLOWS = 32_768

@@ -4,6 +4,11 @@ use Rattle.std.proofs.lemmas.List.{reverse-append}
 use Rattle.cluster_node.specs.declared.events.Said.{Said}
 use Rattle.cluster_core.specs.Cluster.{Behind}
 
-pub behind_more : (before events more past new : List Said) (s : Said) → new ≡ s ∷ past → more ≡ events ++ s ∷ [] → Behind before past events → Behind before new more
-behind_more before events more past new s e f h =
-    ap reverse e ∙ reverse-append (s ∷ []) past ∙ ap (λ (l : List Said). l ++ s ∷ []) h ∙ append_assoc before events (s ∷ []) ∙ ap (λ (l : List Said). before ++ l) (sym f)
+-- one event more
+pub behind_one : (past new : List Said) (s : Said) → new ≡ s ∷ past → Behind (reverse past) new (s ∷ [])
+behind_one past new s e = ap reverse e ∙ reverse-append (s ∷ []) past
+
+-- further events behind those that are behind the first
+pub behind_more : (before events more past new news : List Said) → Behind (reverse past) new news → more ≡ events ++ news → Behind before past events → Behind before new more
+behind_more before events more past new news e f h =
+    e ∙ ap (λ (l : List Said). l ++ news) h ∙ append_assoc before events news ∙ ap (λ (l : List Said). before ++ l) (sym f)

@@ -65,12 +65,12 @@ unfolding repeat
 repeat_grows w k None c = grows_none c.past
 repeat_grows w k (Some p) c = deliver_grows w k p c
 
-times_grows : (w : World) (n u m : ℕ) (c : Course) → Grows c.past (serve_times w n u m c).past
+pub times_grows : (w : World) (n u m : ℕ) (c : Course) → Grows c.past (serve_times w n u m c).past
 unfolding serve_times
 times_grows w n u zero c = grows_none c.past
 times_grows w n u (suc m) c = grows_both c.past (serve w n u c).past _ (serve_grows w n u c) (times_grows w n u m (serve w n u c))
 
-drain_grows : (w : World) (n u m : ℕ) (c : Course) → Grows c.past (drain_from w n u m c).past
+pub drain_grows : (w : World) (n u m : ℕ) (c : Course) → Grows c.past (drain_from w n u m c).past
 unfolding drain_from
 drain_grows w n u zero c = grows_none c.past
 drain_grows w n u (suc m) c = grows_both c.past (serve_times w n u (waiting_on w.cluster n u c.past) c).past _ (times_grows w n u (waiting_on w.cluster n u c.past) c) (drain_grows w n (u + 1) m (serve_times w n u (waiting_on w.cluster n u c.past) c))
@@ -177,6 +177,10 @@ run_cons w s ss c = refl
 pub again_is : (w : World) (k : ℕ) (c : Course) → after w (steps.Again k) c ≡ repeat w k (slice_get (take c.read w.packets) k) c
 unfolding after
 again_is w k c = refl
+
+pub drain_is : (w : World) (n : ℕ) (c : Course) → after w (steps.Drain n) c ≡ drain_from w n 0 w.cluster.workers (release n c)
+unfolding after
+drain_is w n c = refl
 
 pub repeat_some : (w : World) (k : ℕ) (p : Packet) (c : Course) → repeat w k (Some p) c ≡ deliver w k p c
 unfolding repeat

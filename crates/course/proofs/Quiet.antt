@@ -39,7 +39,7 @@ calm_none a = record { news = []; is = refl; quiet = tt }
 calm_both : (a b c : List Said) → Calm a b → Calm b c → Calm a c
 calm_both a b c p q = record { news = q.news ++ p.news; is = q.is ∙ ap (λ (l : List Said). q.news ++ l) p.is ∙ sym (append_assoc q.news p.news a); quiet = quiet_append q.news p.news q.quiet p.quiet }
 
-serve_calm : (w : World) (n u : ℕ) (c : Course) → Calm c.past (serve w n u c).past
+pub serve_calm : (w : World) (n u : ℕ) (c : Course) → Calm c.past (serve w n u c).past
 unfolding serve
 serve_calm w n u c = record { news = said w.cluster.judge c.past _ None ∷ []; is = refl; quiet = (refl, tt) }
 

@@ -12,7 +12,7 @@ use Rattle.course.specs.Steps.{World, is_held, say, serve, follow, arrival, arri
 abbrev Told : World → Course → Type 0
 Told w c = Judged w.cluster.judge c.past
 
-serve_told : (w : World) (n u : ℕ) (c : Course) → Told w c → Told w (serve w n u c)
+pub serve_told : (w : World) (n u : ℕ) (c : Course) → Told w c → Told w (serve w n u c)
 unfolding serve
 serve_told w n u c h = (refl, h)
 

@@ -127,6 +127,19 @@ names_records (steps.Drain n) = false
 names_records (steps.Restart n) = false
 names_records (steps.Stop n) = false
 
+-- a step that may say more than one event
+abbrev pub says_many : Step → Bool
+says_many (steps.Install n v) = false
+says_many (steps.Live ns) = false
+says_many (steps.Take k) = true
+says_many (steps.Lose k) = true
+says_many (steps.Again k) = true
+says_many (steps.Full n m) = false
+says_many (steps.Hold n) = false
+says_many (steps.Drain n) = true
+says_many (steps.Restart n) = false
+says_many (steps.Stop n) = false
+
 unfoldable pub run : World → List Step → Course → Course
 run w [] c = c
 run w (s ∷ ss) c = run w ss (after w s c)

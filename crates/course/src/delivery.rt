@@ -1,7 +1,7 @@
 //! What is reported of a packet that was handed to the spreader.
 ghost use Rattle.std.specs.Prelude.{◌≡◌, ◌++◌, ◌∷◌, [], true, OnOk};
 ghost use Rattle.cluster_node.specs.declared.packets.Packet.{Packet};
-ghost use Rattle.course.specs.Deliveries.{arrival_of, serving_of, events_of};
+ghost use Rattle.course.specs.Deliveries.{arrival_of, serving_of, if_there, events_of};
 
 use cluster_node::{Event, Outcome, Packet, Passed, Said};
 use std::alloc::AllocError;
@@ -22,8 +22,8 @@ pub struct Delivery {
     pub passed: Passed,
 }
 
-// Puts an event after others.
-fn push(said: Said, events: &mut Vec<Said>) -> Result<(), AllocError>
+/// Puts an event after others.
+pub(crate) fn push(said: Said, events: &mut Vec<Said>) -> Result<(), AllocError>
     ensures { OnOk result (events.new.items ≡ events.old.items ++ said ∷ []) }
 {
     // Its parts are named because the proof of the push needs their types.
@@ -38,6 +38,16 @@ fn push(said: Said, events: &mut Vec<Said>) -> Result<(), AllocError>
         outcome,
     })?;
     Ok(())
+}
+
+/// Puts an event after others, where there is one.
+pub(crate) fn push_if(said: Option<Said>, events: &mut Vec<Said>) -> Result<(), AllocError>
+    ensures { OnOk result (events.new.items ≡ events.old.items ++ if_there said) }
+{
+    match said {
+        Some(said) => push(said, events),
+        None => Ok(()),
+    }
 }
 
 impl Delivery {
@@ -124,9 +134,6 @@ impl Delivery {
             return Ok(());
         }
         push(self.arrival(packet), events)?;
-        match self.serving() {
-            Some(serving) => push(serving, events),
-            None => Ok(()),
-        }
+        push_if(self.serving(), events)
     }
 }

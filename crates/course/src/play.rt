@@ -4,12 +4,12 @@ ghost use Rattle.cluster_node.specs.declared.events.Event.{Event};
 ghost use Rattle.cluster_core.specs.Cluster.{Cluster, WereRead, flow_of, newest_on, waiting_on, Behind};
 ghost use Rattle.cluster_node.specs.Records.{WasRead, said, placed_on};
 ghost use Rattle.course.specs.Course.{Course};
-ghost use Rattle.course.specs.Steps.{World, SameChoice, world_of, marks_at, is_held, noted, say, serve, arrival, arrive, route, deliver, take_all, repeat, serve_times, drain_from, release, next_ones, names_records, after, run, start, below};
-ghost use Rattle.course.specs.Deliveries.{events_of, with_delivery};
+ghost use Rattle.course.specs.Steps.{World, SameChoice, world_of, marks_at, is_held, noted, say, serve, arrival, arrive, route, deliver, take_all, repeat, serve_times, drain_from, release, next_ones, names_records, says_many, after, run, start, below};
+ghost use Rattle.course.specs.Deliveries.{events_of, if_there, with_delivery};
 ghost use Rattle.course.specs.Tally.{tally_of};
 ghost use Rattle.course.specs.Room.{Room, Counted};
 
-use crate::delivery::Delivery;
+use crate::delivery::{Delivery, push, push_if};
 use cluster_core::Core;
 use cluster_node::{Event, Outcome, Packet, Passed, Said};
 use past_log::Log;
@@ -112,7 +112,8 @@ impl<P: Spread> Play<P> {
         }
     }
 
-    fn release(&mut self, node: u16)
+    /// A node isn't held from now on.
+    pub fn release(&mut self, node: u16)
         ensures course { self.new.course ≡ release node self.old.course }
         ensures spread { self.new.spread ≡ self.old.spread }
     {
@@ -141,30 +142,7 @@ impl<P: Spread> Play<P> {
         Ok(())
     }
 
-    /// An event and its outcome, which are put after those that are reported so far.
-    #[inline(always)]
-    fn tell(
-        &mut self,
-        event: Event,
-        packet: Option<Packet>,
-        outcome: Outcome,
-        events: &mut Vec<Said>,
-    ) -> Result<(), AllocError>
-        ensures spread { self.new.spread ≡ self.old.spread }
-        ensures after { OnOk result (self.new.course ≡ noted (record { event = event; packet = packet; outcome = outcome }) self.old.course) }
-        ensures told { (before : List Said) → Behind before self.old.course.past events.old.items → OnOk result (Behind before self.new.course.past events.new.items) }
-    {
-        let said = Said {
-            event,
-            packet,
-            outcome,
-        };
-        self.note(&said)?;
-        events.push(said)?;
-        Ok(())
-    }
-
-    /// An event, which is put after those that are reported so far.
+    /// An event: it with its outcome.
     #[inline(always)]
     fn say<C: Core>(
         &mut self,
@@ -172,25 +150,54 @@ impl<P: Spread> Play<P> {
         setup: &C::Setup,
         event: Event,
         packet: Option<Packet>,
-        events: &mut Vec<Said>,
-    ) -> Result<(), AllocError>
+    ) -> Result<Said, AllocError>
         requires stands { C.stands setup.now self.old.course.past core.old }
         requires read { WasRead packet }
         ensures stands { OnOk result (C.stands setup.now self.new.course.past core.new) }
         ensures spread { self.new.spread ≡ self.old.spread }
         ensures after { OnOk result ((w : World) → w.cluster ≡ C.cluster setup.now → self.new.course ≡ say w event packet self.old.course) }
-        ensures told { (before : List Said) → Behind before self.old.course.past events.old.items → OnOk result (Behind before self.new.course.past events.new.items) }
+        ensures told { IfOk result (λ s. Behind (reverse self.old.course.past) self.new.course.past (s ∷ [])) }
     {
         let _count = self.said_count();
         let outcome = core.step(setup, event, packet)?;
-        self.tell(event, packet, outcome, events)?;
-        Ok(())
+        let said = Said {
+            event,
+            packet,
+            outcome,
+        };
+        self.note(&said)?;
+        Ok(said)
     }
 
-    /// A serving under the node's newest version.
+    /// A worker serves under its node's newest version: the event with its outcome. Where no packet waits it is refused.
     #[tactic(auto, unfolding(crate::specs::Steps::serve))]
     #[inline(always)]
-    fn serve<C: Core>(
+    pub fn serve<C: Core>(
+        &mut self,
+        core: &mut C,
+        setup: &C::Setup,
+        node: u16,
+        worker: u16,
+    ) -> Result<Said, AllocError>
+        requires { C.stands setup.now self.old.course.past core.old }
+        ensures stands { OnOk result (C.stands setup.now self.new.course.past core.new) }
+        ensures spread { self.new.spread ≡ self.old.spread }
+        ensures after { OnOk result ((w : World) → w.cluster ≡ C.cluster setup.now → self.new.course ≡ serve w node worker self.old.course) }
+        ensures told { IfOk result (λ s. Behind (reverse self.old.course.past) self.new.course.past (s ∷ [])) }
+    {
+        let version = core.newest(setup, node);
+        let event = Event::Serve {
+            node,
+            worker,
+            version,
+            refused: false,
+        };
+        self.say(core, setup, event, None)
+    }
+
+    /// The same, and the event is put after those that are reported so far.
+    #[inline(always)]
+    fn serve_onto<C: Core>(
         &mut self,
         core: &mut C,
         setup: &C::Setup,
@@ -204,14 +211,9 @@ impl<P: Spread> Play<P> {
         ensures after { OnOk result ((w : World) → w.cluster ≡ C.cluster setup.now → self.new.course ≡ serve w node worker self.old.course) }
         ensures told { (before : List Said) → Behind before self.old.course.past events.old.items → OnOk result (Behind before self.new.course.past events.new.items) }
     {
-        let version = core.newest(setup, node);
-        let event = Event::Serve {
-            node,
-            worker,
-            version,
-            refused: false,
-        };
-        self.say(core, setup, event, None, events)
+        let said = self.serve(core, setup, node, worker)?;
+        push(said, events)?;
+        Ok(())
     }
 
     /// Notes what a delivery reports: the arrival of the packet, and its serving where there was one.
@@ -390,9 +392,18 @@ impl<P: Spread> Play<P> {
         Ok(())
     }
 
+    /// A record that is to be delivered again isn't there.
+    pub fn skip(&mut self)
+        requires { self.old.course.skipped + 1 < 2 ^ 64 }
+        ensures after { self.new.course ≡ record self.old.course { skipped = self.old.course.skipped + 1 } }
+        ensures spread { self.new.spread ≡ self.old.spread }
+    {
+        self.skipped += 1;
+    }
+
     /// A record is delivered again, or skipped where it isn't there.
     #[tactic(auto, unfolding(crate::specs::Steps::repeat))]
-    pub fn repeat<C: Core>(
+    fn repeat<C: Core>(
         &mut self,
         core: &mut C,
         setup: &C::Setup,
@@ -413,7 +424,7 @@ impl<P: Spread> Play<P> {
         match packet {
             Some(packet) => self.deliver_onto(core, setup, place, &packet, events),
             None => {
-                self.skipped += 1;
+                self.skip();
                 Ok(())
             }
         }
@@ -437,7 +448,7 @@ impl<P: Spread> Play<P> {
         ensures told { (before : List Said) → Behind before self.old.course.past events.old.items → OnOk result (Behind before self.new.course.past events.new.items) }
     {
         for _ in 0..times {
-            self.serve(core, setup, node, worker, events)?;
+            self.serve_onto(core, setup, node, worker, events)?;
         }
         Ok(())
     }
@@ -534,9 +545,53 @@ impl<P: Spread> Play<P> {
         self.lost += count as u64;
     }
 
+    /// A step that says one event at most: all but `Take`, `Lose`, `Again` and `Drain`, at which nothing is done.
+    #[tactic(auto, unfolding(crate::specs::Steps::after))]
+    pub fn step_alone<C: Core>(
+        &mut self,
+        alloc: Global,
+        core: &mut C,
+        setup: &C::Setup,
+        step: &Step,
+    ) -> Result<Option<Said>, AllocError>
+        requires stands { C.stands setup.now self.old.course.past core.old }
+        ensures choice { SameChoice (P.choice self.old.spread) (P.choice self.new.spread) }
+        ensures stands { OnOk result (C.stands setup.now self.new.course.past core.new) }
+        ensures after { OnOk result ((w : World) → w.cluster ≡ C.cluster setup.now → says_many step.now ≡ false → self.new.course ≡ after w step.now self.old.course) }
+        ensures told { IfOk result (λ s. Behind (reverse self.old.course.past) self.new.course.past (if_there s)) }
+    {
+        match step {
+            Step::Install { node, version } => {
+                let event = Event::Install {
+                    node: *node,
+                    version: *version,
+                };
+                Ok(Some(self.say(core, setup, event, None)?))
+            }
+            Step::Live(nodes) => {
+                self.spread
+                    .set_live(Vec::from_slice(alloc, nodes.as_slice())?);
+                Ok(None)
+            }
+            Step::Full { node, marks } => {
+                self.set_marks(*node, *marks);
+                Ok(None)
+            }
+            Step::Hold(node) => {
+                self.set_held(*node, true);
+                Ok(None)
+            }
+            Step::Restart(node) | Step::Stop(node) => {
+                self.release(*node);
+                Ok(Some(self.say(core, setup, Event::Restart { node: *node }, None)?))
+            }
+            Step::Take(_) | Step::Lose(_) | Step::Again(_) | Step::Drain(_) => Ok(None),
+        }
+    }
+
     /// A step that names no record: all but `Take`, `Lose` and `Again`, at which nothing is done.
     #[tactic(auto, unfolding(crate::specs::Steps::after))]
-    pub fn step_apart<C: Core>(
+    fn step_apart<C: Core>(
         &mut self,
         alloc: Global,
         core: &mut C,
@@ -551,39 +606,15 @@ impl<P: Spread> Play<P> {
         ensures told { (before : List Said) → Behind before self.old.course.past events.old.items → OnOk result (Behind before self.new.course.past events.new.items) }
     {
         match step {
-            Step::Install { node, version } => {
-                let event = Event::Install {
-                    node: *node,
-                    version: *version,
-                };
-                self.say(core, setup, event, None, events)?;
-                Ok(())
-            }
-            Step::Live(nodes) => {
-                self.spread
-                    .set_live(Vec::from_slice(alloc, nodes.as_slice())?);
-                Ok(())
-            }
-            Step::Full { node, marks } => {
-                self.set_marks(*node, *marks);
-                Ok(())
-            }
-            Step::Hold(node) => {
-                self.set_held(*node, true);
-                Ok(())
-            }
             Step::Drain(node) => {
                 self.release(*node);
                 self.drain(core, setup, *node, C::workers(setup), events)
             }
-            Step::Restart(node) | Step::Stop(node) => {
-                self.release(*node);
-                self.say(core, setup, Event::Restart { node: *node }, None, events)?;
+            _ => {
+                let said = self.step_alone(alloc, core, setup, step)?;
+                push_if(said, events)?;
                 Ok(())
             }
-            Step::Take(_) => Ok(()),
-            Step::Lose(_) => Ok(()),
-            Step::Again(_) => Ok(()),
         }
     }
 

@@ -1,11 +1,18 @@
 //! The commands that play a scenario on one thread, from what the command line says, and the end of each command over files.
+ghost use Rattle.std.specs.Prelude.{IfSome};
+ghost use Rattle.scenario.specs.Meaning.{HasLimits};
+
 use crate::files::{Paths, explain_files, read_scenario, records_before, simulate_files};
 use crate::reasons::{Files, Trouble, reason};
 use crate::{USAGE, told};
 use clap::ArgMatches;
 use command_faults::CliFault;
 use pcap_file::PcapFault;
+use scenario::{Played, Scenario, read};
 use scenario_play::Wanted;
+use scenario_warnings::{warning_text, warnings};
+use shown_text::shown;
+use std::alloc::{AllocError, Global};
 use std::io::Write;
 
 /// The paths that the command line names. What a command sends goes to `output`.
@@ -17,7 +24,39 @@ pub fn paths_of<'a>(matches: &'a ArgMatches<'_>, output: &'a str) -> Option<Path
     })
 }
 
-/// The end of a command over files: a fault is reported, and with `--verbose` where it is and what was expected.
+/// The most warnings that are told of one scenario.
+const MOST_WARNINGS: usize = 20;
+
+// The scenario that a text means, played in turn or on threads.
+fn scenario_in(alloc: Global, text: &[u8]) -> Option<Scenario>
+    ensures { IfSome result HasLimits }
+{
+    match read(alloc, Played::InTurn, text) {
+        Ok(scenario) => Some(scenario),
+        Err(_) => read(alloc, Played::OnThreads, text).ok(),
+    }
+}
+
+// Tells what a scenario that was played may not mean as it was meant.
+fn warn(rt: &HostRuntime, text: &[u8]) -> Result<(), AllocError> {
+    let Some(scenario) = scenario_in(rt.alloc(), text) else {
+        return Ok(());
+    };
+    let warnings = warnings(rt.alloc(), &scenario)?;
+    for warning in warnings.iter().take(MOST_WARNINGS) {
+        let text = warning_text(rt.alloc(), warning)?;
+        let line = shown(rt.alloc(), text.as_str())?;
+        let _ = writeln!(rt.stderr(), "warning: {line}");
+    }
+    let more = warnings.len().saturating_sub(MOST_WARNINGS);
+    if more > 0 {
+        let _ = writeln!(rt.stderr(), "warning: {more} more of these");
+    }
+    Ok(())
+}
+
+/// The end of a command over files. A fault is reported, and with `--verbose` where it is and what was expected. Without a
+/// fault `--verbose` warns of a scenario that may not mean what was meant.
 pub fn ended(
     rt: &HostRuntime,
     matches: &ArgMatches<'_>,
@@ -26,6 +65,9 @@ pub fn ended(
     outcome: Result<(), Trouble>,
 ) -> u8 {
     let Err(trouble) = outcome else {
+        if matches.get_flag("verbose") {
+            let _ = warn(rt, text);
+        }
         return 0;
     };
     let status = told(rt, trouble.fault);

@@ -24,7 +24,6 @@ use selection::{Maglev, PlainHash, RoundRobin, Scheme};
 use simulation::{Plan, Run, SimulationFault, play_capture};
 use spreader::{HashSpread, Spread, TurnSpread};
 use std::alloc::Global;
-use std::mem;
 
 // Plays the steps with this spreader, and answers.
 fn play_with<S: Scheme, P: Spread, I: Source, O: Sink>(
@@ -57,9 +56,7 @@ fn play_with<S: Scheme, P: Spread, I: Source, O: Sink>(
     match play_capture(&run, &mut balancers, spread, input, output) {
         Ok(played) => {
             balancers.keep_balance(deployment);
-            let (run, notes) = balancers.into_parts();
-            // To free the tables entry by entry takes a twentieth of a run, and the program is about to end.
-            mem::forget(run);
+            let (_, notes) = balancers.into_parts();
             match answer(alloc, task, &played, notes) {
                 Ok(text) => Ok(text),
                 Err(_) => Err(SimulationFault::Memory),
@@ -178,9 +175,9 @@ fn play_named<I: Source, O: Sink>(
 
 /// Plays a scenario over a capture, and answers what is asked of the run. What the cluster sends is written as another
 /// capture, which is begun once the input's header was accepted. Whatever goes wrong but a write, the output is cut between
-/// records. The connection tables and the book of splits hash by the key. The memory of a run that succeeds isn't given back
-/// until the program ends: to give it back entry by entry takes a twentieth of a run. A step `stop`, which no scenario has
-/// that was read as one played in turn, is played as the restart that it is in a course.
+/// records. The connection tables and the book of splits hash by the key. The memory of a run is given back before its answer
+/// is made. A step `stop`, which no scenario has that was read as one played in turn, is played as the restart that it is in a
+/// course.
 ///
 /// By the clause `kept` the run keeps the promises. For a scheme to which the turn doesn't matter, two packets of one flow
 /// that were sent to different backends were chosen under versions that pick these backends. Where the scheme is Maglev,

@@ -57,52 +57,9 @@ pub judged_onto : (judge : Judge) (past events : List Said) → Judged judge (on
 judged_onto judge past [] h = h
 judged_onto judge past (s ∷ ss) h = (judged_onto judge (s ∷ past) ss h).1
 
--- so many events were followed, and these are left
-pub record Settling (all : List Record) (k : Cluster) (past events rest : List Said) (qs : List (List Record)) (t : Traffic) (a b : Tape) : Type 0 where
-  pub done : List Said
-  pub is : onto done rest ≡ onto past events
-  pub mirrors : Mirrors all k done qs
-  pub quiet : NoArrivals rest
-  pub first : List Sending
-  pub sent_is : sent t events ≡ first ++ sent t rest
-  pub output : Wrote a b first
-
-pub settling_none : (all : List Record) (k : Cluster) (past events : List Said) (qs : List (List Record)) (t : Traffic) (a : Tape) → Mirrors all k past qs → NoArrivals events → Settling all k past events events qs t a a
-settling_none all k past events qs t a m n = record { done = past; is = refl; mirrors = m; quiet = n; first = []; sent_is = refl; output = wrote_none a }
-
-pub can_follow : (all : List Record) (k : Cluster) (past events rest : List Said) (s : Said) (qs ps : List (List Record)) (t : Traffic) (a b : Tape) → CanSettle all k past events ps → length qs ≡ length ps → (g : Settling all k past events (s ∷ rest) qs t a b) → CanFollow all k g.done s qs
-can_follow all k past events rest s qs ps t a b can e g = record {
-  workers = can.workers;
-  room = omega (arith, can.room, e);
-  orderly = can.orderly;
-  judged = judged_onto k.judge (s ∷ g.done) rest (subst (λ (l : List Said). Judged k.judge l) (sym g.is) can.judged);
-  mirrors = g.mirrors;
-}
-
-pub settling_more : (all : List Record) (k : Cluster) (past events rest : List Said) (s : Said) (qs ps : List (List Record)) (t : Traffic) (a b c : Tape) → (g : Settling all k past events (s ∷ rest) qs t a b)
-    → Mirrors all k (s ∷ g.done) ps × Wrote b c (sent_by t s.outcome) → Settling all k past events rest ps t a c
-settling_more all k past events rest s qs ps t a b c g h = record {
-  done = s ∷ g.done;
-  is = g.is;
-  mirrors = h.0;
-  quiet = g.quiet.1;
-  first = g.first ++ sent_by t s.outcome;
-  sent_is = g.sent_is ∙ sym (append_assoc g.first (sent_by t s.outcome) (sent t rest));
-  output = wrote_both a b c g.first (sent_by t s.outcome) g.output h.1;
-}
-
-pub next_of : (events : List Said) (i : ℕ) (s : Said) → i < length events → s ≡ get_or events i s → drop i events ≡ s ∷ drop (i + 1) events
-next_of events i s lt e = rw (add-one, drop-cons events i s) (ap (λ (x : Said). x ∷ drop (suc i) events) (sym e))
-
-pub settled_all : (all : List Record) (k : Cluster) (past events : List Said) (qs : List (List Record)) (t : Traffic) (a b : Tape) → Settling all k past events [] qs t a b → Mirrors all k (onto past events) qs × Wrote a b (sent t events)
-settled_all all k past events qs t a b g =
-    (subst (λ (l : List Said). Mirrors all k l qs) g.is g.mirrors, subst (λ (l : List Sending). Wrote a b l) (sym (g.sent_is ∙ append-nil g.first)) g.output)
-
-pub cut_short : (all : List Record) (k : Cluster) (past events rest : List Said) (s : Said) (qs : List (List Record)) (t : Traffic) (a b c : Tape) (fault : SimulationFault) → Settling all k past events (s ∷ rest) qs t a b
-    → WroteUntil fault b c (sent_by t s.outcome) → WroteUntil fault a c (sent t events)
-cut_short all k past events rest s qs t a b c fault g h =
-    until_more fault a c (g.first ++ sent_by t s.outcome) (sent t rest) (sent t events) (g.sent_is ∙ sym (append_assoc g.first (sent_by t s.outcome) (sent t rest)))
-    (until_behind fault a b c g.first (sent_by t s.outcome) g.output h)
+-- one event was followed
+pub settled_one : {E : Type 0} (r : Result (Unit {0}) E) (M : Type 0) (t : Traffic) (s : Said) (a b : Tape) → OnOk r (M × Wrote a b (sent_by t s.outcome)) → OnOk r (M × Wrote a b (sent t (s ∷ [])))
+settled_one r M t s a b h = subst (λ (l : List Sending). OnOk r (M × Wrote a b l)) (sym (append-nil (sent_by t s.outcome))) h
 
 no_serve : (all : List Record) (r : Record) (e : Event) (n w v : ℕ) (b : Bool) → ComesAs all r e → e ≡ Serve n w v b → ⊥
 no_serve all r (Install m u) n w v b c e = c

@@ -4,8 +4,7 @@ use Rattle.std.specs.Prelude.{slice_get, ◌==◌, ◌&&◌, if◌then◌else◌
 use Rattle.std.proofs.lemmas.List.{map-append, drop-append-le, drop-map}
 use Rattle.five_tuple.specs.declared.Flow.{Flow}
 use Rattle.pool_versions.specs.declared.backend.Backend.{Backend}
-use Rattle.pcap_file.specs.declared.format.Frame.{Frame}
-use Rattle.pcap_file.specs.Format.{Packet as Record, packet}
+use Rattle.pcap_file.specs.Format.{Packet as Record}
 use Rattle.cluster_node.specs.declared.serving.Item.{Item}
 use Rattle.cluster_node.specs.declared.packets.Packet.{Packet}
 use Rattle.cluster_node.specs.declared.packets.Packet.TheVariants.{Good, Bad}
@@ -147,12 +146,12 @@ first_sent all k past s qs f n w i x b v e =
     let first : IsFirst (slice_get (queue_at qs n w) 0) (slice_get all t.item.packet) = record_first (queue_at qs n w) (slice_get all t.item.packet) (first_beside all (queue_at qs n w) (lines_at past n w) t.item t.first (f.mirrors n w t.node t.worker)) in
     (first.0, out ∙ first.1, ap (slice_get all) (sym t.packet) ∙ first.2)
 
-frame_first : (result : Option Frame) (o : Option Record) (out : Option Record) → option_map packet result ≡ out → IsFirst out o → IsSomeAnd result (λ frame. o ≡ Some (packet frame))
-frame_first None o out e h = absurd (let a : None ≡ Some h.0 = e ∙ h.1 in cc)
-frame_first (Some frame) o out e h = h.2 ∙ sym (e ∙ h.1)
+frame_first : {F : Type 0} (of : F → Record) (result : Option F) (o : Option Record) (out : Option Record) → option_map of result ≡ out → IsFirst out o → IsSomeAnd result (λ frame. o ≡ Some (of frame))
+frame_first of None o out e h = absurd (let a : None ≡ Some h.0 = e ∙ h.1 in cc)
+frame_first of (Some frame) o out e h = h.2 ∙ sym (e ∙ h.1)
 
-pub follow_sent : (all : List Record) (k : Cluster) (past : List Said) (s : Said) (qs : List (List Record)) (result : Option Frame) → CanFollow all k past s qs → option_map packet result ≡ taken_out s qs → (n w i : ℕ) (x : Flow) (b : Backend) (v : ℕ) → s.outcome ≡ Forward n w i x b v → IsSomeAnd result (λ frame. slice_get all i ≡ Some (packet frame))
-follow_sent all k past s qs result f taken n w i x b v e = frame_first result (slice_get all i) (taken_out s qs) taken (first_sent all k past s qs f n w i x b v e)
+pub follow_sent : {F : Type 0} (of : F → Record) (all : List Record) (k : Cluster) (past : List Said) (s : Said) (qs : List (List Record)) (result : Option F) → CanFollow all k past s qs → option_map of result ≡ taken_out s qs → (n w i : ℕ) (x : Flow) (b : Backend) (v : ℕ) → s.outcome ≡ Forward n w i x b v → IsSomeAnd result (λ frame. slice_get all i ≡ Some (of frame))
+follow_sent of all k past s qs result f taken n w i x b v e = frame_first of result (slice_get all i) (taken_out s qs) taken (first_sent all k past s qs f n w i x b v e)
 
 -- an event that is accepted
 pub moves_accepted : (s : Said) (qs qs' : List (List Record)) → accepted s.outcome ≡ true → Moves qs qs' (settled_by s.event) → Moves qs qs' (settled s)

@@ -11,9 +11,12 @@ use Rattle.cluster_node.specs.declared.packets.Packet.{Packet}
 use Rattle.cluster_node.specs.Records.{Judged}
 use Rattle.cluster_core.specs.Cluster.{Cluster, Behind}
 use Rattle.course.specs.Course.{Course}
-use Rattle.course.specs.Steps.{World, deliver, after, names_records}
-use Rattle.course.proofs.Quiet.{is_arrival, Quiet, Calm, Arrived, deliver_arrives, apart_calm}
-use Rattle.course.proofs.Told.{deliver_told, after_told}
+use Rattle.scenario_steps.specs.declared.Step.{Step}
+use Rattle.scenario_steps.specs.declared.Step.TheVariants as steps
+use Rattle.course.specs.Steps.{World, deliver, serve, drain_from, release, after, names_records, says_many}
+use Rattle.course.proofs.Quiet.{is_arrival, Quiet, Calm, Arrived, deliver_arrives, serve_calm, apart_calm}
+use Rattle.course.proofs.Coming.{Grows, drain_is}
+use Rattle.course.proofs.Told.{deliver_told, serve_told, after_told}
 use Rattle.simulation.specs.PrivateMirrors.{Mirrors, ComesAs, IsNoArrival}
 use Rattle.simulation.specs.declared.fault.SimulationFault.{SimulationFault}
 use Rattle.simulation.specs.declared.fault.SimulationFault.TheVariants.{Memory}
@@ -39,10 +42,6 @@ pub events_behind : (c d : Course) (m : Moved c d) (events : List Said) → Behi
 events_behind c d m events e =
     let n : ℕ = length (reverse c.past) in
     sym (drop_at (reverse c.past) events n refl) ∙ ap (λ (l : List Said). drop n l) (sym e ∙ history_moved c d m) ∙ drop_at (reverse c.past) (reverse m.news) n refl
-
--- nothing stands behind the whole history
-pub none_behind : (c : Course) (events : List Said) → events ≡ [] → Behind (reverse c.past) c.past events
-none_behind c events e = sym (append-nil (reverse c.past)) ∙ ap (λ (l : List Said). reverse c.past ++ l) (sym e)
 
 onto_moved : (c d : Course) (m : Moved c d) → onto c.past (reverse m.news) ≡ d.past
 onto_moved c d m = onto_reverse c.past (reverse m.news) ∙ ap (λ (l : List Said). l ++ c.past) (reverse-reverse m.news) ∙ sym m.is
@@ -95,6 +94,14 @@ cut_after k plan link all c d m events qs begun out new (Err f) s e h =
     subst (λ (l : List Sending). WroteUntil f begun new l) (sym (sent_moved plan link all c d m events e))
     (until_behind f begun out new (sent (traffic_of plan link all) (reverse c.past)) (sent (traffic_of plan link all) events) s.sent h)
 
+-- what was written of a course's beginning was written of the course
+pub cut_grown : (plan : Planned) (link : Link) (all : List Record) (c d : Course) (fault : SimulationFault) (begun out : Tape) → Grows c.past d.past
+    → WroteUntil fault begun out (sent (traffic_of plan link all) (reverse c.past)) → WroteUntil fault begun out (sent (traffic_of plan link all) (reverse d.past))
+cut_grown plan link all c d fault begun out g h =
+    let m : Moved c d = record { news = g.news; is = g.is } in
+    until_more fault begun out (sent (traffic_of plan link all) (reverse c.past)) (sent (traffic_of plan link all) (reverse g.news)) (sent (traffic_of plan link all) (reverse d.past))
+    (sent_moved plan link all c d m (reverse g.news) refl) h
+
 quiet_event : (e : Event) → is_arrival e ≡ false → IsNoArrival e
 quiet_event (Install n v) h = tt
 quiet_event (Arrive n i marks) h = let bad : true ≡ false = h in cc
@@ -144,3 +151,33 @@ stepped w s c d h e =
 pub stepped_told : (w : World) (j : Cluster) (s : _) (c d : Course) → w.cluster ≡ j → d ≡ after w s c → Judged j.judge c.past → Judged j.judge d.past
 stepped_told w j s c d i e h =
     subst (λ (x : Cluster). Judged x.judge d.past) i (subst (λ (x : Course). Judged w.cluster.judge x.past) (sym e) (after_told w s c (subst (λ (x : Cluster). Judged x.judge c.past) (sym i) h)))
+
+-- a serving brings none either
+pub served : (w : World) (n u : ℕ) (c d : Course) → d ≡ serve w n u c → Quietly c d
+served w n u c d e =
+    let calm : Calm c.past (serve w n u c).past = serve_calm w n u c in
+    subst (λ (x : Course). Quietly c x) (sym e) (record { moved = record { news = calm.news; is = calm.is }; quiet = quiet_history calm.news calm.quiet })
+
+pub served_told : (w : World) (j : Cluster) (n u : ℕ) (c d : Course) → w.cluster ≡ j → d ≡ serve w n u c → Judged j.judge c.past → Judged j.judge d.past
+served_told w j n u c d i e h =
+    subst (λ (x : Cluster). Judged x.judge d.past) i (subst (λ (x : Course). Judged w.cluster.judge x.past) (sym e) (serve_told w n u c (subst (λ (x : Cluster). Judged x.judge c.past) (sym i) h)))
+
+-- a step that says one event at most names no record
+pub names_few : (s : Step) → says_many s ≡ false → names_records s ≡ false
+names_few (steps.Install n v) h = refl
+names_few (steps.Live ns) h = refl
+names_few (steps.Take k) h = h
+names_few (steps.Lose k) h = h
+names_few (steps.Again k) h = h
+names_few (steps.Full n m) h = refl
+names_few (steps.Hold n) h = refl
+names_few (steps.Drain n) h = refl
+names_few (steps.Restart n) h = refl
+names_few (steps.Stop n) h = refl
+
+-- a node's hold ended, and its workers served what waited for them
+pub drained : (w : World) (k : Cluster) (n workers : ℕ) (s : Step) (c r d : Course) → w.cluster ≡ k → workers ≡ k.workers → s ≡ steps.Drain n → r ≡ release n c → d ≡ drain_from w n 0 workers r → d ≡ after w s c
+drained w k n workers s c r d i m e f h =
+    h ∙ ap (λ (x : Course). drain_from w n 0 workers x) f
+    ∙ ap (λ (t : ℕ). drain_from w n 0 t (release n c)) (m ∙ ap (λ (x : Cluster). x.workers) (sym i))
+    ∙ sym (drain_is w n c) ∙ ap (λ (x : Step). after w x c) (sym e)

@@ -15,6 +15,11 @@ pub record Taking : Type 0 where
   pub given : ℕ
   pub ended : Option InputEnd
 
+-- the record that was lent, or else this one
+abbrev pub lent_or : {F : Type 0} → (F → Record) → Option F → Record → Record
+lent_or of None r = r
+lent_or of (Some f) r = of f
+
 -- after the header the input has these records; and then what is left, or the ending
 abbrev pub HasSeen : Head → Option InputEnd → Option (List ℕ) → List Record → Option (List ℕ) → Type 0
 HasSeen head None text seen left = Passed head text seen left

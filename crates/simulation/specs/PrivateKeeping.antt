@@ -28,7 +28,7 @@ times_named place (s ∷ ss) = if names place s then suc (times_named place ss) 
 
 -- how many steps name a place, and its record where that was read
 abbrev pub kept_of : Later → ℕ × Option Record
-kept_of l = (l.times, option_map packet l.frame)
+kept_of l = (l.times, option_map (λ f. packet f.value) l.frame)
 
 -- what is kept of a place
 abbrev pub kept_at : Kept → ℕ → Option (ℕ × Option Record)

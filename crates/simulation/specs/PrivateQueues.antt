@@ -59,18 +59,6 @@ put_by (Some at) r n w q = only_at at.0 at.1 (λ old. old ++ r ∷ []) n w q
 abbrev pub arrived : Said → Record → ℕ → ℕ → List Record → List Record
 arrived s r = put_by (placed_by s.event s.packet s.outcome) r
 
--- what is handed back of an arrival's record: it, where it waits in no queue
-abbrev pub unless_put : Option ℕ → Record → Option Record
-unless_put None r = Some r
-unless_put (Some place) r = None
-
-abbrev pub back_by : Option (ℕ × ℕ) → ℕ → Record → Option Record
-back_by None count r = Some r
-back_by (Some at) count r = unless_put (place_of count at.0 at.1) r
-
-abbrev pub handed_back : Said → ℕ → Record → Option Record
-handed_back s count r = back_by (placed_by s.event s.packet s.outcome) count r
-
 -- How an event that is accepted and no arrival moves the queues. A serving takes the first of its worker's queue, and a
 -- restart empties those of its node.
 abbrev pub settled_by : Event → ℕ → ℕ → List Record → List Record

@@ -8,27 +8,29 @@ ghost use Rattle.simulation.specs.Intake.{Taking, Seen, SeenMore, ReadOn, ReadSt
 
 use ip_headers::Link;
 use pcap_file::{Ending, Frame, Head, InputEnd, PcapFault, Source, read_record_into};
-use std::alloc::Global;
+use std::alloc::{AllocError, Global};
 use std::marker::Model;
 use std::mem;
+use std::rc::Rc;
 
-/// The record read last, how many were read, and how the input ended, if it did.
+/// The record read last, or one that was lent since; how many were read, and how the input ended, if it did.
 #[derive(Drop)]
 pub(crate) struct Intake {
     head: Head,
     frame: Frame,
+    lent: Option<Rc<Frame>>,
     given: u32,
     ended: Option<InputEnd>,
 }
 
 impl Model for Intake {
-    ghost use Rattle.simulation.specs.Intake.{Taking};
+    ghost use Rattle.simulation.specs.Intake.{Taking, lent_or};
     ghost use Rattle.std.specs.Prelude.{◌≤◌};
     ghost use Rattle.pcap_file.specs.Format.{packet, max_records};
 
     ghost Value = { Taking };
 
-    ghost view = { λ i. record { head = i.head; record_read = packet i.frame; given = i.given; ended = i.ended } };
+    ghost view = { λ i. record { head = i.head; record_read = lent_or (λ f. packet f.value) i.lent (packet i.frame); given = i.given; ended = i.ended } };
 
     ghost invariant = { λ i. i.given ≤ max_records };
 }
@@ -43,6 +45,7 @@ impl Intake {
         Intake {
             head,
             frame: Frame::empty(alloc),
+            lent: None,
             given: 0,
             ended: None,
         }
@@ -65,12 +68,15 @@ impl Intake {
         self.given
     }
 
-    // The record read last.
+    // The record read last, or the one that was lent since.
     #[inline(always)]
     pub(crate) fn frame(&self) -> &Frame
         ensures { packet result.now ≡ self.now.record_read }
     {
-        &self.frame
+        match &self.lent {
+            Some(frame) => frame.as_ref(),
+            None => &self.frame,
+        }
     }
 
     // Reads the next record, unless the input has ended.
@@ -88,6 +94,7 @@ impl Intake {
         if self.ended.is_some() {
             return Ok(false);
         }
+        self.lent = None;
         match read_record_into(input, self.head, self.given, &mut self.frame) {
             Ok(()) => {
                 self.given += 1;
@@ -119,12 +126,25 @@ impl Intake {
         }
     }
 
-    // Hands the record read last out, and takes a frame in its place.
+    // This record stands for the one read last, until the next is read.
     #[inline(always)]
-    pub(crate) fn exchange(&mut self, frame: Frame) -> Frame
-        ensures out { packet result ≡ self.old.record_read }
-        ensures rest { self.new ≡ record self.old { record_read = packet frame } }
+    pub(crate) fn lend(&mut self, frame: Rc<Frame>)
+        ensures { self.new ≡ record self.old { record_read = packet frame.value } }
     {
-        mem::replace(&mut self.frame, frame)
+        self.lent = Some(frame);
+    }
+
+    // The record read last, or the one that was lent since, to be kept beside it.
+    pub(crate) fn share(&mut self, alloc: Global) -> Result<Rc<Frame>, AllocError>
+        ensures record { IfOk result (λ f. packet f.value ≡ self.old.record_read) }
+        ensures rest { (self.new.given ≡ self.old.given) × (self.new.ended ≡ self.old.ended) × (self.new.head ≡ self.old.head) }
+    {
+        match &self.lent {
+            Some(frame) => frame.clone(),
+            None => {
+                let frame = mem::replace(&mut self.frame, Frame::empty(alloc));
+                Ok(Rc::new(alloc, frame)?)
+            }
+        }
     }
 }

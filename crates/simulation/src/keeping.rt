@@ -9,12 +9,14 @@ use pcap_file::Frame;
 use scenario_steps::Step;
 use std::alloc::{AllocError, Global};
 use std::collections::BTreeMap;
+use std::rc::Rc;
 
-/// How many steps that are left deliver a record again, and the record, once it was read.
+/// How many steps that are left deliver a record again, and the record, once it was read. Its bytes are shared by all that
+/// have it.
 #[derive(Drop)]
 pub(crate) struct Later {
     times: u64,
-    frame: Option<Frame>,
+    frame: Option<Rc<Frame>>,
 }
 
 /// The records that steps which are left deliver again, by place in the capture.
@@ -23,24 +25,25 @@ pub(crate) struct Kept {
     places: BTreeMap<u32, Later>,
 }
 
-// A record once more.
-fn copy_of(alloc: Global, frame: &Frame) -> Result<Frame, AllocError>
-    ensures { IfOk result (λ f. packet f ≡ packet frame.now) }
+// A record once more, to be shared.
+fn copy_of(alloc: Global, frame: &Frame) -> Result<Rc<Frame>, AllocError>
+    ensures { IfOk result (λ f. packet f.value ≡ packet frame.now) }
 {
-    Ok(Frame {
+    let copy = Frame {
         secs: frame.secs,
         micros: frame.micros,
         original: frame.original,
         bytes: Vec::from_slice(alloc, frame.bytes.as_slice())?,
-    })
+    };
+    Ok(Rc::new(alloc, copy)?)
 }
 
-// A record once more, where there is one.
-fn copy_of_one(alloc: Global, frame: &Option<Frame>) -> Result<Option<Frame>, AllocError>
-    ensures { IfOk result (λ o. option_map packet o ≡ option_map packet frame.now) }
+// The same record, where there is one.
+fn share(frame: &Option<Rc<Frame>>) -> Result<Option<Rc<Frame>>, AllocError>
+    ensures { IfOk result (λ o. option_map (λ f. packet f.value) o ≡ option_map (λ f. packet f.value) frame.now) }
 {
     match frame {
-        Some(frame) => Ok(Some(copy_of(alloc, frame)?)),
+        Some(frame) => Ok(Some(frame.clone()?)),
         None => Ok(None),
     }
 }
@@ -108,8 +111,8 @@ impl Kept {
     }
 
     // A step that names a place is done: the record, if it was read. With the last of these steps it is let go.
-    pub(crate) fn take(&mut self, alloc: Global, place: u32) -> Result<Option<Frame>, AllocError>
-        ensures record { (seen : List Record) (ss : List Step) → KeepsNamed seen (again_of place ∷ ss) self.old → IfOk result (λ o. option_map packet o ≡ slice_get seen place) }
+    pub(crate) fn take(&mut self, place: u32) -> Result<Option<Rc<Frame>>, AllocError>
+        ensures record { (seen : List Record) (ss : List Step) → KeepsNamed seen (again_of place ∷ ss) self.old → IfOk result (λ o. option_map (λ f. packet f.value) o ≡ slice_get seen place) }
         ensures keeps { (seen : List Record) (ss : List Step) → KeepsNamed seen (again_of place ∷ ss) self.old → OnOk result (KeepsNamed seen ss self.new) }
     {
         let Some(Later { times, frame }) = self.let_go(place) else {
@@ -118,9 +121,9 @@ impl Kept {
         if times <= 1 {
             return Ok(frame);
         }
-        let copy = copy_of_one(alloc, &frame)?;
+        let shared = share(&frame)?;
         let times = times - 1;
         self.set(place, Later { times, frame })?;
-        Ok(copy)
+        Ok(shared)
     }
 }

@@ -6,11 +6,12 @@ use pcap_file::Frame;
 use std::alloc::{AllocError, Global};
 use std::collections::VecDeque;
 use std::marker::Model;
+use std::rc::Rc;
 
 // A worker's queue, the first frame in front.
 #[derive(Drop)]
 pub(crate) struct Queue {
-    frames: VecDeque<Frame>,
+    frames: VecDeque<Rc<Frame>>,
 }
 
 impl Model for Queue {
@@ -19,7 +20,7 @@ impl Model for Queue {
 
     ghost Value = { List Record };
 
-    ghost view = { λ q. map packet q.frames.items };
+    ghost view = { λ q. map (λ f. packet f.value) q.frames.items };
 }
 
 impl Queue {
@@ -33,8 +34,8 @@ impl Queue {
 
     // Puts a frame at the end.
     #[inline(always)]
-    pub(crate) fn put(&mut self, frame: Frame) -> Result<(), AllocError>
-        ensures ok { OnOk result (self.new ≡ self.old ++ packet frame ∷ []) }
+    pub(crate) fn put(&mut self, frame: Rc<Frame>) -> Result<(), AllocError>
+        ensures ok { OnOk result (self.new ≡ self.old ++ packet frame.value ∷ []) }
         ensures err { OnErr result (self.new ≡ self.old) }
     {
         self.frames.push_back(frame)?;
@@ -43,8 +44,8 @@ impl Queue {
 
     // Takes the first frame.
     #[inline(always)]
-    pub(crate) fn take(&mut self) -> Option<Frame>
-        ensures taken { option_map packet result ≡ slice_get self.old 0 }
+    pub(crate) fn take(&mut self) -> Option<Rc<Frame>>
+        ensures taken { option_map (λ f. packet f.value) result ≡ slice_get self.old 0 }
         ensures after { self.new ≡ drop 1 self.old }
     {
         self.frames.pop_front()

@@ -3,7 +3,7 @@ ghost use Rattle.std.specs.Prelude.{◌≡◌, true, ◌*◌, List, [], ◌∷�
 ghost use Rattle.pcap_file.specs.Format.{Packet as Record, packet};
 ghost use Rattle.cluster_node.specs.declared.events.Said.{Said};
 ghost use Rattle.cluster_core.specs.Cluster.{Cluster};
-ghost use Rattle.course.specs.Deliveries.{events_of};
+ghost use Rattle.course.specs.Deliveries.{if_there, events_of};
 ghost use Rattle.simulation.specs.PrivateMirrors.{Mirrors, CanFollow, ComesAs, IsNoArrival};
 ghost use Rattle.simulation.specs.Sent.{packet_in, sent, sent_by, Wrote, WroteUntil};
 ghost use Rattle.simulation.specs.Simulated.{IsOfRun};
@@ -19,14 +19,12 @@ use cluster_node::{Outcome, Packet, Passed, Said};
 use course::Delivery;
 use pcap_file::{Frame, Sink};
 use std::alloc::{AllocError, Global};
-use std::mem;
 
 /// The frames that wait, and room that is used again.
 #[derive(Drop)]
 pub(crate) struct Relay {
     alloc: Global,
     waiting: Waiting,
-    spare: Frame,
     room: Vec<u8>,
 }
 
@@ -86,7 +84,6 @@ impl Relay {
         Ok(Relay {
             alloc,
             waiting: Waiting::new(alloc, nodes)?,
-            spare: Frame::empty(alloc),
             room: Vec::new(alloc),
         })
     }
@@ -109,29 +106,28 @@ impl Relay {
         let Some(frame) = self.waiting.settle(said) else {
             return Ok(());
         };
-        self.spare = frame;
-        send_waited(&mut self.room, output, wire, &said.outcome, &self.spare)
+        send_waited(&mut self.room, output, wire, &said.outcome, frame.as_ref())
     }
 
-    // Follows events that are no arrivals.
+    // Follows an event that is no arrival, where there is one.
     #[inline(always)]
-    pub(crate) fn settle_all<O: Sink>(
+    pub(crate) fn settle<O: Sink>(
         &mut self,
         wire: &Wire<'_>,
-        events: &[Said],
+        said: Option<Said>,
         output: &mut O,
     ) -> Result<(), SimulationFault>
         ensures count { length self.new.waiting ≡ length self.old.waiting }
-        ensures settled { (all : List Record) (k : Cluster) (past : List Said) → CanSettle all k past events.now self.old.waiting → NoArrivals events.now →
-            OnOk result (Mirrors all k (onto past events.now) self.new.waiting × Wrote (O.tape output.old) (O.tape output.new) (sent (traffic wire.now all) events.now)) }
+        ensures settled { (all : List Record) (k : Cluster) (past : List Said) → CanSettle all k past (if_there said) self.old.waiting → NoArrivals (if_there said) →
+            OnOk result (Mirrors all k (onto past (if_there said)) self.new.waiting × Wrote (O.tape output.old) (O.tape output.new) (sent (traffic wire.now all) (if_there said))) }
         ensures named { IfErr result IsOfRun }
-        ensures cut { (all : List Record) (k : Cluster) (past : List Said) → CanSettle all k past events.now self.old.waiting → NoArrivals events.now →
-            IfErr result (λ fault. WroteUntil fault (O.tape output.old) (O.tape output.new) (sent (traffic wire.now all) events.now)) }
+        ensures cut { (all : List Record) (k : Cluster) (past : List Said) → CanSettle all k past (if_there said) self.old.waiting → NoArrivals (if_there said) →
+            IfErr result (λ fault. WroteUntil fault (O.tape output.old) (O.tape output.new) (sent (traffic wire.now all) (if_there said))) }
     {
-        for said in events {
-            self.settle_one(wire, said, output)?;
+        match said {
+            Some(said) => self.settle_one(wire, &said, output),
+            None => Ok(()),
         }
-        Ok(())
     }
 
     // Follows an arrival, whose packet has the record that was read last.
@@ -142,12 +138,11 @@ impl Relay {
             OnOk result (Mirrors all k (said.now ∷ past) self.new.waiting) }
         ensures intake { (intake.new.given ≡ intake.old.given) × (intake.new.ended ≡ intake.old.ended) × (intake.new.head ≡ intake.old.head) }
     {
-        let spare = mem::replace(&mut self.spare, Frame::empty(self.alloc));
-        let frame = intake.exchange(spare);
-        if let Some(back) = self.waiting.arrive(said, frame)? {
-            self.spare = back;
+        if !self.waiting.waits(said) {
+            return Ok(());
         }
-        Ok(())
+        let frame = intake.share(self.alloc)?;
+        self.waiting.arrive(said, frame)
     }
 
     // Follows what is reported of a packet that arrived: its arrival, whose packet has the record that was read last, and

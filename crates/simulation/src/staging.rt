@@ -3,7 +3,7 @@ ghost use Rattle.std.specs.Prelude.{◌≡◌, ◌≢◌, ◌<◌, ◌≤◌, �
 ghost use Rattle.pcap_file.specs.Device.{Tape};
 ghost use Rattle.pcap_file.specs.Format.{Packet as Record, packet, max_records};
 ghost use Rattle.scenario_steps.specs.declared.Step.{Step};
-ghost use Rattle.course.specs.Steps.{World, SameChoice, deliver, after, names_records, start, below};
+ghost use Rattle.course.specs.Steps.{World, SameChoice, deliver, serve, serve_times, drain_from, after, names_records, says_many, start, below};
 ghost use Rattle.course.specs.PrivateStreams.{take_of, lose_of, again_of};
 ghost use Rattle.course.specs.Room.{Counted};
 ghost use Rattle.simulation.specs.Plans.{Planned, planned};
@@ -24,20 +24,18 @@ use crate::playing::Played;
 use crate::relaying::Relay;
 use crate::sending::Wire;
 use cluster_core::Core;
-use cluster_node::Said;
 use course::{Delivery, Play};
-use pcap_file::{Frame, Head, Sink, Source};
+use pcap_file::{Head, Sink, Source};
 use scenario_steps::Step;
 use spreader::Spread;
 use std::alloc::{AllocError, Global};
 
-/// The course so far, what one delivery reports and the events of one other step. Beside these: the frames that wait, the
-/// records that come again, and those that are read.
+/// The course so far, and what one delivery reports. Beside these: the frames that wait, the records that come again, and
+/// those that are read.
 #[derive(Drop)]
 pub(crate) struct Stage<P: Spread> {
     play: Play<P>,
     delivery: Delivery,
-    events: Vec<Said>,
     relay: Relay,
     kept: Kept,
     intake: Intake,
@@ -59,7 +57,6 @@ impl<P: Spread> Stage<P> {
         Ok(Stage {
             play: Play::start(alloc, spread, nodes)?,
             delivery: Delivery::new(),
-            events: Vec::new(alloc),
             relay: Relay::new(alloc, nodes)?,
             kept: Kept::of_steps(alloc, plan.steps)?,
             intake: Intake::new(alloc, head),
@@ -111,6 +108,122 @@ impl<P: Spread> Stage<P> {
             .settle_delivered(&wire, &packet, &self.delivery, &mut self.intake, output)
     }
 
+    // A worker serves. The event is followed at once, and what it sends is sent.
+    #[inline(always)]
+    fn serve<C: Core, O: Sink>(
+        &mut self,
+        run: &Run<'_, C::Setup>,
+        core: &mut C,
+        node: u16,
+        worker: u16,
+        output: &mut O,
+    ) -> Result<(), SimulationFault>
+        requires stands { C.stands run.now.setup.now self.old.play.course.past core.old }
+        ensures stands { OnOk result (C.stands run.now.setup.now self.new.play.course.past core.new) }
+        ensures spread { self.new.play.spread ≡ self.old.play.spread }
+        ensures kept { self.new.kept ≡ self.old.kept }
+        ensures intake { self.new.intake ≡ self.old.intake }
+        ensures play { OnOk result ((w : World) → w.cluster ≡ C.cluster run.now.setup.now → self.new.play.course ≡ serve w node worker self.old.play.course) }
+        ensures sound { (all : List Record) (begun : Tape) →
+            Sound (C.cluster run.now.setup.now) (planned run.now.plan) self.old.intake.head.link all self.old.play.course self.old.relay.waiting begun (O.tape output.old) →
+            OnOk result (Sound (C.cluster run.now.setup.now) (planned run.now.plan) self.old.intake.head.link all self.new.play.course self.new.relay.waiting begun (O.tape output.new)) }
+        ensures named { IfErr result IsOfRun }
+        ensures cut { (w : World) (all : List Record) (begun : Tape) → w.cluster ≡ C.cluster run.now.setup.now →
+            Sound (C.cluster run.now.setup.now) (planned run.now.plan) self.old.intake.head.link all self.old.play.course self.old.relay.waiting begun (O.tape output.old) →
+            IfErr result (λ fault. WroteUntil fault begun (O.tape output.new) (sent (traffic_of (planned run.now.plan) self.old.intake.head.link all) (reverse (serve w node worker self.old.play.course).past))) }
+    {
+        let wire = self.wire(run.plan);
+        let said = self.play.serve(core, run.setup, node, worker)?;
+        self.relay.settle(&wire, Some(said), output)
+    }
+
+    // A worker serves so many times.
+    fn serve_times<C: Core, O: Sink>(
+        &mut self,
+        run: &Run<'_, C::Setup>,
+        core: &mut C,
+        node: u16,
+        worker: u16,
+        times: u64,
+        output: &mut O,
+    ) -> Result<(), SimulationFault>
+        requires stands { C.stands run.now.setup.now self.old.play.course.past core.old }
+        ensures stands { OnOk result (C.stands run.now.setup.now self.new.play.course.past core.new) }
+        ensures spread { self.new.play.spread ≡ self.old.play.spread }
+        ensures kept { self.new.kept ≡ self.old.kept }
+        ensures intake { self.new.intake ≡ self.old.intake }
+        ensures play { OnOk result ((w : World) → w.cluster ≡ C.cluster run.now.setup.now → self.new.play.course ≡ serve_times w node worker times self.old.play.course) }
+        ensures sound { (all : List Record) (begun : Tape) →
+            Sound (C.cluster run.now.setup.now) (planned run.now.plan) self.old.intake.head.link all self.old.play.course self.old.relay.waiting begun (O.tape output.old) →
+            OnOk result (Sound (C.cluster run.now.setup.now) (planned run.now.plan) self.old.intake.head.link all self.new.play.course self.new.relay.waiting begun (O.tape output.new)) }
+        ensures named { IfErr result IsOfRun }
+        ensures cut { (w : World) (all : List Record) (begun : Tape) → w.cluster ≡ C.cluster run.now.setup.now →
+            Sound (C.cluster run.now.setup.now) (planned run.now.plan) self.old.intake.head.link all self.old.play.course self.old.relay.waiting begun (O.tape output.old) →
+            IfErr result (λ fault. WroteUntil fault begun (O.tape output.new) (sent (traffic_of (planned run.now.plan) self.old.intake.head.link all) (reverse (serve_times w node worker times self.old.play.course).past))) }
+    {
+        for _ in 0..times {
+            self.serve(run, core, node, worker, output)?;
+        }
+        Ok(())
+    }
+
+    // So many of a node's workers serve all that waits for them.
+    fn drain<C: Core, O: Sink>(
+        &mut self,
+        run: &Run<'_, C::Setup>,
+        core: &mut C,
+        node: u16,
+        workers: u16,
+        output: &mut O,
+    ) -> Result<(), SimulationFault>
+        requires stands { C.stands run.now.setup.now self.old.play.course.past core.old }
+        ensures stands { OnOk result (C.stands run.now.setup.now self.new.play.course.past core.new) }
+        ensures spread { self.new.play.spread ≡ self.old.play.spread }
+        ensures kept { self.new.kept ≡ self.old.kept }
+        ensures intake { self.new.intake ≡ self.old.intake }
+        ensures play { OnOk result ((w : World) → w.cluster ≡ C.cluster run.now.setup.now → self.new.play.course ≡ drain_from w node 0 workers self.old.play.course) }
+        ensures sound { (all : List Record) (begun : Tape) →
+            Sound (C.cluster run.now.setup.now) (planned run.now.plan) self.old.intake.head.link all self.old.play.course self.old.relay.waiting begun (O.tape output.old) →
+            OnOk result (Sound (C.cluster run.now.setup.now) (planned run.now.plan) self.old.intake.head.link all self.new.play.course self.new.relay.waiting begun (O.tape output.new)) }
+        ensures named { IfErr result IsOfRun }
+        ensures cut { (w : World) (all : List Record) (begun : Tape) → w.cluster ≡ C.cluster run.now.setup.now →
+            Sound (C.cluster run.now.setup.now) (planned run.now.plan) self.old.intake.head.link all self.old.play.course self.old.relay.waiting begun (O.tape output.old) →
+            IfErr result (λ fault. WroteUntil fault begun (O.tape output.new) (sent (traffic_of (planned run.now.plan) self.old.intake.head.link all) (reverse (drain_from w node 0 workers self.old.play.course).past))) }
+    {
+        for worker in 0..workers {
+            let times = core.waiting(run.setup, node, worker);
+            self.serve_times(run, core, node, worker, times, output)?;
+        }
+        Ok(())
+    }
+
+    // A step that says one event at most.
+    fn alone<C: Core, O: Sink>(
+        &mut self,
+        run: &Run<'_, C::Setup>,
+        core: &mut C,
+        step: &Step,
+        output: &mut O,
+    ) -> Result<(), SimulationFault>
+        requires stands { C.stands run.now.setup.now self.old.play.course.past core.old }
+        ensures stands { OnOk result (C.stands run.now.setup.now self.new.play.course.past core.new) }
+        ensures choice { SameChoice (P.choice self.old.play.spread) (P.choice self.new.play.spread) }
+        ensures kept { self.new.kept ≡ self.old.kept }
+        ensures intake { self.new.intake ≡ self.old.intake }
+        ensures play { OnOk result ((w : World) → w.cluster ≡ C.cluster run.now.setup.now → says_many step.now ≡ false → self.new.play.course ≡ after w step.now self.old.play.course) }
+        ensures sound { (all : List Record) (begun : Tape) → says_many step.now ≡ false →
+            Sound (C.cluster run.now.setup.now) (planned run.now.plan) self.old.intake.head.link all self.old.play.course self.old.relay.waiting begun (O.tape output.old) →
+            OnOk result (Sound (C.cluster run.now.setup.now) (planned run.now.plan) self.old.intake.head.link all self.new.play.course self.new.relay.waiting begun (O.tape output.new)) }
+        ensures named { IfErr result IsOfRun }
+        ensures cut { (w : World) (all : List Record) (begun : Tape) → w.cluster ≡ C.cluster run.now.setup.now → says_many step.now ≡ false →
+            Sound (C.cluster run.now.setup.now) (planned run.now.plan) self.old.intake.head.link all self.old.play.course self.old.relay.waiting begun (O.tape output.old) →
+            IfErr result (λ fault. WroteUntil fault begun (O.tape output.new) (sent (traffic_of (planned run.now.plan) self.old.intake.head.link all) (reverse (after w step.now self.old.play.course).past))) }
+    {
+        let wire = self.wire(run.plan);
+        let said = self.play.step_alone(run.alloc, core, run.setup, step)?;
+        self.relay.settle(&wire, said, output)
+    }
+
     // A step that names no record.
     fn apart<C: Core, O: Sink>(
         &mut self,
@@ -133,12 +246,13 @@ impl<P: Spread> Stage<P> {
             Sound (C.cluster run.now.setup.now) (planned run.now.plan) self.old.intake.head.link all self.old.play.course self.old.relay.waiting begun (O.tape output.old) →
             IfErr result (λ fault. WroteUntil fault begun (O.tape output.new) (sent (traffic_of (planned run.now.plan) self.old.intake.head.link all) (reverse (after w step.now self.old.play.course).past))) }
     {
-        let wire = self.wire(run.plan);
-        self.events.clear();
-        self.play
-            .step_apart(run.alloc, core, run.setup, step, &mut self.events)?;
-        let events = self.events.as_slice();
-        self.relay.settle_all(&wire, events, output)
+        match step {
+            Step::Drain(node) => {
+                self.play.release(*node);
+                self.drain(run, core, *node, C::workers(run.setup), output)
+            }
+            _ => self.alone(run, core, step, output),
+        }
     }
 
     // Reads a record, and keeps it where a step that is left delivers it again.
@@ -299,14 +413,13 @@ impl<P: Spread> Stage<P> {
     {
         // A capture has few records, so the counts have room.
         let _ = self.intake.given();
-        match self.kept.take(run.alloc, place)? {
+        match self.kept.take(place)? {
             Some(frame) => {
-                let _ = self.intake.exchange(frame);
+                self.intake.lend(frame);
                 self.deliver(run, core, place, output)
             }
             None => {
-                self.play
-                    .repeat(core, run.setup, place, None, &mut self.events)?;
+                self.play.skip();
                 Ok(())
             }
         }
@@ -409,7 +522,6 @@ impl<P: Spread> Stage<P> {
         let Stage {
             play,
             delivery: _,
-            events: _,
             relay: _,
             kept: _,
             mut intake,

@@ -9,7 +9,7 @@ ghost use Rattle.cluster_node.specs.declared.events.Event.TheVariants.{Arrive, S
 ghost use Rattle.cluster_node.specs.declared.outcomes.Outcome.TheVariants.{Placed, Forward};
 ghost use Rattle.cluster_node.specs.Record.{accepted};
 ghost use Rattle.cluster_core.specs.Cluster.{Cluster};
-ghost use Rattle.simulation.specs.PrivateQueues.{place_of, Moves, only_at, placed_by, arrived, handed_back, unless_put, settled_by, settled, taken_by, taken_out, changed_at, first_at, emptied, is_free, passes};
+ghost use Rattle.simulation.specs.PrivateQueues.{place_of, Moves, only_at, placed_by, arrived, settled_by, settled, taken_by, taken_out, changed_at, first_at, emptied, is_free, passes};
 ghost use Rattle.simulation.specs.PrivateMirrors.{Mirrors, CanFollow, ComesAs, IsNoArrival};
 
 use crate::queue::Queue;
@@ -17,6 +17,7 @@ use cluster_node::{Event, Outcome, Packet, Said};
 use pcap_file::Frame;
 use std::alloc::{AllocError, Global};
 use std::marker::Model;
+use std::rc::Rc;
 
 const MOST_WORKERS: usize = 16;
 
@@ -101,24 +102,20 @@ impl Waiting {
     }
 
     #[inline(always)]
-    fn put(&mut self, node: u16, worker: u16, frame: Frame) -> Result<Option<Frame>, AllocError>
-        ensures queues { OnOk result (self.new ≡ changed_at self.old (place_of (length self.old) node worker) (λ q. q ++ packet frame ∷ [])) }
-        ensures back { IfOk result (λ back. option_map packet back ≡ unless_put (place_of (length self.old) node worker) (packet frame)) }
+    fn put(&mut self, node: u16, worker: u16, frame: Rc<Frame>) -> Result<(), AllocError>
+        ensures queues { OnOk result (self.new ≡ changed_at self.old (place_of (length self.old) node worker) (λ q. q ++ packet frame.value ∷ [])) }
         ensures err { OnErr result (self.new ≡ self.old) }
     {
         let Some(place) = place_of(self.queues.len(), node, worker) else {
-            return Ok(Some(frame));
+            return Ok(());
         };
         let queue = &mut self.queues[place];
-        match queue.put(frame) {
-            Ok(()) => Ok(None),
-            Err(refusal) => Err(refusal),
-        }
+        queue.put(frame)
     }
 
     #[inline(always)]
-    fn take(&mut self, node: u16, worker: u16) -> Option<Frame>
-        ensures taken { option_map packet result ≡ first_at self.old (place_of (length self.old) node worker) }
+    fn take(&mut self, node: u16, worker: u16) -> Option<Rc<Frame>>
+        ensures taken { option_map (λ f. packet f.value) result ≡ first_at self.old (place_of (length self.old) node worker) }
         ensures after { self.new ≡ changed_at self.old (place_of (length self.old) node worker) (drop 1) }
     {
         match place_of(self.queues.len(), node, worker) {
@@ -157,9 +154,9 @@ impl Waiting {
 
     // Follows an event that was accepted.
     #[inline(always)]
-    fn settle_by(&mut self, event: &Event) -> Option<Frame>
+    fn settle_by(&mut self, event: &Event) -> Option<Rc<Frame>>
         ensures queues { Moves self.old self.new (settled_by event.now) }
-        ensures taken { option_map packet result ≡ taken_by event.now self.old }
+        ensures taken { option_map (λ f. packet f.value) result ≡ taken_by event.now self.old }
     {
         match *event {
             Event::Install { .. } => None,
@@ -172,19 +169,28 @@ impl Waiting {
         }
     }
 
-    /// Follows an arrival, whose packet has this frame. Where the packet waits now, the frame is kept after those that wait
-    /// at its worker; else it is handed back.
+    /// Whether the packet of an arrival waits from now on. Where it doesn't, the arrival is followed with the queues as they
+    /// are.
     #[inline(always)]
-    pub(crate) fn arrive(&mut self, said: &Said, frame: Frame) -> Result<Option<Frame>, AllocError>
-        ensures queues { OnOk result (Moves self.old self.new (arrived said.now (packet frame))) }
-        ensures back { IfOk result (λ back. option_map packet back ≡ handed_back said.now (length self.old) (packet frame)) }
+    pub(crate) fn waits(&self, said: &Said) -> bool
+        ensures mirrors { (all : List Record) (k : Cluster) (past : List Said) (r : Record) → result ≡ false → CanFollow all k past said.now self.now → ComesAs all r said.now.event →
+            Mirrors all k (said.now ∷ past) self.now }
+    {
+        placed_by(said).is_some()
+    }
+
+    /// Follows an arrival, whose packet has this frame. Where the packet waits now, the frame is kept after those that wait
+    /// at its worker.
+    #[inline(always)]
+    pub(crate) fn arrive(&mut self, said: &Said, frame: Rc<Frame>) -> Result<(), AllocError>
+        ensures queues { OnOk result (Moves self.old self.new (arrived said.now (packet frame.value))) }
         ensures err { OnErr result (self.new ≡ self.old) }
-        ensures mirrors { (all : List Record) (k : Cluster) (past : List Said) → CanFollow all k past said.now self.old → ComesAs all (packet frame) said.now.event →
+        ensures mirrors { (all : List Record) (k : Cluster) (past : List Said) → CanFollow all k past said.now self.old → ComesAs all (packet frame.value) said.now.event →
             OnOk result (Mirrors all k (said.now ∷ past) self.new) }
     {
         match placed_by(said) {
             Some((node, worker)) => self.put(node, worker, frame),
-            None => Ok(Some(frame)),
+            None => Ok(()),
         }
     }
 
@@ -192,13 +198,13 @@ impl Waiting {
     ///
     /// By the clause `sent` this is, where a packet was sent, that packet's frame.
     #[inline(always)]
-    pub(crate) fn settle(&mut self, said: &Said) -> Option<Frame>
+    pub(crate) fn settle(&mut self, said: &Said) -> Option<Rc<Frame>>
         ensures queues { Moves self.old self.new (settled said.now) }
-        ensures taken { option_map packet result ≡ taken_out said.now self.old }
+        ensures taken { option_map (λ f. packet f.value) result ≡ taken_out said.now self.old }
         ensures mirrors { (all : List Record) (k : Cluster) (past : List Said) → CanFollow all k past said.now self.old → IsNoArrival said.now.event →
             Mirrors all k (said.now ∷ past) self.new }
         ensures sent { (all : List Record) (k : Cluster) (past : List Said) → CanFollow all k past said.now self.old →
-            (n w i : ℕ) (x : _) (b : _) (v : ℕ) → said.now.outcome ≡ Forward n w i x b v → IsSomeAnd result (λ frame. slice_get all i ≡ Some (packet frame)) }
+            (n w i : ℕ) (x : _) (b : _) (v : ℕ) → said.now.outcome ≡ Forward n w i x b v → IsSomeAnd result (λ frame. slice_get all i ≡ Some (packet frame.value)) }
     {
         if is_accepted(&said.outcome) {
             self.settle_by(&said.event)

@@ -24,45 +24,36 @@ deliver-requires-clause-room g c = omega (arith, c.requires.few.1, c.requires.fe
 pub deliver-requires-clause-many : goal.deliver-requires-clause-many
 deliver-requires-clause-many g c = omega (arith, c.requires.few.1, c.requires.few.2.read, c.requires.few.2.nth, c.given.ensures.few)
 
-pub repeat-requires-clause-room : goal.repeat-requires-clause-room
-repeat-requires-clause-room g c = omega (arith, c.requires.few.1, c.requires.few.2.read, c.requires.few.2.unrouted, c.given.ensures.few)
-
-pub repeat-requires-clause-many : goal.repeat-requires-clause-many
-repeat-requires-clause-many g c = omega (arith, c.requires.few.1, c.requires.few.2.read, c.requires.few.2.nth, c.given.ensures.few)
+pub skip-requires : goal.skip-requires
+skip-requires g c = omega (arith, c.requires.few.1, c.requires.few.2.skipped)
 
 pub returns-in_err-frame-clause-short : goal.returns-in_err-frame-clause-short
 returns-in_err-frame-clause-short g c = λ choice text begun left ss same r.
     at_exit c.from_residual.result Memory _ c.from_residual.ensures.1 (short_of _ _ (planned c.args.run.now.plan) text begun _ c.args.self.now _ _ r)
 
-pub returns-in_err-repeat-in-None-clause-short : goal.returns-in_err-repeat-in-None-clause-short
-returns-in_err-repeat-in-None-clause-short g c = λ choice text begun left ss same r.
-    at_exit c.from_residual-in_err-repeat-in-None.result Memory _ c.from_residual-in_err-repeat-in-None.ensures.1 (short_of _ _ (planned c.args.run.now.plan) text begun _ c.args.self.now _ _ r)
+pub returns-in-None-clause-few : goal.returns-in-None-clause-few
+returns-in-None-clause-few g c = λ n h.
+    counted_skip c.args.self.now.intake.given n c.args.self.now.play.course c.skip.new.self.course c.skip.ensures.after h
 
-pub returns-in_ok-repeat-in-None-clause-few : goal.returns-in_ok-repeat-in-None-clause-few
-returns-in_ok-repeat-in-None-clause-few g c = λ n h.
-    let w0 = world_of (g.C.Core.cluster c.args.run.now.setup.now) (g.P.Spread.choice c.args.self.now.play.spread) [] in
-    counted_skip c.args.self.now.intake.given n c.args.self.now.play.course c.repeat.new.self.course (c.in_ok-repeat-in-None.ensures.after w0 refl (λ live flow nth. refl) ∙ repeat_none w0 c.args.place c.args.self.now.play.course) h
-
-pub returns-in_ok-repeat-in-None-clause-reached : goal.returns-in_ok-repeat-in-None-clause-reached
-returns-in_ok-repeat-in-None-clause-reached g c = λ choice text begun left ss same r.
+pub returns-in-None-clause-reached : goal.returns-in-None-clause-reached
+returns-in-None-clause-reached g c = λ choice text begun left ss same r.
     let cluster = g.C.Core.cluster c.args.run.now.setup.now in
     let plan = planned c.args.run.now.plan in
     let old = c.args.self.now in
-    let new : Stage _ = record { play = c.repeat.new.self; delivery = old.delivery; events = c.repeat.new.events; relay = old.relay; kept = c.take.new.self; intake = old.intake } in
-    let w0 = world_of cluster choice [] in
-    let skip = c.in_ok-repeat-in-None.ensures.after w0 refl same ∙ repeat_none w0 c.args.place old.play.course in
-    let none : None ≡ slice_get r.seen c.args.place = sym (ap (λ o. option_map packet o) c.in-None.is) ∙ c.in_ok-frame.ensures.record r.seen ss r.kept in
+    let new : Stage _ = record { play = c.skip.new.self; delivery = old.delivery; relay = old.relay; kept = c.take.new.self; intake = old.intake } in
+    let skip = c.skip.ensures.after in
+    let none : None ≡ slice_get r.seen c.args.place = sym (ap (λ o. option_map (λ f. packet f.value) o) c.in-None.is) ∙ c.in_ok-frame.ensures.record r.seen ss r.kept in
     reached_same cluster choice plan text begun (again_of c.args.place ∷ ss) ss old new left _ _ r (refl, refl, refl) (ap (λ (x : Course). x.read) skip) (c.in_ok-frame.ensures.keeps r.seen ss r.kept)
     (λ more l. let w = world_of cluster choice (packets_of old.intake.head.link plan.check (r.seen ++ more)) in
     repeated cluster choice plan old.intake.head.link (r.seen ++ more) c.args.place ss old.play.course new.play.course None
     (packet_none old.intake.head.link plan.check r.seen more c.args.place old.play.course.read r.place none)
-    (c.in_ok-repeat-in-None.ensures.after w refl same) l)
+    (skip ∙ sym (repeat_none w c.args.place old.play.course)) l)
     (λ more s. sound_same cluster plan old.intake.head.link (r.seen ++ more) old.play.course new.play.course old.relay.waiting old.relay.waiting begun _ (ap (λ (x : Course). x.past) skip) refl s)
 
 pub returns-in-Some-clause-few : goal.returns-in-Some-clause-few
 returns-in-Some-clause-few g c = λ n h. where_done c.deliver.result _ (λ got.
     let w0 = world_of (g.C.Core.cluster c.args.run.now.setup.now) (g.P.Spread.choice c.args.self.now.play.spread) [] in
-    let same : c.deliver.new.self.intake.given ≡ c.args.self.now.intake.given = c.deliver.ensures.intake.0 ∙ ap (λ (t : Taking). t.given) c.exchange.ensures.rest in
+    let same : c.deliver.new.self.intake.given ≡ c.args.self.now.intake.given = c.deliver.ensures.intake.0 ∙ ap (λ (t : Taking). t.given) c.lend.ensures in
     subst (λ (m : ℕ). Counted m (n + 1) c.deliver.new.self.play.course) (sym same)
     (counted_again c.args.self.now.intake.given n w0 _ c.args.self.now.play.course c.deliver.new.self.play.course c.args.place (got _ c.deliver.ensures.play w0 refl (λ live flow nth. refl)) h))
 
@@ -73,9 +64,9 @@ returns-in-Some-clause-reached g c = λ choice text begun left ss same r. where_
     let old = c.args.self.now in
     let new = c.deliver.new.self in
     let link = old.intake.head.link in
-    let x = packet c.in-Some.frame in
-    let got : Some x ≡ slice_get r.seen c.args.place = sym (ap (λ o. option_map packet o) c.in-Some.is) ∙ c.in_ok-frame.ensures.record r.seen ss r.kept in
-    let rest = c.exchange.ensures.rest in
+    let x = packet c.in-Some.frame.value in
+    let got : Some x ≡ slice_get r.seen c.args.place = sym (ap (λ o. option_map (λ f. packet f.value) o) c.in-Some.is) ∙ c.in_ok-frame.ensures.record r.seen ss r.kept in
+    let rest = c.lend.ensures in
     let w0 = world_of cluster choice [] in
     let after = done _ c.deliver.ensures.play in
     reached_same cluster choice plan text begun (again_of c.args.place ∷ ss) ss old new left _ _ r
@@ -100,10 +91,10 @@ returns-in-Some-clause-short g c = λ choice text begun left ss same r. where_fa
     let plan = planned c.args.run.now.plan in
     let old = c.args.self.now in
     let link = old.intake.head.link in
-    let x = packet c.in-Some.frame in
-    let got : Some x ≡ slice_get r.seen c.args.place = sym (ap (λ o. option_map packet o) c.in-Some.is) ∙ c.in_ok-frame.ensures.record r.seen ss r.kept in
+    let x = packet c.in-Some.frame.value in
+    let got : Some x ≡ slice_get r.seen c.args.place = sym (ap (λ o. option_map (λ f. packet f.value) o) c.in-Some.is) ∙ c.in_ok-frame.ensures.record r.seen ss r.kept in
     let lt = (is_there r.seen [] c.args.place x got).0 in
-    let rest = c.exchange.ensures.rest in
+    let rest = c.lend.ensures in
     let w = world_of cluster choice (packets_of link plan.check r.seen) in
     let d : Course = deliver w c.args.place (packet_in link plan.check x) old.play.course in
     short_same cluster choice plan text begun (again_of c.args.place ∷ ss) ss old left _ _ d fault r (failed _ c.deliver.ensures.named)

@@ -19,7 +19,7 @@ pub returns-clause-reached : goal.returns-clause-reached
 returns-clause-reached g c = λ cluster choice plan text begun out ss k r.
     let old = c.args.self.now in
     let mid = c.read_one.new.self in
-    let new : Stage _ = record { play = c.lose.new.self; delivery = mid.delivery; events = mid.events; relay = mid.relay; kept = mid.kept; intake = mid.intake } in
+    let new : Stage _ = record { play = c.lose.new.self; delivery = mid.delivery; relay = mid.relay; kept = mid.kept; intake = mid.intake } in
     let x = mid.intake.record_read in
     let read = subst (λ (b : Bool). SeenMore b text r.seen (g.I.Source.tape c.read_one.new.input) mid.intake) c.if-not-more.false (c.in_ok-more.ensures.more text r.seen r.read) in
     let moved : new.play.course ≡ record old.play.course { read = old.play.course.read + 1; lost = old.play.course.lost + 1 } = c.lose.ensures.after ∙ ap (λ (y : Course). record y { read = y.read + 1; lost = y.lost + 1 }) (same_course c.in_ok-more.ensures.play) in
