@@ -1,7 +1,7 @@
 #!/usr/bin/env python3
 """Refuses each thread of a run in turn, and each growth of a node's memory, and compares what the program then says.
 
-The program `first_node` runs a node of two workers through two lives, on threads; `maglev run` runs two such nodes, of which
+The program `example_node` runs a node of two workers through two lives, on threads; `maglev run` runs two such nodes, of which
 one has two lives. They print their whole answer, or why there is none, alone: `fault: ThreadLost` where a thread couldn't be
 started, and `fault: Memory` where memory was refused. A thread of the audit may be refused: its node is then audited by the
 caller's thread, and the run says what it always says. `refuse_thread.c` refuses threads, and `refused_growths.py` has how
@@ -66,7 +66,7 @@ def explains_why(library, program):
 def main():
     growths.FAULTS.append(LOST)
     program = growths.PROGRAM
-    growths.PROGRAM = growths.built("first_node")
+    growths.PROGRAM = growths.built("example_node")
     with tempfile.TemporaryDirectory() as folder:
         library = growths.compiled(folder, "refuse_thread.c")
         counts = [refuse_threads(library, [growths.PROGRAM], NODE, NODE_THREADS)]

@@ -50,8 +50,8 @@ PROMISES = [
     ),
     (
         "A node and a cluster on threads",
-        "`run_node` of `node_threads` and `run_cluster` of `cluster_threads`.",
-        [("node_threads", "node", "run_node"), ("cluster_threads", "cluster", "run_cluster")],
+        "`run_node` and `run_cluster` of `node_threads`.",
+        [("node_threads", "node", "run_node"), ("node_threads", "cluster", "run_cluster")],
     ),
     (
         "`run`: a scenario's cluster on threads over a capture, and what is written",

@@ -5,9 +5,9 @@ ghost use Rattle.cluster_node.specs.Records.{WasRead};
 use cluster_node::Packet;
 use five_tuple::Flow;
 use maglev_table::{Name, TableSize, Weight};
-use node_records::Command;
 use pool_versions::{Backend, Catalogue, Member, Service, Version};
 use std::alloc::{AllocError, Global};
+use thread_records::Command;
 
 const VIP: u32 = 0xc000_0201;
 

@@ -14,7 +14,6 @@ use connection_table::LruTable;
 use five_tuple::Flow;
 use hash_laws::Fnv;
 use maglev_table::{Name, TableSize, Weight};
-use node_records::Command;
 use node_threads::{NodeRun, OpenGate, run_node};
 use pool_versions::{Backend, Catalogue, Member, Service, Version};
 use selection::Maglev;
@@ -23,6 +22,7 @@ use std::env;
 use std::sync::Wait;
 use std::thread::Threads;
 use std::time::Instant;
+use thread_records::Command;
 
 const VIP: u32 = 0xc000_0201;
 

@@ -10,7 +10,7 @@ use Rattle.cluster_node.specs.declared.packets.Packet.{Packet}
 use Rattle.cluster_node.specs.declared.events.Event.TheVariants.{Serve}
 use Rattle.cluster_node.specs.declared.outcomes.Outcome.{Outcome}
 use Rattle.cluster_node.specs.Rules.{Rules}
-use Rattle.cluster_node.specs.declared.events.Said.{Said}
+use Rattle.cluster_node.specs.declared.events.LogEntry.{LogEntry}
 use Rattle.cluster_node.specs.Record.{installed_of, lines_of, by_lines, serve_verdict, accepted}
 use Rattle.cluster_core.specs.Apart.{Handling, Popped, serving, greatest, puts_on, tooks_on, settled}
 
@@ -68,11 +68,11 @@ taken_apart rules items done i v r h e =
     ∙ ap (λ (ss : List Serving). if nat_lt v i.floor || nat_lt v (greatest done) then Behind else Done i (told_after rules.pick rules.capacity rules.idle (told rules.pick rules.capacity rules.idle ss) (serving_under (rules.ups v) v i r)).choice) (settled_servings rules items done h)
 
 -- a serving's verdict depends on the worker's lines and the installed versions alone
-pub serve_alike : (rules : Rules) (a b : List Said) (n w v : ℕ) (r : Bool) → lines_of w a ≡ lines_of w b → installed_of a ≡ installed_of b → serve_verdict rules a n w v r ≡ serve_verdict rules b n w v r
+pub serve_alike : (rules : Rules) (a b : List LogEntry) (n w v : ℕ) (r : Bool) → lines_of w a ≡ lines_of w b → installed_of a ≡ installed_of b → serve_verdict rules a n w v r ≡ serve_verdict rules b n w v r
 serve_alike rules a b n w v r e f =
     ap (λ (ls : List Line). by_lines rules (installed_of a) ls n w v r) e
     ∙ ap (λ (vs : List ℕ). by_lines rules vs (lines_of w b) n w v r) f
 
 -- a serving leaves the lines of every other worker, and the installed versions
-pub serve_leaves : (past : List Said) (n u w v : ℕ) (r : Bool) (x : Option Packet) (o : Outcome) → (u ≡ w → ⊥) → lines_of w (record { event = Serve n u v r; packet = x; outcome = o } ∷ past) ≡ lines_of w past
+pub serve_leaves : (past : List LogEntry) (n u w v : ℕ) (r : Bool) (x : Option Packet) (o : Outcome) → (u ≡ w → ⊥) → lines_of w (record { event = Serve n u v r; packet = x; outcome = o } ∷ past) ≡ lines_of w past
 serve_leaves past n u w v r x o ne = ap (λ (b : Bool). if b then (if accepted o then took v r ∷ lines_of w past else lines_of w past) else lines_of w past) (ne_eqb u w ne)

@@ -23,7 +23,7 @@ use Rattle.cluster_node.specs.declared.outcomes.Reason.TheVariants.{NoWorker, Un
 use Rattle.cluster_node.specs.declared.outcomes.Cause.{Cause}
 use Rattle.cluster_node.specs.declared.outcomes.Cause.TheVariants.{NotIpv4, Truncated, BadHeader, BadChecksum, Fragment, NotTcpUdp, BadTransport, TooLarge, NoService, NoBackend, NoVersion, RingsFull, LostAtRestart}
 use Rattle.cluster_node.specs.Rules.{Rules}
-use Rattle.cluster_node.specs.declared.events.Said.{Said}
+use Rattle.cluster_node.specs.declared.events.LogEntry.{LogEntry}
 use Rattle.cluster_node.specs.Record.{accepted, lines_of, of_taken, of_choice, install_verdict, arrive_verdict, steered, serve_verdict, node_verdict, newest_of, refusals_of, installed_of, placed_count, served_count, placed_by, served_by, waits, by_queue}
 use Rattle.cluster_core.specs.Runs.{waiting_in}
 use Rattle.cluster_core.specs.Totals.{came, went, came_all, went_all}
@@ -66,7 +66,7 @@ queue_one : (rules : Rules) (installed : List ℕ) (ls : List Line) (o : Option 
 queue_one rules installed ls None n w v r = (refl, refl)
 queue_one rules installed ls (Some i) n w v r = if_one (list_any (λ u. u == v) installed) (of_taken n w (taken rules ls v r)) (Refused UnknownVersion) (taken_one n w (taken rules ls v r)) (refl, refl)
 
-serve_one : (rules : Rules) (past : List Said) (n w v : ℕ) (r : Bool) → TakesOne (serve_verdict rules past n w v r)
+serve_one : (rules : Rules) (past : List LogEntry) (n w v : ℕ) (r : Bool) → TakesOne (serve_verdict rules past n w v r)
 serve_one rules past n w v r = if_one (nat_lt w rules.workers) (by_queue rules (installed_of past) (lines_of w past) (next_item (lines_of w past)) n w v r) (Refused NoWorker) (queue_one rules (installed_of past) (lines_of w past) (next_item (lines_of w past)) n w v r) (refl, refl)
 
 -- the queues of a node before and after
@@ -102,7 +102,7 @@ module _ (before after s p : ℕ) (h : before + s ≡ p) where
       go true f c d = omega arith
       go false f c d = omega arith
 
-pub moves : (rules : Rules) (had : List Said) (e : Event) (x : Option Packet) (before after : ℕ) → WasRead x → before + served_count had ≡ placed_count had → after + served_by e (node_verdict rules had e x) (served_count had) ≡ placed_by e (node_verdict rules had e x) (placed_count had) → Moves before after (node_verdict rules had e x)
+pub moves : (rules : Rules) (had : List LogEntry) (e : Event) (x : Option Packet) (before after : ℕ) → WasRead x → before + served_count had ≡ placed_count had → after + served_by e (node_verdict rules had e x) (served_count had) ≡ placed_by e (node_verdict rules had e x) (placed_count had) → Moves before after (node_verdict rules had e x)
 moves rules had (Install n v) x before after r h k = install_moves before after (served_count had) (placed_count had) h n v (newest_of had) (rules.known v) k
 moves rules had (Arrive n k marks) x before after r h d = arrive_moves before after (served_count had) (placed_count had) h rules (newest_of had) (refusals_of rules had % rules.workers) n k marks x r d
 moves rules had (Serve n w v f) x before after r h d = serve_moves before after (served_count had) (placed_count had) h (serve_verdict rules had n w v f) (serve_one rules had n w v f) d

@@ -8,7 +8,7 @@ use Rattle.cluster_node.specs.declared.packets.Packet.{Packet}
 use Rattle.cluster_node.specs.declared.packets.Packet.TheVariants.{Good, Bad}
 use Rattle.cluster_node.specs.declared.events.Event.{Event}
 use Rattle.cluster_node.specs.declared.events.Event.TheVariants.{Install, Arrive, Serve, Restart}
-use Rattle.cluster_node.specs.declared.events.Said.{Said}
+use Rattle.cluster_node.specs.declared.events.LogEntry.{LogEntry}
 use Rattle.cluster_node.specs.declared.outcomes.Outcome.{Outcome}
 use Rattle.cluster_node.specs.declared.outcomes.Outcome.TheVariants.{Installed, Placed, Forward, Dropped, Restarted, Refused}
 use Rattle.cluster_node.specs.declared.outcomes.Reason.TheVariants.{NoNode, NoWorker}
@@ -86,25 +86,25 @@ ServesBelow workers (Arrive n k marks) o = Unit {0}
 ServesBelow workers (Serve n w v r) o = accepted o ≡ true → w < workers
 ServesBelow workers (Restart n) o = Unit {0}
 
-abbrev pub AllServeBelow : ℕ → List Said → Type 0
+abbrev pub AllServeBelow : ℕ → List LogEntry → Type 0
 AllServeBelow workers [] = Unit {0}
 AllServeBelow workers (s ∷ past) = ServesBelow workers s.event s.outcome × AllServeBelow workers past
 
-worker_below : (rules : Rules) (past : List Said) (n w v : ℕ) (r : Bool) (b : Bool) → nat_lt w rules.workers ≡ b → accepted (if b then by_queue rules (installed_of past) (lines_of w past) (next_item (lines_of w past)) n w v r else Refused NoWorker) ≡ true → w < rules.workers
+worker_below : (rules : Rules) (past : List LogEntry) (n w v : ℕ) (r : Bool) (b : Bool) → nat_lt w rules.workers ≡ b → accepted (if b then by_queue rules (installed_of past) (lines_of w past) (next_item (lines_of w past)) n w v r else Refused NoWorker) ≡ true → w < rules.workers
 worker_below rules past n w v r true e h = ltb-true w rules.workers e
 worker_below rules past n w v r false e h = absurd (false≢true h)
 
-node_below : (rules : Rules) (past : List Said) (n w v : ℕ) (r : Bool) (b : Bool) → accepted (if b then serve_verdict rules past n w v r else Refused NoNode) ≡ true → w < rules.workers
+node_below : (rules : Rules) (past : List LogEntry) (n w v : ℕ) (r : Bool) (b : Bool) → accepted (if b then serve_verdict rules past n w v r else Refused NoNode) ≡ true → w < rules.workers
 node_below rules past n w v r true h = worker_below rules past n w v r (nat_lt w rules.workers) refl h
 node_below rules past n w v r false h = absurd (false≢true h)
 
-verdict_below : (rules : Rules) (past : List Said) (e : Event) (x : Option Packet) → ServesBelow rules.workers e (verdict rules past e x)
+verdict_below : (rules : Rules) (past : List LogEntry) (e : Event) (x : Option Packet) → ServesBelow rules.workers e (verdict rules past e x)
 verdict_below rules past (Install n v) x = tt
 verdict_below rules past (Arrive n k marks) x = tt
 verdict_below rules past (Serve n w v r) x = λ h. node_below rules (of_node n past) n w v r (nat_lt n rules.nodes) h
 verdict_below rules past (Restart n) x = tt
 
-all_below : (rules : Rules) (past : List Said) → Judged (verdict rules) past → (n : ℕ) → AllServeBelow rules.workers (of_node n past)
+all_below : (rules : Rules) (past : List LogEntry) → Judged (verdict rules) past → (n : ℕ) → AllServeBelow rules.workers (of_node n past)
 all_below rules [] j n = tt
 all_below rules (s ∷ past) j n = go (node_of s.event == n) (all_below rules past j.1 n)
   where
@@ -161,7 +161,7 @@ served_step workers (Restart n) x o ls h = go (accepted o)
     go true = sym (sum_none workers)
     go false = refl
 
-served_sum : (workers : ℕ) (had : List Said) → AllServeBelow workers had → served_count had ≡ sum_below workers (λ w. taken_count (lines_of w had))
+served_sum : (workers : ℕ) (had : List LogEntry) → AllServeBelow workers had → served_count had ≡ sum_below workers (λ w. taken_count (lines_of w had))
 served_sum workers [] h = sym (sum_none workers)
 served_sum workers (s ∷ had) h = ap (λ (n : ℕ). served_by s.event s.outcome n) (served_sum workers had h.1) ∙ served_step workers s.event s.packet s.outcome (λ w. lines_of w had) h.0
 
@@ -208,12 +208,12 @@ placed_step workers c (Restart n) x o ls h = go (accepted o)
     go true = let e : sum_below workers (λ w. 0) ≡ 0 = sum_none workers in omega arith
     go false = h
 
-placed_sum : (workers : ℕ) (had : List Said) → sum_below workers (λ w. length (placed (lines_of w had))) ≤ placed_count had
+placed_sum : (workers : ℕ) (had : List LogEntry) → sum_below workers (λ w. length (placed (lines_of w had))) ≤ placed_count had
 placed_sum workers [] = let e : sum_below workers (λ w. 0) ≡ 0 = sum_none workers in omega arith
 placed_sum workers (s ∷ had) = placed_step workers (placed_count had) s.event s.packet s.outcome (λ w. lines_of w had) (placed_sum workers had)
 
 -- a node serves no more than was placed on it
-node_sound : (rules : Rules) (past : List Said) → Judged (verdict rules) past → (n : ℕ) → served_count (of_node n past) ≤ placed_count (of_node n past)
+node_sound : (rules : Rules) (past : List LogEntry) → Judged (verdict rules) past → (n : ℕ) → served_count (of_node n past) ≤ placed_count (of_node n past)
 node_sound rules past j n =
     let a : served_count (of_node n past) ≡ sum_below rules.workers (λ w. taken_count (lines_of w (of_node n past))) = served_sum rules.workers (of_node n past) (all_below rules past j n) in
     let b : sum_below rules.workers (λ w. taken_count (lines_of w (of_node n past))) ≤ sum_below rules.workers (λ w. length (placed (lines_of w (of_node n past)))) = sum_le rules.workers (λ w. taken_count (lines_of w (of_node n past))) (λ w. length (placed (lines_of w (of_node n past)))) (λ w. sound rules past j n w) in
@@ -221,10 +221,10 @@ node_sound rules past j n =
     omega arith
 
 -- how many packets wait on a node
-abbrev pub left_on : List Said → ℕ → ℕ
+abbrev pub left_on : List LogEntry → ℕ → ℕ
 left_on past n = placed_count (of_node n past) - served_count (of_node n past)
 
-module _ (rules : Rules) (past : List Said) (s : Said) (j : Judged (verdict rules) (s ∷ past)) (read : WasRead s.packet) where
+module _ (rules : Rules) (past : List LogEntry) (s : LogEntry) (j : Judged (verdict rules) (s ∷ past)) (read : WasRead s.packet) where
   abbrev pub M : ℕ
   M = node_of s.event
 
@@ -232,7 +232,7 @@ module _ (rules : Rules) (past : List Said) (s : Said) (j : Judged (verdict rule
   same_node = ap (λ (b : Bool). if b then s ∷ of_node M past else of_node M past) (eq-eqb M M refl)
 
   others : (n : ℕ) → (M ≡ n → ⊥) → left_on past n ≡ left_on (s ∷ past) n
-  others n d = ap (λ (h : List Said). placed_count h - served_count h) (sym (ap (λ (b : Bool). if b then s ∷ of_node n past else of_node n past) (ne_eqb M n d)))
+  others n d = ap (λ (h : List LogEntry). placed_count h - served_count h) (sym (ap (λ (b : Bool). if b then s ∷ of_node n past else of_node n past) (ne_eqb M n d)))
 
   -- an event of a node that is there
   step_there : M < rules.nodes → sum_below rules.nodes (left_on (s ∷ past)) + went s.outcome ≡ sum_below rules.nodes (left_on past) + came s.outcome
@@ -264,7 +264,7 @@ module _ (rules : Rules) (past : List Said) (s : Said) (j : Judged (verdict rule
       go true e = step_there (ltb-true M rules.nodes e)
       go false e = step_nowhere (ltb-false M rules.nodes e)
 
-all_left : (rules : Rules) (past : List Said) → Judged (verdict rules) past → AllRead past → sum_below rules.nodes (left_on past) + went_of past ≡ came_of past
+all_left : (rules : Rules) (past : List LogEntry) → Judged (verdict rules) past → AllRead past → sum_below rules.nodes (left_on past) + went_of past ≡ came_of past
 all_left rules [] j read = let e : sum_below rules.nodes (λ n. 0) ≡ 0 = sum_none rules.nodes in omega arith
 all_left rules (s ∷ past) j read =
     let h : sum_below rules.nodes (left_on past) + went_of past ≡ came_of past = all_left rules past j.1 read.1 in
@@ -275,19 +275,19 @@ pub records_balance : RecordsAreBalanced
 records_balance rules past j read = let h : sum_below rules.nodes (left_on past) + went_of past ≡ came_of past = all_left rules past j read in omega arith
 
 -- the record of a list of events
-came_after : (rules : Rules) (past : List Said) (packets : List Packet) (es : List Event) → came_of (record_after rules past packets es) ≡ came_of past + came_all (verdicts rules past packets es)
+came_after : (rules : Rules) (past : List LogEntry) (packets : List Packet) (es : List Event) → came_of (record_after rules past packets es) ≡ came_of past + came_all (verdicts rules past packets es)
 came_after rules past packets [] = omega arith
 came_after rules past packets (e ∷ es) = let h : came_of (record_after rules (say rules past e (packet_of packets e) ∷ past) packets es) ≡ came_of (say rules past e (packet_of packets e) ∷ past) + came_all (verdicts rules (say rules past e (packet_of packets e) ∷ past) packets es) = came_after rules (say rules past e (packet_of packets e) ∷ past) packets es in omega arith
 
-went_after : (rules : Rules) (past : List Said) (packets : List Packet) (es : List Event) → went_of (record_after rules past packets es) ≡ went_of past + went_all (verdicts rules past packets es)
+went_after : (rules : Rules) (past : List LogEntry) (packets : List Packet) (es : List Event) → went_of (record_after rules past packets es) ≡ went_of past + went_all (verdicts rules past packets es)
 went_after rules past packets [] = omega arith
 went_after rules past packets (e ∷ es) = let h : went_of (record_after rules (say rules past e (packet_of packets e) ∷ past) packets es) ≡ went_of (say rules past e (packet_of packets e) ∷ past) + went_all (verdicts rules (say rules past e (packet_of packets e) ∷ past) packets es) = went_after rules (say rules past e (packet_of packets e) ∷ past) packets es in omega arith
 
-judged_after : (rules : Rules) (past : List Said) (packets : List Packet) (es : List Event) → Judged (verdict rules) past → Judged (verdict rules) (record_after rules past packets es)
+judged_after : (rules : Rules) (past : List LogEntry) (packets : List Packet) (es : List Event) → Judged (verdict rules) past → Judged (verdict rules) (record_after rules past packets es)
 judged_after rules past packets [] j = j
 judged_after rules past packets (e ∷ es) j = judged_after rules (say rules past e (packet_of packets e) ∷ past) packets es (refl, j)
 
-read_after : (rules : Rules) (past : List Said) (packets : List Packet) (es : List Event) → ((k : ℕ) (p : Packet) → slice_get packets k ≡ Some p → WasRead (Some p)) → AllRead past → AllRead (record_after rules past packets es)
+read_after : (rules : Rules) (past : List LogEntry) (packets : List Packet) (es : List Event) → ((k : ℕ) (p : Packet) → slice_get packets k ≡ Some p → WasRead (Some p)) → AllRead past → AllRead (record_after rules past packets es)
 read_after rules past packets [] h r = r
 read_after rules past packets (e ∷ es) h r = read_after rules (say rules past e (packet_of packets e) ∷ past) packets es h (named_read packets e h, r)
 

@@ -6,9 +6,9 @@ use Rattle.cluster_node.specs.declared.outcomes.Outcome.{Outcome}
 use Rattle.cluster_node.specs.declared.outcomes.Outcome.TheVariants.{Installed, Placed, Forward, Dropped, Restarted, Refused}
 use Rattle.cluster_node.specs.declared.outcomes.Cause.{Cause}
 use Rattle.cluster_node.specs.declared.outcomes.Cause.TheVariants.{NotIpv4, Truncated, BadHeader, BadChecksum, Fragment, NotTcpUdp, BadTransport, TooLarge, NoService, NoBackend, NoVersion, RingsFull, LostAtRestart}
-use Rattle.cluster_core.specs.Tally.{number, is_arrival, is_forward, is_placed, is_refused, lost_of, lost_all, how_many, drops, drops_all, dropped, drop_counts}
+use Rattle.cluster_core.specs.OutcomeCounts.{number, is_arrival, is_forward, is_placed, is_refused, lost_of, lost_all, how_many, drops, drops_all, dropped, drop_counts}
 use Rattle.cluster_core.specs.Totals.{came_all, went_all}
-use Rattle.cluster_node.specs.declared.events.Said.{Said}
+use Rattle.cluster_node.specs.declared.events.LogEntry.{LogEntry}
 use Rattle.cluster_core.specs.Histories.{outcomes_of}
 use Rattle.cluster_core.specs.PrivateCounting.{kind, bumped, bumped_all, zeros, Leads, Fits}
 use Rattle.std.specs.List.{sum}
@@ -277,14 +277,14 @@ pub leads_more : (all : List Outcome) (i : ℕ) (o : Outcome) (ns ms : List ℕ)
 leads_more all i o ns ms r q l k lt e step h = step (drop (i + 1) all) all (leads_next all i o ns r l lt e h)
 
 -- the outcomes of a history
-pub told_length : (h : List Said) → length (outcomes_of h) ≡ length h
+pub told_length : (h : List LogEntry) → length (outcomes_of h) ≡ length h
 told_length [] = refl
 told_length (s ∷ h) = ap suc (told_length h)
 
-pub told_at : (h : List Said) (i : ℕ) (s : Said) → i < length h → s ≡ get_or h i s → s.outcome ≡ get_or (outcomes_of h) i s.outcome
-told_at h i s lt e = ap (λ (z : Said). z.outcome) e ∙ go h i lt
+pub told_at : (h : List LogEntry) (i : ℕ) (s : LogEntry) → i < length h → s ≡ get_or h i s → s.outcome ≡ get_or (outcomes_of h) i s.outcome
+told_at h i s lt e = ap (λ (z : LogEntry). z.outcome) e ∙ go h i lt
   where
-    go : (h : List Said) (i : ℕ) → i < length h → (get_or h i s).outcome ≡ get_or (outcomes_of h) i s.outcome
+    go : (h : List LogEntry) (i : ℕ) → i < length h → (get_or h i s).outcome ≡ get_or (outcomes_of h) i s.outcome
     go [] i lt = refl
     go (z ∷ h) zero lt = refl
     go (z ∷ h) (suc i) lt = go h i (omega arith)

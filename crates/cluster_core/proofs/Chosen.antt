@@ -10,7 +10,7 @@ use Rattle.connection_table.specs.Touches.{Touch, last_touch, since, distinct_fl
 use Rattle.forwarder.specs.declared.Choice.{Choice}
 use Rattle.forwarder.specs.declared.Choice.TheVariants.{Forward, NoService, NoBackend}
 use Rattle.selection.specs.Candidates.{Candidates}
-use Rattle.forwarder.specs.Serving.{Pick, Serving, Told, is_up, kept, told_asked, told_by, told_under, serve_as, with_touch, touches, asked_count, clock_of, told_after, told}
+use Rattle.forwarder.specs.Serving.{Pick, Serving, Reply, is_up, kept, told_asked, told_by, told_under, serve_as, with_touch, touches, asked_count, clock_of, told_after, told}
 
 abbrev pub Up : Type 0
 Up = ℕ → Flow → Option (Candidates)
@@ -79,7 +79,7 @@ module _ (pick : Pick) (up : Up) where
       go true = h
       go false = tt
 
-  abbrev pub ToldOk : Flow → Told → Type 0
+  abbrev pub ToldOk : Flow → Reply → Type 0
   ToldOk x t = ChoiceOk x t.choice × TouchOk t.touch
 
   asked_ok : (clock : ℕ) (s : Serving) (ups : Candidates) (stood : Option Entry) (turn : ℕ) → s.ups ≡ up s.version s.flow → s.ups ≡ Some ups → EntryOk s.flow stood → (o : Option Backend) → pick ups s.flow turn ≡ o → ToldOk s.flow (told_asked clock s stood o)
@@ -107,7 +107,7 @@ module _ (pick : Pick) (up : Up) where
   with_ok None ts h k = k
   with_ok (Some t) ts h k = (h, k)
 
-  told_ok : (capacity : ℕ) (idle : Option ℕ) (past : List Told) (s : Serving) → s.ups ≡ up s.version s.flow → AllOk (touches past) → ToldOk s.flow (told_after pick capacity idle past s)
+  told_ok : (capacity : ℕ) (idle : Option ℕ) (past : List Reply) (s : Serving) → s.ups ≡ up s.version s.flow → AllOk (touches past) → ToldOk s.flow (told_after pick capacity idle past s)
   told_ok capacity idle past s c h =
       let clock : ℕ = max (clock_of past) s.at in
       serve_ok clock s (standing capacity idle clock s.flow (touches past)) (asked_count past % 2 ^ 64) c (stands_ok capacity idle clock s.flow (touches past) h)

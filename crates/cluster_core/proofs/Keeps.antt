@@ -6,7 +6,7 @@ use Rattle.std.proofs.lemmas.Bool.{false≢true}
 use Rattle.connection_table.specs.declared.table.Entry.{Entry}
 use Rattle.forwarder.specs.declared.Choice.TheVariants as choices
 use Rattle.selection.specs.Candidates.{Candidates}
-use Rattle.forwarder.specs.Serving.{Pick, Serving, Told, is_up, serve_as, told_by, told_under, asked_count, clock_of, told}
+use Rattle.forwarder.specs.Serving.{Pick, Serving, Reply, is_up, serve_as, told_by, told_under, asked_count, clock_of, told}
 use Rattle.cluster_node.specs.declared.serving.Item.{Item}
 use Rattle.cluster_node.specs.declared.serving.Taken.TheVariants as takings
 use Rattle.cluster_node.specs.Book.{Line, next_item, servings, serving_under, greatest_used, taken, taken_of, told_next}
@@ -16,7 +16,7 @@ use Rattle.cluster_node.specs.declared.events.Event.TheVariants.{Install, Arrive
 use Rattle.cluster_node.specs.declared.outcomes.Outcome.TheVariants.{Forward, Refused}
 use Rattle.cluster_node.specs.declared.outcomes.Reason.TheVariants.{NoNode, NoWorker, UnknownVersion}
 use Rattle.cluster_node.specs.Rules.{Rules}
-use Rattle.cluster_node.specs.declared.events.Said.{Said}
+use Rattle.cluster_node.specs.declared.events.LogEntry.{LogEntry}
 use Rattle.cluster_node.specs.Record.{accepted, lines_of, of_taken, of_choice, serve_verdict, installed_of, by_queue}
 use Rattle.cluster_core.specs.Runs.{verdict, packet_of, say, verdicts}
 use Rattle.cluster_node.specs.Records.{lines_at, of_node}
@@ -28,14 +28,14 @@ kept_choice pick clock s e ups turn u h =
     ap (λ (o : Option (Candidates)). (told_under pick clock s o (Some e) turn).choice) u
     ∙ ap (λ (b : Bool). (told_by pick clock s ups (Some e) (if b then Some e else None) turn).choice) h
 
-module _ (rules : Rules) (past : List Said) (n w v : ℕ) (r : Bool) (i : Item) (e : Entry) (up : UpUnder rules v i.flow e.backend) where
+module _ (rules : Rules) (past : List LogEntry) (n w v : ℕ) (r : Bool) (i : Item) (e : Entry) (up : UpUnder rules v i.flow e.backend) where
   abbrev pub Lines : List Line
   Lines = lines_of w past
 
   abbrev pub Stood : Option Entry
   Stood = stands_next rules Lines (next_item Lines) i.flow
 
-  abbrev pub Past : List Told
+  abbrev pub Past : List Reply
   Past = told rules.pick rules.capacity rules.idle (servings rules Lines)
 
   abbrev pub Clock : ℕ
@@ -66,16 +66,16 @@ module _ (rules : Rules) (past : List Said) (n w v : ℕ) (r : Bool) (i : Item) 
   pub serve_keeps : next_item Lines ≡ Some i → Stood ≡ Some e → accepted (serve_verdict rules past n w v r) ≡ true → serve_verdict rules past n w v r ≡ Forward n w i.packet i.flow e.backend e.version
   serve_keeps h st a = worker_keeps h st (nat_lt w rules.workers) a
 
-node_keeps : (rules : Rules) (past : List Said) (n w v : ℕ) (r : Bool) (x : Option Packet) (i : Item) (e : Entry) → (b : Bool) → accepted (if b then serve_verdict rules (of_node n past) n w v r else Refused NoNode) ≡ true → next_item (lines_at past n w) ≡ Some i → entry_at rules past n w i.flow ≡ Some e → UpUnder rules v i.flow e.backend → (if b then serve_verdict rules (of_node n past) n w v r else Refused NoNode) ≡ Forward n w i.packet i.flow e.backend e.version
+node_keeps : (rules : Rules) (past : List LogEntry) (n w v : ℕ) (r : Bool) (x : Option Packet) (i : Item) (e : Entry) → (b : Bool) → accepted (if b then serve_verdict rules (of_node n past) n w v r else Refused NoNode) ≡ true → next_item (lines_at past n w) ≡ Some i → entry_at rules past n w i.flow ≡ Some e → UpUnder rules v i.flow e.backend → (if b then serve_verdict rules (of_node n past) n w v r else Refused NoNode) ≡ Forward n w i.packet i.flow e.backend e.version
 node_keeps rules past n w v r x i e true a h st up = serve_keeps rules (of_node n past) n w v r i e up h st a
 node_keeps rules past n w v r x i e false a h st up = absurd (false≢true a)
 
-pub keeps : (rules : Rules) (past : List Said) (e : Event) (x : Option Packet) → Keeps rules past e (verdict rules past e x)
+pub keeps : (rules : Rules) (past : List LogEntry) (e : Event) (x : Option Packet) → Keeps rules past e (verdict rules past e x)
 keeps rules past (Install n v) x = tt
 keeps rules past (Arrive n k marks) x = tt
 keeps rules past (Restart n) x = tt
 keeps rules past (Serve n w v r) x = λ i e a h st up. node_keeps rules past n w v r x i e (nat_lt n rules.nodes) a h st up
 
-pub keeping : (rules : Rules) (past : List Said) (packets : List Packet) (es : List Event) → Keeping rules past packets es (verdicts rules past packets es)
+pub keeping : (rules : Rules) (past : List LogEntry) (packets : List Packet) (es : List Event) → Keeping rules past packets es (verdicts rules past packets es)
 keeping rules past packets [] = tt
 keeping rules past packets (e ∷ es) = (keeps rules past e (packet_of packets e), keeping rules (say rules past e (packet_of packets e) ∷ past) packets es)

@@ -7,7 +7,7 @@ use Rattle.cluster_node.specs.declared.outcomes.Cause.{Cause}
 use Rattle.cluster_node.specs.declared.outcomes.Cause.TheVariants.{NotIpv4, Truncated, BadHeader, BadChecksum, Fragment, NotTcpUdp, BadTransport, TooLarge, NoService, NoBackend, NoVersion, RingsFull, LostAtRestart}
 use Rattle.cluster_core.specs.Totals.{came_all, went_all}
 use Rattle.std.specs.List.{sum}
-use Rattle.cluster_core.specs.Tally.{number, is_arrival, is_forward, lost_all, how_many, drops_all, dropped, drop_counts, is_placed}
+use Rattle.cluster_core.specs.OutcomeCounts.{number, is_arrival, is_forward, lost_all, how_many, drops_all, dropped, drop_counts, is_placed}
 
 abbrev pub Balanced : List Outcome → Type 0
 Balanced os = how_many (λ o. is_arrival o) os + went_all os ≡ came_all os + (how_many (λ o. is_forward o) os + (dropped os + lost_all os))

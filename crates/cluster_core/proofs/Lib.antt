@@ -12,10 +12,10 @@ pub mod Touching
 pub mod Blocks
 pub mod Law
 pub mod Frames
-pub mod Asked
+pub mod Between
 pub mod Bumps
 pub mod Order
-pub mod Told
+pub mod Reversed
 pub mod Promised
 pub mod Balanced
 pub mod Passing

@@ -11,7 +11,7 @@ use Rattle.cluster_node.specs.declared.outcomes.Outcome.{Outcome}
 use Rattle.cluster_node.specs.declared.outcomes.Outcome.TheVariants.{Refused}
 use Rattle.cluster_node.specs.declared.outcomes.Reason.TheVariants.{NoNode}
 use Rattle.cluster_node.specs.Rules.{Rules}
-use Rattle.cluster_node.specs.declared.events.Said.{Said}
+use Rattle.cluster_node.specs.declared.events.LogEntry.{LogEntry}
 use Rattle.cluster_node.specs.Record.{node_verdict, node_say, fresh, NodeStands, NodeGoes, ArePrepared, installed_of, newest_of}
 use Rattle.cluster_node.proofs.Records.{stands_none}
 use Rattle.cluster_node.specs.Record.{waits}
@@ -47,7 +47,7 @@ get_of_or [] k d h = absurd (omega arith)
 get_of_or (u ∷ us) zero d h = refl
 get_of_or (u ∷ us) (suc k) d h = get_of_or us k d (omega arith)
 
-of_node_le : (n : ℕ) (past : List Said) → length (of_node n past) ≤ length past
+of_node_le : (n : ℕ) (past : List LogEntry) → length (of_node n past) ≤ length past
 of_node_le n [] = omega arith
 of_node_le n (s ∷ past) = go (node_of s.event == n) (of_node_le n past)
   where
@@ -56,7 +56,7 @@ of_node_le n (s ∷ past) = go (node_of s.event == n) (of_node_le n past)
     go false h = omega arith
 
 -- an event of a node that is there
-pub step_goes : {S : Type 0} (pick_of : S → ℕ → Pick) (rules : Rules) (past : List Said) (run : RunView S) (e : Event) (x : Option Packet) (o : Outcome) (m after : NodeView) (versions : List (Readied S)) → WasRead x → RunStands pick_of rules past run → MorePrepared pick_of rules (newest_of (of_node (node_of e) past)) run.versions versions e → slice_get run.nodes (node_of e) ≡ Some m → NodeGoes rules (of_node (node_of e) past) e x o after → RunGoes pick_of rules past e x o (record { failed = run.failed; nodes = slice_set run.nodes (node_of e) after; versions = versions })
+pub step_goes : {S : Type 0} (pick_of : S → ℕ → Pick) (rules : Rules) (past : List LogEntry) (run : RunView S) (e : Event) (x : Option Packet) (o : Outcome) (m after : NodeView) (versions : List (Readied S)) → WasRead x → RunStands pick_of rules past run → MorePrepared pick_of rules (newest_of (of_node (node_of e) past)) run.versions versions e → slice_get run.nodes (node_of e) ≡ Some m → NodeGoes rules (of_node (node_of e) past) e x o after → RunGoes pick_of rules past e x o (record { failed = run.failed; nodes = slice_set run.nodes (node_of e) after; versions = versions })
 step_goes pick_of rules past run e x o m after versions read st more h g =
     let v : verdict rules past e x ≡ node_verdict rules (of_node (node_of e) past) e x =
     ap (λ (b : Bool). if b then node_verdict rules (of_node (node_of e) past) e x else Refused NoNode)
@@ -86,7 +86,7 @@ step_goes pick_of rules past run e x o m after versions read st more h g =
     )
 
 -- an event of no node
-pub no_node : {S : Type 0} (pick_of : S → ℕ → Pick) (rules : Rules) (past : List Said) (run : RunView S) (e : Event) (x : Option Packet) → length run.nodes ≤ node_of e → RunStands pick_of rules past run → RunGoes pick_of rules past e x (Refused NoNode) run
+pub no_node : {S : Type 0} (pick_of : S → ℕ → Pick) (rules : Rules) (past : List LogEntry) (run : RunView S) (e : Event) (x : Option Packet) → length run.nodes ≤ node_of e → RunStands pick_of rules past run → RunGoes pick_of rules past e x (Refused NoNode) run
 no_node pick_of rules past run e x le st =
     let v : Refused NoNode ≡ verdict rules past e x = ap (λ (b : Bool). if b then node_verdict rules (of_node (node_of e) past) e x else Refused NoNode)
     (sym (le-ltb (node_of e) rules.nodes (subst (λ (k : ℕ). k ≤ node_of e) st.count le))) in (
@@ -107,8 +107,8 @@ no_node pick_of rules past run e x le st =
     )
 
 -- one step of the code
-pub step_said : {S : Type 0} (pick_of : S → ℕ → Pick) (rules : Rules) (past : List Said) (run : RunView S) (e : Event) (x : Option Packet) (o : Outcome) (at newest : ℕ) (one after : NodeView) (versions : List (Readied S)) → WasRead x → length past < 2 ^ 64 → at ≡ node_of e → at < length run.nodes → one ≡ get_or run.nodes at one → newest ≡ newest_at (slice_get run.nodes (node_of e)) → RunStands pick_of rules past run → MorePrepared pick_of rules newest run.versions versions e
-    → ((had : List Said) → ArePrepared pick_of rules versions (installed_of had) → length had < 2 ^ 64 → NodeStands rules had one → NodeGoes rules had e x o after) → RunGoes pick_of rules past e x o (record { failed = run.failed; nodes = slice_set run.nodes at after; versions = versions })
+pub step_said : {S : Type 0} (pick_of : S → ℕ → Pick) (rules : Rules) (past : List LogEntry) (run : RunView S) (e : Event) (x : Option Packet) (o : Outcome) (at newest : ℕ) (one after : NodeView) (versions : List (Readied S)) → WasRead x → length past < 2 ^ 64 → at ≡ node_of e → at < length run.nodes → one ≡ get_or run.nodes at one → newest ≡ newest_at (slice_get run.nodes (node_of e)) → RunStands pick_of rules past run → MorePrepared pick_of rules newest run.versions versions e
+    → ((had : List LogEntry) → ArePrepared pick_of rules versions (installed_of had) → length had < 2 ^ 64 → NodeStands rules had one → NodeGoes rules had e x o after) → RunGoes pick_of rules past e x o (record { failed = run.failed; nodes = slice_set run.nodes at after; versions = versions })
 step_said pick_of rules past run e x o at newest one after versions read few d lt is new st more g =
     subst (λ (k : ℕ). RunGoes pick_of rules past e x o (record { failed = run.failed; nodes = slice_set run.nodes k after; versions = versions })) (sym d)
     (let h : slice_get run.nodes (node_of e) ≡ Some one = subst (λ (k : ℕ). slice_get run.nodes k ≡ Some one) d (get_of_or run.nodes at one lt ∙ ap (λ (m : NodeView). Some m) (sym is)) in
@@ -116,8 +116,8 @@ step_said pick_of rules past run e x o at newest one after versions read few d l
     step_goes pick_of rules past run e x o one after versions read st (subst (λ (k : ℕ). MorePrepared pick_of rules k run.versions versions e) same more) h (g (of_node (node_of e) past) (λ v i. more.kept v (st.prepared (node_of e) v i)) (let a : length (of_node (node_of e) past) ≤ length past = of_node_le (node_of e) past in omega arith) (st.each (node_of e) one h)))
 
 -- the same of a result
-pub result_said : {S E : Type 0} (pick_of : S → ℕ → Pick) (rules : Rules) (past : List Said) (run : RunView S) (e : Event) (x : Option Packet) (r : Result Outcome E) (at newest : ℕ) (one after : NodeView) (versions : List (Readied S)) → WasRead x → length past < 2 ^ 64 → at ≡ node_of e → at < length run.nodes → one ≡ get_or run.nodes at one → newest ≡ newest_at (slice_get run.nodes (node_of e)) → RunStands pick_of rules past run → MorePrepared pick_of rules newest run.versions versions e
-    → ((had : List Said) → ArePrepared pick_of rules versions (installed_of had) → length had < 2 ^ 64 → NodeStands rules had one → IfOk r (λ o. NodeGoes rules had e x o after)) → IfOk r (λ o. RunGoes pick_of rules past e x o (record { failed = run.failed; nodes = slice_set run.nodes at after; versions = versions }))
+pub result_said : {S E : Type 0} (pick_of : S → ℕ → Pick) (rules : Rules) (past : List LogEntry) (run : RunView S) (e : Event) (x : Option Packet) (r : Result Outcome E) (at newest : ℕ) (one after : NodeView) (versions : List (Readied S)) → WasRead x → length past < 2 ^ 64 → at ≡ node_of e → at < length run.nodes → one ≡ get_or run.nodes at one → newest ≡ newest_at (slice_get run.nodes (node_of e)) → RunStands pick_of rules past run → MorePrepared pick_of rules newest run.versions versions e
+    → ((had : List LogEntry) → ArePrepared pick_of rules versions (installed_of had) → length had < 2 ^ 64 → NodeStands rules had one → IfOk r (λ o. NodeGoes rules had e x o after)) → IfOk r (λ o. RunGoes pick_of rules past e x o (record { failed = run.failed; nodes = slice_set run.nodes at after; versions = versions }))
 result_said pick_of rules past run e x (Ok o) at newest one after versions read few d lt is new st more g = step_said pick_of rules past run e x o at newest one after versions read few d lt is new st more g
 result_said pick_of rules past run e x (Err f) at newest one after versions read few d lt is new st more g = tt
 
@@ -154,7 +154,7 @@ run_none pick_of rules some = record {
 }
 
 -- one more event
-pub said_more : (rules : Rules) (past : List Said) (packets : List Packet) (rest events : List Event) (e : Event) (outs news total : List Outcome) (o : Outcome) → events ≡ e ∷ rest → o ≡ verdict rules past e (packet_of packets e) → news ≡ outs ++ o ∷ [] → outs ++ verdicts rules past packets events ≡ total → news ++ verdicts rules (say rules past e (packet_of packets e) ∷ past) packets rest ≡ total
+pub said_more : (rules : Rules) (past : List LogEntry) (packets : List Packet) (rest events : List Event) (e : Event) (outs news total : List Outcome) (o : Outcome) → events ≡ e ∷ rest → o ≡ verdict rules past e (packet_of packets e) → news ≡ outs ++ o ∷ [] → outs ++ verdicts rules past packets events ≡ total → news ++ verdicts rules (say rules past e (packet_of packets e) ∷ past) packets rest ≡ total
 said_more rules past packets rest events e outs news total o d f k h =
     ap (λ (l : List Outcome). l ++ verdicts rules (say rules past e (packet_of packets e) ∷ past) packets rest) k
     ∙ append_assoc outs (o ∷ []) (verdicts rules (say rules past e (packet_of packets e) ∷ past) packets rest)
@@ -170,14 +170,14 @@ drop_get (x ∷ xs) (suc i) d h =
     subst (λ (m : ℕ). drop i xs ≡ get_or xs i d ∷ drop m (x ∷ xs)) (sym e) (drop_get xs i d (omega arith))
 
 -- what the loop keeps
-abbrev pub Kept : {S : Type 0} → (S → ℕ → Pick) → Rules → List Packet → List Event → ℕ → List Outcome → RunView S → Type 0
-Kept pick_of rules packets events i outs run = (past : List Said) × (length past ≡ i) × RunStands pick_of rules past run × (came_all outs ≡ came_of past) × (went_all outs ≡ went_of past) × (outs ++ verdicts rules past packets (drop i events) ≡ verdicts rules [] packets events)
+abbrev pub KeptSoFar : {S : Type 0} → (S → ℕ → Pick) → Rules → List Packet → List Event → ℕ → List Outcome → RunView S → Type 0
+KeptSoFar pick_of rules packets events i outs run = (past : List LogEntry) × (length past ≡ i) × RunStands pick_of rules past run × (came_all outs ≡ came_of past) × (went_all outs ≡ went_of past) × (outs ++ verdicts rules past packets (drop i events) ≡ verdicts rules [] packets events)
 
-pub kept_first : {S : Type 0} (pick_of : S → ℕ → Pick) (rules : Rules) (packets : List Packet) (events : List Event) (outs : List Outcome) (run : RunView S) → outs ≡ [] → RunStands pick_of rules [] run → Kept pick_of rules packets events 0 outs run
+pub kept_first : {S : Type 0} (pick_of : S → ℕ → Pick) (rules : Rules) (packets : List Packet) (events : List Event) (outs : List Outcome) (run : RunView S) → outs ≡ [] → RunStands pick_of rules [] run → KeptSoFar pick_of rules packets events 0 outs run
 kept_first pick_of rules packets events outs run o st = ([], refl, st, ap came_all o, ap went_all o, ap (λ (l : List Outcome). l ++ verdicts rules [] packets events) o)
 
 pub kept_more : {S : Type 0} (pick_of : S → ℕ → Pick) (rules : Rules) (packets : List Packet) (events : List Event) (i : ℕ) (outs news : List Outcome) (run after : RunView S) (d : Event) (x : Option Packet) (o : Outcome) → i < length events → length events < 2 ^ 64 → x ≡ packet_of packets (get_or events i d) → news ≡ outs ++ o ∷ []
-    → ((past : List Said) → length past < 2 ^ 64 → RunStands pick_of rules past run → RunGoes pick_of rules past (get_or events i d) x o after) → Kept pick_of rules packets events i outs run → Kept pick_of rules packets events (i + 1) news after
+    → ((past : List LogEntry) → length past < 2 ^ 64 → RunStands pick_of rules past run → RunGoes pick_of rules past (get_or events i d) x o after) → KeptSoFar pick_of rules packets events i outs run → KeptSoFar pick_of rules packets events (i + 1) news after
 kept_more pick_of rules packets events i outs news run after d x o lt few at push g k =
     let n : length k.0 ≡ i = k.1 in
     let s : RunGoes pick_of rules k.0 (get_or events i d) x o after = g k.0 (omega arith) k.2 in
@@ -191,11 +191,11 @@ kept_more pick_of rules packets events i outs news run after d x o lt few at pus
     )
 
 -- what went out is no more than what came in
-pub kept_balance : {S : Type 0} (pick_of : S → ℕ → Pick) (rules : Rules) (packets : List Packet) (events : List Event) (i : ℕ) (outs : List Outcome) (run : RunView S) → Kept pick_of rules packets events i outs run → went_all outs ≤ came_all outs
+pub kept_balance : {S : Type 0} (pick_of : S → ℕ → Pick) (rules : Rules) (packets : List Packet) (events : List Event) (i : ℕ) (outs : List Outcome) (run : RunView S) → KeptSoFar pick_of rules packets events i outs run → went_all outs ≤ came_all outs
 kept_balance pick_of rules packets events i outs run k = let a : waiting_in run.nodes + went_of k.0 ≡ came_of k.0 = k.2.balance in let b : came_all outs ≡ came_of k.0 = k.3 in let c : went_all outs ≡ went_of k.0 = k.4 in omega arith
 
 -- the outcomes are those of all events, where no event is left
-pub kept_whole : {S : Type 0} (pick_of : S → ℕ → Pick) (rules : Rules) (packets : List Packet) (events : List Event) (i : ℕ) (outs : List Outcome) (run : RunView S) → length events ≤ i → Kept pick_of rules packets events i outs run → outs ≡ verdicts rules [] packets events
+pub kept_whole : {S : Type 0} (pick_of : S → ℕ → Pick) (rules : Rules) (packets : List Packet) (events : List Event) (i : ℕ) (outs : List Outcome) (run : RunView S) → length events ≤ i → KeptSoFar pick_of rules packets events i outs run → outs ≡ verdicts rules [] packets events
 kept_whole pick_of rules packets events i outs run le k = append_none outs ∙ ap (λ (l : List Event). outs ++ verdicts rules k.0 packets l) (sym (drop_past events i le)) ∙ k.5
   where
     append_none : (os : List Outcome) → os ≡ os ++ []

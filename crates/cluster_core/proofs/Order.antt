@@ -17,7 +17,7 @@ use Rattle.cluster_node.specs.declared.packets.Packet.{Packet}
 use Rattle.cluster_node.specs.declared.packets.Packet.TheVariants.{Good, Bad}
 use Rattle.cluster_node.specs.declared.events.Event.{Event}
 use Rattle.cluster_node.specs.declared.events.Event.TheVariants.{Install, Arrive, Serve, Restart}
-use Rattle.cluster_node.specs.declared.events.Said.{Said}
+use Rattle.cluster_node.specs.declared.events.LogEntry.{LogEntry}
 use Rattle.cluster_node.specs.declared.outcomes.Outcome.{Outcome}
 use Rattle.cluster_node.specs.declared.outcomes.Outcome.TheVariants.{Installed, Placed, Forward, Dropped, Restarted, Refused}
 use Rattle.cluster_node.specs.declared.outcomes.Reason.TheVariants.{NoNode, NoWorker, UnknownVersion, NotNewer}
@@ -60,11 +60,11 @@ queue_accepted : (rules : Rules) (installed : List ℕ) (ls : List Line) (n w v 
 queue_accepted rules installed ls n w v r None h = absurd (false≢true h)
 queue_accepted rules installed ls n w v r (Some i) h = (i, refl)
 
-worker_accepted : (rules : Rules) (past : List Said) (n w v : ℕ) (r : Bool) (b : Bool) → accepted (if b then by_queue rules (installed_of past) (lines_of w past) (next_item (lines_of w past)) n w v r else Refused NoWorker) ≡ true → (i : Item) × (next_item (lines_of w past) ≡ Some i)
+worker_accepted : (rules : Rules) (past : List LogEntry) (n w v : ℕ) (r : Bool) (b : Bool) → accepted (if b then by_queue rules (installed_of past) (lines_of w past) (next_item (lines_of w past)) n w v r else Refused NoWorker) ≡ true → (i : Item) × (next_item (lines_of w past) ≡ Some i)
 worker_accepted rules past n w v r true h = queue_accepted rules (installed_of past) (lines_of w past) n w v r (next_item (lines_of w past)) h
 worker_accepted rules past n w v r false h = absurd (false≢true h)
 
-node_accepted : (rules : Rules) (past : List Said) (n w v : ℕ) (r : Bool) (b : Bool) → accepted (if b then serve_verdict rules past n w v r else Refused NoNode) ≡ true → (i : Item) × (next_item (lines_of w past) ≡ Some i)
+node_accepted : (rules : Rules) (past : List LogEntry) (n w v : ℕ) (r : Bool) (b : Bool) → accepted (if b then serve_verdict rules past n w v r else Refused NoNode) ≡ true → (i : Item) × (next_item (lines_of w past) ≡ Some i)
 node_accepted rules past n w v r true h = worker_accepted rules past n w v r (nat_lt w rules.workers) h
 node_accepted rules past n w v r false h = absurd (false≢true h)
 
@@ -72,7 +72,7 @@ if_accepted : (ls : List Line) (v : ℕ) (r : Bool) (b : Bool) → Sound ls → 
 if_accepted ls v r true h g = let i : (i : Item) × (next_item ls ≡ Some i) = g refl in sound_took ls v r i.0 i.1
 if_accepted ls v r false h g = h
 
-sound_served : (rules : Rules) (past : List Said) (n u v : ℕ) (r : Bool) (p : Option Packet) (w : ℕ) → Sound (lines_of w (of_node n past)) → Sound (line_by w (Serve n u v r) p (verdict rules past (Serve n u v r) p) (lines_of w (of_node n past)))
+sound_served : (rules : Rules) (past : List LogEntry) (n u v : ℕ) (r : Bool) (p : Option Packet) (w : ℕ) → Sound (lines_of w (of_node n past)) → Sound (line_by w (Serve n u v r) p (verdict rules past (Serve n u v r) p) (lines_of w (of_node n past)))
 sound_served rules past n u v r p w h = go (u == w) refl
   where
     own : u ≡ w → accepted (verdict rules past (Serve n u v r) p) ≡ true → (i : Item) × (next_item (lines_of w (of_node n past)) ≡ Some i)
@@ -86,13 +86,13 @@ sound_if : (b : Bool) (ls : List Line) → Sound ls → Sound (if b then [] else
 sound_if true ls h = omega arith
 sound_if false ls h = h
 
-sound_line : (rules : Rules) (past : List Said) (e : Event) (p : Option Packet) (w : ℕ) → Sound (lines_of w (of_node (node_of e) past)) → Sound (line_by w e p (verdict rules past e p) (lines_of w (of_node (node_of e) past)))
+sound_line : (rules : Rules) (past : List LogEntry) (e : Event) (p : Option Packet) (w : ℕ) → Sound (lines_of w (of_node (node_of e) past)) → Sound (line_by w e p (verdict rules past e p) (lines_of w (of_node (node_of e) past)))
 sound_line rules past (Install n v) p w h = h
 sound_line rules past (Arrive n k marks) p w h = sound_arrived w k p (verdict rules past (Arrive n k marks) p) (lines_of w (of_node n past)) h
 sound_line rules past (Serve n u v r) p w h = sound_served rules past n u v r p w h
 sound_line rules past (Restart n) p w h = sound_if (accepted (verdict rules past (Restart n) p)) (lines_of w (of_node n past)) h
 
-pub sound : (rules : Rules) (past : List Said) → Judged (verdict rules) past → (n w : ℕ) → Sound (lines_at past n w)
+pub sound : (rules : Rules) (past : List LogEntry) → Judged (verdict rules) past → (n w : ℕ) → Sound (lines_at past n w)
 sound rules [] j n w = omega arith
 sound rules (s ∷ past) j n w = go (sound rules past j.1 n w) (node_of s.event == n) refl
   where
@@ -141,10 +141,10 @@ module _ (m u place : ℕ) (x : Flow) (b : Backend) (o : ℕ) where
       go true k = taken_sends rules ls n w v r (next_item ls) k
       go false k = absurd (cc)
 
-  abbrev pub ServesOn : Rules → List Said → ℕ → ℕ → Type 0
+  abbrev pub ServesOn : Rules → List LogEntry → ℕ → ℕ → Type 0
   ServesOn rules past n w = Popped (next_item (lines_of w past)) n w m u place × (w < rules.workers)
 
-  serve_sends : (rules : Rules) (past : List Said) (n w v : ℕ) (r : Bool) → Sends (serve_verdict rules past n w v r) → ServesOn rules past n w
+  serve_sends : (rules : Rules) (past : List LogEntry) (n w v : ℕ) (r : Bool) → Sends (serve_verdict rules past n w v r) → ServesOn rules past n w
   serve_sends rules past n w v r h = go (nat_lt w rules.workers) refl h
     where
       go : (t : Bool) → nat_lt w rules.workers ≡ t → Sends (if t then by_queue rules (installed_of past) (lines_of w past) (next_item (lines_of w past)) n w v r else Refused NoWorker) → ServesOn rules past n w
@@ -165,10 +165,10 @@ module _ (m u place : ℕ) (x : Flow) (b : Backend) (o : ℕ) where
   arrive_sends rules newest cursor k marks (Some (Good y l t)) h =
       not_if (newest == 0) (Dropped k NoVersion) (steered newest k (place_for marks rules.workers (home_of rules.plain rules.workers y) cursor)) (λ z. absurd (cc)) (steered_sends newest k (place_for marks rules.workers (home_of rules.plain rules.workers y) cursor)) h
 
-  abbrev pub Takes : Rules → List Said → Event → Type 0
+  abbrev pub Takes : Rules → List LogEntry → Event → Type 0
   Takes rules past e = TakesFirst (cluster_by rules) past e m u place
 
-  by_serving : (rules : Rules) (past : List Said) (n w v : ℕ) (r : Bool) → n < rules.nodes → ServesOn rules (of_node n past) n w → Takes rules past (Serve n w v r)
+  by_serving : (rules : Rules) (past : List LogEntry) (n w v : ℕ) (r : Bool) → n < rules.nodes → ServesOn rules (of_node n past) n w → Takes rules past (Serve n w v r)
   by_serving rules past n w v r there g = record {
     version = v;
     refused = r;
@@ -180,13 +180,13 @@ module _ (m u place : ℕ) (x : Flow) (b : Backend) (o : ℕ) where
     packet = g.0.packet;
   }
 
-  node_sends : (rules : Rules) (past : List Said) (e : Event) (p : Option Packet) → node_of e < rules.nodes → Sends (node_verdict rules (of_node (node_of e) past) e p) → Takes rules past e
+  node_sends : (rules : Rules) (past : List LogEntry) (e : Event) (p : Option Packet) → node_of e < rules.nodes → Sends (node_verdict rules (of_node (node_of e) past) e p) → Takes rules past e
   node_sends rules past (Install n v) p there h = absurd (install_sends (rules.known v) (newest_of (of_node n past)) v h)
   node_sends rules past (Arrive n k marks) p there h = absurd (arrive_sends rules (newest_of (of_node n past)) _ k marks p h)
   node_sends rules past (Serve n w v r) p there h = by_serving rules past n w v r there (serve_sends rules (of_node n past) n w v r h)
   node_sends rules past (Restart n) p there h = absurd (cc)
 
-  pub verdict_sends : (rules : Rules) (past : List Said) (e : Event) (p : Option Packet) → Sends (verdict rules past e p) → Takes rules past e
+  pub verdict_sends : (rules : Rules) (past : List LogEntry) (e : Event) (p : Option Packet) → Sends (verdict rules past e p) → Takes rules past e
   verdict_sends rules past e p h = go (nat_lt (node_of e) rules.nodes) refl h
     where
       go : (t : Bool) → nat_lt (node_of e) rules.nodes ≡ t → Sends (if t then node_verdict rules (of_node (node_of e) past) e p else Refused NoNode) → Takes rules past e

@@ -12,7 +12,7 @@ use Rattle.selection.specs.Readied.{Readied, readied_version}
 use Rattle.selection.proofs.Versions.{ups_for_readied}
 use Rattle.forwarder.specs.Serving.{Pick}
 use Rattle.cluster_node.specs.Rules.{Rules}
-use Rattle.cluster_node.specs.declared.events.Said.{Said}
+use Rattle.cluster_node.specs.declared.events.LogEntry.{LogEntry}
 use Rattle.cluster_node.specs.declared.packets.Packet.{Packet}
 use Rattle.cluster_node.specs.declared.events.Event.{Event}
 use Rattle.cluster_node.specs.declared.events.Event.TheVariants.{Install, Arrive, Serve, Restart}
@@ -66,7 +66,7 @@ module _ {S : Type 0} (pick_of : S → ℕ → Pick) (rules : Rules) (versions :
   if_more false v vs all here = all
 
   -- the versions installed with one more event of the node
-  by_event : (had : List Said) (e : Event) (x : Option Packet) → NewIsPrepared pick_of rules (newest_of had) versions e → ArePrepared pick_of rules versions (installed_of had) → ArePrepared pick_of rules versions (installed_by e (node_verdict rules had e x) (installed_of had))
+  by_event : (had : List LogEntry) (e : Event) (x : Option Packet) → NewIsPrepared pick_of rules (newest_of had) versions e → ArePrepared pick_of rules versions (installed_of had) → ArePrepared pick_of rules versions (installed_by e (node_verdict rules had e x) (installed_of had))
   by_event had (Install n v) x new all = if_more (accepted (install_verdict (rules.known v) (newest_of had) v)) v (installed_of had) all (λ h. new (known_if_accepted (rules.known v) (newest_of had) v h) (newer_if_accepted (rules.known v) (newest_of had) v h))
   by_event had (Arrive n k marks) x new all = all
   by_event had (Serve n w v r) x new all = all
@@ -78,25 +78,25 @@ module _ {S : Type 0} (pick_of : S → ℕ → Pick) (rules : Rules) (versions :
   refused_leaves (Serve n w v r) vs = refl
   refused_leaves (Restart n) vs = refl
 
-  by_verdict : (past : List Said) (e : Event) (x : Option Packet) → NewIsPrepared pick_of rules (newest_of (of_node (node_of e) past)) versions e → ArePrepared pick_of rules versions (installed_of (of_node (node_of e) past)) → (b : Bool) → ArePrepared pick_of rules versions (installed_by e (if b then node_verdict rules (of_node (node_of e) past) e x else Refused NoNode) (installed_of (of_node (node_of e) past)))
+  by_verdict : (past : List LogEntry) (e : Event) (x : Option Packet) → NewIsPrepared pick_of rules (newest_of (of_node (node_of e) past)) versions e → ArePrepared pick_of rules versions (installed_of (of_node (node_of e) past)) → (b : Bool) → ArePrepared pick_of rules versions (installed_by e (if b then node_verdict rules (of_node (node_of e) past) e x else Refused NoNode) (installed_of (of_node (node_of e) past)))
   by_verdict past e x new all true = by_event (of_node (node_of e) past) e x new all
   by_verdict past e x new all false = subst (λ (vs : List ℕ). ArePrepared pick_of rules versions vs) (sym (refused_leaves e (installed_of (of_node (node_of e) past)))) all
 
-  of_other : (past : List Said) (e : Event) (x : Option Packet) (n : ℕ) → ArePrepared pick_of rules versions (installed_of (of_node n past)) → (b : Bool) → (b ≡ true → ArePrepared pick_of rules versions (installed_by e (verdict rules past e x) (installed_of (of_node n past)))) → ArePrepared pick_of rules versions (installed_of (if b then say rules past e x ∷ of_node n past else of_node n past))
+  of_other : (past : List LogEntry) (e : Event) (x : Option Packet) (n : ℕ) → ArePrepared pick_of rules versions (installed_of (of_node n past)) → (b : Bool) → (b ≡ true → ArePrepared pick_of rules versions (installed_by e (verdict rules past e x) (installed_of (of_node n past)))) → ArePrepared pick_of rules versions (installed_of (if b then say rules past e x ∷ of_node n past else of_node n past))
   of_other past e x n all true own = own refl
   of_other past e x n all false own = all
 
-  said_prepared : (past : List Said) (e : Event) (x : Option Packet) → NewIsPrepared pick_of rules (newest_of (of_node (node_of e) past)) versions e → ((n : ℕ) → ArePrepared pick_of rules versions (installed_of (of_node n past))) → (n : ℕ) → ArePrepared pick_of rules versions (installed_of (of_node n (say rules past e x ∷ past)))
+  said_prepared : (past : List LogEntry) (e : Event) (x : Option Packet) → NewIsPrepared pick_of rules (newest_of (of_node (node_of e) past)) versions e → ((n : ℕ) → ArePrepared pick_of rules versions (installed_of (of_node n past))) → (n : ℕ) → ArePrepared pick_of rules versions (installed_of (of_node n (say rules past e x ∷ past)))
   said_prepared past e x new all n = of_other past e x n (all n) (node_of e == n) (λ h.
       subst (λ (m : ℕ). ArePrepared pick_of rules versions (installed_by e (verdict rules past e x) (installed_of (of_node m past)))) (eqb-true (node_of e) n h)
       (by_verdict past e x new (all (node_of e)) (nat_lt (node_of e) rules.nodes)))
 
 -- all that is installed after an event is prepared
-pub still_prepared : {S : Type 0} (pick_of : S → ℕ → Pick) (rules : Rules) (past : List Said) (had versions : List (Readied S)) (e : Event) (x : Option Packet) → MorePrepared pick_of rules (newest_of (of_node (node_of e) past)) had versions e → ((n : ℕ) → ArePrepared pick_of rules had (installed_of (of_node n past))) → (n : ℕ) → ArePrepared pick_of rules versions (installed_of (of_node n (say rules past e x ∷ past)))
+pub still_prepared : {S : Type 0} (pick_of : S → ℕ → Pick) (rules : Rules) (past : List LogEntry) (had versions : List (Readied S)) (e : Event) (x : Option Packet) → MorePrepared pick_of rules (newest_of (of_node (node_of e) past)) had versions e → ((n : ℕ) → ArePrepared pick_of rules had (installed_of (of_node n past))) → (n : ℕ) → ArePrepared pick_of rules versions (installed_of (of_node n (say rules past e x ∷ past)))
 still_prepared pick_of rules past had versions e x more all n = said_prepared pick_of rules versions past e x more.new (λ m v h. more.kept v (all m v h)) n
 
 -- an event of no node installs nothing
-pub none_installed : {S : Type 0} (pick_of : S → ℕ → Pick) (rules : Rules) (past : List Said) (versions : List (Readied S)) (e : Event) (x : Option Packet) → verdict rules past e x ≡ Refused NoNode → ((n : ℕ) → ArePrepared pick_of rules versions (installed_of (of_node n past))) → (n : ℕ) → ArePrepared pick_of rules versions (installed_of (of_node n (say rules past e x ∷ past)))
+pub none_installed : {S : Type 0} (pick_of : S → ℕ → Pick) (rules : Rules) (past : List LogEntry) (versions : List (Readied S)) (e : Event) (x : Option Packet) → verdict rules past e x ≡ Refused NoNode → ((n : ℕ) → ArePrepared pick_of rules versions (installed_of (of_node n past))) → (n : ℕ) → ArePrepared pick_of rules versions (installed_of (of_node n (say rules past e x ∷ past)))
 none_installed pick_of rules past versions e x h all n = of_other pick_of rules versions past e x n (all n) (node_of e == n)
     (λ d. subst (λ (o : Outcome). ArePrepared pick_of rules versions (installed_by e o (installed_of (of_node n past)))) (sym h)
     (subst (λ (vs : List ℕ). ArePrepared pick_of rules versions vs) (sym (refused_leaves pick_of rules versions e (installed_of (of_node n past)))) (all n)))

@@ -1,7 +1,7 @@
 -- Every judged record keeps the promises.
 use Rattle.std.proofs.Common.{ℕ, List, [], ◌∷◌, reverse, sym, ◌∙◌, subst}
 use Rattle.pool_versions.specs.Pool.{Pools}
-use Rattle.cluster_node.specs.declared.events.Said.{Said}
+use Rattle.cluster_node.specs.declared.events.LogEntry.{LogEntry}
 use Rattle.cluster_node.specs.declared.outcomes.Outcome.{Outcome}
 use Rattle.cluster_node.specs.Records.{Judged}
 use Rattle.cluster_node.specs.Rules.{Rules}
@@ -13,9 +13,9 @@ use Rattle.cluster_core.specs.Promises.{KeptThroughout, Promises, HistoriesKeepP
 use Rattle.cluster_core.proofs.Keeps.{keeps, keeping}
 use Rattle.cluster_core.proofs.Sends.{agreement, agreement_of_picks}
 use Rattle.cluster_core.proofs.Slots.{tables_differ, tables_are_even}
-use Rattle.cluster_core.proofs.Told.{sends_told}
+use Rattle.cluster_core.proofs.Reversed.{sends_told}
 
-kept_throughout : (rules : Rules) (past : List Said) → Judged (verdict rules) past → KeptThroughout rules past
+kept_throughout : (rules : Rules) (past : List LogEntry) → Judged (verdict rules) past → KeptThroughout rules past
 kept_throughout rules [] j = tt
 kept_throughout rules (s ∷ past) j = (subst (λ (o : Outcome). Keeps rules past s.event o) (sym j.0) (keeps rules past s.event s.packet), kept_throughout rules past j.1)
 

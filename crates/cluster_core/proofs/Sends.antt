@@ -20,7 +20,7 @@ use Rattle.cluster_node.specs.declared.outcomes.Outcome.TheVariants.{Installed, 
 use Rattle.cluster_node.specs.declared.outcomes.Reason.TheVariants.{NoNode, NoWorker, UnknownVersion, NotNewer}
 use Rattle.cluster_node.specs.declared.outcomes.Cause.TheVariants.{NoVersion}
 use Rattle.cluster_node.specs.Rules.{Rules}
-use Rattle.cluster_node.specs.declared.events.Said.{Said}
+use Rattle.cluster_node.specs.declared.events.LogEntry.{LogEntry}
 use Rattle.cluster_node.specs.Record.{lines_of, of_taken, of_choice, install_verdict, arrive_verdict, steered, node_verdict, newest_of, refusals_of, installed_of, by_queue}
 use Rattle.steering.specs.declared.Placed.{Placed as Placing}
 use Rattle.steering.specs.declared.Placed.TheVariants as placings
@@ -71,7 +71,7 @@ module _ (rules : Rules) where
       go false = of_choice_goes n w i (told_next rules ls i v r).choice
           (choice_ok rules.pick Ups rules.capacity rules.idle (servings rules ls) (serving_under (rules.ups v) v i r) (coherent ls) refl)
 
-  queue_goes : (past : List Said) (n w v : ℕ) (r : Bool) (o : Option Item) → GoesToPick (by_queue rules (installed_of past) (lines_of w past) o n w v r)
+  queue_goes : (past : List LogEntry) (n w v : ℕ) (r : Bool) (o : Option Item) → GoesToPick (by_queue rules (installed_of past) (lines_of w past) o n w v r)
   queue_goes past n w v r None = tt
   queue_goes past n w v r (Some i) = if_goes (list_any (λ u. u == v) (installed_of past)) (of_taken n w (taken rules (lines_of w past) v r)) (Refused UnknownVersion) (taken_goes n w (lines_of w past) v r (next_item (lines_of w past))) tt
 
@@ -88,16 +88,16 @@ module _ (rules : Rules) where
   install_pick false newest v = tt
   install_pick true newest v = if_goes (nat_lt newest v) Installed (Refused NotNewer) tt tt
 
-  node_pick : (past : List Said) (e : Event) (p : Option Packet) → GoesToPick (node_verdict rules past e p)
+  node_pick : (past : List LogEntry) (e : Event) (p : Option Packet) → GoesToPick (node_verdict rules past e p)
   node_pick past (Install n v) p = install_pick (rules.known v) (newest_of past) v
   node_pick past (Arrive n k marks) p = arrive_pick (newest_of past) (refusals_of rules past % rules.workers) k marks p
   node_pick past (Serve n w v r) p = if_goes (nat_lt w rules.workers) (by_queue rules (installed_of past) (lines_of w past) (next_item (lines_of w past)) n w v r) (Refused NoWorker) (queue_goes past n w v r (next_item (lines_of w past))) tt
   node_pick past (Restart n) p = tt
 
-  pub verdict_pick : (past : List Said) (e : Event) (p : Option Packet) → GoesToPick (verdict rules past e p)
+  pub verdict_pick : (past : List LogEntry) (e : Event) (p : Option Packet) → GoesToPick (verdict rules past e p)
   verdict_pick past e p = if_goes (nat_lt (node_of e) rules.nodes) (node_verdict rules (of_node (node_of e) past) e p) (Refused NoNode) (node_pick (of_node (node_of e) past) e p) tt
 
-  pub verdicts_pick : (past : List Said) (packets : List Packet) (es : List Event) (k : ℕ) (o : Outcome) → slice_get (verdicts rules past packets es) k ≡ Some o → GoesToPick o
+  pub verdicts_pick : (past : List LogEntry) (packets : List Packet) (es : List Event) (k : ℕ) (o : Outcome) → slice_get (verdicts rules past packets es) k ≡ Some o → GoesToPick o
   verdicts_pick past packets [] k o h = absurd (cc)
   verdicts_pick past packets (e ∷ es) zero o h = let s : verdict rules past e (packet_of packets e) ≡ o = cc in subst (λ (q : Outcome). GoesToPick q) s (verdict_pick past e (packet_of packets e))
   verdicts_pick past packets (e ∷ es) (suc k) o h = verdicts_pick (say rules past e (packet_of packets e) ∷ past) packets es k o h

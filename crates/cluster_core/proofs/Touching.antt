@@ -8,9 +8,9 @@ use Rattle.connection_table.specs.Touches.{Touch}
 use Rattle.selection.specs.Candidates.{Candidates}
 use Rattle.forwarder.specs.declared.Choice.{Choice}
 use Rattle.forwarder.specs.declared.Choice.TheVariants.{Forward}
-use Rattle.forwarder.specs.Serving.{Pick, Serving, Told, kept, told_asked, told_by, told_under, serve_as}
+use Rattle.forwarder.specs.Serving.{Pick, Serving, Reply, kept, told_asked, told_by, told_under, serve_as}
 
-abbrev pub Tells : Serving → Told → Type 0
+abbrev pub Tells : Serving → Reply → Type 0
 Tells s t = (b : Backend) (v : ℕ) → t.choice ≡ Forward b v → s.refused ≡ false → t.touch ≡ Some (s.flow, record { backend = b; version = v; last = t.clock })
 
 choice_parts : (b c : Backend) (v o : ℕ) → ◌≡◌ {A = Choice} (Forward b v) (Forward c o) → (b ≡ c) × (v ≡ o)

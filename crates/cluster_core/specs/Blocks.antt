@@ -5,7 +5,7 @@ use Rattle.cluster_node.specs.declared.events.Event.{Event}
 use Rattle.cluster_node.specs.declared.events.Event.TheVariants.{Serve}
 use Rattle.cluster_node.specs.declared.outcomes.Outcome.{Outcome}
 use Rattle.cluster_node.specs.Rules.{Rules}
-use Rattle.cluster_node.specs.declared.events.Said.{Said}
+use Rattle.cluster_node.specs.declared.events.LogEntry.{LogEntry}
 use Rattle.cluster_node.specs.Record.{accepted, by_lines}
 use Rattle.cluster_core.specs.Runs.{say}
 
@@ -29,6 +29,6 @@ own rules installed ls n w (a ∷ rest) = by_lines rules installed ls n w a.vers
     ∷ own rules installed (lines_asked ls a (by_lines rules installed ls n w a.version a.refused)) n w rest
 
 -- the record after them
-abbrev pub past_after : Rules → List Said → ℕ → ℕ → List Ask → List Said
+abbrev pub past_after : Rules → List LogEntry → ℕ → ℕ → List Ask → List LogEntry
 past_after rules past n w [] = past
 past_after rules past n w (a ∷ rest) = past_after rules (say rules past (Serve n w a.version a.refused) None ∷ past) n w rest

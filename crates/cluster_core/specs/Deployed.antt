@@ -2,7 +2,7 @@
 use Rattle.std.specs.Prelude.{◌≤◌, ℕ, List, reverse}
 use Rattle.forwarder.specs.Serving.{Pick}
 use Rattle.pool_versions.specs.Pool.{Pools}
-use Rattle.cluster_node.specs.declared.events.Said.{Said}
+use Rattle.cluster_node.specs.declared.events.LogEntry.{LogEntry}
 use Rattle.cluster_node.specs.Rules.{Rules}
 use Rattle.cluster_node.specs.Records.{Judged}
 use Rattle.cluster_core.specs.Setups.{Fixed, rules_for}
@@ -25,9 +25,9 @@ abbrev pub cluster_of : {S H : Type 0} → (S → ℕ → Pick) → (H → List 
 cluster_of pick_of plain_of r = cluster_by (rules_of pick_of plain_of r)
 
 -- by a history, which has the oldest event in front, what left the queues is no more than what was placed
-abbrev pub IsBalanced : List Said → Type 0
+abbrev pub IsBalanced : List LogEntry → Type 0
 IsBalanced history = went_all (outcomes_of history) ≤ came_all (outcomes_of history)
 
 -- in the history of every record that was judged, what was sent went to the pick under its origin
 abbrev pub SendsArePicked : Rules → Type 0
-SendsArePicked rules = (past : List Said) → Judged (verdict rules) past → PickedSends rules (outcomes_of (reverse past))
+SendsArePicked rules = (past : List LogEntry) → Judged (verdict rules) past → PickedSends rules (outcomes_of (reverse past))

@@ -5,7 +5,7 @@ use Rattle.pool_versions.specs.declared.backend.Backend.{Backend}
 use Rattle.connection_table.specs.declared.table.Entry.{Entry}
 use Rattle.connection_table.specs.Touches.{standing}
 use Rattle.selection.specs.Candidates.{Candidates}
-use Rattle.forwarder.specs.Serving.{Pick, Told, clock_of, is_up, touches, told}
+use Rattle.forwarder.specs.Serving.{Pick, Reply, clock_of, is_up, touches, told}
 use Rattle.cluster_node.specs.declared.serving.Item.{Item}
 use Rattle.cluster_node.specs.Book.{Line, next_item, servings}
 use Rattle.cluster_node.specs.declared.packets.Packet.{Packet}
@@ -14,7 +14,7 @@ use Rattle.cluster_node.specs.declared.events.Event.TheVariants.{Install, Arrive
 use Rattle.cluster_node.specs.declared.outcomes.Outcome.{Outcome}
 use Rattle.cluster_node.specs.declared.outcomes.Outcome.TheVariants.{Forward}
 use Rattle.cluster_node.specs.Rules.{Rules}
-use Rattle.cluster_node.specs.declared.events.Said.{Said}
+use Rattle.cluster_node.specs.declared.events.LogEntry.{LogEntry}
 use Rattle.cluster_node.specs.Record.{accepted}
 use Rattle.cluster_core.specs.Runs.{packet_of}
 use Rattle.cluster_node.specs.Records.{lines_at}
@@ -43,7 +43,7 @@ Agreement rules outs = (x : Flow) (b₁ b₂ : Backend) (v₁ v₂ : ℕ) → Se
     (pick_under rules v₁ x ≡ Some b₁) × (pick_under rules v₂ x ≡ Some b₂) × (pick_under rules v₁ x ≡ pick_under rules v₂ x → ⊥) × (v₁ ≡ v₂ → ⊥)
 
 -- the clock of a forwarder while it serves its next packet
-abbrev pub clock_at : List Told → Option Item → ℕ
+abbrev pub clock_at : List Reply → Option Item → ℕ
 clock_at ts None = clock_of ts
 clock_at ts (Some i) = max (clock_of ts) i.at
 
@@ -56,7 +56,7 @@ stands_next rules ls o x =
 -- The entry that stands for a flow on a forwarder as it serves its next packet. It is the flow's last touch there, while
 -- fewer other flows than the capacity were touched after it. Where a limit is set, the clock less the clock at that touch is
 -- also at most the limit.
-abbrev pub entry_at : Rules → List Said → ℕ → ℕ → Flow → Option Entry
+abbrev pub entry_at : Rules → List LogEntry → ℕ → ℕ → Flow → Option Entry
 entry_at rules past n w x = stands_next rules (lines_at past n w) (next_item (lines_at past n w)) x
 
 -- a backend is up for a flow under a version
@@ -67,7 +67,7 @@ pub record UpUnder (rules : Rules) (v : ℕ) (x : Flow) (b : Backend) : Type 0 w
 
 -- KEEPING. An entry may stand for the flow of the packet that an accepted serving takes, and its backend be up under the
 -- serving's version. Then the packet is sent there, with the entry's origin.
-abbrev pub Keeps : Rules → List Said → Event → Outcome → Type 0
+abbrev pub Keeps : Rules → List LogEntry → Event → Outcome → Type 0
 Keeps rules past (Install n v) o = Unit {0}
 Keeps rules past (Arrive n k marks) o = Unit {0}
 Keeps rules past (Restart n) o = Unit {0}
@@ -76,7 +76,7 @@ Keeps rules past (Serve n w v r) o = (i : Item) (e : Entry) → accepted o ≡ t
     o ≡ Forward n w i.packet i.flow e.backend e.version
 
 -- the promise holds at each event, with the record of all before it
-abbrev pub Keeping : Rules → List Said → List Packet → List Event → List Outcome → Type 0
+abbrev pub Keeping : Rules → List LogEntry → List Packet → List Event → List Outcome → Type 0
 Keeping rules past packets [] os = Unit {0}
 Keeping rules past packets (e ∷ es) [] = ⊥
 Keeping rules past packets (e ∷ es) (o ∷ os) = Keeps rules past e o × Keeping rules (record { event = e; packet = packet_of packets e; outcome = o } ∷ past) packets es os

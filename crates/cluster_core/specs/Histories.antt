@@ -5,7 +5,7 @@ use Rattle.pool_versions.specs.declared.backend.Backend.{Backend}
 use Rattle.selection.specs.Candidates.{Candidates}
 use Rattle.cluster_node.specs.declared.packets.Packet.{Packet}
 use Rattle.cluster_node.specs.declared.events.Event.{Event}
-use Rattle.cluster_node.specs.declared.events.Said.{Said}
+use Rattle.cluster_node.specs.declared.events.LogEntry.{LogEntry}
 use Rattle.cluster_node.specs.declared.outcomes.Outcome.{Outcome}
 use Rattle.cluster_node.specs.declared.outcomes.Outcome.TheVariants.{Forward}
 use Rattle.cluster_node.specs.Rules.{Rules}
@@ -22,31 +22,31 @@ IsSteady rules = (ups : Candidates) (x : Flow) (t u : ℕ) → rules.pick ups x 
 
 -- no worker serves more than was placed on it
 abbrev pub ServesWhatWasPlaced : Type 0
-ServesWhatWasPlaced = (rules : Rules) (past : List Said) → Judged (verdict rules) past → (n w : ℕ) → taken_count (lines_at past n w) ≤ length (placed (lines_at past n w))
+ServesWhatWasPlaced = (rules : Rules) (past : List LogEntry) → Judged (verdict rules) past → (n w : ℕ) → taken_count (lines_at past n w) ≤ length (placed (lines_at past n w))
 
 -- what is sent is the packet that waits first for the worker
 abbrev pub SendsWhatWaitsFirst : Type 0
-SendsWhatWaitsFirst = (rules : Rules) (past : List Said) (e : Event) (p : Option Packet) (n w place : ℕ) (x : Flow) (b : Backend) (v : ℕ) → verdict rules past e p ≡ Forward n w place x b v → TakesFirst (cluster_by rules) past e n w place
+SendsWhatWaitsFirst = (rules : Rules) (past : List LogEntry) (e : Event) (p : Option Packet) (n w place : ℕ) (x : Flow) (b : Backend) (v : ℕ) → verdict rules past e p ≡ Forward n w place x b v → TakesFirst (cluster_by rules) past e n w place
 
-abbrev pub outcomes_of : List Said → List Outcome
+abbrev pub outcomes_of : List LogEntry → List Outcome
 outcomes_of history = map (λ s. s.outcome) history
 
 -- what was sent went to the pick under its origin
 abbrev pub SendsFollowPicks : Type 0
-SendsFollowPicks = (rules : Rules) (history : List Said) → IsSteady rules → Judged (verdict rules) (reverse history) → PickedSends rules (outcomes_of history)
+SendsFollowPicks = (rules : Rules) (history : List LogEntry) → IsSteady rules → Judged (verdict rules) (reverse history) → PickedSends rules (outcomes_of history)
 
 -- a history's outcomes put into the queues, and take out, what its record says
 abbrev pub HistoriesCount : Type 0
-HistoriesCount = (history : List Said) → (came_all (outcomes_of history) ≡ came_of (reverse history)) × (went_all (outcomes_of history) ≡ went_of (reverse history))
+HistoriesCount = (history : List LogEntry) → (came_all (outcomes_of history) ≡ came_of (reverse history)) × (went_all (outcomes_of history) ≡ went_of (reverse history))
 
 -- the packets of a record were read
-abbrev pub AllRead : List Said → Type 0
+abbrev pub AllRead : List LogEntry → Type 0
 AllRead [] = Unit {0}
 AllRead (s ∷ past) = WasRead s.packet × AllRead past
 
 -- what left the queues is no more than what came into them
 abbrev pub RecordsAreBalanced : Type 0
-RecordsAreBalanced = (rules : Rules) (past : List Said) → Judged (verdict rules) past → AllRead past → went_of past ≤ came_of past
+RecordsAreBalanced = (rules : Rules) (past : List LogEntry) → Judged (verdict rules) past → AllRead past → went_of past ≤ came_of past
 
 -- the same of a list of events, as `totals` asks
 abbrev pub ListsAreBalanced : Type 0

@@ -1,7 +1,7 @@
 pub mod Reading
 pub mod Setups
 pub mod Totals
-pub mod Tally
+pub mod OutcomeCounts
 pub mod RunView
 pub mod Cluster
 pub mod Runs

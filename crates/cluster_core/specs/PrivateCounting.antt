@@ -3,7 +3,7 @@ use Rattle.std.specs.Prelude.{◌≡◌, ℕ, ◌+◌, ◌<◌, ◌^◌, List, [
 use Rattle.cluster_node.specs.declared.outcomes.Outcome.{Outcome}
 use Rattle.cluster_node.specs.declared.outcomes.Outcome.TheVariants.{Installed, Placed, Forward, Dropped, Restarted, Refused}
 use Rattle.cluster_core.specs.declared.counts.Totals.{Totals}
-use Rattle.cluster_core.specs.Tally.{number, is_arrival, is_forward, is_refused, lost_all, how_many, drop_counts}
+use Rattle.cluster_core.specs.OutcomeCounts.{number, is_arrival, is_forward, is_refused, lost_all, how_many, drop_counts}
 use Rattle.cluster_core.specs.Totals.{came_all, went_all}
 
 -- drops are distinguished by their causes

@@ -3,7 +3,7 @@
 use Rattle.std.specs.Prelude.{ℕ, List, [], ◌∷◌, reverse}
 use Rattle.pool_versions.specs.Pool.{Pools}
 use Rattle.cluster_node.specs.declared.events.Event.{Event}
-use Rattle.cluster_node.specs.declared.events.Said.{Said}
+use Rattle.cluster_node.specs.declared.events.LogEntry.{LogEntry}
 use Rattle.cluster_node.specs.declared.packets.Packet.{Packet}
 use Rattle.cluster_node.specs.Records.{Judged}
 use Rattle.cluster_node.specs.Rules.{Rules}
@@ -13,28 +13,28 @@ use Rattle.cluster_core.specs.Tables.{TablesDiffer, TablesAreEven, AreMaglevs}
 use Rattle.cluster_core.specs.Histories.{IsSteady, outcomes_of}
 
 -- at each event of a record a forwarder keeps a flow's backend while its entry stands and the backend is up
-abbrev pub KeptThroughout : Rules → List Said → Type 0
+abbrev pub KeptThroughout : Rules → List LogEntry → Type 0
 KeptThroughout rules [] = Unit {0}
 KeptThroughout rules (s ∷ past) = Keeps rules past s.event s.outcome × KeptThroughout rules past
 
 -- the promises of a history
-pub record Promises (rules : Rules) (history : List Said) : Type 0 where
+pub record Promises (rules : Rules) (history : List LogEntry) : Type 0 where
   pub agreement : IsSteady rules → Agreement rules (outcomes_of history)
   pub keeping : KeptThroughout rules (reverse history)
 
 -- in terms of tables
-pub record MaglevPromises (plain : List ℕ → ℕ) (size : ℕ) (pools : Pools) (rules : Rules) (history : List Said) : Type 0 where
+pub record MaglevPromises (plain : List ℕ → ℕ) (size : ℕ) (pools : Pools) (rules : Rules) (history : List LogEntry) : Type 0 where
   pub agreement : TablesDiffer plain size pools (outcomes_of history)
   pub keeping : KeptThroughout rules (reverse history)
   pub slots : TablesAreEven plain size pools
 
 -- every judged history keeps them
 abbrev pub HistoriesKeepPromises : Type 0
-HistoriesKeepPromises = (rules : Rules) (history : List Said) → Judged (verdict rules) (reverse history) → Promises rules history
+HistoriesKeepPromises = (rules : Rules) (history : List LogEntry) → Judged (verdict rules) (reverse history) → Promises rules history
 
 -- for Maglev in terms of tables
 abbrev pub MaglevKeepsPromises : Type 0
-MaglevKeepsPromises = (plain : List ℕ → ℕ) (size : ℕ) (pools : Pools) (rules : Rules) (history : List Said) → AreMaglevs plain size pools rules →
+MaglevKeepsPromises = (plain : List ℕ → ℕ) (size : ℕ) (pools : Pools) (rules : Rules) (history : List LogEntry) → AreMaglevs plain size pools rules →
     Judged (verdict rules) (reverse history) → MaglevPromises plain size pools rules history
 
 -- the promises of a list of events and its outcomes

@@ -9,7 +9,7 @@ use Rattle.cluster_node.specs.declared.outcomes.Outcome.{Outcome}
 use Rattle.cluster_node.specs.declared.outcomes.Outcome.TheVariants.{Refused}
 use Rattle.cluster_node.specs.declared.outcomes.Reason.TheVariants.{NoNode}
 use Rattle.cluster_node.specs.Rules.{Rules}
-use Rattle.cluster_node.specs.declared.events.Said.{Said}
+use Rattle.cluster_node.specs.declared.events.LogEntry.{LogEntry}
 use Rattle.cluster_node.specs.Record.{node_verdict, waits, NodeStands, installed_of, prepared_at, waiting_at, IsPrepared, ArePrepared}
 use Rattle.cluster_node.specs.declared.outcomes.Passed.{Passed}
 use Rattle.cluster_node.specs.Records.{node_of, of_node, AreTold, with_told}
@@ -21,7 +21,7 @@ use Rattle.pool_versions.specs.declared.service.Version.{Version}
 use Rattle.selection.specs.Readied.{Readied, readied_version}
 
 -- the outcome of an event after all before it
-abbrev pub verdict : Rules → List Said → Event → Option Packet → Outcome
+abbrev pub verdict : Rules → List LogEntry → Event → Option Packet → Outcome
 verdict rules past e x = if nat_lt (node_of e) rules.nodes then node_verdict rules (of_node (node_of e) past) e x else Refused NoNode
 
 -- the cluster of these rules
@@ -35,11 +35,11 @@ packet_of packets (Arrive n k marks) = slice_get packets k
 packet_of packets (Serve n w v r) = None
 packet_of packets (Restart n) = None
 
-abbrev pub say : Rules → List Said → Event → Option Packet → Said
+abbrev pub say : Rules → List LogEntry → Event → Option Packet → LogEntry
 say rules past e x = record { event = e; packet = x; outcome = verdict rules past e x }
 
 -- the outcomes of the events, after a record
-abbrev pub verdicts : Rules → List Said → List Packet → List Event → List Outcome
+abbrev pub verdicts : Rules → List LogEntry → List Packet → List Event → List Outcome
 verdicts rules past packets [] = []
 verdicts rules past packets (e ∷ es) = verdict rules past e (packet_of packets e) ∷ verdicts rules (say rules past e (packet_of packets e) ∷ past) packets es
 
@@ -53,7 +53,7 @@ abbrev pub AreGood : {S : Type 0} → (S → ℕ → Pick) → Rules → List (R
 AreGood pick_of rules versions = (v : ℕ) → is_some (prepared_at v versions) ≡ true → IsPrepared pick_of rules versions v
 
 -- a run represents a record
-pub record RunStands {S : Type 0} (pick_of : S → ℕ → Pick) (rules : Rules) (past : List Said) (run : RunView S) : Type 0 where
+pub record RunStands {S : Type 0} (pick_of : S → ℕ → Pick) (rules : Rules) (past : List LogEntry) (run : RunView S) : Type 0 where
   pub working : run.failed ≡ false
   pub count : length run.nodes ≡ rules.nodes
   -- each version that was installed on a node is prepared
@@ -64,12 +64,12 @@ pub record RunStands {S : Type 0} (pick_of : S → ℕ → Pick) (rules : Rules)
   pub each : (n : ℕ) (m : NodeView) → slice_get run.nodes n ≡ Some m → NodeStands rules (of_node n past) m
 
 -- an outcome is what the record says, and the run represents the record with it
-abbrev pub RunGoes : {S : Type 0} → (S → ℕ → Pick) → Rules → List Said → Event → Option Packet → Outcome → RunView S → Type 0
+abbrev pub RunGoes : {S : Type 0} → (S → ℕ → Pick) → Rules → List LogEntry → Event → Option Packet → Outcome → RunView S → Type 0
 RunGoes pick_of rules past e x o run = (o ≡ verdict rules past e x) × RunStands pick_of rules (say rules past e x ∷ past) run
 
 -- What became of a packet, and of its serving where it was placed, is what the record says of both. The run represents the
 -- record with them.
-abbrev pub RunPasses : {S : Type 0} → (S → ℕ → Pick) → Rules → List Said → Event → Packet → (ℕ → Event) → Passed → RunView S → Type 0
+abbrev pub RunPasses : {S : Type 0} → (S → ℕ → Pick) → Rules → List LogEntry → Event → Packet → (ℕ → Event) → Passed → RunView S → Type 0
 RunPasses pick_of rules past e p serving q run = AreTold (verdict rules) past e p serving q × RunStands pick_of rules (with_told past e p serving q) run
 
 -- the versions after one was prepared: it is prepared once

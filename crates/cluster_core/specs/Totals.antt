@@ -2,8 +2,8 @@
 use Rattle.std.specs.Prelude.{ℕ, ◌+◌, List, [], ◌∷◌, if◌then◌else◌}
 use Rattle.cluster_node.specs.declared.outcomes.Outcome.{Outcome}
 use Rattle.cluster_node.specs.declared.outcomes.Outcome.TheVariants.{Installed, Placed, Forward, Dropped, Restarted, Refused}
-use Rattle.cluster_node.specs.declared.events.Said.{Said}
-use Rattle.cluster_core.specs.Tally.{at_serving}
+use Rattle.cluster_node.specs.declared.events.LogEntry.{LogEntry}
+use Rattle.cluster_core.specs.OutcomeCounts.{at_serving}
 
 -- how many packets an outcome puts into the queues
 abbrev pub came : Outcome → ℕ
@@ -31,10 +31,10 @@ abbrev pub went_all : List Outcome → ℕ
 went_all [] = 0
 went_all (o ∷ os) = went o + went_all os
 
-abbrev pub came_of : List Said → ℕ
+abbrev pub came_of : List LogEntry → ℕ
 came_of [] = 0
 came_of (s ∷ past) = came s.outcome + came_of past
 
-abbrev pub went_of : List Said → ℕ
+abbrev pub went_of : List LogEntry → ℕ
 went_of [] = 0
 went_of (s ∷ past) = went s.outcome + went_of past

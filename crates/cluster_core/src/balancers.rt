@@ -3,7 +3,7 @@ ghost use Rattle.std.specs.Prelude.{◌≡◌, ◌≤◌, [], ℕ, List, reverse
 ghost use Rattle.cluster_node.specs.declared.packets.Packet.{Packet};
 ghost use Rattle.cluster_node.specs.declared.events.Event.TheVariants.{Serve};
 ghost use Rattle.cluster_node.specs.Records.{with_told};
-ghost use Rattle.cluster_node.specs.declared.events.Said.{Said};
+ghost use Rattle.cluster_node.specs.declared.events.LogEntry.{LogEntry};
 ghost use Rattle.cluster_core.specs.Runs.{RunStands};
 ghost use Rattle.cluster_core.specs.Totals.{came_of, went_of};
 ghost use Rattle.cluster_core.specs.Deployed.{Deployed, rules_of, cluster_of, IsBalanced};
@@ -33,13 +33,13 @@ pub struct Balancers<S: Scheme, H: FlowHash, T: ConnTable, N: Notes> {
 #[inline(always)]
 fn note_passed<N: Notes>(
     notes: &mut N,
-    asked: &N::Asked,
+    asked: &N::Query,
     node: u16,
     event: &Event,
     version: u32,
     passed: &Passed,
 ) -> Result<(), AllocError>
-    ensures { (past : List Said) (packet : Packet) → N.are_of asked.now past notes.old → OnOk result (N.are_of asked.now (with_told past event.now packet (λ w. Serve node w version false) passed.now) notes.new) }
+    ensures { (past : List LogEntry) (packet : Packet) → N.are_of asked.now past notes.old → OnOk result (N.are_of asked.now (with_told past event.now packet (λ w. Serve node w version false) passed.now) notes.new) }
 {
     match passed {
         Passed::Unplaced(outcome) => notes.note(asked, event, outcome),
@@ -94,15 +94,15 @@ impl<S: Scheme, H: FlowHash, T: ConnTable, N: Notes> Balancers<S, H, T, N> {
     /// What left the queues is no more than what was placed, by every record that the balancers represent. So it is by their
     /// history, as `Counts::totals` asks. The body does nothing.
     pub fn keep_balance(&self, deployment: &Deployment<S, H>)
-        ensures record { (past : List Said) → RunStands (λ s z. S.pick s z) (rules_of (λ s z. S.pick s z) (λ h. H.plain h) deployment.now) past self.now.run → went_of past ≤ came_of past }
-        ensures history { (past : List Said) → RunStands (λ s z. S.pick s z) (rules_of (λ s z. S.pick s z) (λ h. H.plain h) deployment.now) past self.now.run → IsBalanced (reverse past) }
+        ensures record { (past : List LogEntry) → RunStands (λ s z. S.pick s z) (rules_of (λ s z. S.pick s z) (λ h. H.plain h) deployment.now) past self.now.run → went_of past ≤ came_of past }
+        ensures history { (past : List LogEntry) → RunStands (λ s z. S.pick s z) (rules_of (λ s z. S.pick s z) (λ h. H.plain h) deployment.now) past self.now.run → IsBalanced (reverse past) }
     {
         let _ = deployment;
     }
 }
 
 impl<S: Scheme, H: FlowHash, T: ConnTable, N: Notes> Core for Balancers<S, H, T, N> {
-    type Setup = Task<S, H, N::Asked>;
+    type Setup = Task<S, H, N::Query>;
 
     ghost cluster = { λ task. cluster_of (λ s z. S.pick s z) (λ h. H.plain h) task.deployment };
 
@@ -111,7 +111,7 @@ impl<S: Scheme, H: FlowHash, T: ConnTable, N: Notes> Core for Balancers<S, H, T,
     #[inline(always)]
     fn step(
         &mut self,
-        setup: &Task<S, H, N::Asked>,
+        setup: &Task<S, H, N::Query>,
         event: Event,
         packet: Option<Packet>,
     ) -> Result<Outcome, AllocError> {
@@ -126,7 +126,7 @@ impl<S: Scheme, H: FlowHash, T: ConnTable, N: Notes> Core for Balancers<S, H, T,
     #[inline(always)]
     fn pass(
         &mut self,
-        setup: &Task<S, H, N::Asked>,
+        setup: &Task<S, H, N::Query>,
         node: u16,
         packet: u32,
         refused: &[bool; 16],
@@ -145,17 +145,17 @@ impl<S: Scheme, H: FlowHash, T: ConnTable, N: Notes> Core for Balancers<S, H, T,
         note_passed(&mut self.notes, &setup.asked, node, &event, version, passed)
     }
 
-    fn workers(setup: &Task<S, H, N::Asked>) -> u16 {
+    fn workers(setup: &Task<S, H, N::Query>) -> u16 {
         setup.deployment.setup().workers()
     }
 
     #[inline(always)]
-    fn newest(&self, setup: &Task<S, H, N::Asked>, node: u16) -> u32 {
+    fn newest(&self, setup: &Task<S, H, N::Query>, node: u16) -> u32 {
         let _ = setup;
         self.run.newest(node)
     }
 
-    fn waiting(&self, setup: &Task<S, H, N::Asked>, node: u16, worker: u16) -> u64 {
+    fn waiting(&self, setup: &Task<S, H, N::Query>, node: u16, worker: u16) -> u64 {
         let _ = setup;
         self.run.waiting(node, worker) as u64
     }

@@ -1,7 +1,7 @@
 //! Totals of outcomes, in one pass.
 ghost use Rattle.std.specs.Prelude.{◌≡◌, ◌≤◌, ◌<◌, ◌+◌, ◌^◌, ◌∷◌, [], ℕ, List, length, get_or, sum, if◌then◌else◌};
 ghost use Rattle.cluster_node.specs.declared.outcomes.Outcome.{Outcome};
-ghost use Rattle.cluster_core.specs.Tally.{number, at_serving, is_arrival, is_forward, lost_of, drop_counts, how_many, is_refused};
+ghost use Rattle.cluster_core.specs.OutcomeCounts.{number, at_serving, is_arrival, is_forward, lost_of, drop_counts, how_many, is_refused};
 ghost use Rattle.cluster_core.specs.Totals.{came_all, went_all};
 ghost use Rattle.cluster_core.specs.PrivateCounting.{kind, bumped, Leads, Fits, Totalled};
 

@@ -1,6 +1,6 @@
 //! The counts of a run.
 ghost use Rattle.std.specs.Prelude.{◌≡◌, ◌≤◌, ◌<◌};
-ghost use Rattle.cluster_core.specs.Tally.{number, at_serving};
+ghost use Rattle.cluster_core.specs.OutcomeCounts.{number, at_serving};
 
 use cluster_node::Cause;
 

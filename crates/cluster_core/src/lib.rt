@@ -28,7 +28,7 @@ mod running;
 mod task;
 
 pub use balancers::Balancers;
-pub use cluster_node::{Cause, Event, Item, Outcome, Packet, Passed, Reason, Said};
+pub use cluster_node::{Cause, Event, Item, LogEntry, Outcome, Packet, Passed, Reason};
 pub use counting::totals;
 pub use counts::{Totals, at_serving, number};
 pub use deployment::Deployment;

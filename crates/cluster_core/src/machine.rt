@@ -1,7 +1,7 @@
 //! What a cluster's core owes to the steps of a scenario.
 ghost use Rattle.std.specs.Prelude.{◌≡◌, ◌<◌, ◌^◌, ◌∷◌, ℕ, List, length, Some, false, IfOk, OnOk};
 ghost use Rattle.cluster_node.specs.declared.events.Event.TheVariants.{Arrive, Serve};
-ghost use Rattle.cluster_node.specs.declared.events.Said.{Said};
+ghost use Rattle.cluster_node.specs.declared.events.LogEntry.{LogEntry};
 ghost use Rattle.cluster_core.specs.Cluster.{Cluster, newest_on, waiting_on};
 ghost use Rattle.cluster_node.specs.Records.{AreTold, WasRead, said, with_told};
 
@@ -17,7 +17,7 @@ pub trait Core {
     ghost cluster: { Self.Setup → Cluster };
 
     /// The core represents the record, which has the newest event in front.
-    ghost stands: { Self.Setup → List Said → Self → Type 0 };
+    ghost stands: { Self.Setup → List LogEntry → Self → Type 0 };
 
     /// One event, with the packet that it names where it is an arrival. After a refusal of memory nothing is said of the
     /// core any more.
@@ -28,7 +28,7 @@ pub trait Core {
         packet: Option<Packet>,
     ) -> Result<Outcome, AllocError>
         requires { WasRead packet }
-        ensures { (past : List Said) → length past < 2 ^ 64 → stands setup.now past self.old →
+        ensures { (past : List LogEntry) → length past < 2 ^ 64 → stands setup.now past self.old →
             IfOk result (λ o. (o ≡ (cluster setup.now).judge past event packet) × stands setup.now (said (cluster setup.now).judge past event packet ∷ past) self.new) };
 
     /// A packet arrives at a node, and where it is placed its worker serves at once under the node's newest version. That is
@@ -46,7 +46,7 @@ pub trait Core {
     ) -> Result<(), AllocError>
         requires { WasRead (Some body.now) }
         ensures { let k = cluster setup.now in let come = Arrive node packet refused.now in
-            (past : List Said) → length past < 2 ^ 64 → stands setup.now past self.old → let serving = (λ (u : ℕ). Serve node u (newest_on k node past) false) in
+            (past : List LogEntry) → length past < 2 ^ 64 → stands setup.now past self.old → let serving = (λ (u : ℕ). Serve node u (newest_on k node past) false) in
             OnOk result (AreTold k.judge past come body.now serving passed.new × stands setup.now (with_told past come body.now serving passed.new) self.new) };
 
     /// How many workers a node has.
@@ -55,9 +55,9 @@ pub trait Core {
 
     /// The version installed last on a node, 0 where there is none.
     fn newest(&self, setup: &Self::Setup, node: u16) -> u32
-        ensures { (past : List Said) → stands setup.now past self.now → result ≡ newest_on (cluster setup.now) node past };
+        ensures { (past : List LogEntry) → stands setup.now past self.now → result ≡ newest_on (cluster setup.now) node past };
 
     /// How many packets wait for a worker.
     fn waiting(&self, setup: &Self::Setup, node: u16, worker: u16) -> u64
-        ensures { (past : List Said) → stands setup.now past self.now → result ≡ waiting_on (cluster setup.now) node worker past };
+        ensures { (past : List LogEntry) → stands setup.now past self.now → result ≡ waiting_on (cluster setup.now) node worker past };
 }

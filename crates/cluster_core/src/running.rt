@@ -3,7 +3,7 @@ ghost use Rattle.std.specs.Prelude.{◌≡◌, ◌≤◌, ◌<◌, ◌^◌, ◌�
 ghost use Rattle.pool_versions.specs.Pool.{Pools, version_at};
 ghost use Rattle.selection.specs.Readied.{Readied, readied_version};
 ghost use Rattle.cluster_node.specs.Rules.{Rules};
-ghost use Rattle.cluster_node.specs.declared.events.Said.{Said};
+ghost use Rattle.cluster_node.specs.declared.events.LogEntry.{LogEntry};
 ghost use Rattle.cluster_node.specs.Record.{fresh, newest_of, lines_of};
 ghost use Rattle.cluster_core.specs.Setups.{Fixed, rules_for};
 ghost use Rattle.cluster_core.specs.RunView.{RunView};
@@ -169,7 +169,7 @@ impl<S: Scheme, T: ConnTable> Run<S, T> {
     /// A node's newest version, 0 where there is none.
     pub fn newest(&self, node: u16) -> u32
         ensures kept { result ≡ newest_at (slice_get self.now.nodes node) }
-        ensures said { (rules : Rules) → (past : List Said) → RunStands (λ s z. S.pick s z) rules past self.now → result ≡ newest_on (cluster_by rules) node past }
+        ensures said { (rules : Rules) → (past : List LogEntry) → RunStands (λ s z. S.pick s z) rules past self.now → result ≡ newest_on (cluster_by rules) node past }
     {
         self.newest_of(node)
     }
@@ -186,7 +186,7 @@ impl<S: Scheme, T: ConnTable> Run<S, T> {
     /// How many packets wait at a worker of a node.
     pub fn waiting(&self, node: u16, worker: u16) -> usize
         ensures kept { result ≡ queued_at worker (slice_get self.now.nodes node) }
-        ensures said { (rules : Rules) → (past : List Said) → RunStands (λ s z. S.pick s z) rules past self.now → result ≡ waiting_on (cluster_by rules) node worker past }
+        ensures said { (rules : Rules) → (past : List LogEntry) → RunStands (λ s z. S.pick s z) rules past self.now → result ≡ waiting_on (cluster_by rules) node worker past }
     {
         self.waiting_of(node, worker)
     }
@@ -215,7 +215,7 @@ impl<S: Scheme, T: ConnTable> Run<S, T> {
         requires size { catalogue.now.size ≡ setup.now.size }
         requires read { WasRead (option_copied packet) }
         ensures verdict { let rules = rules_for (λ s z. S.pick s z) (λ h. H.plain h) setup.now catalogue.now in
-            (past : List Said) → length past < 2 ^ 64 → RunStands (λ s z. S.pick s z) rules past self.old →
+            (past : List LogEntry) → length past < 2 ^ 64 → RunStands (λ s z. S.pick s z) rules past self.old →
             IfOk result (λ o. RunGoes (λ s z. S.pick s z) rules past event.now (option_copied packet.entry) o self.new) }
         ensures refused { OnErr result (IsTrue self.new.failed) }
         ensures failed { IsTrue self.old.failed → IsErr result }
@@ -242,7 +242,7 @@ impl<S: Scheme, T: ConnTable> Run<S, T> {
     ) -> Result<Outcome, AllocError>
         requires { WasRead packet }
         ensures verdict { let rules = rules_for (λ s z. S.pick s z) (λ h. H.plain h) setup.now catalogue.now in
-            (past : List Said) → length past < 2 ^ 64 → RunStands (λ s z. S.pick s z) rules past self.old →
+            (past : List LogEntry) → length past < 2 ^ 64 → RunStands (λ s z. S.pick s z) rules past self.old →
             IfOk result (λ o. RunGoes (λ s z. S.pick s z) rules past event.now packet o self.new) }
     {
         let at = node_at(event) as usize;
@@ -281,7 +281,7 @@ impl<S: Scheme, T: ConnTable> Run<S, T> {
         passed: &mut Passed,
     ) -> Result<(), AllocError>
         requires read { WasRead (Some body.now) }
-        ensures verdict { (pools : Pools) (past : List Said) → let rules = rules_for (λ s z. S.pick s z) (λ h. H.plain h) setup.now pools in
+        ensures verdict { (pools : Pools) (past : List LogEntry) → let rules = rules_for (λ s z. S.pick s z) (λ h. H.plain h) setup.now pools in
             RunStands (λ s z. S.pick s z) rules past self.old →
             OnOk result (RunPasses (λ s z. S.pick s z) rules past (Arrive node packet refused.now) body.now (λ w. Serve node w (newest_at (slice_get self.old.nodes node)) false) passed.new self.new) }
         ensures refused { OnErr result (IsTrue self.new.failed) }
@@ -309,7 +309,7 @@ impl<S: Scheme, T: ConnTable> Run<S, T> {
         passed: &mut Passed,
     ) -> Result<(), AllocError>
         requires { WasRead (Some body.now) }
-        ensures { (pools : Pools) (past : List Said) → let rules = rules_for (λ s z. S.pick s z) (λ h. H.plain h) setup.now pools in
+        ensures { (pools : Pools) (past : List LogEntry) → let rules = rules_for (λ s z. S.pick s z) (λ h. H.plain h) setup.now pools in
             RunStands (λ s z. S.pick s z) rules past self.old →
             OnOk result (RunPasses (λ s z. S.pick s z) rules past (Arrive node packet refused.now) body.now (λ w. Serve node w (newest_at (slice_get self.old.nodes node)) false) passed.new self.new) }
     {

@@ -5,13 +5,13 @@ use Rattle.std.proofs.lemmas.Bool.{ltb-false, or_parts}
 use Rattle.five_tuple.specs.declared.Flow.{Flow}
 use Rattle.forwarder.specs.Forwarding.{Forwarding}
 use Rattle.selection.specs.Candidates.{Candidates}
-use Rattle.forwarder.specs.Serving.{Pick, Serving, Told, told_in, forwarding_of}
+use Rattle.forwarder.specs.Serving.{Pick, Serving, Reply, told_in, forwarding_of}
 use Rattle.forwarder.proofs.History.{told-table, history-step, history-none}
 use Rattle.cluster_node.specs.declared.serving.Item.{Item}
 use Rattle.cluster_node.specs.declared.serving.Taken.{Taken}
 use Rattle.cluster_node.specs.declared.serving.Taken.TheVariants.{Idle, Behind, Done}
 use Rattle.cluster_node.specs.WorkerView.{WorkerView}
-use Rattle.cluster_node.specs.Book.{Line, put, placed, taken_count, next_item, serving_under, serving_at, servings, greatest_used, told_next, taken_of, taken, lines_after, worker_of, Stands, Step, step_told, step_by, step_of}
+use Rattle.cluster_node.specs.Book.{Line, put, placed, taken_count, next_item, serving_under, serving_at, servings, greatest_used, told_next, taken_of, taken, lines_after, worker_of, Stands, WorkerStep, step_told, step_by, step_of}
 use Rattle.cluster_node.specs.Record.{fresh}
 use Rattle.cluster_node.specs.Rules.{Rules}
 
@@ -56,7 +56,7 @@ stands_put rules ls w i s = record {
       ∙ ap (λ (q : List Item). let u : WorkerView = record { queue = q; used = greatest_used ls; forwarding = forwarding_of rules.pick rules.capacity rules.idle (servings rules ls) } in u) (sym (drop_push (taken_count ls) (placed ls) i s.sound));
 }
 
-abbrev pub Goes : Rules → List Line → ℕ → Bool → Taken → Step → Type 0
+abbrev pub Goes : Rules → List Line → ℕ → Bool → Taken → WorkerStep → Type 0
 Goes rules ls v r t step = (step.taken ≡ t) × Stands rules (lines_after t ls v r) step.after
 
 module _ (rules : Rules) (ls : List Line) (v : ℕ) (r : Bool) (sound : taken_count ls ≤ length (placed ls)) where
@@ -65,7 +65,7 @@ module _ (rules : Rules) (ls : List Line) (v : ℕ) (r : Bool) (sound : taken_co
 
   done : (i : Item) → next_item ls ≡ Some i → (drop (taken_count ls) (placed ls) ≡ i ∷ drop (taken_count ls + 1) (placed ls)) × (taken_count ls + 1 ≤ length (placed ls)) → greatest_used ls ≤ v → Goes rules ls v r (Done i (told_next rules ls i v r).choice) (step_told (worker_of rules ls) i (drop (taken_count ls + 1) (placed ls)) v (told_in rules.pick (forwarding_of rules.pick rules.capacity rules.idle (servings rules ls)) (serving_under (rules.ups v) v i r)))
   done i h d le = (
-    ap (λ (t : Told). Done i t.choice) (told-table rules.pick rules.capacity rules.idle (servings rules ls) (serving_under (rules.ups v) v i r)),
+    ap (λ (t : Reply). Done i t.choice) (told-table rules.pick rules.capacity rules.idle (servings rules ls) (serving_under (rules.ups v) v i r)),
     record {
       sound = omega (arith, d.1);
       is = ap (λ (f : Forwarding). let u : WorkerView = record { queue = drop (taken_count ls + 1) (placed ls); used = v; forwarding = f } in u) (sym (history-step rules.pick rules.capacity rules.idle (servings rules ls) (serving_under (rules.ups v) v i r)))
@@ -89,11 +89,11 @@ module _ (rules : Rules) (ls : List Line) (v : ℕ) (r : Bool) (sound : taken_co
 step_alike : (pick : Pick) (here there : Flow → Option Candidates) → ((x : Flow) → here x ≡ there x) → (w : WorkerView) (q : List Item) (v : ℕ) (r : Bool) → step_by pick there w q v r ≡ step_by pick here w q v r
 step_alike pick here there alike w [] v r = refl
 step_alike pick here there alike w (i ∷ rest) v r =
-    ap (λ (o : Option Candidates). let s : Serving = record { flow = i.flow; at = i.at; version = v; ups = o; refused = r } in let t : Step = (if nat_lt v i.floor || nat_lt v w.used then record { taken = Behind; after = w } else step_told w i rest v (told_in pick w.forwarding s)) in t) (sym (alike i.flow))
+    ap (λ (o : Option Candidates). let s : Serving = record { flow = i.flow; at = i.at; version = v; ups = o; refused = r } in let t : WorkerStep = (if nat_lt v i.floor || nat_lt v w.used then record { taken = Behind; after = w } else step_told w i rest v (told_in pick w.forwarding s)) in t) (sym (alike i.flow))
 
 -- one turn of a worker is what its lines say
 pub stands_taken : (rules : Rules) (ls : List Line) (w : WorkerView) (pick : Pick) (here : Flow → Option Candidates) (v : ℕ) (r : Bool) → pick ≡ rules.pick → ((x : Flow) → here x ≡ rules.ups v x) → Stands rules ls w → Goes rules ls v r (taken rules ls v r) (step_of pick here w v r)
 stands_taken rules ls w pick here v r same alike s =
     subst (λ (p : Pick). Goes rules ls v r (taken rules ls v r) (step_of p here w v r)) (sym same)
-    (subst (λ (t : Step). Goes rules ls v r (taken rules ls v r) t) (step_alike rules.pick here (rules.ups v) alike w w.queue v r)
+    (subst (λ (t : WorkerStep). Goes rules ls v r (taken rules ls v r) t) (step_alike rules.pick here (rules.ups v) alike w w.queue v r)
     (subst (λ (u : WorkerView). Goes rules ls v r (taken rules ls v r) (step_of rules.pick (rules.ups v) u v r)) (sym s.is) (goes rules ls v r s.sound (next_item ls) refl)))

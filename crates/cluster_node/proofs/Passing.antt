@@ -15,7 +15,7 @@ use Rattle.cluster_node.specs.WorkerView.{WorkerView}
 use Rattle.cluster_node.specs.NodeView.{NodeView}
 use Rattle.cluster_node.specs.Rules.{Rules}
 use Rattle.cluster_node.specs.declared.packets.Packet.{Packet}
-use Rattle.cluster_node.specs.declared.events.Said.{Said}
+use Rattle.cluster_node.specs.declared.events.LogEntry.{LogEntry}
 use Rattle.cluster_node.specs.declared.events.Event.{Event}
 use Rattle.cluster_node.specs.declared.events.Event.TheVariants.{Arrive, Serve}
 use Rattle.cluster_node.specs.declared.outcomes.Outcome.{Outcome}
@@ -96,11 +96,11 @@ module _ {S : Type 0} (pick_of : S → ℕ → Pick) (ps : List (Readied S)) (pl
       )
 
 -- what came of both is what the record gives
-module _ {S : Type 0} (pick_of : S → ℕ → Pick) (rules : Rules) (ps : List (Readied S)) (past : List Said) (m : NodeView) (n k : ℕ) (marks : List Bool) (p : Packet) (all : ArePrepared pick_of rules ps (installed_of past)) (st : NodeStands rules past m) where
+module _ {S : Type 0} (pick_of : S → ℕ → Pick) (rules : Rules) (ps : List (Readied S)) (past : List LogEntry) (m : NodeView) (n k : ℕ) (marks : List Bool) (p : Packet) (all : ArePrepared pick_of rules ps (installed_of past)) (st : NodeStands rules past m) where
   abbrev pub Come : Event
   Come = Arrive n k marks
 
-  abbrev pub Before : List Said
+  abbrev pub Before : List LogEntry
   Before = node_say rules past Come (Some p) ∷ past
 
   abbrev pub PassesAs : PassStep → Type 0
@@ -126,7 +126,7 @@ module _ {S : Type 0} (pick_of : S → ℕ → Pick) (rules : Rules) (ps : List 
       let g : NodeGoes rules past Come (Some p) s.outcome s.after = as_said rules past Come (Some p) s.outcome s.after s refl refl (arrive_goes rules past m n k marks (Some p) st) in
       by_outcome s.outcome s.after (g.1.newest ∙ sym st.newest) g
 
-pub pass_said : {S : Type 0} (pick_of : S → ℕ → Pick) (rules : Rules) (ps : List (Readied S)) (past : List Said) (m after : NodeView) (n k : ℕ) (marks : List Bool) (p : Packet) (plain : List ℕ → ℕ) (q : Passed) (r : Result (Unit {0}) AllocError) → rules.plain ≡ plain → ArePrepared pick_of rules ps (installed_of past) → NodeStands rules past m → OnOk r (q ≡ (pass_step pick_of ps plain m n k marks p).passed) → OnOk r (after ≡ (pass_step pick_of ps plain m n k marks p).after) → OnOk r (NodePasses rules past (Arrive n k marks) p (λ w. Serve n w m.newest false) q after)
+pub pass_said : {S : Type 0} (pick_of : S → ℕ → Pick) (rules : Rules) (ps : List (Readied S)) (past : List LogEntry) (m after : NodeView) (n k : ℕ) (marks : List Bool) (p : Packet) (plain : List ℕ → ℕ) (q : Passed) (r : Result (Unit {0}) AllocError) → rules.plain ≡ plain → ArePrepared pick_of rules ps (installed_of past) → NodeStands rules past m → OnOk r (q ≡ (pass_step pick_of ps plain m n k marks p).passed) → OnOk r (after ≡ (pass_step pick_of ps plain m n k marks p).after) → OnOk r (NodePasses rules past (Arrive n k marks) p (λ w. Serve n w m.newest false) q after)
 pass_said pick_of rules ps past m after n k marks p plain q (Ok u) f all st h j =
     subst (λ (o : Passed). NodePasses rules past (Arrive n k marks) p (λ w. Serve n w m.newest false) o after) (sym h)
     (subst (λ (z : NodeView). NodePasses rules past (Arrive n k marks) p (λ w. Serve n w m.newest false) (pass_step pick_of ps plain m n k marks p).passed z) (sym j)

@@ -9,13 +9,13 @@ use Rattle.five_tuple.specs.declared.Flow.{Flow}
 use Rattle.forwarder.specs.declared.Choice.{Choice}
 use Rattle.forwarder.specs.declared.Choice.TheVariants as choices
 use Rattle.selection.specs.Candidates.{Candidates}
-use Rattle.forwarder.specs.Serving.{Pick, Told, told_in, ups_in}
+use Rattle.forwarder.specs.Serving.{Pick, Reply, told_in, ups_in}
 use Rattle.selection.specs.Readied.{Readied}
 use Rattle.cluster_node.specs.declared.serving.Item.{Item}
 use Rattle.cluster_node.specs.declared.serving.Taken.{Taken}
 use Rattle.cluster_node.specs.declared.serving.Taken.TheVariants as takings
 use Rattle.cluster_node.specs.WorkerView.{WorkerView}
-use Rattle.cluster_node.specs.Book.{Line, put, took, placed, taken_count, next_item, taken, lines_after, serving_under, Stands, Step, step_of, step_by, step_told}
+use Rattle.cluster_node.specs.Book.{Line, put, took, placed, taken_count, next_item, taken, lines_after, serving_under, Stands, WorkerStep, step_of, step_by, step_told}
 use Rattle.cluster_node.proofs.Books.{Goes, stands_taken, stands_put, stands_new, drop_at, drop_past}
 use Rattle.cluster_node.specs.NodeView.{NodeView}
 use Rattle.cluster_node.specs.declared.packets.Packet.{Packet}
@@ -31,7 +31,7 @@ use Rattle.steering.specs.declared.Placed.{Placed as Placing}
 use Rattle.steering.specs.declared.Placed.TheVariants as placings
 use Rattle.cluster_node.proofs.Below.{place_below, home_below}
 use Rattle.cluster_node.specs.Rules.{Rules}
-use Rattle.cluster_node.specs.declared.events.Said.{Said}
+use Rattle.cluster_node.specs.declared.events.LogEntry.{LogEntry}
 use Rattle.cluster_node.specs.Record.{accepted, newest_of, installed_of, refusals_of, refused_home, placed_count, served_count, placed_by, more_placed, lines_of, of_taken, of_choice, by_queue, serve_verdict, prepared_at, IsPrepared, ArePrepared, install_verdict, arrive_verdict, steered, node_verdict, node_say, fresh, cleared, waits, IsKnown, NodeStands, NodeGoes}
 use Rattle.cluster_node.specs.PrivateSteps.{NodeStep, OneStep, one_prepared, one_step, serve_at, serve_step, install_step, arrive_on, arrive_step, place_step, put_at, refuse, restarted}
 use Rattle.std.proofs.Math.Nat.{mod-add-mod}
@@ -70,20 +70,20 @@ accepted_lines n w (takings.Done i c) ls v r = chosen c
     chosen choices.NoService = refl
     chosen choices.NoBackend = refl
 
-abbrev pub OneGoes : Rules → List Said → ℕ → ℕ → Bool → Outcome → OneStep → Type 0
+abbrev pub OneGoes : Rules → List LogEntry → ℕ → ℕ → Bool → Outcome → OneStep → Type 0
 OneGoes rules past w v r o s = (s.outcome ≡ o) × Stands rules (if accepted s.outcome then took v r ∷ lines_of w past else lines_of w past) s.after
 
-abbrev pub of_step : ℕ → ℕ → Step → OneStep
+abbrev pub of_step : ℕ → ℕ → WorkerStep → OneStep
 of_step n w t = record { outcome = of_taken n w t.taken; after = t.after }
 
 -- one turn of a worker, as an outcome
-one_turn : (rules : Rules) (past : List Said) (n w v : ℕ) (r : Bool) (t : Step) → Goes rules (lines_of w past) v r (taken rules (lines_of w past) v r) t → OneGoes rules past w v r (of_taken n w (taken rules (lines_of w past) v r)) (of_step n w t)
+one_turn : (rules : Rules) (past : List LogEntry) (n w v : ℕ) (r : Bool) (t : WorkerStep) → Goes rules (lines_of w past) v r (taken rules (lines_of w past) v r) t → OneGoes rules past w v r (of_taken n w (taken rules (lines_of w past) v r)) (of_step n w t)
 one_turn rules past n w v r t g = (
   ap (λ (x : Taken). of_taken n w x) g.0,
   subst (λ (l : List Line). Stands rules l t.after) (ap (λ (x : Taken). lines_after x (lines_of w past) v r) (sym g.0) ∙ accepted_lines n w t.taken (lines_of w past) v r) g.1,
 )
 
-module _ {S : Type 0} (pick_of : S → ℕ → Pick) (rules : Rules) (ps : List (Readied S)) (past : List Said) (n w v : ℕ) (r : Bool) (u : WorkerView) (st : Stands rules (lines_of w past) u) where
+module _ {S : Type 0} (pick_of : S → ℕ → Pick) (rules : Rules) (ps : List (Readied S)) (past : List LogEntry) (n w v : ℕ) (r : Bool) (u : WorkerView) (st : Stands rules (lines_of w past) u) where
   one_done : IsPrepared pick_of rules ps v → OneGoes rules past w v r (of_taken n w (taken rules (lines_of w past) v r)) (one_prepared pick_of n w u (prepared_at v ps) r)
   one_done pr =
       subst (λ (o : Option (Readied S)). OneGoes rules past w v r (of_taken n w (taken rules (lines_of w past) v r)) (one_prepared pick_of n w u o r)) (sym pr.found)
@@ -108,13 +108,13 @@ full_queue rules ls u i st h e =
     let k : length u.queue ≡ suc (length (drop (taken_count ls + 1) (placed ls))) = ap length q in
     absurd (omega arith)
 
-one_waiting : {S : Type 0} (pick_of : S → ℕ → Pick) (rules : Rules) (ps : List (Readied S)) (past : List Said) (n w v : ℕ) (r : Bool) (u : WorkerView) → ArePrepared pick_of rules ps (installed_of past) → Stands rules (lines_of w past) u → (o : Option Item) → next_item (lines_of w past) ≡ o → (b : Bool) → (length u.queue == 0) ≡ b → OneGoes rules past w v r (by_queue rules (installed_of past) (lines_of w past) o n w v r) (if b then record { outcome = Refused Idle; after = u } else if list_any (λ j. j == v) (installed_of past) then one_prepared pick_of n w u (prepared_at v ps) r else record { outcome = Refused UnknownVersion; after = u })
+one_waiting : {S : Type 0} (pick_of : S → ℕ → Pick) (rules : Rules) (ps : List (Readied S)) (past : List LogEntry) (n w v : ℕ) (r : Bool) (u : WorkerView) → ArePrepared pick_of rules ps (installed_of past) → Stands rules (lines_of w past) u → (o : Option Item) → next_item (lines_of w past) ≡ o → (b : Bool) → (length u.queue == 0) ≡ b → OneGoes rules past w v r (by_queue rules (installed_of past) (lines_of w past) o n w v r) (if b then record { outcome = Refused Idle; after = u } else if list_any (λ j. j == v) (installed_of past) then one_prepared pick_of n w u (prepared_at v ps) r else record { outcome = Refused UnknownVersion; after = u })
 one_waiting pick_of rules ps past n w v r u all st None h true e = (refl, st)
 one_waiting pick_of rules ps past n w v r u all st (Some i) h false e = one_known pick_of rules ps past n w v r u st all (list_any (λ j. j == v) (installed_of past)) refl
 one_waiting pick_of rules ps past n w v r u all st None h false e = absurd (empty_queue rules (lines_of w past) u st h e)
 one_waiting pick_of rules ps past n w v r u all st (Some i) h true e = absurd (full_queue rules (lines_of w past) u i st h e)
 
-pub one_goes : {S : Type 0} (pick_of : S → ℕ → Pick) (rules : Rules) (ps : List (Readied S)) (past : List Said) (n w v : ℕ) (r : Bool) (u : WorkerView) → ArePrepared pick_of rules ps (installed_of past) → Stands rules (lines_of w past) u → OneGoes rules past w v r (by_queue rules (installed_of past) (lines_of w past) (next_item (lines_of w past)) n w v r) (one_step pick_of ps (installed_of past) n w u v r)
+pub one_goes : {S : Type 0} (pick_of : S → ℕ → Pick) (rules : Rules) (ps : List (Readied S)) (past : List LogEntry) (n w v : ℕ) (r : Bool) (u : WorkerView) → ArePrepared pick_of rules ps (installed_of past) → Stands rules (lines_of w past) u → OneGoes rules past w v r (by_queue rules (installed_of past) (lines_of w past) (next_item (lines_of w past)) n w v r) (one_step pick_of ps (installed_of past) n w u v r)
 one_goes pick_of rules ps past n w v r u all st = one_waiting pick_of rules ps past n w v r u all st (next_item (lines_of w past)) refl (length u.queue == 0) refl
 
 same_if : (b : Bool) (ls : List Line) → (if b then ls else ls) ≡ ls
@@ -143,10 +143,10 @@ shrink_queue : (pick : Pick) (here : Flow → Option Candidates) (n w : ℕ) (u 
 shrink_queue pick here n w u v r [] e = ap length (sym e)
 shrink_queue pick here n w u v r (i ∷ rest) e = go (nat_lt v i.floor || nat_lt v u.used)
   where
-    go : (b : Bool) → let s : Step = (if b then record { taken = takings.Behind; after = u } else step_told u i rest v (told_in pick u.forwarding (serving_under here v i r))) in Shrinks (length (i ∷ rest)) (of_step n w s)
+    go : (b : Bool) → let s : WorkerStep = (if b then record { taken = takings.Behind; after = u } else step_told u i rest v (told_in pick u.forwarding (serving_under here v i r))) in Shrinks (length (i ∷ rest)) (of_step n w s)
     go true = ap length (sym e)
     go false =
-        let t : Told = told_in pick u.forwarding (serving_under here v i r) in
+        let t : Reply = told_in pick u.forwarding (serving_under here v i r) in
         let f : length (i ∷ rest) ≡ length rest + 1 = omega arith in
         f ∙ ap (λ (b : Bool). if b then length rest + 1 else length rest) (sym (choice_accepted n w i t.choice))
 
@@ -167,11 +167,11 @@ served_waits : (b : Bool) (now was q a s p : ℕ) → now + q ≡ was + a → q 
 served_waits true now was q a s p e f g = omega arith
 served_waits false now was q a s p e f g = omega arith
 
-abbrev pub StepGoes : Rules → List Said → Event → Option Packet → Outcome → NodeStep → Type 0
+abbrev pub StepGoes : Rules → List LogEntry → Event → Option Packet → Outcome → NodeStep → Type 0
 StepGoes rules past a x o s = (s.outcome ≡ o) × NodeStands rules (record { event = a; packet = x; outcome = s.outcome } ∷ past) s.after
 
 -- a refused serving leaves the record's lines
-stands_refused : (rules : Rules) (past : List Said) (m : NodeView) (n w v : ℕ) (r : Bool) (x : Option Packet) → NodeStands rules past m → NodeStands rules (record { event = Serve n w v r; packet = x; outcome = Refused NoWorker } ∷ past) m
+stands_refused : (rules : Rules) (past : List LogEntry) (m : NodeView) (n w v : ℕ) (r : Bool) (x : Option Packet) → NodeStands rules past m → NodeStands rules (record { event = Serve n w v r; packet = x; outcome = Refused NoWorker } ∷ past) m
 stands_refused rules past m n w v r x st = record {
   some = st.some;
   newest = st.newest;
@@ -182,7 +182,7 @@ stands_refused rules past m n w v r x st = record {
   each = λ j u h. subst (λ (l : List Line). Stands rules l u) (sym (same_if (w == j) (lines_of j past))) (st.each j u h);
 }
 
-module _ {S : Type 0} (pick_of : S → ℕ → Pick) (rules : Rules) (ps : List (Readied S)) (past : List Said) (m : NodeView) (n w v : ℕ) (r : Bool) (x : Option Packet) (all : ArePrepared pick_of rules ps (installed_of past)) (st : NodeStands rules past m) where
+module _ {S : Type 0} (pick_of : S → ℕ → Pick) (rules : Rules) (ps : List (Readied S)) (past : List LogEntry) (m : NodeView) (n w v : ℕ) (r : Bool) (x : Option Packet) (all : ArePrepared pick_of rules ps (installed_of past)) (st : NodeStands rules past m) where
   serve_set : (u : WorkerView) → slice_get m.workers w ≡ Some u → StepGoes rules past (Serve n w v r) x (serve_verdict rules past n w v r) (serve_at pick_of ps m n w v r (Some u))
   serve_set u h =
       let one : OneStep = one_step pick_of ps m.installed n w u v r in
@@ -217,7 +217,7 @@ module _ {S : Type 0} (pick_of : S → ℕ → Pick) (rules : Rules) (ps : List 
   serve_goes = served_at (slice_get m.workers w) refl
 
 -- an installation
-pub install_goes : (rules : Rules) (past : List Said) (m : NodeView) (n v : ℕ) (x : Option Packet) (known : Bool) → NodeStands rules past m → StepGoes rules past (Install n v) x (install_verdict known (newest_of past) v) (install_step known m v)
+pub install_goes : (rules : Rules) (past : List LogEntry) (m : NodeView) (n v : ℕ) (x : Option Packet) (known : Bool) → NodeStands rules past m → StepGoes rules past (Install n v) x (install_verdict known (newest_of past) v) (install_step known m v)
 install_goes rules past m n v x known st = at known
   where
     newer : (b : Bool) → StepGoes rules past (Install n v) x (if b then Installed else Refused NotNewer) (if b then record { outcome = Installed; after = record { newest = v; installed = v ∷ m.installed; cursor = m.cursor; workers = m.workers } } else refuse (Refused NotNewer) m)
@@ -232,7 +232,7 @@ install_goes rules past m n v x known st = at known
 abbrev pub with_item : ℕ → ℕ → Item → List Line → List Line
 with_item w j i ls = if w == j then put i ∷ ls else ls
 
-placed_each : (rules : Rules) (past : List Said) (m : NodeView) (w : ℕ) (i : Item) → NodeStands rules past m → (u : WorkerView) → slice_get m.workers w ≡ Some u → (j : ℕ) (y : WorkerView) → slice_get (slice_set m.workers w (record { queue = u.queue ++ i ∷ []; used = u.used; forwarding = u.forwarding })) j ≡ Some y → Stands rules (with_item w j i (lines_of j past)) y
+placed_each : (rules : Rules) (past : List LogEntry) (m : NodeView) (w : ℕ) (i : Item) → NodeStands rules past m → (u : WorkerView) → slice_get m.workers w ≡ Some u → (j : ℕ) (y : WorkerView) → slice_get (slice_set m.workers w (record { queue = u.queue ++ i ∷ []; used = u.used; forwarding = u.forwarding })) j ≡ Some y → Stands rules (with_item w j i (lines_of j past)) y
 placed_each rules past m w i st u h j y k = elim (get_set m.workers w j (record { queue = u.queue ++ i ∷ []; used = u.used; forwarding = u.forwarding }) y k) [
   | inl p ↦ subst (λ (q : ℕ). Stands rules (if w == q then put i ∷ lines_of q past else lines_of q past) y) (sym p.0)
       (subst (λ (b : Bool). Stands rules (if b then put i ∷ lines_of w past else lines_of w past) y) (sym (eq-eqb w w refl))
@@ -248,7 +248,7 @@ cursor_step false workers c = refl
 abbrev pub view_of : NodeView → ℕ → ℕ → NodeView
 view_of m newest cursor = record { newest = newest; installed = m.installed; cursor = cursor; workers = m.workers }
 
-module _ (rules : Rules) (past : List Said) (m : NodeView) (n k : ℕ) (marks : List Bool) (x : Flow) (l t : ℕ) (st : NodeStands rules past m) where
+module _ (rules : Rules) (past : List LogEntry) (m : NodeView) (n k : ℕ) (marks : List Bool) (x : Flow) (l t : ℕ) (st : NodeStands rules past m) where
   abbrev pub Home : ℕ
   Home = home_of rules.plain rules.workers x
 
@@ -312,13 +312,13 @@ module _ (rules : Rules) (past : List Said) (m : NodeView) (n k : ℕ) (marks : 
       (good_at (newest_of past == 0) refl)))
 
 -- an arrival
-pub arrive_goes : (rules : Rules) (past : List Said) (m : NodeView) (n k : ℕ) (marks : List Bool) (x : Option Packet) → NodeStands rules past m → StepGoes rules past (Arrive n k marks) x (arrive_verdict rules (newest_of past) (refusals_of rules past % rules.workers) k marks x) (arrive_step rules.plain m k marks x)
+pub arrive_goes : (rules : Rules) (past : List LogEntry) (m : NodeView) (n k : ℕ) (marks : List Bool) (x : Option Packet) → NodeStands rules past m → StepGoes rules past (Arrive n k marks) x (arrive_verdict rules (newest_of past) (refusals_of rules past % rules.workers) k marks x) (arrive_step rules.plain m k marks x)
 arrive_goes rules past m n k marks None st = (refl, record { some = st.some; newest = st.newest; installed = st.installed; cursor = st.cursor; count = st.count; waiting = st.waiting; each = st.each })
 arrive_goes rules past m n k marks (Some (Bad c)) st = (refl, record { some = st.some; newest = st.newest; installed = st.installed; cursor = st.cursor; count = st.count; waiting = st.waiting; each = st.each })
 arrive_goes rules past m n k marks (Some (Good x l t)) st = good_goes rules past m n k marks x l t st
 
 -- the packets placed in a life are no more than the events
-placed_le : (past : List Said) → placed_count past ≤ length past
+placed_le : (past : List LogEntry) → placed_count past ≤ length past
 placed_le [] = omega arith
 placed_le (s ∷ past) = go (placed_count past) (length past) (placed_le past) s.event s.outcome
   where
@@ -354,7 +354,7 @@ cleared_length [] = refl
 cleared_length (u ∷ ws) = ap suc (cleared_length ws)
 
 -- a restart
-restart_goes : (rules : Rules) (past : List Said) (m : NodeView) (n lost : ℕ) (x : Option Packet) → length past < 2 ^ 64 → NodeStands rules past m → lost ≡ waits m.workers % 2 ^ 64 → NodeGoes rules past (Restart n) x (Restarted lost) (restarted m)
+restart_goes : (rules : Rules) (past : List LogEntry) (m : NodeView) (n lost : ℕ) (x : Option Packet) → length past < 2 ^ 64 → NodeStands rules past m → lost ≡ waits m.workers % 2 ^ 64 → NodeGoes rules past (Restart n) x (Restarted lost) (restarted m)
 restart_goes rules past m n lost x few st e =
     let a : waits m.workers + served_count past ≡ placed_count past = st.waiting in
     let b : placed_count past ≤ length past = placed_le past in
@@ -375,30 +375,30 @@ restart_goes rules past m n lost x few st e =
     )
 
 -- the same, with the outcome in place of the step's
-pub as_said : (rules : Rules) (past : List Said) (e : Event) (x : Option Packet) (o : Outcome) (m : NodeView) (s : NodeStep) → o ≡ s.outcome → m ≡ s.after → StepGoes rules past e x (node_verdict rules past e x) s → NodeGoes rules past e x o m
+pub as_said : (rules : Rules) (past : List LogEntry) (e : Event) (x : Option Packet) (o : Outcome) (m : NodeView) (s : NodeStep) → o ≡ s.outcome → m ≡ s.after → StepGoes rules past e x (node_verdict rules past e x) s → NodeGoes rules past e x o m
 as_said rules past a x o m s e f g = (
   e ∙ g.0,
   subst (λ (z : NodeView). NodeStands rules (node_say rules past a x ∷ past) z) (sym f) (subst (λ (q : Outcome). NodeStands rules (record { event = a; packet = x; outcome = q } ∷ past) s.after) g.0 g.1),
 )
 
-result_said : (rules : Rules) (past : List Said) (a b : Event) (x : Option Packet) (r : Result Outcome AllocError) (m : NodeView) (s : NodeStep) → a ≡ b → IfOk r (λ o. o ≡ s.outcome) → OnOk r (m ≡ s.after) → StepGoes rules past b x (node_verdict rules past b x) s → IfOk r (λ o. NodeGoes rules past a x o m)
+result_said : (rules : Rules) (past : List LogEntry) (a b : Event) (x : Option Packet) (r : Result Outcome AllocError) (m : NodeView) (s : NodeStep) → a ≡ b → IfOk r (λ o. o ≡ s.outcome) → OnOk r (m ≡ s.after) → StepGoes rules past b x (node_verdict rules past b x) s → IfOk r (λ o. NodeGoes rules past a x o m)
 result_said rules past a b x (Ok o) m s e h k g = subst (λ (c : Event). NodeGoes rules past c x o m) (sym e) (as_said rules past b x o m s h k g)
 result_said rules past a b x (Err d) m s e h k g = tt
 
-pub arrive_said : (rules : Rules) (past : List Said) (m after : NodeView) (e : Event) (n k : ℕ) (marks : List Bool) (x : Option Packet) (plain : List ℕ → ℕ) (r : Result Outcome AllocError) → rules.plain ≡ plain → NodeStands rules past m → e ≡ Arrive n k marks → IfOk r (λ o. o ≡ (arrive_step plain m k marks x).outcome) → OnOk r (after ≡ (arrive_step plain m k marks x).after) → IfOk r (λ o. NodeGoes rules past e x o after)
+pub arrive_said : (rules : Rules) (past : List LogEntry) (m after : NodeView) (e : Event) (n k : ℕ) (marks : List Bool) (x : Option Packet) (plain : List ℕ → ℕ) (r : Result Outcome AllocError) → rules.plain ≡ plain → NodeStands rules past m → e ≡ Arrive n k marks → IfOk r (λ o. o ≡ (arrive_step plain m k marks x).outcome) → OnOk r (after ≡ (arrive_step plain m k marks x).after) → IfOk r (λ o. NodeGoes rules past e x o after)
 arrive_said rules past m after e n k marks x plain r f st d h j = result_said rules past e (Arrive n k marks) x r after (arrive_step plain m k marks x) d h j
     (subst (λ (q : List ℕ → ℕ). StepGoes rules past (Arrive n k marks) x (arrive_verdict rules (newest_of past) (refusals_of rules past % rules.workers) k marks x) (arrive_step q m k marks x)) f (arrive_goes rules past m n k marks x st))
 
-pub install_said : (rules : Rules) (past : List Said) (m after : NodeView) (e : Event) (n v : ℕ) (x : Option Packet) (known : Bool) (r : Result Outcome AllocError) → IsKnown rules e known → NodeStands rules past m → e ≡ Install n v → IfOk r (λ o. o ≡ (install_step known m v).outcome) → OnOk r (after ≡ (install_step known m v).after) → IfOk r (λ o. NodeGoes rules past e x o after)
+pub install_said : (rules : Rules) (past : List LogEntry) (m after : NodeView) (e : Event) (n v : ℕ) (x : Option Packet) (known : Bool) (r : Result Outcome AllocError) → IsKnown rules e known → NodeStands rules past m → e ≡ Install n v → IfOk r (λ o. o ≡ (install_step known m v).outcome) → OnOk r (after ≡ (install_step known m v).after) → IfOk r (λ o. NodeGoes rules past e x o after)
 install_said rules past m after e n v x known r k st d h j =
     let same : rules.known v ≡ known = subst (λ (a : Event). IsKnown rules a known) d k in
     result_said rules past e (Install n v) x r after (install_step known m v) d h j
     (subst (λ (b : Bool). StepGoes rules past (Install n v) x (install_verdict (rules.known v) (newest_of past) v) (install_step b m v)) same (install_goes rules past m n v x (rules.known v) st))
 
-pub serve_said : {S : Type 0} (pick_of : S → ℕ → Pick) (rules : Rules) (ps : List (Readied S)) (past : List Said) (m after : NodeView) (e : Event) (n w v : ℕ) (f : Bool) (x : Option Packet) (r : Result Outcome AllocError) → ArePrepared pick_of rules ps (installed_of past) → NodeStands rules past m → e ≡ Serve n w v f → IfOk r (λ o. o ≡ (serve_step pick_of ps m n w v f).outcome) → OnOk r (after ≡ (serve_step pick_of ps m n w v f).after) → IfOk r (λ o. NodeGoes rules past e x o after)
+pub serve_said : {S : Type 0} (pick_of : S → ℕ → Pick) (rules : Rules) (ps : List (Readied S)) (past : List LogEntry) (m after : NodeView) (e : Event) (n w v : ℕ) (f : Bool) (x : Option Packet) (r : Result Outcome AllocError) → ArePrepared pick_of rules ps (installed_of past) → NodeStands rules past m → e ≡ Serve n w v f → IfOk r (λ o. o ≡ (serve_step pick_of ps m n w v f).outcome) → OnOk r (after ≡ (serve_step pick_of ps m n w v f).after) → IfOk r (λ o. NodeGoes rules past e x o after)
 serve_said pick_of rules ps past m after e n w v f x r all st d h j = result_said rules past e (Serve n w v f) x r after (serve_step pick_of ps m n w v f) d h j (serve_goes pick_of rules ps past m n w v f x all st)
 
-pub restart_said : (rules : Rules) (past : List Said) (m after : NodeView) (e : Event) (n lost : ℕ) (x : Option Packet) → length past < 2 ^ 64 → NodeStands rules past m → e ≡ Restart n → lost ≡ waits m.workers % 2 ^ 64 → after ≡ restarted m → NodeGoes rules past e x (Restarted lost) after
+pub restart_said : (rules : Rules) (past : List LogEntry) (m after : NodeView) (e : Event) (n lost : ℕ) (x : Option Packet) → length past < 2 ^ 64 → NodeStands rules past m → e ≡ Restart n → lost ≡ waits m.workers % 2 ^ 64 → after ≡ restarted m → NodeGoes rules past e x (Restarted lost) after
 restart_said rules past m after e n lost x few st d h j =
     subst (λ (c : Event). NodeGoes rules past c x (Restarted lost) after) (sym d) (subst (λ (z : NodeView). NodeGoes rules past (Restart n) x (Restarted lost) z) (sym j) (restart_goes rules past m n lost x few st h))
 

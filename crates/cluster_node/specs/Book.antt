@@ -2,7 +2,7 @@
 use Rattle.std.specs.Prelude.{◌≡◌, ℕ, ◌+◌, ◌≤◌, ◌||◌, Bool, List, [], ◌∷◌, ◌++◌, length, drop, Option, Some, None, if◌then◌else◌, nat_lt, slice_get, max}
 use Rattle.five_tuple.specs.declared.Flow.{Flow}
 use Rattle.selection.specs.Candidates.{Candidates}
-use Rattle.forwarder.specs.Serving.{Pick, Serving, Told, told_in, told_after, told, after_told, forwarding_of}
+use Rattle.forwarder.specs.Serving.{Pick, Serving, Reply, told_in, told_after, told, after_told, forwarding_of}
 use Rattle.cluster_node.specs.declared.serving.Item.{Item}
 use Rattle.cluster_node.specs.declared.serving.Taken.{Taken}
 use Rattle.cluster_node.specs.declared.serving.Taken.TheVariants.{Idle, Behind, Done}
@@ -51,7 +51,7 @@ greatest_used (put i ∷ ls) = greatest_used ls
 greatest_used (took v r ∷ ls) = max v (greatest_used ls)
 
 -- what is reported of a serving of this packet
-abbrev pub told_next : Rules → List Line → Item → ℕ → Bool → Told
+abbrev pub told_next : Rules → List Line → Item → ℕ → Bool → Reply
 told_next rules ls i v r = told_after rules.pick rules.capacity rules.idle (told rules.pick rules.capacity rules.idle (servings rules ls)) (serving_under (rules.ups v) v i r)
 
 abbrev pub taken_of : Rules → List Line → Option Item → ℕ → Bool → Taken
@@ -84,18 +84,18 @@ pub record Stands (rules : Rules) (ls : List Line) (w : WorkerView) : Type 0 whe
   pub is : w ≡ worker_of rules ls
 
 -- one step of a worker, by what it keeps
-pub record Step : Type 0 where
+pub record WorkerStep : Type 0 where
   pub taken : Taken
   pub after : WorkerView
 
-abbrev pub step_told : WorkerView → Item → List Item → ℕ → Told → Step
+abbrev pub step_told : WorkerView → Item → List Item → ℕ → Reply → WorkerStep
 step_told w i rest v t = record { taken = Done i t.choice; after = record { queue = rest; used = v; forwarding = after_told t w.forwarding } }
 
-abbrev pub step_by : Pick → (Flow → Option Candidates) → WorkerView → List Item → ℕ → Bool → Step
+abbrev pub step_by : Pick → (Flow → Option Candidates) → WorkerView → List Item → ℕ → Bool → WorkerStep
 step_by pick here w [] v r = record { taken = Idle; after = w }
 step_by pick here w (i ∷ rest) v r =
     if nat_lt v i.floor || nat_lt v w.used then record { taken = Behind; after = w }
     else step_told w i rest v (told_in pick w.forwarding (serving_under here v i r))
 
-abbrev pub step_of : Pick → (Flow → Option Candidates) → WorkerView → ℕ → Bool → Step
+abbrev pub step_of : Pick → (Flow → Option Candidates) → WorkerView → ℕ → Bool → WorkerStep
 step_of pick here w v r = step_by pick here w w.queue v r

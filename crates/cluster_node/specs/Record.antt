@@ -16,7 +16,7 @@ use Rattle.steering.specs.Steering.{home_of, refuses, place_for}
 use Rattle.steering.specs.declared.Placed.{Placed as Placing}
 use Rattle.steering.specs.declared.Placed.TheVariants as placings
 use Rattle.cluster_node.specs.Rules.{Rules}
-use Rattle.cluster_node.specs.declared.events.Said.{Said}
+use Rattle.cluster_node.specs.declared.events.LogEntry.{LogEntry}
 use Rattle.cluster_node.specs.NodeView.{NodeView}
 use Rattle.cluster_node.specs.declared.packets.Packet.{Packet}
 use Rattle.cluster_node.specs.declared.packets.Packet.TheVariants.{Good, Bad}
@@ -42,7 +42,7 @@ installed_by (Arrive n k marks) o vs = vs
 installed_by (Serve n w v r) o vs = vs
 installed_by (Restart n) o vs = vs
 
-abbrev pub installed_of : List Said → List ℕ
+abbrev pub installed_of : List LogEntry → List ℕ
 installed_of [] = []
 installed_of (s ∷ past) = installed_by s.event s.outcome (installed_of past)
 
@@ -53,7 +53,7 @@ newest_by (Arrive n k marks) o newest = newest
 newest_by (Serve n w v r) o newest = newest
 newest_by (Restart n) o newest = newest
 
-abbrev pub newest_of : List Said → ℕ
+abbrev pub newest_of : List LogEntry → ℕ
 newest_of [] = 0
 newest_of (s ∷ past) = newest_by s.event s.outcome (newest_of past)
 
@@ -70,7 +70,7 @@ refusals_by rules newest (Arrive n k marks) p o c = refused_home rules newest ma
 refusals_by rules newest (Serve n w v r) p o c = c
 refusals_by rules newest (Restart n) p o c = if accepted o then 0 else c
 
-abbrev pub refusals_of : Rules → List Said → ℕ
+abbrev pub refusals_of : Rules → List LogEntry → ℕ
 refusals_of rules [] = 0
 refusals_of rules (s ∷ past) = refusals_by rules (newest_of past) s.event s.packet s.outcome (refusals_of rules past)
 
@@ -94,7 +94,7 @@ line_by w (Arrive n k marks) x o ls = arrived_line w k x o ls
 line_by w (Serve n u v r) x o ls = if u == w then (if accepted o then took v r ∷ ls else ls) else ls
 line_by w (Restart n) x o ls = if accepted o then [] else ls
 
-abbrev pub lines_of : ℕ → List Said → List Line
+abbrev pub lines_of : ℕ → List LogEntry → List Line
 lines_of w [] = []
 lines_of w (s ∷ past) = line_by w s.event s.packet s.outcome (lines_of w past)
 
@@ -113,7 +113,7 @@ placed_by (Arrive n k marks) o c = more_placed o c
 placed_by (Serve n w v r) o c = c
 placed_by (Restart n) o c = if accepted o then 0 else c
 
-abbrev pub placed_count : List Said → ℕ
+abbrev pub placed_count : List LogEntry → ℕ
 placed_count [] = 0
 placed_count (s ∷ past) = placed_by s.event s.outcome (placed_count past)
 
@@ -123,7 +123,7 @@ served_by (Arrive n k marks) o c = c
 served_by (Serve n w v r) o c = if accepted o then c + 1 else c
 served_by (Restart n) o c = if accepted o then 0 else c
 
-abbrev pub served_count : List Said → ℕ
+abbrev pub served_count : List LogEntry → ℕ
 served_count [] = 0
 served_count (s ∷ past) = served_by s.event s.outcome (served_count past)
 
@@ -164,11 +164,11 @@ abbrev pub by_lines : Rules → List ℕ → List Line → ℕ → ℕ → ℕ �
 by_lines rules installed ls n w v r =
     if nat_lt w rules.workers then by_queue rules installed ls (next_item ls) n w v r else Refused NoWorker
 
-abbrev pub serve_verdict : Rules → List Said → ℕ → ℕ → ℕ → Bool → Outcome
+abbrev pub serve_verdict : Rules → List LogEntry → ℕ → ℕ → ℕ → Bool → Outcome
 serve_verdict rules past n w v r = by_lines rules (installed_of past) (lines_of w past) n w v r
 
 -- the outcome of an event after all that was said of its node before
-abbrev pub node_verdict : Rules → List Said → Event → Option Packet → Outcome
+abbrev pub node_verdict : Rules → List LogEntry → Event → Option Packet → Outcome
 node_verdict rules past (Install n v) x = install_verdict (rules.known v) (newest_of past) v
 node_verdict rules past (Arrive n k marks) x = arrive_verdict rules (newest_of past) (refusals_of rules past % rules.workers) k marks x
 node_verdict rules past (Serve n w v r) x = serve_verdict rules past n w v r
@@ -208,7 +208,7 @@ IsKnown rules (Serve n w v r) b = Unit {0}
 IsKnown rules (Restart n) b = Unit {0}
 
 -- a node represents its record
-pub record NodeStands (rules : Rules) (past : List Said) (n : NodeView) : Type 0 where
+pub record NodeStands (rules : Rules) (past : List LogEntry) (n : NodeView) : Type 0 where
   pub some : 0 < rules.workers
   pub newest : n.newest ≡ newest_of past
   pub installed : n.installed ≡ installed_of past
@@ -217,11 +217,11 @@ pub record NodeStands (rules : Rules) (past : List Said) (n : NodeView) : Type 0
   pub waiting : waits n.workers + served_count past ≡ placed_count past
   pub each : (w : ℕ) (u : WorkerView) → slice_get n.workers w ≡ Some u → Stands rules (lines_of w past) u
 
-abbrev pub node_say : Rules → List Said → Event → Option Packet → Said
+abbrev pub node_say : Rules → List LogEntry → Event → Option Packet → LogEntry
 node_say rules past e x = record { event = e; packet = x; outcome = node_verdict rules past e x }
 
 -- an outcome is what the record says, and the node represents the record with it
-abbrev pub NodeGoes : Rules → List Said → Event → Option Packet → Outcome → NodeView → Type 0
+abbrev pub NodeGoes : Rules → List LogEntry → Event → Option Packet → Outcome → NodeView → Type 0
 NodeGoes rules past e x o n = (o ≡ node_verdict rules past e x) × NodeStands rules (node_say rules past e x ∷ past) n
 
 -- a worker that has done nothing

@@ -8,7 +8,7 @@ use Rattle.cluster_node.specs.declared.packets.Packet.{Packet}
 use Rattle.cluster_node.specs.declared.packets.Packet.TheVariants.{Good, Bad}
 use Rattle.cluster_node.specs.declared.events.Event.{Event}
 use Rattle.cluster_node.specs.declared.events.Event.TheVariants.{Install, Arrive, Serve, Restart}
-use Rattle.cluster_node.specs.declared.events.Said.{Said}
+use Rattle.cluster_node.specs.declared.events.LogEntry.{LogEntry}
 use Rattle.cluster_node.specs.declared.outcomes.Outcome.{Outcome}
 use Rattle.cluster_node.specs.declared.outcomes.Outcome.TheVariants.{Installed, Placed, Forward, Dropped, Restarted, Refused}
 use Rattle.cluster_node.specs.declared.outcomes.Passed.{Passed}
@@ -24,25 +24,25 @@ node_of (Serve n w v r) = n
 node_of (Restart n) = n
 
 -- what the record has of one node
-abbrev pub of_node : ℕ → List Said → List Said
+abbrev pub of_node : ℕ → List LogEntry → List LogEntry
 of_node n [] = []
 of_node n (s ∷ past) = if node_of s.event == n then s ∷ of_node n past else of_node n past
 
 -- what it has of one worker's life so far, as lines
-abbrev pub lines_at : List Said → ℕ → ℕ → List Line
+abbrev pub lines_at : List LogEntry → ℕ → ℕ → List Line
 lines_at past n w = lines_of w (of_node n past)
 
 -- the outcome of an event after the record of all before it
 abbrev pub Judge : Type 0
-Judge = List Said → Event → Option Packet → Outcome
+Judge = List LogEntry → Event → Option Packet → Outcome
 
 -- each outcome of a record is the judge's
-abbrev pub Judged : Judge → List Said → Type 0
+abbrev pub Judged : Judge → List LogEntry → Type 0
 Judged judge [] = Unit {0}
 Judged judge (s ∷ past) = (s.outcome ≡ judge past s.event s.packet) × Judged judge past
 
 -- an event with what the judge says of it
-abbrev pub said : Judge → List Said → Event → Option Packet → Said
+abbrev pub said : Judge → List LogEntry → Event → Option Packet → LogEntry
 said judge past e p = record { event = e; packet = p; outcome = judge past e p }
 
 -- the worker on which an arrival was placed
@@ -55,30 +55,30 @@ placed_on (Restarted l) = None
 placed_on (Refused r) = None
 
 -- the record with the arrival, and where a worker has it, with that worker's serving
-abbrev pub with_arrival : Judge → List Said → Event → Packet → List Said
+abbrev pub with_arrival : Judge → List LogEntry → Event → Packet → List LogEntry
 with_arrival judge past e p = said judge past e (Some p) ∷ past
 
-abbrev pub with_serving : Judge → List Said → Event → Packet → Event → List Said
+abbrev pub with_serving : Judge → List LogEntry → Event → Packet → Event → List LogEntry
 with_serving judge past e p serving = said judge (with_arrival judge past e p) serving None ∷ with_arrival judge past e p
 
 -- A packet arrived, and where it was placed its worker served at once. What is reported of both is the judge's, one after
 -- the other: serving at once is placing and then serving.
-abbrev pub AreTold : Judge → List Said → Event → Packet → (ℕ → Event) → Passed → Type 0
+abbrev pub AreTold : Judge → List LogEntry → Event → Packet → (ℕ → Event) → Passed → Type 0
 AreTold judge past e p serving (Unplaced o) = (placed_on o ≡ None) × (o ≡ judge past e (Some p))
 AreTold judge past e p serving (Through w floor o) = (Placed w floor ≡ judge past e (Some p)) × (o ≡ judge (with_arrival judge past e p) (serving w) None)
 
 -- the record with what is reported
-abbrev pub with_told : List Said → Event → Packet → (ℕ → Event) → Passed → List Said
+abbrev pub with_told : List LogEntry → Event → Packet → (ℕ → Event) → Passed → List LogEntry
 with_told past e p serving (Unplaced o) = record { event = e; packet = Some p; outcome = o } ∷ past
 with_told past e p serving (Through w floor o) = record { event = serving w; packet = None; outcome = o } ∷ record { event = e; packet = Some p; outcome = Placed w floor } ∷ past
 
 -- the node represents the record with what the judge says, and where the packet was placed another one represented the
 -- record between
-abbrev pub StandsThrough : Rules → List Said → Event → Packet → (ℕ → Event) → Passed → NodeView → Type 0
+abbrev pub StandsThrough : Rules → List LogEntry → Event → Packet → (ℕ → Event) → Passed → NodeView → Type 0
 StandsThrough rules past e p serving (Unplaced o) m = NodeStands rules (with_arrival (node_verdict rules) past e p) m
 StandsThrough rules past e p serving (Through w floor o) m = (between : NodeView) × NodeStands rules (with_arrival (node_verdict rules) past e p) between × NodeStands rules (with_serving (node_verdict rules) past e p (serving w)) m
 
-abbrev pub NodePasses : Rules → List Said → Event → Packet → (ℕ → Event) → Passed → NodeView → Type 0
+abbrev pub NodePasses : Rules → List LogEntry → Event → Packet → (ℕ → Event) → Passed → NodeView → Type 0
 NodePasses rules past e p serving q m = AreTold (node_verdict rules) past e p serving q × StandsThrough rules past e p serving q m
 
 -- a cause that reading a packet has

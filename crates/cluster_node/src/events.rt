@@ -32,7 +32,7 @@ pub enum Event {
 
 /// An event, the packet that it names where it is an arrival, and its outcome.
 #[derive(Clone, Copy, PartialEq, Eq)]
-pub struct Said {
+pub struct LogEntry {
     pub event: Event,
     pub packet: Option<Packet>,
     pub outcome: Outcome,

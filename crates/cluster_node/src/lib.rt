@@ -10,7 +10,7 @@ mod packets;
 mod serving;
 mod steps;
 
-pub use events::{Event, Said};
+pub use events::{Event, LogEntry};
 pub use outcomes::{Cause, Outcome, Passed, Reason};
 pub use packets::Packet;
 pub use serving::{Item, Taken};

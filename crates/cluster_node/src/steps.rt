@@ -7,7 +7,7 @@ ghost use Rattle.cluster_node.specs.PrivateSteps.{install_step, arrive_on, arriv
 ghost use Rattle.cluster_node.specs.Record.{of_taken, of_choice, node_verdict, ArePrepared, IsKnown, installed_of, waits, waiting_at, fresh, cleared, NodeStands, NodeGoes};
 ghost use Rattle.cluster_node.specs.Records.{NodePasses};
 ghost use Rattle.cluster_node.specs.declared.events.Event.TheVariants.{Arrive, Serve};
-ghost use Rattle.cluster_node.specs.declared.events.Said.{Said};
+ghost use Rattle.cluster_node.specs.declared.events.LogEntry.{LogEntry};
 ghost use Rattle.cluster_node.specs.declared.outcomes.Passed.TheVariants.{Through};
 
 use crate::events::Event;
@@ -347,7 +347,7 @@ impl<S: Scheme, T: ConnTable> Node<S, T> {
         event: Event,
         packet: Option<Packet>,
     ) -> Result<Outcome, AllocError>
-        ensures verdict { (rules : Rules) → (past : List Said) →
+        ensures verdict { (rules : Rules) → (past : List LogEntry) →
             rules.plain ≡ H.plain hash.now → IsKnown rules event known →
             ArePrepared (λ s z. S.pick s z) rules versions.now (installed_of past) →
             length past < 2 ^ 64 →
@@ -465,7 +465,7 @@ impl<S: Scheme, T: ConnTable> Node<S, T> {
         body: &Packet,
         passed: &mut Passed,
     ) -> Result<(), AllocError>
-        ensures verdict { (rules : Rules) → (past : List Said) →
+        ensures verdict { (rules : Rules) → (past : List LogEntry) →
             rules.plain ≡ H.plain hash.now →
             ArePrepared (λ s z. S.pick s z) rules versions.now (installed_of past) →
             NodeStands rules past self.old →

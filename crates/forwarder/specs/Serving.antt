@@ -26,7 +26,7 @@ pub record Serving : Type 0 where
   pub refused : Bool
 
 -- what is reported of a serving: the answer, whether the scheme was asked, the touch, if it is one, and the clock
-pub record Told : Type 0 where
+pub record Reply : Type 0 where
   pub choice : Choice
   pub asked : Bool
   pub touch : Option Touch
@@ -56,21 +56,21 @@ touch_answered clock s None b = if s.refused then None else Some (s.flow, record
 touch_answered clock s (Some e) b = Some (s.flow, record { backend = b; version = s.version; last = clock })
 
 -- the scheme was asked
-abbrev pub told_asked : ℕ → Serving → Option Entry → Option Backend → Told
+abbrev pub told_asked : ℕ → Serving → Option Entry → Option Backend → Reply
 told_asked clock s stood None = record { choice = NoBackend; asked = true; touch = touch_unanswered clock s.flow stood; clock = clock }
 told_asked clock s stood (Some b) = record { choice = Forward b s.version; asked = true; touch = touch_answered clock s stood b; clock = clock }
 
 -- by the entry where its backend is up, else by the scheme
-abbrev pub told_by : Pick → ℕ → Serving → Candidates → Option Entry → Option Entry → ℕ → Told
+abbrev pub told_by : Pick → ℕ → Serving → Candidates → Option Entry → Option Entry → ℕ → Reply
 told_by pick clock s ups stood (Some e) turn = record { choice = Forward e.backend e.version; asked = false; touch = Some (s.flow, at_clock clock e); clock = clock }
 told_by pick clock s ups stood None turn = told_asked clock s stood (pick ups s.flow turn)
 
-abbrev pub told_under : Pick → ℕ → Serving → Option Candidates → Option Entry → ℕ → Told
+abbrev pub told_under : Pick → ℕ → Serving → Option Candidates → Option Entry → ℕ → Reply
 told_under pick clock s None stood turn = record { choice = NoService; asked = false; touch = None; clock = clock }
 told_under pick clock s (Some ups) stood turn = told_by pick clock s ups stood (kept stood ups) turn
 
 -- a serving at a clock, where this entry stands for its flow, at this turn
-abbrev pub serve_as : Pick → ℕ → Serving → Option Entry → ℕ → Told
+abbrev pub serve_as : Pick → ℕ → Serving → Option Entry → ℕ → Reply
 serve_as pick clock s stood turn = told_under pick clock s s.ups stood turn
 
 -- the touches among what was reported, newest first
@@ -78,30 +78,30 @@ abbrev pub with_touch : Option Touch → List Touch → List Touch
 with_touch None ts = ts
 with_touch (Some t) ts = t ∷ ts
 
-abbrev pub touches : List Told → List Touch
+abbrev pub touches : List Reply → List Touch
 touches [] = []
 touches (t ∷ ts) = with_touch t.touch (touches ts)
 
 -- how often the scheme was asked
-abbrev pub asked_count : List Told → ℕ
+abbrev pub asked_count : List Reply → ℕ
 asked_count [] = 0
 asked_count (t ∷ ts) = if t.asked then asked_count ts + 1 else asked_count ts
 
 -- the clock of the last one
-abbrev pub clock_of : List Told → ℕ
+abbrev pub clock_of : List Reply → ℕ
 clock_of [] = 0
 clock_of (t ∷ ts) = t.clock
 
 -- what is reported of a serving at a clock after others
-abbrev pub told_at : Pick → ℕ → Option ℕ → List Told → Serving → ℕ → Told
+abbrev pub told_at : Pick → ℕ → Option ℕ → List Reply → Serving → ℕ → Reply
 told_at pick capacity idle past s clock = serve_as pick clock s (standing capacity idle clock s.flow (touches past)) (asked_count past % 2 ^ 64)
 
 -- what is reported of a serving after others: its clock is the greatest time of the packets so far, its own included
-abbrev pub told_after : Pick → ℕ → Option ℕ → List Told → Serving → Told
+abbrev pub told_after : Pick → ℕ → Option ℕ → List Reply → Serving → Reply
 told_after pick capacity idle past s = told_at pick capacity idle past s (max (clock_of past) s.at)
 
 -- what is reported of a forwarder's servings in one life, newest first
-abbrev pub told : Pick → ℕ → Option ℕ → List Serving → List Told
+abbrev pub told : Pick → ℕ → Option ℕ → List Serving → List Reply
 told pick capacity idle [] = []
 told pick capacity idle (s ∷ earlier) = told_after pick capacity idle (told pick capacity idle earlier) s ∷ told pick capacity idle earlier
 
@@ -124,7 +124,7 @@ abbrev pub stands_in : Forwarding → Flow → ℕ → Option Entry
 stands_in f x at = in_time f.idle (clock_with f at) (last_touch x f.entries)
 
 -- what a forwarder reports of a serving
-abbrev pub told_in : Pick → Forwarding → Serving → Told
+abbrev pub told_in : Pick → Forwarding → Serving → Reply
 told_in pick f s = serve_as pick (clock_with f s.at) s (stands_in f s.flow s.at) f.turn
 
 -- a touch in the bounded list
@@ -133,7 +133,7 @@ entries_after capacity None ts = ts
 entries_after capacity (Some t) ts = stored capacity t.0 t.1 ts
 
 -- the forwarder after this was reported
-abbrev pub after_told : Told → Forwarding → Forwarding
+abbrev pub after_told : Reply → Forwarding → Forwarding
 after_told t f = record {
   capacity = f.capacity;
   idle = f.idle;

@@ -2,16 +2,16 @@
 use Rattle.std.specs.Prelude.{◌≡◌, ◌⊎◌, Bool, List, ℕ, None}
 use Rattle.std.specs.Io.KnownBytes.{Appends}
 use Rattle.pcap_file.specs.Device.{Tape, Unfailed, PutRefused}
-use Rattle.node_duties.specs.declared.fault.RunFault.{RunFault}
-use Rattle.node_duties.specs.declared.fault.RunFault.TheVariants as threads
+use Rattle.thread_roles.specs.declared.fault.RunFault.{RunFault}
+use Rattle.thread_roles.specs.declared.fault.RunFault.TheVariants as threads
 use Rattle.scenario.specs.declared.playing.Played.TheVariants.{OnThreads}
 use Rattle.scenario.specs.declared.reading.Scenario.{Scenario}
 use Rattle.scenario.specs.Meaning.{Means}
-use Rattle.cluster_commands.specs.Knowing.{first_unknown_of}
-use Rattle.cluster_play.specs.declared.stop.RunStop.{RunStop}
-use Rattle.cluster_play.specs.declared.stop.RunStop.TheVariants.{UnknownStep, Simulation, Threads}
-use Rattle.cluster_play.specs.Runs.{Ran, Halted}
-use Rattle.cluster_play.specs.Kept.{KeepsPromises}
+use Rattle.driver_commands.specs.Knowing.{first_unsupported_of}
+use Rattle.run_scenario.specs.declared.failure.RunFailure.{RunFailure}
+use Rattle.run_scenario.specs.declared.failure.RunFailure.TheVariants.{UnsupportedStep, Simulation, Threads}
+use Rattle.run_scenario.specs.Runs.{Ran, Halted}
+use Rattle.run_scenario.specs.Kept.{KeepsPromises}
 use Rattle.scenario_commands.specs.Scenarios.{run_fault, ScenarioFails}
 use Rattle.command_faults.specs.declared.fault.CliFault.{CliFault}
 use Rattle.command_faults.specs.declared.fault.CliFault.TheVariants.{BadStep, Write, Foreign, RingLost, ThreadLost, BookLost, Memory}
@@ -24,10 +24,10 @@ threads_fault threads.BookLost = BookLost
 threads_fault threads.Memory = Memory
 
 -- the fault of a run that stopped, as the command's
-abbrev pub stop_fault : RunStop → CliFault
-stop_fault (UnknownStep place) = BadStep place
-stop_fault (Simulation fault) = run_fault fault
-stop_fault (Threads fault) = threads_fault fault
+abbrev pub failure_fault : RunFailure → CliFault
+failure_fault (UnsupportedStep place) = BadStep place
+failure_fault (Simulation fault) = run_fault fault
+failure_fault (Threads fault) = threads_fault fault
 
 -- the cluster of the scenario that the text means ran on threads over the input, the output got what the nodes sent, and the
 -- report the run's, behind its splits where they are asked for; and the run keeps the promises
@@ -42,12 +42,12 @@ pub record Runs (splits : Bool) (text : List ℕ) (input input' output output' r
 
 -- the text means a scenario that is played on threads, so that a cluster on threads knows each step, and its run stopped by
 -- this fault
-pub record RunStops (fault : CliFault) (text : List ℕ) (input input' output output' : Tape) : Type 0 where
+pub record RunFails (fault : CliFault) (text : List ℕ) (input input' output output' : Tape) : Type 0 where
   pub scenario : Scenario
   pub means : Means OnThreads text scenario
-  pub known : first_unknown_of scenario.steps.items ≡ None
-  pub why : RunStop
-  pub named : fault ≡ stop_fault why
+  pub known : first_unsupported_of scenario.steps.items ≡ None
+  pub why : RunFailure
+  pub named : fault ≡ failure_fault why
   pub stopped : Halted scenario input input' output output' why
 
 -- the same as when the cluster ran, but the report was given up
@@ -64,5 +64,5 @@ pub record RunReportFails (fault : CliFault) (splits : Bool) (text : List ℕ) (
 abbrev pub RunCommandFails : CliFault → Bool → List ℕ → Tape → Tape → Tape → Tape → Tape → Tape → Type 0 → Type 0 → Type 0
 RunCommandFails fault splits text input input' output output' report report' Uncalled Unreported =
     (ScenarioFails OnThreads fault text × Uncalled)
-    ⊎ ((RunStops fault text input input' output output' × Unreported)
+    ⊎ ((RunFails fault text input input' output output' × Unreported)
     ⊎ RunReportFails fault splits text input input' output output' report report')

@@ -1,12 +1,12 @@
 //! The command that runs a scenario's cluster on threads.
 ghost use Rattle.std.specs.Prelude.{◌≡◌, IfErr, OnOk};
-ghost use Rattle.maglev_cli.specs.Runs.{Runs, RunCommandFails, stop_fault, threads_fault};
+ghost use Rattle.maglev_cli.specs.Runs.{Runs, RunCommandFails, failure_fault, threads_fault};
 
-use cluster_play::{RunStop, run_scenario};
 use command_faults::{CliFault, put_text};
 use connection_table::TableKey;
 use node_threads::RunFault;
 use pcap_file::{Sink, Source};
+use run_scenario::{RunFailure, run_scenario};
 use scenario::{Played, read};
 use scenario_commands::{run_fault, scenario_fault};
 use std::alloc::Global;
@@ -25,13 +25,13 @@ fn threads_fault(fault: RunFault) -> CliFault
     }
 }
 
-fn stop_fault(stop: RunStop) -> CliFault
-    ensures { result ≡ stop_fault stop }
+fn failure_fault(stop: RunFailure) -> CliFault
+    ensures { result ≡ failure_fault stop }
 {
     match stop {
-        RunStop::UnknownStep(step) => CliFault::BadStep(step),
-        RunStop::Simulation(fault) => run_fault(fault),
-        RunStop::Threads(fault) => threads_fault(fault),
+        RunFailure::UnsupportedStep(step) => CliFault::BadStep(step),
+        RunFailure::Simulation(fault) => run_fault(fault),
+        RunFailure::Threads(fault) => threads_fault(fault),
     }
 }
 
@@ -83,6 +83,6 @@ pub fn run_keyed<T: Threads + Wait + Sync, I: Source, O: Sink, R: Sink>(
     };
     match run_scenario(rt, alloc, key, &scenario, splits, input, output) {
         Ok(text) => put_text(report, text.as_str()),
-        Err(stop) => Err(stop_fault(stop)),
+        Err(stop) => Err(failure_fault(stop)),
     }
 }

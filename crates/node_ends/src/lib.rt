@@ -6,31 +6,31 @@ ghost use Rattle.std.specs.Prelude.{◌≡◌, ◌<◌, ◌+◌, ◌++◌, ◌�
 ghost use Rattle.cluster_core.specs.Setups.{rules_for};
 ghost use Rattle.cluster_node.specs.declared.outcomes.Outcome.{Outcome};
 ghost use Rattle.cluster_node.specs.declared.packets.Packet.{Packet};
-ghost use Rattle.node_records.specs.Works.{IsOf};
-ghost use Rattle.node_records.specs.Ends.{all_handled};
-ghost use Rattle.node_records.specs.declared.command.Command.{Command};
-ghost use Rattle.node_records.specs.Losses.{ending};
-ghost use Rattle.node_records.specs.Histories.{past_of, NoneWaits};
-ghost use Rattle.node_records.specs.Journals.{Tells, Drives, IsServed};
+ghost use Rattle.thread_records.specs.Works.{IsOf};
+ghost use Rattle.thread_records.specs.Ends.{all_handled};
+ghost use Rattle.thread_records.specs.declared.command.Command.{Command};
+ghost use Rattle.thread_records.specs.Losses.{ending};
+ghost use Rattle.thread_records.specs.Histories.{past_of, NoneWaits};
+ghost use Rattle.thread_records.specs.Journals.{Tells, Drives, IsServed};
 ghost use Rattle.stats_book.specs.Counts.{Counted};
-ghost use Rattle.node_duties.specs.Counts.{AreRead, Counts, IsWork, served_from, with_lost};
-ghost use Rattle.node_duties.specs.Going.{Going, IsDriven, IsEnded};
+ghost use Rattle.thread_roles.specs.Counts.{AreRead, Counts, IsWork, served_from, with_lost};
+ghost use Rattle.thread_roles.specs.Going.{Going, IsDriven, IsEnded};
 
 use cluster_core::Setup;
 use connection_table::ConnTable;
 use hash_laws::FlowHash;
-use node_duties::{Plan, Progress, RunFault, Tally, WorkerRun, fault_of, stops_at};
-use node_records::{Journal, WorkerRecord, are_of};
 use pool_versions::Catalogue;
 use selection::Scheme;
 use stats_book::Names;
 use std::alloc::{AllocError, Global};
 use std::sync::Wait;
+use thread_records::{Journal, WorkerRecord, are_of};
+use thread_roles::{NodePlan, Progress, RunFault, ThreadShares, WorkerRun, fault_of, stops_at};
 
 // What the workers counted is added to their driver's tally, and their records are kept.
 fn muster<S: Scheme, T: ConnTable, B: Names>(
     alloc: Global,
-    tally: &mut Tally<B>,
+    tally: &mut ThreadShares<B>,
     runs: Vec<WorkerRun<S, T, B>>,
 ) -> Result<Vec<WorkerRecord<S, T>>, AllocError>
     requires { All (λ w. IsWork w.record w.tally.lost w.tally.shares) runs.items }
@@ -107,7 +107,7 @@ fn end<S: Scheme, H: FlowHash, T: ConnTable>(
 pub fn end_driven<S: Scheme, H: FlowHash, T: ConnTable, G, B: Names, R: Wait>(
     rt: &R,
     alloc: Global,
-    plan: Plan<'_, S, H, G, B>,
+    plan: NodePlan<'_, S, H, G, B>,
     from: usize,
     driven: Progress<S, B>,
     runs: Vec<WorkerRun<S, T, B>>,

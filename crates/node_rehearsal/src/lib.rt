@@ -6,25 +6,27 @@
 ghost use Rattle.std.specs.Prelude.{◌≡◌, ◌<◌, ◌++◌, ◌∷◌, [], ℕ, List, true, length, IfOk, OnOk, IsTrue, is_some};
 ghost use Rattle.pool_versions.specs.Pool.{version_at};
 ghost use Rattle.cluster_core.specs.Setups.{Fixed, rules_for};
-ghost use Rattle.node_records.specs.declared.command.Command.{Command};
-ghost use Rattle.node_records.specs.declared.command.Command.TheVariants.{Publish, Offer};
-ghost use Rattle.node_records.specs.Losses.{ending};
+ghost use Rattle.thread_records.specs.declared.command.Command.{Command};
+ghost use Rattle.thread_records.specs.declared.command.Command.TheVariants.{Publish, Offer};
+ghost use Rattle.thread_records.specs.Losses.{ending};
 ghost use Rattle.cluster_node.specs.declared.packets.Packet.{Packet};
-ghost use Rattle.node_records.specs.Histories.{commands_of, past_of, NoneWaits};
-ghost use Rattle.node_records.specs.Journals.{JournalView, Tells, Drives, IsServed};
+ghost use Rattle.thread_records.specs.Histories.{commands_of, past_of, NoneWaits};
+ghost use Rattle.thread_records.specs.Journals.{JournalView, Tells, Drives, IsServed};
 ghost use Rattle.node_rehearsal.specs.PrivateGoing.{Going, drains};
-ghost use Rattle.node_records.specs.Runs.{IsRunOf};
+ghost use Rattle.thread_records.specs.Runs.{IsRunOf};
 
 use cluster_core::Setup;
 use cluster_node::{Item, Outcome, Packet};
 use connection_table::ConnTable;
 use forwarder::Choice;
 use hash_laws::FlowHash;
-use node_records::{Command, Handled, Journal, LifeFault, NodeRecord, Rings, WorkerRecord, are_of};
 use pool_versions::Catalogue;
 use selection::{PreparedVersion, Scheme};
 use std::alloc::{AllocError, Global};
 use std::sync::Arc;
+use thread_records::{
+    Command, Handled, Journal, LifeFault, NodeRecord, Rings, WorkerRecord, are_of,
+};
 
 /// A queue of so many places for each worker, the oldest packet in front.
 #[derive(Drop)]

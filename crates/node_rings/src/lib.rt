@@ -3,16 +3,16 @@
 #![tactic(auto)]
 
 ghost use Rattle.std.specs.Prelude.{◌≡◌, ◌<◌, ◌+◌, length, IfOk, IfErr, OnOk, All};
-ghost use Rattle.node_duties.specs.declared.fault.RunFault.TheVariants.{ThreadLost};
+ghost use Rattle.thread_roles.specs.declared.fault.RunFault.TheVariants.{ThreadLost};
 ghost use Rattle.version_board.specs.Seats.{IsWatcherOf};
 
 use left_right::ReadHandle;
-use node_duties::{Current, Inputs, Outfit, Output, Part, Post, RunFault, Stage, Tally};
 use rtrb::{Consumer, RingBuffer};
 use selection::Scheme;
 use stats_book::Names;
 use std::alloc::{AllocError, Global};
 use std::sync::Wait;
+use thread_roles::{Current, Inputs, Outfit, Output, Part, Post, RunFault, Stage, ThreadShares};
 use version_board::{Watcher, WordBoard};
 
 /// The rings of a life: what its workers own, the driver's ends and the mux's ends.
@@ -103,7 +103,7 @@ fn lay<'a, S: Scheme, B: Names>(
     alloc: Global,
     posts: Vec<Post<'a, S>>,
     places: u32,
-    tally: &mut Tally<B>,
+    tally: &mut ThreadShares<B>,
 ) -> Result<Laid<'a, S, B>, AllocError>
     requires { length posts.items < tally.old.shares.parts }
     ensures outfits { IfOk result (λ l. length l.outfits.items ≡ length posts.entry.items) }
@@ -127,7 +127,7 @@ pub fn lay_all<'a, S: Scheme, R: Wait + Drop, B: Names>(
     stage: &Stage<S, R>,
     seats: Vec<Watcher>,
     places: u32,
-    tally: &mut Tally<B>,
+    tally: &mut ThreadShares<B>,
 ) -> Result<Laid<'a, S, B>, RunFault>
     requires watchers { All (λ w. IsWatcherOf board.now w) seats.items }
     requires enough { length seats.items < tally.old.shares.parts }

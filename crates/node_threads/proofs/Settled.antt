@@ -16,7 +16,7 @@ use Rattle.cluster_node.specs.declared.packets.Packet.{Packet}
 use Rattle.cluster_node.specs.declared.packets.Packet.TheVariants.{Good, Bad}
 use Rattle.cluster_node.specs.declared.events.Event.{Event}
 use Rattle.cluster_node.specs.declared.events.Event.TheVariants.{Install, Arrive, Serve, Restart}
-use Rattle.cluster_node.specs.declared.events.Said.{Said}
+use Rattle.cluster_node.specs.declared.events.LogEntry.{LogEntry}
 use Rattle.cluster_node.specs.declared.outcomes.Outcome.{Outcome}
 use Rattle.cluster_node.specs.declared.outcomes.Outcome.TheVariants.{Installed, Placed, Forward, Dropped, Restarted, Refused}
 use Rattle.cluster_node.specs.declared.outcomes.Reason.TheVariants.{NoNode, NoWorker, UnknownVersion, NotNewer}
@@ -27,17 +27,17 @@ use Rattle.cluster_node.specs.Record.{accepted, lines_of, of_taken, of_choice, i
 use Rattle.cluster_node.specs.Records.{Judged, WasRead, of_reading, node_of, of_node}
 use Rattle.cluster_core.specs.Runs.{verdict, verdicts, say, packet_of}
 use Rattle.cluster_core.specs.Histories.{AllRead}
-use Rattle.cluster_core.specs.Tally.{is_arrival, is_forward, how_many, drop_counts}
+use Rattle.cluster_core.specs.OutcomeCounts.{is_arrival, is_forward, how_many, drop_counts}
 use Rattle.cluster_core.specs.Totals.{came, went, came_all, went_all, came_of, went_of}
 use Rattle.cluster_core.proofs.Balanced.{records_balance}
 use Rattle.cluster_core.proofs.Nodes.{named_read}
 use Rattle.cluster_core.proofs.Bumps.{lawful}
-use Rattle.node_records.specs.Histories.{said_on, record_of, past_of, AreOf, NoneWaits}
-use Rattle.node_records.specs.declared.command.Command.{Command}
-use Rattle.node_records.specs.declared.nodes.NodeRecord.{NodeRecord}
-use Rattle.node_records.specs.Runs.{IsRunOf, AreRuns}
-use Rattle.node_records.specs.Joins.{all_outcomes}
-use Rattle.node_duties.specs.Counts.{AreRead}
+use Rattle.thread_records.specs.Histories.{said_on, record_of, past_of, AreOf, NoneWaits}
+use Rattle.thread_records.specs.declared.command.Command.{Command}
+use Rattle.thread_records.specs.declared.nodes.NodeRecord.{NodeRecord}
+use Rattle.thread_records.specs.Runs.{IsRunOf, AreRuns}
+use Rattle.thread_records.specs.Joins.{all_outcomes}
+use Rattle.thread_roles.specs.Counts.{AreRead}
 
 reading_not_serving : (k : ℕ) (c : Cause) → of_reading c ≡ true → went (Dropped k c) ≡ 0
 reading_not_serving k NotIpv4 h = refl
@@ -76,7 +76,7 @@ queue_one : (rules : Rules) (installed : List ℕ) (ls : List Line) (o : Option 
 queue_one rules installed ls None n w v r = (refl, refl)
 queue_one rules installed ls (Some i) n w v r = if_one (list_any (λ u. u == v) installed) (of_taken n w (taken rules ls v r)) (Refused UnknownVersion) (taken_one n w (taken rules ls v r)) (refl, refl)
 
-serve_one : (rules : Rules) (past : List Said) (n w v : ℕ) (r : Bool) → TakesOne (serve_verdict rules past n w v r)
+serve_one : (rules : Rules) (past : List LogEntry) (n w v : ℕ) (r : Bool) → TakesOne (serve_verdict rules past n w v r)
 serve_one rules past n w v r = if_one (nat_lt w rules.workers) (by_queue rules (installed_of past) (lines_of w past) (next_item (lines_of w past)) n w v r) (Refused NoWorker) (queue_one rules (installed_of past) (lines_of w past) (next_item (lines_of w past)) n w v r) (refl, refl)
 
 -- what comes is placed, and an arrival takes nothing out
@@ -110,7 +110,7 @@ install_none true newest v = go (nat_lt newest v)
     go false = (refl, refl)
 
 -- what came to a node's queues beside what was served in this life is what was placed in it beside what went out
-abbrev Even : List Said → Type 0
+abbrev Even : List LogEntry → Type 0
 Even past = came_of past + served_count past ≡ placed_count past + went_of past
 
 even_serve : (o : Outcome) (c s p w : ℕ) → TakesOne o → c + s ≡ p + w → (came o + c) + (if accepted o then s + 1 else s) ≡ p + (went o + w)
@@ -120,7 +120,7 @@ even_serve o c s p w t h = go (accepted o) t.0 t.1
     go true f z = omega arith
     go false f z = omega arith
 
-even_step : (rules : Rules) (had : List Said) (e : Event) (x : Option Packet) → WasRead x → served_count had ≤ placed_count had → Even had → Even (record { event = e; packet = x; outcome = node_verdict rules had e x } ∷ had)
+even_step : (rules : Rules) (had : List LogEntry) (e : Event) (x : Option Packet) → WasRead x → served_count had ≤ placed_count had → Even had → Even (record { event = e; packet = x; outcome = node_verdict rules had e x } ∷ had)
 even_step rules had (Install n v) x r le h = let z = install_none (rules.known v) (newest_of had) v in let a = z.0 in let b = z.1 in omega arith
 even_step rules had (Arrive n k marks) x r le h =
     let a = arrive_none rules (newest_of had) (refusals_of rules had % rules.workers) k marks x r in
@@ -130,35 +130,35 @@ even_step rules had (Serve n w v f) x r le h = even_serve (serve_verdict rules h
 even_step rules had (Restart n) x r le h = omega arith
 
 -- the record of one node's events
-pub record Lone (rules : Rules) (n : ℕ) (past : List Said) : Type 0 where
+pub record Lone (rules : Rules) (n : ℕ) (past : List LogEntry) : Type 0 where
   pub own : of_node n past ≡ past
   pub judged : Judged (verdict rules) past
   pub read : AllRead past
   pub even : Even past
 
-lone_say : (rules : Rules) (n : ℕ) (past : List Said) (e : Event) (x : Option Packet) → n < rules.nodes → node_of e ≡ n → WasRead x → Lone rules n past → Lone rules n (say rules past e x ∷ past)
+lone_say : (rules : Rules) (n : ℕ) (past : List LogEntry) (e : Event) (x : Option Packet) → n < rules.nodes → node_of e ≡ n → WasRead x → Lone rules n past → Lone rules n (say rules past e x ∷ past)
 lone_say rules n past e x lt is r l =
     let there : verdict rules past e x ≡ node_verdict rules past e x =
     ap (λ (b : Bool). if b then node_verdict rules (of_node (node_of e) past) e x else Refused NoNode) (lt-ltb (node_of e) rules.nodes (subst (λ (m : ℕ). m < rules.nodes) (sym is) lt))
-    ∙ ap (λ (m : ℕ). node_verdict rules (of_node m past) e x) is ∙ ap (λ (p : List Said). node_verdict rules p e x) l.own in
+    ∙ ap (λ (m : ℕ). node_verdict rules (of_node m past) e x) is ∙ ap (λ (p : List LogEntry). node_verdict rules p e x) l.own in
     let went_le : went_of past ≤ came_of past = records_balance rules past l.judged l.read in
     let le : served_count past ≤ placed_count past = omega (arith, went_le, l.even) in
     record {
-      own = ap (λ (b : Bool). if b then say rules past e x ∷ of_node n past else of_node n past) (eq-eqb (node_of e) n is) ∙ ap (λ (p : List Said). say rules past e x ∷ p) l.own;
+      own = ap (λ (b : Bool). if b then say rules past e x ∷ of_node n past else of_node n past) (eq-eqb (node_of e) n is) ∙ ap (λ (p : List LogEntry). say rules past e x ∷ p) l.own;
       judged = (refl, l.judged);
       read = (r, l.read);
       even = subst (λ (o : Outcome). Even (record { event = e; packet = x; outcome = o } ∷ past)) (sym there) (even_step rules past e x r le l.even);
     }
 
-lone_on : (rules : Rules) (packets : List Packet) (n : ℕ) → n < rules.nodes → AreRead packets → (past : List Said) (es : List Event) → AreOf n es → Lone rules n past → Lone rules n (said_on rules past packets es)
+lone_on : (rules : Rules) (packets : List Packet) (n : ℕ) → n < rules.nodes → AreRead packets → (past : List LogEntry) (es : List Event) → AreOf n es → Lone rules n past → Lone rules n (said_on rules past packets es)
 lone_on rules packets n lt read past [] own l = l
 lone_on rules packets n lt read past (e ∷ es) own l = lone_on rules packets n lt read (say rules past e (packet_of packets e) ∷ past) es own.1 (lone_say rules n past e (packet_of packets e) lt own.0 (named_read packets e read) l)
 
-came_on : (rules : Rules) (past : List Said) (packets : List Packet) (es : List Event) → came_of (said_on rules past packets es) ≡ came_of past + came_all (verdicts rules past packets es)
+came_on : (rules : Rules) (past : List LogEntry) (packets : List Packet) (es : List Event) → came_of (said_on rules past packets es) ≡ came_of past + came_all (verdicts rules past packets es)
 came_on rules past packets [] = omega arith
 came_on rules past packets (e ∷ es) = let h : came_of (said_on rules (say rules past e (packet_of packets e) ∷ past) packets es) ≡ came_of (say rules past e (packet_of packets e) ∷ past) + came_all (verdicts rules (say rules past e (packet_of packets e) ∷ past) packets es) = came_on rules (say rules past e (packet_of packets e) ∷ past) packets es in omega arith
 
-went_on : (rules : Rules) (past : List Said) (packets : List Packet) (es : List Event) → went_of (said_on rules past packets es) ≡ went_of past + went_all (verdicts rules past packets es)
+went_on : (rules : Rules) (past : List LogEntry) (packets : List Packet) (es : List Event) → went_of (said_on rules past packets es) ≡ went_of past + went_all (verdicts rules past packets es)
 went_on rules past packets [] = omega arith
 went_on rules past packets (e ∷ es) = let h : went_of (said_on rules (say rules past e (packet_of packets e) ∷ past) packets es) ≡ went_of (say rules past e (packet_of packets e) ∷ past) + went_all (verdicts rules (say rules past e (packet_of packets e) ∷ past) packets es) = went_on rules (say rules past e (packet_of packets e) ∷ past) packets es in omega arith
 
@@ -167,7 +167,7 @@ pub settled : (rules : Rules) (packets : List Packet) (n ring : ℕ) (cs : List 
 settled rules packets n ring cs r lt read run =
     let es : List Event = r.events.items in
     let l : Lone rules n (record_of rules packets es) = lone_on rules packets n lt read [] es run.own (record { own = refl; judged = tt; read = tt; even = refl }) in
-    let drained : served_count (record_of rules packets es) ≡ placed_count (record_of rules packets es) = subst (λ (p : List Said). NoneWaits p) l.own run.drained in
+    let drained : served_count (record_of rules packets es) ≡ placed_count (record_of rules packets es) = subst (λ (p : List LogEntry). NoneWaits p) l.own run.drained in
     let c : came_of (record_of rules packets es) ≡ came_of [] + came_all (verdicts rules [] packets es) = came_on rules [] packets es in
     let w : went_of (record_of rules packets es) ≡ went_of [] + went_all (verdicts rules [] packets es) = went_on rules [] packets es in
     let even : Even (record_of rules packets es) = l.even in

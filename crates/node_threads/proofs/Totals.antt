@@ -3,9 +3,9 @@ use Rattle.std.proofs.Common.{◌≡◌, ℕ, Bool, List, sym, ap, ◌∙◌}
 use Rattle.stats_book.specs.Counts.{Counted}
 use Rattle.stats_book.specs.declared.stats.Stats.{Stats}
 use Rattle.cluster_node.specs.declared.outcomes.Outcome.{Outcome}
-use Rattle.cluster_core.specs.Tally.{is_arrival, is_forward, how_many, drop_counts}
+use Rattle.cluster_core.specs.OutcomeCounts.{is_arrival, is_forward, how_many, drop_counts}
 use Rattle.cluster_core.specs.Totals.{came_all, went_all}
-use Rattle.node_duties.specs.Counts.{AreTotals, Counts, counted}
+use Rattle.thread_roles.specs.Counts.{AreTotals, Counts, counted}
 use Rattle.node_threads.proofs.Settled.{none_wait}
 
 -- parts that were split off took no counts along

@@ -1,18 +1,14 @@
 //! One life of a node: its threads are started, fed and joined.
 ghost use Rattle.std.specs.Prelude.{◌≡◌, ◌≢◌, ◌+◌, List, length, Some, None, IfOk, IsErrOf, All};
 ghost use Rattle.cluster_core.specs.Setups.{rules_for};
-ghost use Rattle.node_duties.specs.Counts.{IsWork};
-ghost use Rattle.node_duties.specs.Going.{Begins, IsLived};
-ghost use Rattle.node_duties.specs.declared.fault.RunFault.TheVariants.{Memory};
+ghost use Rattle.thread_roles.specs.Counts.{IsWork};
+ghost use Rattle.thread_roles.specs.Going.{Begins, IsLived};
+ghost use Rattle.thread_roles.specs.declared.fault.RunFault.TheVariants.{Memory};
 
 use crate::begun::Begun;
 use cluster_node::Outcome;
 use connection_table::ConnTable;
 use hash_laws::FlowHash;
-use node_duties::{
-    CountsOwn, Desk, Gate, Inputs, Outfit, Plan, Progress, RunFault, WorkerRun, drive, gather,
-    stops_at, work,
-};
 use node_ends::end_driven;
 use node_rings::Laid;
 use selection::Scheme;
@@ -21,6 +17,10 @@ use std::alloc::{AllocError, Global};
 use std::sync::Wait;
 use std::thread;
 use std::thread::{JoinHandle, PromisedHandle, Scope, Threads};
+use thread_roles::{
+    CountsOwn, Desk, Gate, Inputs, NodePlan, Outfit, Progress, RunFault, WorkerRun, drive, gather,
+    stops_at, work,
+};
 
 // What a worker's thread answers: what it did, or why it did not do all.
 type Answer<S, T, B> = Result<WorkerRun<S, T, B>, RunFault>;
@@ -55,7 +55,7 @@ fn start<
     scope: &Scope<'s, &'e ()>,
     rt: &'e R,
     alloc: Global,
-    plan: Plan<'e, S, H, G, B>,
+    plan: NodePlan<'e, S, H, G, B>,
     outfits: Vec<Outfit<'e, S, B>>,
 ) -> Started<S, T, B>
 where
@@ -165,7 +165,7 @@ fn give_up<S: Scheme, T: ConnTable, B: Names, R: Threads + Wait>(
 // mark.
 fn end_feed<S: Scheme, H: FlowHash, G: Gate, B: Names, R: Wait, W: Wait + Drop>(
     rt: &R,
-    plan: Plan<'_, S, H, G, B>,
+    plan: NodePlan<'_, S, H, G, B>,
     driven: &Result<Progress<S, B>, RunFault>,
     desk: &mut Desk<'_, S, W>,
     inputs: &mut Inputs,
@@ -210,7 +210,7 @@ fn drive_crew<
 >(
     rt: &R,
     alloc: Global,
-    plan: Plan<'_, S, H, G, B>,
+    plan: NodePlan<'_, S, H, G, B>,
     progress: Progress<S, B>,
     desk: &mut Desk<'_, S, W>,
     crew: Crew<S, T, B>,
@@ -253,7 +253,7 @@ fn run_threads<
     scope: &Scope<'s, &'e ()>,
     rt: &'e R,
     alloc: Global,
-    plan: Plan<'e, S, H, G, B>,
+    plan: NodePlan<'e, S, H, G, B>,
     laid: Laid<'e, S, B>,
     desk: Desk<'e, S, &'e R>,
     progress: Progress<S, B>,

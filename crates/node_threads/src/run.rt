@@ -9,11 +9,11 @@ use cluster_core::Setup;
 use cluster_node::{Event, Outcome, Packet};
 use connection_table::ConnTable;
 use hash_laws::FlowHash;
-use node_records::NodeRecord;
 use pool_versions::Catalogue;
 use selection::Scheme;
 use stats_book::{Names, Shares, Stats};
 use std::alloc::{AllocError, Global};
+use thread_records::NodeRecord;
 
 /// A node's record, and the shares of a book on which its run was counted.
 #[derive(Drop)]

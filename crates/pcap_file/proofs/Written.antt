@@ -5,7 +5,7 @@ use Rattle.pcap_file.proofs.Heads.{head-append}
 use Rattle.std.proofs.lemmas.Grind.{common_steps}
 use Rattle.byteorder.specs.Endian.{little_from}
 use Rattle.pcap_file.specs.declared.format.Ending.TheVariants.{End}
-use Rattle.pcap_file.specs.Format.{Packet, captured_len, packet_of, step_of, Gives, max_records, written_form, written_head, written_record, written_record_head}
+use Rattle.pcap_file.specs.Format.{Record, captured_len, packet_of, step_of, Gives, max_records, written_form, written_head, written_record, written_record_head}
 use Rattle.pcap_file.specs.Text.{Reads}
 use Rattle.pcap_file.specs.Writing.{IsWritable, written_records, WrittenIsReadAgain}
 use Rattle.pcap_file.proofs.Records.{step-gives, packet-pieces, drop-pieces, number_in-append, packet-same}
@@ -24,7 +24,7 @@ module _ (s m n : ℕ) (hs : s < 2 ^ 32) (hm : m < 2 ^ 32) (hn : n < 2 ^ 32) whe
   original-read = omega arith
 
 -- the next step at a written record
-step-written : (given : ℕ) (p : Packet) (rest : List ℕ) → given < max_records → IsWritable p
+step-written : (given : ℕ) (p : Record) (rest : List ℕ) → given < max_records → IsWritable p
     → step_of written_form given (written_record p.secs p.micros p.bytes ++ rest) ≡ Gives p rest
 unfolding written_record
 step-written given p rest room w =
@@ -45,9 +45,9 @@ step-written given p rest room w =
     ap (step_of written_form given) text
     ∙ step-gives written_form given (h ++ (d ++ rest)) (length d) moved room (let k = w.short in omega arith) fits
     ∙ ap (λ (r : List ℕ). Gives (packet_of written_form (h ++ (d ++ rest))) r) (drop-pieces h d rest (length d) len refl)
-    ∙ ap (λ (r : Packet). Gives r rest) (packet-pieces written_form h d rest len (sym cap) ∙ first)
+    ∙ ap (λ (r : Record). Gives r rest) (packet-pieces written_form h d rest len (sym cap) ∙ first)
 
-all-read : (given : ℕ) (ps : List Packet) → given + length ps ≤ max_records → All IsWritable ps → Reads written_form given (written_records ps) ps End
+all-read : (given : ℕ) (ps : List Record) → given + length ps ≤ max_records → All IsWritable ps → Reads written_form given (written_records ps) ps End
 all-read given [] room w = refl
 all-read given (p ∷ ps) room w =
     (written_records ps, step-written given p (written_records ps) (omega arith) (All-head IsWritable p ps w), all-read (suc given) ps (omega arith) (All-tail IsWritable p ps w))

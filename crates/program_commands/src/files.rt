@@ -5,12 +5,12 @@ ghost use Rattle.command_faults.specs.declared.fault.CliFault.TheVariants.{NoRan
 use crate::reasons::Trouble;
 use command_faults::CliFault;
 use connection_table::TableKey;
-use late_files::{
-    FileFault, InputFile, Kept, OutputFile, Refusal, is_standard, is_standard_output,
+use lazy_files::{
+    FileFault, InputFile, KeptText, OutputFile, Refusal, is_standard, is_standard_output,
 };
 use pcap_file::{Frame, FromRead, PcapFault, ToWrite, read_record_into, read_start};
 use scenario_commands::{explain_keyed, simulate_keyed};
-use scenario_play::Wanted;
+use simulate_scenario::Wanted;
 use std::fs::File;
 use std::io;
 use std::io::{BufReader, ErrorKind, Read, Write};
@@ -90,7 +90,7 @@ fn of_input(fault: CliFault, input: &InputFile<'_>) -> CliFault {
 }
 
 // A fault of writing, where opening the output or keeping the report may have been refused.
-fn of_output(fault: CliFault, output: &OutputFile<'_>, report: &Kept) -> CliFault {
+fn of_output(fault: CliFault, output: &OutputFile<'_>, report: &KeptText) -> CliFault {
     match (fault, output.fault()) {
         (CliFault::Write, Some(refused)) => of_file(refused, CliFault::OpenOutput),
         (CliFault::Write, None) if report.is_short() => CliFault::Memory,
@@ -138,7 +138,7 @@ pub struct Devices<'x> {
     /// The capture that is written.
     pub output: ToWrite<OutputFile<'x>>,
     /// The report.
-    pub report: ToWrite<Kept>,
+    pub report: ToWrite<KeptText>,
     /// Whether the report goes to standard error, since what is sent goes to standard output.
     pub to_error: bool,
 }
@@ -149,7 +149,7 @@ impl<'x> Devices<'x> {
         Devices {
             input: FromRead::new(InputFile::new(rt, files.input)),
             output: ToWrite::new(OutputFile::new(rt, files.output, files.read())),
-            report: ToWrite::new(Kept::new(rt.alloc())),
+            report: ToWrite::new(KeptText::new(rt.alloc())),
             to_error: is_standard_output(rt, files.output),
         }
     }

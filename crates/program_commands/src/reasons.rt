@@ -1,10 +1,10 @@
 //! What `--verbose` says after a fault: where it is, what was found there and what was expected.
 use crate::files::Paths;
 use command_faults::CliFault;
-use fault_words::words_of;
-use late_files::{Head, Refusal};
+use lazy_files::{FirstBytes, Refusal};
 use pcap_file::PcapFault;
 use scenario::ScenarioFault;
+use scenario_diagnostics::words_of;
 use shown_text::shown;
 use std::alloc::Global;
 use std::io;
@@ -17,7 +17,7 @@ const MOST_RECORDS: u32 = 1_000_000_000;
 pub struct Trouble {
     pub fault: CliFault,
     pub system: Option<Refusal>,
-    pub head: Head,
+    pub head: FirstBytes,
     /// Whether it is the report that couldn't be written.
     pub of_report: bool,
 }
@@ -28,7 +28,7 @@ impl Trouble {
         Trouble {
             fault,
             system: Some(Refusal::of(error)),
-            head: Head::empty(),
+            head: FirstBytes::empty(),
             of_report: false,
         }
     }
@@ -47,7 +47,7 @@ impl From<CliFault> for Trouble {
         Trouble {
             fault,
             system: None,
-            head: Head::empty(),
+            head: FirstBytes::empty(),
             of_report: false,
         }
     }

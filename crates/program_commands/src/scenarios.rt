@@ -9,9 +9,9 @@ use clap::ArgMatches;
 use command_faults::CliFault;
 use pcap_file::PcapFault;
 use scenario::{Played, Scenario, read};
-use scenario_play::Wanted;
 use scenario_warnings::{warning_text, warnings};
 use shown_text::shown;
+use simulate_scenario::Wanted;
 use std::alloc::{AllocError, Global};
 use std::io::Write;
 

@@ -12,7 +12,7 @@ use Rattle.scenario.specs.Lookups.{number_at, text_at, items_at, all_items, all_
 use Rattle.scenario.specs.Words.{protocol_of_word, choices_of, limits_of}
 use Rattle.scenario.specs.Plain.{PlainService, PlainVersion}
 use Rattle.scenario.specs.Drafts.{service_keys, version_keys, word_of, service_draft, service_in, version_draft, version_in}
-use Rattle.scenario.specs.Meaning.{PlainDraft, Plan, common_keys, root_keys, nodes_of, versions_in, steps_in, draft_of, draft_in, service_of, version_of, with_versions, with_draft, with_format, plan_of_draft, plan_of}
+use Rattle.scenario.specs.Meaning.{PlainDraft, PlainScenario, common_keys, root_keys, nodes_of, versions_in, steps_in, draft_of, draft_in, service_of, version_of, with_versions, with_draft, with_format, plan_of_draft, plan_of}
 use Rattle.scenario.specs.Alike.{AreAlike, FormatsMeanTheSame}
 use Rattle.scenario.specs.declared.playing.Played.{Played}
 use Rattle.scenario.specs.declared.formats.Format.TheVariants.{One, Two}
@@ -173,7 +173,7 @@ module _ (ms ns : Members) (a : AreAlike ms ns) where
       when_both (has_only (root_keys One) ms) (has_only (root_keys Two) ns) (draft_of One ms) (draft_of Two ns) d
       (λ e. one_key_more (codes "idle") common_keys ns (a.keys ∙ e)) (λ g. draft_of_same d vs g k) h
 
-  with_same : (played : Played) (p : Plan) (o : Option PlainDraft) → draft_in One ms ≡ o → with_draft played o ≡ Ok p → with_draft played (draft_in Two ns) ≡ Ok p
+  with_same : (played : Played) (p : PlainScenario) (o : Option PlainDraft) → draft_in One ms ≡ o → with_draft played o ≡ Ok p → with_draft played (draft_in Two ns) ≡ Ok p
   unfolding plan_of_draft
   with_same played p None e h = absurd cc
   with_same played p (Some d) e h = go (all_of version_of d.versions) refl h

@@ -9,7 +9,7 @@ use Rattle.pool_versions.specs.declared.catalogue.PoolFault.{PoolFault}
 use Rattle.scenario.specs.Lookups.{all_of}
 use Rattle.scenario.specs.Plain.{PlainVersion}
 use Rattle.scenario.specs.Steps.{PlainStep, plain_step, step_of_text, allows, step_for}
-use Rattle.scenario.specs.Meaning.{PlainDraft, Plan, with_steps, with_pools, with_versions, with_draft, with_format, plan_of_draft, plan_of, format_of, Means}
+use Rattle.scenario.specs.Meaning.{PlainDraft, PlainScenario, with_steps, with_pools, with_versions, with_draft, with_format, plan_of_draft, plan_of, format_of, Means}
 use Rattle.scenario.specs.declared.playing.Played.{Played}
 use Rattle.scenario.specs.declared.formats.Format.{Format}
 use Rattle.scenario.specs.declared.fault.ScenarioFault.{ScenarioFault}
@@ -37,7 +37,7 @@ all_allowed played nodes workers (t ∷ ts) steps h =
     ∙ and_from (allows played p.0) (list_all (λ s. allows played s) p.1)
     (one_allowed played (step_of_text nodes workers t) p.0 p.2) (all_allowed played nodes workers ts p.1 p.3)
 
-abbrev AreAllowed : Played → Result Plan ScenarioFault → Type 0
+abbrev AreAllowed : Played → Result PlainScenario ScenarioFault → Type 0
 AreAllowed played (Ok p) = list_all (λ s. allows played s) p.steps ≡ true
 AreAllowed played (Err e) = Unit {0}
 
@@ -65,4 +65,4 @@ of_format played (Some f) ms = of_draft played _
 -- of each scenario that a text means
 pub steps_allowed : (played : Played) (text : List ℕ) (s : Scenario) → Means played text s → list_all (λ p. allows played p) (map plain_step s.steps.items) ≡ true
 unfolding plan_of
-steps_allowed played text s m = let P : Result Plan ScenarioFault → Type 0 = AreAllowed played in subst P m.plan (of_format played (format_of m.members) m.members)
+steps_allowed played text s m = let P : Result PlainScenario ScenarioFault → Type 0 = AreAllowed played in subst P m.plan (of_format played (format_of m.members) m.members)

@@ -2,7 +2,7 @@
 use Rattle.std.proofs.Common.{◌≡◌, ℕ, List, Option, Some, None, Result, Ok, Err, IfErr, IsErrAnd, ◌∙◌, sym, ap, subst}
 use Rattle.scenario.specs.Plain.{PlainVersion}
 use Rattle.scenario.specs.Steps.{PlainStep}
-use Rattle.scenario.specs.Meaning.{PlainDraft, Plan, with_steps, with_pools, with_versions, with_draft, with_format, plan_of_draft, plan_of, format_of, draft_in, IsDocument, IsRefused, IsDraftRefused}
+use Rattle.scenario.specs.Meaning.{PlainDraft, PlainScenario, with_steps, with_pools, with_versions, with_draft, with_format, plan_of_draft, plan_of, format_of, draft_in, IsDocument, IsRefused, IsDraftRefused}
 use Rattle.scenario.specs.declared.playing.Played.{Played}
 use Rattle.scenario.specs.declared.formats.Format.{Format}
 use Rattle.scenario.specs.declared.fault.ScenarioFault.{ScenarioFault}
@@ -19,7 +19,7 @@ IsLate (fault.Pool f) = Unit {0}
 IsLate (fault.BadStep n) = Unit {0}
 IsLate e = ⊥
 
-abbrev IsLateIn : Result Plan ScenarioFault → Type 0
+abbrev IsLateIn : Result PlainScenario ScenarioFault → Type 0
 IsLateIn (Ok p) = Unit {0}
 IsLateIn (Err e) = IsLate e
 
@@ -37,7 +37,7 @@ late_versions played d (Some vs) = late_pools played d vs _
 
 late_draft : (played : Played) (d : PlainDraft) (e : ScenarioFault) → plan_of_draft played d ≡ Err e → IsLate e
 unfolding plan_of_draft
-late_draft played d e is = let P : Result Plan ScenarioFault → Type 0 = IsLateIn in subst P is (late_versions played d _)
+late_draft played d e is = let P : Result PlainScenario ScenarioFault → Type 0 = IsLateIn in subst P is (late_versions played d _)
 
 late_refused : (played : Played) (text : List ℕ) (ms : Members) (e : ScenarioFault) → IsDocument text ms → IsLate e → plan_of played ms ≡ Err e → IsRefused played text e
 late_refused played text ms fault.TooLong document late is = absurd late

@@ -3,7 +3,7 @@ use Rattle.std.specs.Prelude.{◌≡◌, false, nat_eq, List, ℕ, codes, Some, 
 use Rattle.std.specs.Cmp.Lexicographic.{pointwise}
 use Rattle.toml.specs.Data.{Members, get_member}
 use Rattle.scenario.specs.Lookups.{has_only}
-use Rattle.scenario.specs.Meaning.{Plan, common_keys, format_of, plan_of}
+use Rattle.scenario.specs.Meaning.{PlainScenario, common_keys, format_of, plan_of}
 use Rattle.scenario.specs.declared.playing.Played.{Played}
 use Rattle.scenario.specs.declared.formats.Format.TheVariants.{One, Two}
 
@@ -16,4 +16,4 @@ pub record AreAlike (ms ns : Members) : Type 0 where
 
 -- a scenario that the first one means, the second one means too, however it is played
 abbrev pub FormatsMeanTheSame : Type 0
-FormatsMeanTheSame = (played : Played) (ms ns : Members) (plan : Plan) → AreAlike ms ns → plan_of played ms ≡ Ok plan → plan_of played ns ≡ Ok plan
+FormatsMeanTheSame = (played : Played) (ms ns : Members) (plan : PlainScenario) → AreAlike ms ns → plan_of played ms ≡ Ok plan → plan_of played ns ≡ Ok plan

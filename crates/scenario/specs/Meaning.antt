@@ -35,14 +35,14 @@ abbrev pub plain_draft : Draft → PlainDraft
 plain_draft d = record { choices = d.choices; limits = d.limits; nodes = d.nodes.items; versions = map plain_version_draft d.versions.items; steps = map string_bytes d.steps.items }
 
 -- a scenario
-pub record Plan : Type 0 where
+pub record PlainScenario : Type 0 where
   pub choices : Choices
   pub limits : Limits
   pub nodes : List ℕ
   pub versions : List (PlainVersion Member)
   pub steps : List PlainStep
 
-abbrev pub plan_view : Scenario → Plan
+abbrev pub plan_view : Scenario → PlainScenario
 plan_view s = record {
   choices = record { size = s.size; hash = s.hash; scheme = s.scheme; spread = s.spread };
   limits = record { workers = s.workers; capacity = s.capacity; ring = s.ring; check = s.check; idle = s.idle };
@@ -100,20 +100,20 @@ version_of v = option_map (λ services. record { number = v.number; services = s
 abbrev pub first_bad_step : Played → ℕ → ℕ → List (List ℕ) → ℕ
 first_bad_step played nodes workers texts = position_or_len (λ t. is_none (step_for played nodes workers t)) texts
 
-abbrev pub with_steps : Played → PlainDraft → List (PlainVersion Member) → Option (List PlainStep) → Result Plan ScenarioFault
+abbrev pub with_steps : Played → PlainDraft → List (PlainVersion Member) → Option (List PlainStep) → Result PlainScenario ScenarioFault
 with_steps played d versions None = Err (fault.BadStep (first_bad_step played (length d.nodes) d.limits.workers d.steps))
 with_steps played d versions (Some steps) = Ok (record { choices = d.choices; limits = d.limits; nodes = d.nodes; versions = versions; steps = steps })
 
-abbrev pub with_pools : Played → PlainDraft → List (PlainVersion Member) → Option PoolFault → Result Plan ScenarioFault
+abbrev pub with_pools : Played → PlainDraft → List (PlainVersion Member) → Option PoolFault → Result PlainScenario ScenarioFault
 with_pools played d versions None = with_steps played d versions (all_of (step_for played (length d.nodes) d.limits.workers) d.steps)
 with_pools played d versions (Some f) = Err (fault.Pool f)
 
-abbrev pub with_versions : Played → PlainDraft → Option (List (PlainVersion Member)) → Result Plan ScenarioFault
+abbrev pub with_versions : Played → PlainDraft → Option (List (PlainVersion Member)) → Result PlainScenario ScenarioFault
 with_versions played d None = Err fault.BadMember
 with_versions played d (Some versions) = with_pools played d versions (first_refused d.choices.size [] versions)
 
 -- the scenario of a draft, or its first fault: a bad member word, then a fault of the pools, then the first bad step
-unfoldable pub plan_of_draft : Played → PlainDraft → Result Plan ScenarioFault
+unfoldable pub plan_of_draft : Played → PlainDraft → Result PlainScenario ScenarioFault
 plan_of_draft played d = with_versions played d (all_of version_of d.versions)
 
 -- the format of a document
@@ -125,16 +125,16 @@ format_of ms = option_map (λ n. if n == 1 then One else Two) (number_at 1 2 (co
 abbrev pub pools_of : Members → Option (ℕ × List (PlainVersion Member))
 pools_of ms = option_and_then (λ f. option_and_then (λ d. option_map (λ versions. (d.choices.size, versions)) (all_of version_of d.versions)) (draft_in f ms)) (format_of ms)
 
-abbrev pub with_draft : Played → Option PlainDraft → Result Plan ScenarioFault
+abbrev pub with_draft : Played → Option PlainDraft → Result PlainScenario ScenarioFault
 with_draft played None = Err fault.BadKey
 with_draft played (Some d) = plan_of_draft played d
 
-abbrev pub with_format : Played → Option Format → Members → Result Plan ScenarioFault
+abbrev pub with_format : Played → Option Format → Members → Result PlainScenario ScenarioFault
 with_format played None ms = Err fault.BadFormat
 with_format played (Some f) ms = with_draft played (draft_in f ms)
 
 -- what a document says: a scenario that is played so, or its first fault
-unfoldable pub plan_of : Played → Members → Result Plan ScenarioFault
+unfoldable pub plan_of : Played → Members → Result PlainScenario ScenarioFault
 plan_of played ms = with_format played (format_of ms) ms
 
 -- the text is a document whose members are these

@@ -3,8 +3,8 @@ use Rattle.std.specs.Prelude.{ℕ, Bool, true, false, ◌==◌, nat_lt, if◌the
 use Rattle.std.specs.List.{list_any, range_with_len}
 use Rattle.std.specs.Str.{bytes_eq}
 use Rattle.maglev_texts.specs.Parsing.{decimal_of, pieces}
-use Rattle.scenario_steps.specs.declared.Step.{Step}
-use Rattle.scenario_steps.specs.declared.Step.TheVariants as code
+use Rattle.event_trace.specs.declared.steps.ScenarioStep.{ScenarioStep}
+use Rattle.event_trace.specs.declared.steps.ScenarioStep.TheVariants as code
 use Rattle.scenario.specs.declared.step.Kind.{Kind}
 use Rattle.scenario.specs.declared.step.Kind.TheVariants as kind
 use Rattle.scenario.specs.declared.playing.Played.{Played}
@@ -23,7 +23,7 @@ pub data PlainStep : Type 0 where
   restart : ℕ → PlainStep
   stop : ℕ → PlainStep
 
-abbrev pub plain_step : Step → PlainStep
+abbrev pub plain_step : ScenarioStep → PlainStep
 plain_step (code.Install n v) = install n v
 plain_step (code.Live ns) = live ns.items
 plain_step (code.Take k) = deliver k

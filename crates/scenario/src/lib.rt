@@ -19,11 +19,11 @@ mod versions;
 mod words;
 
 pub use draft::{MOST_STEPS, ROOT_KEYS, has_root_keys, is_root_key};
+pub use event_trace::ScenarioStep;
 pub use fault::ScenarioFault;
 pub use formats::{Format, format_of, member_in};
 pub use laws::formats_mean_the_same;
 pub use playing::Played;
 pub use reading::{Scenario, pools_in, read};
-pub use scenario_steps::Step;
 pub use setup::LONGEST_IDLE;
 pub use words::{SchemeKind, SpreadKind};

@@ -2,7 +2,7 @@
 ghost use Rattle.std.specs.Prelude.{◌≡◌};
 ghost use Rattle.scenario.specs.Steps.{plain_step, allows};
 
-use scenario_steps::Step;
+use event_trace::ScenarioStep;
 
 /// How a scenario is played, which decides what steps it may have.
 #[derive(Clone, Copy, Debug, PartialEq, Eq)]
@@ -15,18 +15,18 @@ pub enum Played {
 
 impl Played {
     /// Whether a scenario that is played so may have this step.
-    pub(crate) fn allows(self, step: &Step) -> bool
+    pub(crate) fn allows(self, step: &ScenarioStep) -> bool
         ensures { result ≡ allows self (plain_step step.now) }
     {
         match self {
             Played::InTurn => match step {
-                Step::Stop(_) => false,
+                ScenarioStep::Stop(_) => false,
                 _ => true,
             },
             Played::OnThreads => match step {
-                Step::Full { node: _, marks: _ } => false,
-                Step::Hold(_) => false,
-                Step::Drain(_) => false,
+                ScenarioStep::Full { node: _, marks: _ } => false,
+                ScenarioStep::Hold(_) => false,
+                ScenarioStep::Drain(_) => false,
                 _ => true,
             },
         }

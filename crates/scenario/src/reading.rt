@@ -14,10 +14,10 @@ use crate::formats::format_of;
 use crate::playing::Played;
 use crate::step::step_for;
 use crate::words::{SchemeKind, SpreadKind};
+use event_trace::ScenarioStep;
 use hash_laws::AnyHash;
 use maglev_table::TableSize;
 use pool_versions::{Catalogue, PoolFault, Version};
-use scenario_steps::Step;
 use std::alloc::{AllocError, Global};
 use toml::Table;
 
@@ -51,7 +51,7 @@ pub struct Scenario {
     /// The versions of the pools.
     pub catalogue: Catalogue,
     /// What happens, in order: at most 100,000 steps.
-    pub steps: Vec<Step>,
+    pub steps: Vec<ScenarioStep>,
 }
 
 // The document that a text is.
@@ -75,13 +75,13 @@ fn steps_of(
     texts: &[String],
     nodes: u16,
     workers: u16,
-) -> Result<Vec<Step>, ScenarioFault>
+) -> Result<Vec<ScenarioStep>, ScenarioFault>
     requires { length texts.now ≤ 100000 }
     ensures ok { IfOk result (λ v. all_of (step_for played nodes workers) (map string_bytes texts.now) ≡ Some (map plain_step v.items)) }
     ensures long { IfOk result (λ v. length v.items ≡ length texts.now) }
     ensures refused { IfErr result (AreStepsRefused played nodes workers (map string_bytes texts.now)) }
 {
-    let mut steps: Vec<Step> = Vec::new(alloc);
+    let mut steps: Vec<ScenarioStep> = Vec::new(alloc);
     for (n, text) in texts.iter().enumerate() {
         let Some(step) = step_for(alloc, played, text.as_bytes(), nodes, workers)? else {
             return Err(ScenarioFault::BadStep(n as u32));

@@ -4,8 +4,8 @@ ghost use Rattle.std.specs.Str.{bytes_eq};
 ghost use Rattle.scenario.specs.Steps.{below, new_number, numbers_after, marks_of, install_of, live_of, full_of, number_of, node_of, kind_of, step_of, step_of_text, step_for, plain_step};
 
 use crate::playing::Played;
+use event_trace::ScenarioStep;
 use maglev_texts::{decimal, pieces};
-use scenario_steps::Step;
 use std::alloc::{AllocError, Global};
 
 // The greatest number in a step.
@@ -80,7 +80,7 @@ fn node_of(words: &[&[u8]], nodes: u16) -> Option<u16>
     below(node, nodes)
 }
 
-fn install(words: &[&[u8]], nodes: u16) -> Option<Step>
+fn install(words: &[&[u8]], nodes: u16) -> Option<ScenarioStep>
     ensures { option_map plain_step result ≡ install_of nodes (map (λ t. t.now) words.now) }
 {
     let [node, version] = words else {
@@ -88,17 +88,17 @@ fn install(words: &[&[u8]], nodes: u16) -> Option<Step>
     };
     let node = below(node, nodes)?;
     let version = decimal(version, GREATEST)?;
-    Some(Step::Install {
+    Some(ScenarioStep::Install {
         node,
         version: version as u32,
     })
 }
 
-fn live(alloc: Global, words: &[&[u8]], nodes: u16) -> Result<Option<Step>, AllocError>
+fn live(alloc: Global, words: &[&[u8]], nodes: u16) -> Result<Option<ScenarioStep>, AllocError>
     ensures { IfOk result (λ o. option_map plain_step o ≡ live_of nodes (map (λ t. t.now) words.now)) }
 {
     match numbers(alloc, words, nodes)? {
-        Some(found) => Ok(Some(Step::Live(found))),
+        Some(found) => Ok(Some(ScenarioStep::Live(found))),
         None => Ok(None),
     }
 }
@@ -108,7 +108,7 @@ fn full(
     words: &[&[u8]],
     nodes: u16,
     workers: u16,
-) -> Result<Option<Step>, AllocError>
+) -> Result<Option<ScenarioStep>, AllocError>
     ensures { IfOk result (λ o. option_map plain_step o ≡ full_of nodes workers (map (λ t. t.now) words.now)) }
 {
     let Some((node, rest)) = words.split_first() else {
@@ -120,7 +120,7 @@ fn full(
     let Some(named) = numbers(alloc, rest, workers)? else {
         return Ok(None);
     };
-    Ok(Some(Step::Full {
+    Ok(Some(ScenarioStep::Full {
         node,
         marks: marks_of(named.as_slice()),
     }))
@@ -191,20 +191,20 @@ fn step_of(
     words: &[&[u8]],
     nodes: u16,
     workers: u16,
-) -> Result<Option<Step>, AllocError>
+) -> Result<Option<ScenarioStep>, AllocError>
     ensures { IfOk result (λ o. option_map plain_step o ≡ step_of nodes workers kind (map (λ t. t.now) words.now)) }
 {
     match kind {
         Kind::Install => Ok(install(words, nodes)),
         Kind::Live => live(alloc, words, nodes),
-        Kind::Take => Ok(number_of(words).map(Step::Take)),
-        Kind::Lose => Ok(number_of(words).map(Step::Lose)),
-        Kind::Again => Ok(number_of(words).map(Step::Again)),
+        Kind::Take => Ok(number_of(words).map(ScenarioStep::Take)),
+        Kind::Lose => Ok(number_of(words).map(ScenarioStep::Lose)),
+        Kind::Again => Ok(number_of(words).map(ScenarioStep::Again)),
         Kind::Full => full(alloc, words, nodes, workers),
-        Kind::Hold => Ok(node_of(words, nodes).map(Step::Hold)),
-        Kind::Drain => Ok(node_of(words, nodes).map(Step::Drain)),
-        Kind::Restart => Ok(node_of(words, nodes).map(Step::Restart)),
-        Kind::Stop => Ok(node_of(words, nodes).map(Step::Stop)),
+        Kind::Hold => Ok(node_of(words, nodes).map(ScenarioStep::Hold)),
+        Kind::Drain => Ok(node_of(words, nodes).map(ScenarioStep::Drain)),
+        Kind::Restart => Ok(node_of(words, nodes).map(ScenarioStep::Restart)),
+        Kind::Stop => Ok(node_of(words, nodes).map(ScenarioStep::Stop)),
     }
 }
 
@@ -214,7 +214,7 @@ fn read_step(
     text: &[u8],
     nodes: u16,
     workers: u16,
-) -> Result<Option<Step>, AllocError>
+) -> Result<Option<ScenarioStep>, AllocError>
     ensures { IfOk result (λ o. option_map plain_step o ≡ step_of_text nodes workers text.now) }
 {
     let words = pieces(alloc, text, b' ')?;
@@ -235,7 +235,7 @@ pub(crate) fn step_for(
     text: &[u8],
     nodes: u16,
     workers: u16,
-) -> Result<Option<Step>, AllocError>
+) -> Result<Option<ScenarioStep>, AllocError>
     ensures { IfOk result (λ o. option_map plain_step o ≡ step_for played nodes workers text.now) }
 {
     let Some(step) = read_step(alloc, text, nodes, workers)? else {

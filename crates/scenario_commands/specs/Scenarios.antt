@@ -15,10 +15,10 @@ use Rattle.scenario.specs.Meaning.{Means, IsRefused}
 use Rattle.simulation.specs.declared.fault.SimulationFault.{SimulationFault}
 use Rattle.simulation.specs.declared.fault.SimulationFault.TheVariants as run
 use Rattle.simulation.specs.Simulated.{Stopped}
-use Rattle.scenario_play.specs.declared.asking.Asked.{Asked}
-use Rattle.scenario_play.specs.Described.{cluster_in, choice_in, plan_in, lookups_in}
-use Rattle.scenario_play.specs.Answers.{Answers}
-use Rattle.scenario_play.specs.Kept.{KeepsPromises}
+use Rattle.simulate_scenario.specs.declared.asking.Query.{Query}
+use Rattle.simulate_scenario.specs.Described.{cluster_in, choice_in, plan_in, lookups_in}
+use Rattle.simulate_scenario.specs.Answers.{Answers}
+use Rattle.simulate_scenario.specs.Kept.{KeepsPromises}
 use Rattle.command_faults.specs.declared.fault.CliFault.{CliFault}
 use Rattle.command_faults.specs.declared.fault.CliFault.TheVariants.{Write, TooLong, BadMember, BadToml, BadFormat, BadKey, Pool, BadStep, Capture, Memory}
 
@@ -50,12 +50,12 @@ run_fault run.Memory = Memory
 
 -- the scenario that the text means, which is played in turn, was played over the input, the output got what was sent, and the
 -- report the text that answers what was asked; and the run keeps the promises
-pub record Plays (asked : Asked) (text : List ℕ) (input input' output output' report report' : Tape) : Type 0 where
+pub record Plays (asked : Query) (text : List ℕ) (input input' output output' report report' : Tape) : Type 0 where
   pub scenario : Scenario
   pub means : Means InTurn text scenario
   pub answer : List ℕ
   pub answers : Answers (cluster_in scenario) (choice_in scenario) (plan_in scenario) (lookups_in scenario) asked input input' output output' answer
-  pub kept : KeepsPromises scenario answers.course
+  pub kept : KeepsPromises scenario answers.trace
   pub written : Appends report.bytes report'.bytes answer
   pub unfailed : Unfailed report report'
 
@@ -74,7 +74,7 @@ pub record RunFails (fault : CliFault) (text : List ℕ) (input input' output ou
   pub stopped : Stopped (cluster_in scenario) (choice_in scenario) (plan_in scenario) input input' output output' why
 
 -- the same as when the scenario was played, but the report was given up
-pub record ReportFails (fault : CliFault) (asked : Asked) (text : List ℕ) (input input' output output' report report' : Tape) : Type 0 where
+pub record ReportFails (fault : CliFault) (asked : Query) (text : List ℕ) (input input' output output' report report' : Tape) : Type 0 where
   pub scenario : Scenario
   pub means : Means InTurn text scenario
   pub answer : List ℕ
@@ -88,7 +88,7 @@ unkept calls = record { bytes = None; failures = 0; interruptions = 0; calls = c
 
 -- a command over a scenario stopped by this fault: the text is no scenario that is played in turn, and nothing was called; or
 -- the run stopped, and nothing was reported; or the report was given up
-abbrev pub PlayFails : CliFault → Asked → List ℕ → Tape → Tape → Tape → Tape → Tape → Tape → Type 0 → Type 0 → Type 0
+abbrev pub PlayFails : CliFault → Query → List ℕ → Tape → Tape → Tape → Tape → Tape → Tape → Type 0 → Type 0 → Type 0
 PlayFails fault asked text input input' output output' report report' Uncalled Unreported =
     (ScenarioFails InTurn fault text × Uncalled)
     ⊎ ((RunFails fault text input input' output output' × Unreported)
@@ -99,4 +99,4 @@ abbrev pub ExplainFails : CliFault → ℕ → ℕ → List ℕ → Tape → Tap
 ExplainFails fault one other text input input' report report' Uncalled Unreported =
     (ScenarioFails InTurn fault text × Uncalled)
     ⊎ (((calls : ℕ) × RunFails fault text input input' (unkept 0) (unkept calls) × (fault ≢ Write) × Unreported)
-    ⊎ ((calls : ℕ) × ReportFails fault (Asked.Events one other) text input input' (unkept 0) (unkept calls) report report'))
+    ⊎ ((calls : ℕ) × ReportFails fault (Query.Events one other) text input input' (unkept 0) (unkept calls) report report'))

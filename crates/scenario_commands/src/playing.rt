@@ -8,7 +8,7 @@ use connection_table::TableKey;
 use pcap_file::{PcapFault, Sink, Source};
 use pool_versions::PoolFault;
 use scenario::{Played, ScenarioFault, read};
-use scenario_play::{Asked, Wanted, play_scenario};
+use simulate_scenario::{Query, Wanted, play_scenario};
 use simulation::SimulationFault;
 use std::alloc::Global;
 
@@ -62,7 +62,7 @@ fn play<I: Source, O: Sink, R: Sink>(
     alloc: Global,
     key: TableKey,
     scenario: &[u8],
-    asked: Asked,
+    asked: Query,
     input: &mut I,
     output: &mut O,
     report: &mut R,
@@ -95,8 +95,8 @@ pub fn simulate<I: Source, O: Sink, R: Sink>(
     report: &mut R,
     wanted: Wanted,
 ) -> Result<(), CliFault>
-    ensures played { OnOk result (Plays (Asked.Report wanted) scenario.now (I.tape input.old) (I.tape input.new) (O.tape output.old) (O.tape output.new) (R.tape report.old) (R.tape report.new)) }
-    ensures stopped { IfErr result (λ fault. PlayFails fault (Asked.Report wanted) scenario.now (I.tape input.old) (I.tape input.new) (O.tape output.old) (O.tape output.new) (R.tape report.old) (R.tape report.new)
+    ensures played { OnOk result (Plays (Query.Report wanted) scenario.now (I.tape input.old) (I.tape input.new) (O.tape output.old) (O.tape output.new) (R.tape report.old) (R.tape report.new)) }
+    ensures stopped { IfErr result (λ fault. PlayFails fault (Query.Report wanted) scenario.now (I.tape input.old) (I.tape input.new) (O.tape output.old) (O.tape output.new) (R.tape report.old) (R.tape report.new)
         ((input.new ≡ input.old) × (output.new ≡ output.old) × (report.new ≡ report.old)) (report.new ≡ report.old)) }
 {
     let key = TableKey::fixed();
@@ -116,11 +116,11 @@ pub fn simulate_keyed<I: Source, O: Sink, R: Sink>(
     report: &mut R,
     wanted: Wanted,
 ) -> Result<(), CliFault>
-    ensures played { OnOk result (Plays (Asked.Report wanted) scenario.now (I.tape input.old) (I.tape input.new) (O.tape output.old) (O.tape output.new) (R.tape report.old) (R.tape report.new)) }
-    ensures stopped { IfErr result (λ fault. PlayFails fault (Asked.Report wanted) scenario.now (I.tape input.old) (I.tape input.new) (O.tape output.old) (O.tape output.new) (R.tape report.old) (R.tape report.new)
+    ensures played { OnOk result (Plays (Query.Report wanted) scenario.now (I.tape input.old) (I.tape input.new) (O.tape output.old) (O.tape output.new) (R.tape report.old) (R.tape report.new)) }
+    ensures stopped { IfErr result (λ fault. PlayFails fault (Query.Report wanted) scenario.now (I.tape input.old) (I.tape input.new) (O.tape output.old) (O.tape output.new) (R.tape report.old) (R.tape report.new)
         ((input.new ≡ input.old) × (output.new ≡ output.old) × (report.new ≡ report.old)) (report.new ≡ report.old)) }
 {
-    let asked = Asked::Report(wanted);
+    let asked = Query::Report(wanted);
     match play(alloc, key, scenario, asked, input, output, report) {
         Ok(()) => Ok(()),
         Err(fault) => Err(fault),
@@ -137,7 +137,7 @@ pub fn explain_run<I: Source, R: Sink>(
     other: u64,
     report: &mut R,
 ) -> Result<(), CliFault>
-    ensures played { OnOk result ((calls : ℕ) × Plays (Asked.Events one other) scenario.now (I.tape input.old) (I.tape input.new) (unkept 0) (unkept calls) (R.tape report.old) (R.tape report.new)) }
+    ensures played { OnOk result ((calls : ℕ) × Plays (Query.Events one other) scenario.now (I.tape input.old) (I.tape input.new) (unkept 0) (unkept calls) (R.tape report.old) (R.tape report.new)) }
     ensures stopped { IfErr result (λ fault. ExplainFails fault one other scenario.now (I.tape input.old) (I.tape input.new) (R.tape report.old) (R.tape report.new)
         ((input.new ≡ input.old) × (report.new ≡ report.old)) (report.new ≡ report.old)) }
 {
@@ -158,11 +158,11 @@ pub fn explain_keyed<I: Source, R: Sink>(
     other: u64,
     report: &mut R,
 ) -> Result<(), CliFault>
-    ensures played { OnOk result ((calls : ℕ) × Plays (Asked.Events one other) scenario.now (I.tape input.old) (I.tape input.new) (unkept 0) (unkept calls) (R.tape report.old) (R.tape report.new)) }
+    ensures played { OnOk result ((calls : ℕ) × Plays (Query.Events one other) scenario.now (I.tape input.old) (I.tape input.new) (unkept 0) (unkept calls) (R.tape report.old) (R.tape report.new)) }
     ensures stopped { IfErr result (λ fault. ExplainFails fault one other scenario.now (I.tape input.old) (I.tape input.new) (R.tape report.old) (R.tape report.new)
         ((input.new ≡ input.old) × (report.new ≡ report.old)) (report.new ≡ report.old)) }
 {
-    let asked = Asked::Events { one, other };
+    let asked = Query::Events { one, other };
     let mut output = Nowhere::new();
     match play(alloc, key, scenario, asked, input, &mut output, report) {
         Ok(()) => Ok(()),

@@ -4,8 +4,8 @@ use Rattle.std.specs.List.{list_any}
 use Rattle.std.specs.Fmt.{decimal}
 use Rattle.pool_versions.specs.declared.catalogue.Catalogue.{Catalogue}
 use Rattle.pool_versions.specs.Pool.{version_at}
-use Rattle.scenario_steps.specs.declared.Step.{Step}
-use Rattle.scenario_steps.specs.declared.Step.TheVariants as steps
+use Rattle.event_trace.specs.declared.steps.ScenarioStep.{ScenarioStep}
+use Rattle.event_trace.specs.declared.steps.ScenarioStep.TheVariants as steps
 use Rattle.scenario.specs.declared.reading.Scenario.{Scenario}
 use Rattle.scenario_warnings.specs.declared.Warning.{Warning}
 use Rattle.scenario_warnings.specs.declared.Warning.TheVariants.{UnknownVersion, NoVersion}
@@ -15,7 +15,7 @@ abbrev pub is_known : Catalogue → ℕ → Bool
 is_known c v = is_some (version_at v c.versions)
 
 -- a step installs a version of the catalogue on a node
-abbrev pub gives : Catalogue → ℕ → Step → Bool
+abbrev pub gives : Catalogue → ℕ → ScenarioStep → Bool
 gives c n (steps.Install m v) = m == n && is_known c v
 gives c n (steps.Live ns) = false
 gives c n (steps.Take k) = false
@@ -28,7 +28,7 @@ gives c n (steps.Restart m) = false
 gives c n (steps.Stop m) = false
 
 -- whether a node is live behind a step, where it was or wasn't before
-abbrev pub live_after : ℕ → Bool → Step → Bool
+abbrev pub live_after : ℕ → Bool → ScenarioStep → Bool
 live_after n live (steps.Install m v) = live
 live_after n live (steps.Live ns) = list_any (λ m. m == n) ns.items
 live_after n live (steps.Take k) = live
@@ -41,7 +41,7 @@ live_after n live (steps.Restart m) = live
 live_after n live (steps.Stop m) = live
 
 -- a step delivers packets
-abbrev pub delivers : Step → Bool
+abbrev pub delivers : ScenarioStep → Bool
 delivers (steps.Install m v) = false
 delivers (steps.Live ns) = false
 delivers (steps.Take k) = true
@@ -54,12 +54,12 @@ delivers (steps.Restart m) = false
 delivers (steps.Stop m) = false
 
 -- a node is live at one of the steps that delivers packets
-abbrev pub comes : ℕ → Bool → List Step → Bool
+abbrev pub comes : ℕ → Bool → List ScenarioStep → Bool
 comes n live [] = false
 comes n live (s ∷ ss) = if live && delivers s then true else comes n (live_after n live s) ss
 
 -- a step that installs what the catalogue lacks, by its number
-abbrev pub unknown_at : Catalogue → ℕ → Step → List Warning
+abbrev pub unknown_at : Catalogue → ℕ → ScenarioStep → List Warning
 unknown_at c i (steps.Install n v) = if is_known c v then [] else UnknownVersion i n v ∷ []
 unknown_at c i (steps.Live ns) = []
 unknown_at c i (steps.Take k) = []
@@ -71,15 +71,15 @@ unknown_at c i (steps.Drain m) = []
 unknown_at c i (steps.Restart m) = []
 unknown_at c i (steps.Stop m) = []
 
-abbrev pub unknown_from : Catalogue → ℕ → List Step → List Warning
+abbrev pub unknown_from : Catalogue → ℕ → List ScenarioStep → List Warning
 unknown_from c i [] = []
 unknown_from c i (s ∷ ss) = unknown_at c i s ++ unknown_from c (i + 1) ss
 
 -- a node to which packets come, and on which no step installs a version of the catalogue
-abbrev pub bare_at : Catalogue → List Step → ℕ → List Warning
+abbrev pub bare_at : Catalogue → List ScenarioStep → ℕ → List Warning
 bare_at c ss n = if comes n true ss && not (list_any (λ s. gives c n s) ss) then NoVersion n ∷ [] else []
 
-abbrev pub bare_below : Catalogue → List Step → ℕ → List Warning
+abbrev pub bare_below : Catalogue → List ScenarioStep → ℕ → List Warning
 bare_below c ss zero = []
 bare_below c ss (suc n) = bare_below c ss n ++ bare_at c ss n
 

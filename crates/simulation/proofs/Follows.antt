@@ -4,13 +4,13 @@ use Rattle.std.specs.Prelude.{slice_get, ◌==◌, ◌&&◌, if◌then◌else◌
 use Rattle.std.proofs.lemmas.List.{map-append, drop-append-le, drop-map}
 use Rattle.five_tuple.specs.declared.Flow.{Flow}
 use Rattle.pool_versions.specs.declared.backend.Backend.{Backend}
-use Rattle.pcap_file.specs.Format.{Packet as Record}
+use Rattle.pcap_file.specs.Format.{Record}
 use Rattle.cluster_node.specs.declared.serving.Item.{Item}
 use Rattle.cluster_node.specs.declared.packets.Packet.{Packet}
 use Rattle.cluster_node.specs.declared.packets.Packet.TheVariants.{Good, Bad}
 use Rattle.cluster_node.specs.declared.events.Event.{Event}
 use Rattle.cluster_node.specs.declared.events.Event.TheVariants.{Install, Arrive, Serve, Restart}
-use Rattle.cluster_node.specs.declared.events.Said.{Said}
+use Rattle.cluster_node.specs.declared.events.LogEntry.{LogEntry}
 use Rattle.cluster_node.specs.declared.outcomes.Outcome.{Outcome}
 use Rattle.cluster_node.specs.declared.outcomes.Outcome.TheVariants.{Installed, Placed, Forward, Dropped, Restarted, Refused}
 use Rattle.cluster_node.specs.Book.{Line, put, took, placed, taken_count, next_item}
@@ -56,7 +56,7 @@ kept all q ls true h = h
 kept all q ls false h = h
 
 -- a worker's lines with one event more
-lines_more : (s : Said) (past : List Said) (n w : ℕ) → lines_at (s ∷ past) n w ≡ (if node_of s.event == n then line_by w s.event s.packet s.outcome (lines_at past n w) else lines_at past n w)
+lines_more : (s : LogEntry) (past : List LogEntry) (n w : ℕ) → lines_at (s ∷ past) n w ≡ (if node_of s.event == n then line_by w s.event s.packet s.outcome (lines_at past n w) else lines_at past n w)
 lines_more s past n w = go (node_of s.event == n)
   where
     go : (b : Bool) → lines_of w (if b then s ∷ of_node n past else of_node n past) ≡ (if b then line_by w s.event s.packet s.outcome (lines_at past n w) else lines_at past n w)
@@ -107,19 +107,19 @@ module _ (all q : List Record) (ls : List Line) (h : Beside all q ls) where
   settled_beside n w (Restart m) p o away = restarted_beside (accepted o) (m == n)
 
 -- a worker of the cluster has a queue
-has_queue : (all : List Record) (k : Cluster) (past : List Said) (s : Said) (qs : List (List Record)) → CanFollow all k past s qs → (n w : ℕ) → n < k.nodes → w < k.workers → HasQueue qs n w
+has_queue : (all : List Record) (k : Cluster) (past : List LogEntry) (s : LogEntry) (qs : List (List Record)) → CanFollow all k past s qs → (n w : ℕ) → n < k.nodes → w < k.workers → HasQueue qs n w
 has_queue all k past s qs f n w there here = (
   let a : w < 16 = omega (arith, f.workers) in a,
   let b : n * 16 + w < length qs = omega (arith, f.workers, f.room) in b,
 )
 
-pub follow_arrived : (all : List Record) (k : Cluster) (past : List Said) (s : Said) (r : Record) (qs qs' : List (List Record)) → CanFollow all k past s qs → ComesAs all r s.event → Moves qs qs' (arrived s r) → Mirrors all k (s ∷ past) qs'
+pub follow_arrived : (all : List Record) (k : Cluster) (past : List LogEntry) (s : LogEntry) (r : Record) (qs qs' : List (List Record)) → CanFollow all k past s qs → ComesAs all r s.event → Moves qs qs' (arrived s r) → Mirrors all k (s ∷ past) qs'
 follow_arrived all k past s r qs qs' f comes moves n w there here =
     ap (map (λ x. Some x)) (moves.each n w (has_queue all k past s qs f n w there here))
     ∙ arrived_beside all (queue_at qs n w) (lines_at past n w) (f.mirrors n w there here) n w r s.event s.packet s.outcome (f.orderly.sound past f.judged.1 n w there here) comes
     ∙ ap (λ (l : List Line). map (λ i. slice_get all i) (queue_by l)) (sym (lines_more s past n w))
 
-pub follow_settled : (all : List Record) (k : Cluster) (past : List Said) (s : Said) (qs qs' : List (List Record)) → CanFollow all k past s qs → IsNoArrival s.event → Moves qs qs' (settled s) → Mirrors all k (s ∷ past) qs'
+pub follow_settled : (all : List Record) (k : Cluster) (past : List LogEntry) (s : LogEntry) (qs qs' : List (List Record)) → CanFollow all k past s qs → IsNoArrival s.event → Moves qs qs' (settled s) → Mirrors all k (s ∷ past) qs'
 follow_settled all k past s qs qs' f away moves n w there here =
     ap (map (λ x. Some x)) (moves.each n w (has_queue all k past s qs f n w there here))
     ∙ settled_beside all (queue_at qs n w) (lines_at past n w) (f.mirrors n w there here) n w s.event s.packet s.outcome away
@@ -139,7 +139,7 @@ record_first : (q : List Record) (o : Option Record) → slice_get (map (λ (r :
 record_first [] o h = absurd (cc)
 record_first (r ∷ q) o h = (r, refl, cc)
 
-pub first_sent : (all : List Record) (k : Cluster) (past : List Said) (s : Said) (qs : List (List Record)) → CanFollow all k past s qs → (n w i : ℕ) (x : Flow) (b : Backend) (v : ℕ) → s.outcome ≡ Forward n w i x b v → IsFirst (taken_out s qs) (slice_get all i)
+pub first_sent : (all : List Record) (k : Cluster) (past : List LogEntry) (s : LogEntry) (qs : List (List Record)) → CanFollow all k past s qs → (n w i : ℕ) (x : Flow) (b : Backend) (v : ℕ) → s.outcome ≡ Forward n w i x b v → IsFirst (taken_out s qs) (slice_get all i)
 first_sent all k past s qs f n w i x b v e =
     let t : TakesFirst k past s.event n w i = f.orderly.first past s.event s.packet n w i x b v (sym f.judged.0 ∙ e) in
     let out : taken_out s qs ≡ slice_get (queue_at qs n w) 0 = ap (λ (o : Outcome). if accepted o then taken_by s.event qs else None) e ∙ ap (λ (a : Event). taken_by a qs) t.event in
@@ -150,15 +150,15 @@ frame_first : {F : Type 0} (of : F → Record) (result : Option F) (o : Option R
 frame_first of None o out e h = absurd (let a : None ≡ Some h.0 = e ∙ h.1 in cc)
 frame_first of (Some frame) o out e h = h.2 ∙ sym (e ∙ h.1)
 
-pub follow_sent : {F : Type 0} (of : F → Record) (all : List Record) (k : Cluster) (past : List Said) (s : Said) (qs : List (List Record)) (result : Option F) → CanFollow all k past s qs → option_map of result ≡ taken_out s qs → (n w i : ℕ) (x : Flow) (b : Backend) (v : ℕ) → s.outcome ≡ Forward n w i x b v → IsSomeAnd result (λ frame. slice_get all i ≡ Some (of frame))
+pub follow_sent : {F : Type 0} (of : F → Record) (all : List Record) (k : Cluster) (past : List LogEntry) (s : LogEntry) (qs : List (List Record)) (result : Option F) → CanFollow all k past s qs → option_map of result ≡ taken_out s qs → (n w i : ℕ) (x : Flow) (b : Backend) (v : ℕ) → s.outcome ≡ Forward n w i x b v → IsSomeAnd result (λ frame. slice_get all i ≡ Some (of frame))
 follow_sent of all k past s qs result f taken n w i x b v e = frame_first of result (slice_get all i) (taken_out s qs) taken (first_sent all k past s qs f n w i x b v e)
 
 -- an event that is accepted
-pub moves_accepted : (s : Said) (qs qs' : List (List Record)) → accepted s.outcome ≡ true → Moves qs qs' (settled_by s.event) → Moves qs qs' (settled s)
+pub moves_accepted : (s : LogEntry) (qs qs' : List (List Record)) → accepted s.outcome ≡ true → Moves qs qs' (settled_by s.event) → Moves qs qs' (settled s)
 moves_accepted s qs qs' e m = record {
   count = m.count;
   each = λ n w h. m.each n w h ∙ ap (λ (b : Bool). if b then settled_by s.event n w (queue_at qs n w) else queue_at qs n w) (sym e);
 }
 
-pub taken_accepted : (s : Said) (qs : List (List Record)) (o : Option Record) → accepted s.outcome ≡ true → o ≡ taken_by s.event qs → o ≡ taken_out s qs
+pub taken_accepted : (s : LogEntry) (qs : List (List Record)) (o : Option Record) → accepted s.outcome ≡ true → o ≡ taken_by s.event qs → o ≡ taken_out s qs
 taken_accepted s qs o e h = h ∙ ap (λ (b : Bool). if b then taken_by s.event qs else None) (sym e)

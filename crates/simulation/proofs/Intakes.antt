@@ -5,7 +5,7 @@ use Rattle.pcap_file.specs.declared.format.InputEnd.{InputEnd}
 use Rattle.pcap_file.specs.declared.format.Ending.TheVariants.{Failed}
 use Rattle.pcap_file.specs.declared.format.PcapFault.{PcapFault}
 use Rattle.pcap_file.specs.Device.{Tape, Unfailed, CallsAtMost}
-use Rattle.pcap_file.specs.Format.{Packet as Record}
+use Rattle.pcap_file.specs.Format.{Record}
 use Rattle.pcap_file.specs.Reading.{Gave, CauseOfEnding}
 use Rattle.pcap_file.specs.Text.{Passed, RefusedBehind, ending_of, calls_for}
 use Rattle.pcap_file.proofs.Records.{calls-next}

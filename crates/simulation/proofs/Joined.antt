@@ -6,12 +6,12 @@ use Rattle.std.proofs.KnownBytes.{Appends-trans}
 use Rattle.pcap_file.specs.declared.format.Head.{Head}
 use Rattle.pcap_file.specs.declared.format.InputEnd.{InputEnd}
 use Rattle.pcap_file.specs.Device.{Tape, Unfailed, WithinCalls, PutRefused}
-use Rattle.pcap_file.specs.Format.{Packet as Record, written_head}
+use Rattle.pcap_file.specs.Format.{Record, written_head}
 use Rattle.pcap_file.specs.Capture.{HeadRead}
 use Rattle.pcap_file.specs.Text.{Reads, IsTold, ending_of}
 use Rattle.spreader.specs.Choices.{Choice}
 use Rattle.cluster_core.specs.Cluster.{Cluster}
-use Rattle.course.specs.Course.{Course}
+use Rattle.event_trace.specs.Trace.{Trace}
 use Rattle.simulation.specs.declared.fault.SimulationFault.{SimulationFault}
 use Rattle.simulation.specs.declared.fault.SimulationFault.TheVariants.{Write, Memory}
 use Rattle.simulation.specs.Plans.{Planned}
@@ -59,14 +59,14 @@ unbegun cluster choice plan head input text output output' fault h u w p = inr (
   wrote = inl p;
 }))
 
-pub simulated : (cluster : Cluster) (choice : Choice) (plan : Planned) (head : Head) (input text input' output begun output' : Tape) (c : Course) (n : ℕ) (e : InputEnd) → HeadRead input.bytes text.bytes (Ok head) → Unfailed input text → Begun output begun
+pub simulated : (cluster : Cluster) (choice : Choice) (plan : Planned) (head : Head) (input text input' output begun output' : Tape) (c : Trace) (n : ℕ) (e : InputEnd) → HeadRead input.bytes text.bytes (Ok head) → Unfailed input text → Begun output begun
     → IsOver cluster choice plan head text input' begun output' c n e → Simulated cluster choice plan input input' output output' c n e
 simulated cluster choice plan head input text input' output begun output' c n e h u b o = record {
   head = head;
   records = o.records;
   input_is = input_is input.bytes text.bytes head o.records e h o.told;
   input_unfailed = unfailed_both input text input' u o.unfailed;
-  course_is = o.course_is;
+  trace_is = o.trace_is;
   count = o.count;
   output_is = Appends-trans output.bytes begun.bytes output'.bytes written_head (records_text (sendings cluster choice plan head.link o.records)) b.0 o.wrote.bytes;
   output_unfailed = unfailed_both output begun output' b.1 o.wrote.unfailed;
@@ -94,7 +94,7 @@ appends_rest (Some l) None xs h = h
 appends_rest (Some l) (Some m) xs h = h ∙ sym (append_assoc l written_head xs)
 
 -- a run came to its end, and what was asked of it found no memory
-pub whole_unanswered : (cluster : Cluster) (choice : Choice) (plan : Planned) (input input' output output' : Tape) (c : Course) (n : ℕ) (e : InputEnd) → Simulated cluster choice plan input input' output output' c n e → Stopped cluster choice plan input input' output output' Memory
+pub whole_unanswered : (cluster : Cluster) (choice : Choice) (plan : Planned) (input input' output output' : Tape) (c : Trace) (n : ℕ) (e : InputEnd) → Simulated cluster choice plan input input' output output' c n e → Stopped cluster choice plan input input' output output' Memory
 unfolding behind_header with_header
 whole_unanswered cluster choice plan input input' output output' c n e s =
     let told = told_behind input.bytes s.head s.records e s.input_is in

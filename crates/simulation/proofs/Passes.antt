@@ -4,10 +4,10 @@ use Rattle.std.specs.Prelude.{slice_get, slice_index_or, ◌==◌, ◌&&◌, nat
 use Rattle.std.proofs.lemmas.Bool.{eqb-true, eq-eqb, true≢false, ltb-true}
 use Rattle.five_tuple.specs.declared.Flow.{Flow}
 use Rattle.pool_versions.specs.declared.backend.Backend.{Backend}
-use Rattle.pcap_file.specs.Format.{Packet as Record}
+use Rattle.pcap_file.specs.Format.{Record}
 use Rattle.cluster_node.specs.declared.events.Event.{Event}
 use Rattle.cluster_node.specs.declared.events.Event.TheVariants.{Install, Arrive, Serve, Restart}
-use Rattle.cluster_node.specs.declared.events.Said.{Said}
+use Rattle.cluster_node.specs.declared.events.LogEntry.{LogEntry}
 use Rattle.cluster_node.specs.declared.outcomes.Outcome.TheVariants.{Forward}
 use Rattle.cluster_node.specs.Record.{accepted}
 use Rattle.cluster_node.specs.Records.{Judged}
@@ -18,7 +18,7 @@ use Rattle.simulation.proofs.Places.{at_place, and_parts, moves_changed}
 use Rattle.simulation.proofs.Follows.{follow_arrived, follow_settled, first_sent, moves_accepted, taken_accepted}
 
 -- where an arrival's packet waits alone, and what takes it out
-record Passing (s t : Said) (qs : List (List Record)) : Type 0 where
+record Passing (s t : LogEntry) (qs : List (List Record)) : Type 0 where
   n : ℕ
   w : ℕ
   version : ℕ
@@ -40,7 +40,7 @@ free_queue qs n w h =
     let few : w < 16 = ltb-true w 16 b.0 in
     ((few, ltb-true (n * 16 + w) (length qs) b.1), at_place qs n w few ∙ none_long (slice_index_or qs (n * 16 + w) []) (eqb-true (length (slice_index_or qs (n * 16 + w) [])) 0 a.1))
 
-module _ (s t : Said) (qs : List (List Record)) where
+module _ (s t : LogEntry) (qs : List (List Record)) where
   -- the two workers are one, at which nothing waits
   one_worker : (m u n w v : ℕ) (x : Bool) → placed_by s.event s.packet s.outcome ≡ Some (m, u) → accepted t.outcome ≡ true → t.event ≡ Serve n w v x → ((m == n && u == w) && is_free qs m u) ≡ true → Passing s t qs
   one_worker m u n w v x i j l h =
@@ -104,7 +104,7 @@ first_there qs n w r has free =
     ∙ ap (λ (b : Bool). if b then queue_at qs n w ++ r ∷ [] else queue_at qs n w) (both_same n w)
     ∙ ap (λ (q : List Record). q ++ r ∷ []) free)
 
-module _ (all : List Record) (k : Cluster) (past : List Said) (s t : Said) (r : Record) (qs : List (List Record)) (f : CanFollow all k past s qs) (comes : ComesAs all r s.event) (judged : Judged k.judge (t ∷ s ∷ past)) (g : Passing s t qs) where
+module _ (all : List Record) (k : Cluster) (past : List LogEntry) (s t : LogEntry) (r : Record) (qs : List (List Record)) (f : CanFollow all k past s qs) (comes : ComesAs all r s.event) (judged : Judged k.judge (t ∷ s ∷ past)) (g : Passing s t qs) where
   arrives : Moves qs (with_one qs g.n g.w r) (arrived s r)
   arrives = subst (λ (p : Option (ℕ × ℕ)). Moves qs (with_one qs g.n g.w r) (put_by p r)) (sym g.placed) (moves_changed qs g.n g.w (λ q. q ++ r ∷ []))
 
@@ -131,8 +131,8 @@ module _ (all : List Record) (k : Cluster) (past : List Said) (s t : Said) (r : 
       let h = first_sent all k (s ∷ past) t (with_one qs g.n g.w r) can_take n w i x b v e in
       h.2 ∙ sym h.1 ∙ taken_alone
 
-pub pass_mirrors : (all : List Record) (k : Cluster) (past : List Said) (s t : Said) (r : Record) (qs : List (List Record)) → passes s t qs ≡ true → CanFollow all k past s qs → ComesAs all r s.event → Judged k.judge (t ∷ s ∷ past) → Mirrors all k (t ∷ s ∷ past) qs
+pub pass_mirrors : (all : List Record) (k : Cluster) (past : List LogEntry) (s t : LogEntry) (r : Record) (qs : List (List Record)) → passes s t qs ≡ true → CanFollow all k past s qs → ComesAs all r s.event → Judged k.judge (t ∷ s ∷ past) → Mirrors all k (t ∷ s ∷ past) qs
 pass_mirrors all k past s t r qs h f comes judged = mirrors_passed all k past s t r qs f comes judged (passing s t qs h)
 
-pub pass_sent : (all : List Record) (k : Cluster) (past : List Said) (s t : Said) (r : Record) (qs : List (List Record)) → passes s t qs ≡ true → CanFollow all k past s qs → ComesAs all r s.event → Judged k.judge (t ∷ s ∷ past) → (n w i : ℕ) (x : Flow) (b : Backend) (v : ℕ) → t.outcome ≡ Forward n w i x b v → slice_get all i ≡ Some r
+pub pass_sent : (all : List Record) (k : Cluster) (past : List LogEntry) (s t : LogEntry) (r : Record) (qs : List (List Record)) → passes s t qs ≡ true → CanFollow all k past s qs → ComesAs all r s.event → Judged k.judge (t ∷ s ∷ past) → (n w i : ℕ) (x : Flow) (b : Backend) (v : ℕ) → t.outcome ≡ Forward n w i x b v → slice_get all i ≡ Some r
 pass_sent all k past s t r qs h f comes judged = sent_passed all k past s t r qs f comes judged (passing s t qs h)

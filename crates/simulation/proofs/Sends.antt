@@ -1,6 +1,6 @@
 -- What is sent of a list, event by event.
 use Rattle.std.proofs.Common.{◌≡◌, ℕ, List, [], ◌∷◌, ◌++◌, refl, sym, ap, ◌∙◌, append_assoc}
-use Rattle.cluster_node.specs.declared.events.Said.{Said}
+use Rattle.cluster_node.specs.declared.events.LogEntry.{LogEntry}
 use Rattle.std.proofs.Common.{◌≢◌, subst, arith, append-nil}
 use Rattle.std.specs.Io.KnownBytes.{Appends}
 use Rattle.std.proofs.KnownBytes.{Appends-nil, Appends-trans}
@@ -13,7 +13,7 @@ pub text_append : (a b : List Sending) → records_text (a ++ b) ≡ records_tex
 text_append [] b = refl
 text_append (r ∷ rs) b = ap (λ (l : List ℕ). record_text r ++ l) (text_append rs b) ∙ sym (append_assoc (record_text r) (records_text rs) (records_text b))
 
-pub sent_append : (t : Traffic) (a b : List Said) → sent t (a ++ b) ≡ sent t a ++ sent t b
+pub sent_append : (t : Traffic) (a b : List LogEntry) → sent t (a ++ b) ≡ sent t a ++ sent t b
 sent_append t [] b = refl
 sent_append t (s ∷ ss) b = ap (λ (l : List Sending). sent_by t s.outcome ++ l) (sent_append t ss b) ∙ sym (append_assoc (sent_by t s.outcome) (sent t ss) (sent t b))
 

@@ -1,9 +1,9 @@
 -- What is sent as events come, one after another.
 use Rattle.std.specs.Prelude.{◌≤◌, ◌*◌, List, [], ◌∷◌, length, Some}
-use Rattle.pcap_file.specs.Format.{Packet as Record}
+use Rattle.pcap_file.specs.Format.{Record}
 use Rattle.cluster_node.specs.declared.outcomes.Outcome.{Outcome}
 use Rattle.cluster_node.specs.declared.outcomes.Outcome.TheVariants.{Installed, Placed, Forward, Dropped, Restarted, Refused}
-use Rattle.cluster_node.specs.declared.events.Said.{Said}
+use Rattle.cluster_node.specs.declared.events.LogEntry.{LogEntry}
 use Rattle.cluster_node.specs.Records.{Judged}
 use Rattle.cluster_core.specs.Cluster.{Cluster, Orderly}
 use Rattle.simulation.specs.PrivateMirrors.{Mirrors, IsNoArrival, ComesAs}
@@ -20,17 +20,17 @@ sent_with t (Restarted l) r = []
 sent_with t (Refused reason) r = []
 
 -- none of these is an arrival
-abbrev pub NoArrivals : List Said → Type 0
+abbrev pub NoArrivals : List LogEntry → Type 0
 NoArrivals [] = Unit {0}
 NoArrivals (s ∷ ss) = IsNoArrival s.event × NoArrivals ss
 
 -- only the first of these may be an arrival, and then of a packet that has this record
-abbrev pub ArrivesFirst : List Record → Record → List Said → Type 0
+abbrev pub ArrivesFirst : List Record → Record → List LogEntry → Type 0
 ArrivesFirst all r [] = Unit {0}
 ArrivesFirst all r (s ∷ ss) = ComesAs all r s.event × NoArrivals ss
 
 -- the queues of frames mirror a record, and these events come after it
-pub record CanSettle (all : List Record) (k : Cluster) (past events : List Said) (qs : List (List Record)) : Type 0 where
+pub record CanSettle (all : List Record) (k : Cluster) (past events : List LogEntry) (qs : List (List Record)) : Type 0 where
   pub workers : k.workers ≤ 16
   pub room : k.nodes * 16 ≤ length qs
   pub orderly : Orderly k

@@ -2,14 +2,14 @@
 use Rattle.std.specs.Prelude.{◌≡◌, ◌==◌, ℕ, zero, suc, Bool, false, List, [], ◌∷◌, Option, Some, None, slice_get, option_map, if◌then◌else◌}
 use Rattle.std.specs.Ordering.{nat_cmp}
 use Rattle.std.specs.BTreeMap.{get}
-use Rattle.pcap_file.specs.Format.{Packet as Record, packet}
-use Rattle.scenario_steps.specs.declared.Step.{Step}
-use Rattle.scenario_steps.specs.declared.Step.TheVariants as steps
+use Rattle.pcap_file.specs.Format.{Record, packet}
+use Rattle.event_trace.specs.declared.steps.ScenarioStep.{ScenarioStep}
+use Rattle.event_trace.specs.declared.steps.ScenarioStep.TheVariants as steps
 use Rattle.simulation.specs.declared.keeping.Later.{Later}
-use Rattle.simulation.specs.declared.keeping.Kept.{Kept}
+use Rattle.simulation.specs.declared.keeping.KeptRecords.{KeptRecords}
 
 -- a step delivers the record of this place again
-abbrev pub names : ℕ → Step → Bool
+abbrev pub names : ℕ → ScenarioStep → Bool
 names place (steps.Install n v) = false
 names place (steps.Live ns) = false
 names place (steps.Take k) = false
@@ -22,7 +22,7 @@ names place (steps.Restart n) = false
 names place (steps.Stop n) = false
 
 -- how many of these steps do
-abbrev pub times_named : ℕ → List Step → ℕ
+abbrev pub times_named : ℕ → List ScenarioStep → ℕ
 times_named place [] = 0
 times_named place (s ∷ ss) = if names place s then suc (times_named place ss) else times_named place ss
 
@@ -31,7 +31,7 @@ abbrev pub kept_of : Later → ℕ × Option Record
 kept_of l = (l.times, option_map (λ f. packet f.value) l.frame)
 
 -- what is kept of a place
-abbrev pub kept_at : Kept → ℕ → Option (ℕ × Option Record)
+abbrev pub kept_at : KeptRecords → ℕ → Option (ℕ × Option Record)
 kept_at k place = option_map kept_of (get nat_cmp k.places place)
 
 abbrev pub times_in : Option (ℕ × Option Record) → ℕ
@@ -45,5 +45,5 @@ to_keep (suc n) r = Some (suc n, r)
 
 -- These records were read and these steps are left, and of each place exactly this is kept. So a record is kept where, and
 -- only where, it was read and a step that is left names it.
-abbrev pub KeepsNamed : List Record → List Step → Kept → Type 0
+abbrev pub KeepsNamed : List Record → List ScenarioStep → KeptRecords → Type 0
 KeepsNamed seen ss k = (place : ℕ) → kept_at k place ≡ to_keep (times_named place ss) (slice_get seen place)

@@ -1,19 +1,19 @@
 -- The frames that wait are those of the packets that wait, by the record of a cluster's events.
 use Rattle.std.specs.Prelude.{◌≡◌, ℕ, ◌*◌, ◌<◌, ◌≤◌, List, ◌∷◌, length, map, Some, slice_get}
-use Rattle.pcap_file.specs.Format.{Packet as Record}
+use Rattle.pcap_file.specs.Format.{Record}
 use Rattle.cluster_node.specs.declared.events.Event.{Event}
 use Rattle.cluster_node.specs.declared.events.Event.TheVariants.{Install, Arrive, Serve, Restart}
-use Rattle.cluster_node.specs.declared.events.Said.{Said}
+use Rattle.cluster_node.specs.declared.events.LogEntry.{LogEntry}
 use Rattle.cluster_node.specs.Records.{Judged, lines_at}
 use Rattle.cluster_core.specs.Cluster.{Cluster, Orderly, queue_by}
 use Rattle.simulation.specs.PrivateQueues.{queue_at}
 
 -- at each worker of the cluster the records of the capture that wait are those of the packets that wait, in their order
-abbrev pub Mirrors : List Record → Cluster → List Said → List (List Record) → Type 0
+abbrev pub Mirrors : List Record → Cluster → List LogEntry → List (List Record) → Type 0
 Mirrors all k past qs = (n w : ℕ) → n < k.nodes → w < k.workers → map (λ r. Some r) (queue_at qs n w) ≡ map (λ i. slice_get all i) (queue_by (lines_at past n w))
 
 -- the queues mirror a record, have room for the cluster, and what the cluster says next is its judge's
-pub record CanFollow (all : List Record) (k : Cluster) (past : List Said) (s : Said) (qs : List (List Record)) : Type 0 where
+pub record CanFollow (all : List Record) (k : Cluster) (past : List LogEntry) (s : LogEntry) (qs : List (List Record)) : Type 0 where
   pub workers : k.workers ≤ 16
   pub room : k.nodes * 16 ≤ length qs
   pub orderly : Orderly k

@@ -1,12 +1,12 @@
 -- The queues of the frames that wait, and how an event moves them. A node has 16 of them, one for each worker that it may
 -- have. They follow one another in the order of nodes and workers.
 use Rattle.std.specs.Prelude.{◌≡◌, ℕ, zero, suc, ◌+◌, ◌*◌, ◌<◌, ◌==◌, ◌&&◌, nat_lt, Bool, false, List, [], ◌∷◌, ◌++◌, length, drop, Option, Some, None, if◌then◌else◌, slice_get, slice_set, slice_index_or}
-use Rattle.pcap_file.specs.Format.{Packet as Record}
+use Rattle.pcap_file.specs.Format.{Record}
 use Rattle.cluster_node.specs.declared.packets.Packet.{Packet}
 use Rattle.cluster_node.specs.declared.packets.Packet.TheVariants.{Good, Bad}
 use Rattle.cluster_node.specs.declared.events.Event.{Event}
 use Rattle.cluster_node.specs.declared.events.Event.TheVariants.{Install, Arrive, Serve, Restart}
-use Rattle.cluster_node.specs.declared.events.Said.{Said}
+use Rattle.cluster_node.specs.declared.events.LogEntry.{LogEntry}
 use Rattle.cluster_node.specs.declared.outcomes.Outcome.{Outcome}
 use Rattle.cluster_node.specs.declared.outcomes.Outcome.TheVariants.{Installed, Placed, Forward, Dropped, Restarted, Refused}
 use Rattle.cluster_node.specs.Record.{accepted}
@@ -56,7 +56,7 @@ abbrev pub put_by : Option (ℕ × ℕ) → Record → ℕ → ℕ → List Reco
 put_by None r n w q = q
 put_by (Some at) r n w q = only_at at.0 at.1 (λ old. old ++ r ∷ []) n w q
 
-abbrev pub arrived : Said → Record → ℕ → ℕ → List Record → List Record
+abbrev pub arrived : LogEntry → Record → ℕ → ℕ → List Record → List Record
 arrived s r = put_by (placed_by s.event s.packet s.outcome) r
 
 -- How an event that is accepted and no arrival moves the queues. A serving takes the first of its worker's queue, and a
@@ -67,7 +67,7 @@ settled_by (Arrive m k marks) n w q = q
 settled_by (Serve m u v refused) n w q = only_at m u (drop 1) n w q
 settled_by (Restart m) n w q = if m == n then [] else q
 
-abbrev pub settled : Said → ℕ → ℕ → List Record → List Record
+abbrev pub settled : LogEntry → ℕ → ℕ → List Record → List Record
 settled s n w q = if accepted s.outcome then settled_by s.event n w q else q
 
 -- what such an event takes out
@@ -77,7 +77,7 @@ taken_by (Arrive n k marks) qs = None
 taken_by (Serve n w v refused) qs = slice_get (queue_at qs n w) 0
 taken_by (Restart n) qs = None
 
-abbrev pub taken_out : Said → List (List Record) → Option Record
+abbrev pub taken_out : LogEntry → List (List Record) → Option Record
 taken_out s qs = if accepted s.outcome then taken_by s.event qs else None
 
 -- one queue changed, by its place
@@ -105,7 +105,7 @@ serving_on (Arrive n k marks) = None
 serving_on (Serve n w v refused) = Some (n, w)
 serving_on (Restart n) = None
 
-abbrev pub taken_on : Said → Option (ℕ × ℕ)
+abbrev pub taken_on : LogEntry → Option (ℕ × ℕ)
 taken_on s = if accepted s.outcome then serving_on s.event else None
 
 -- whether a packet that is placed there waits alone, and is taken out there
@@ -115,5 +115,5 @@ alone_on (Some at) None qs = false
 alone_on (Some at) (Some on) qs = (at.0 == on.0 && at.1 == on.1) && is_free qs at.0 at.1
 
 -- whether the packet of an arrival waits alone, and the event after it takes it out
-abbrev pub passes : Said → Said → List (List Record) → Bool
+abbrev pub passes : LogEntry → LogEntry → List (List Record) → Bool
 passes s t qs = alone_on (placed_by s.event s.packet s.outcome) (taken_on t) qs

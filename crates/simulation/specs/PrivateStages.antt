@@ -4,63 +4,63 @@ use Rattle.ip_headers.specs.declared.Link.{Link}
 use Rattle.pcap_file.specs.declared.format.Head.{Head}
 use Rattle.pcap_file.specs.declared.format.InputEnd.{InputEnd}
 use Rattle.pcap_file.specs.Device.{Tape, Unfailed}
-use Rattle.pcap_file.specs.Format.{Packet as Record}
+use Rattle.pcap_file.specs.Format.{Record}
 use Rattle.pcap_file.specs.Text.{IsTold}
 use Rattle.spreader.specs.Choices.{Choice}
-use Rattle.scenario_steps.specs.declared.Step.{Step}
+use Rattle.event_trace.specs.declared.steps.ScenarioStep.{ScenarioStep}
 use Rattle.cluster_node.specs.Records.{Judged}
 use Rattle.cluster_core.specs.Cluster.{Cluster, Orderly}
-use Rattle.course.specs.Course.{Course}
-use Rattle.course.specs.PrivateStreams.{take_of, lose_of}
+use Rattle.event_trace.specs.Trace.{Trace}
+use Rattle.event_trace.specs.PrivateStreams.{take_of, lose_of}
 use Rattle.simulation.specs.PrivateMirrors.{Mirrors}
 use Rattle.simulation.specs.Plans.{Planned}
 use Rattle.simulation.specs.Sent.{Wrote}
-use Rattle.simulation.specs.Simulated.{course_of, sendings}
+use Rattle.simulation.specs.Simulated.{trace_of, sendings}
 use Rattle.simulation.specs.Intake.{Seen}
 use Rattle.simulation.specs.PrivateKeeping.{KeepsNamed}
 use Rattle.simulation.specs.PrivateGoing.{Left, SentSoFar}
 use Rattle.simulation.specs.declared.staging.Stage.{Stage}
 
--- where all the records are these: the queues of frames mirror the course, and after the header the output got what was sent
+-- where all the records are these: the queues of frames mirror the trace, and after the header the output got what was sent
 -- so far
-pub record Sound (cluster : Cluster) (plan : Planned) (link : Link) (all : List Record) (course : Course) (qs : List (List Record)) (begun out : Tape) : Type 0 where
+pub record Sound (cluster : Cluster) (plan : Planned) (link : Link) (all : List Record) (trace : Trace) (qs : List (List Record)) (begun out : Tape) : Type 0 where
   pub workers : cluster.workers ≤ 16
   pub room : cluster.nodes * 16 ≤ length qs
   pub orderly : Orderly cluster
-  pub judged : Judged cluster.judge course.past
-  pub mirrors : Mirrors all cluster course.past qs
-  pub sent : SentSoFar plan link all course begun out
+  pub judged : Judged cluster.judge trace.past
+  pub mirrors : Mirrors all cluster trace.past qs
+  pub sent : SentSoFar plan link all trace begun out
 
--- where all the records are these: what is left to be done leads to the course of the whole plan
-pub record Going {P : Type 0} (cluster : Cluster) (choice : Choice) (plan : Planned) (link : Link) (all : List Record) (ss : List Step) (stage : Stage P) (begun out : Tape) : Type 0 where
-  pub left : Left cluster choice plan link all ss stage.play.course
-  pub sound : Sound cluster plan link all stage.play.course stage.relay.waiting begun out
+-- where all the records are these: what is left to be done leads to the trace of the whole plan
+pub record Going {P : Type 0} (cluster : Cluster) (choice : Choice) (plan : Planned) (link : Link) (all : List Record) (ss : List ScenarioStep) (stage : Stage P) (begun out : Tape) : Type 0 where
+  pub left : Left cluster choice plan link all ss stage.play.trace
+  pub sound : Sound cluster plan link all stage.play.trace stage.relay.waiting begun out
 
 -- With these steps left: some records were read, and just those of them are kept that a step left names. Whatever comes
 -- after them, the run is going.
-pub record Reached {P : Type 0} (cluster : Cluster) (choice : Choice) (plan : Planned) (text begun : Tape) (ss : List Step) (stage : Stage P) (left out : Tape) : Type 0 where
+pub record Reached {P : Type 0} (cluster : Cluster) (choice : Choice) (plan : Planned) (text begun : Tape) (ss : List ScenarioStep) (stage : Stage P) (left out : Tape) : Type 0 where
   pub seen : List Record
   pub read : Seen text seen left stage.intake
-  pub place : stage.play.course.read ≡ length seen
+  pub place : stage.play.trace.read ≡ length seen
   pub kept : KeepsNamed seen ss stage.kept
   pub going : (more : List Record) → (is_some stage.intake.ended ≡ true → more ≡ []) → Going cluster choice plan stage.intake.head.link (seen ++ more) ss stage begun out
 
 -- a record was taken, so that one fewer is to be taken; or the input has ended, so that none is
-abbrev pub still_to_take : Bool → ℕ → List Step → List Step
+abbrev pub still_to_take : Bool → ℕ → List ScenarioStep → List ScenarioStep
 still_to_take true k ss = take_of k ∷ ss
 still_to_take false k ss = ss
 
 -- the same of records that are lost
-abbrev pub still_to_lose : Bool → ℕ → List Step → List Step
+abbrev pub still_to_lose : Bool → ℕ → List ScenarioStep → List ScenarioStep
 still_to_lose true k ss = lose_of k ∷ ss
 still_to_lose false k ss = ss
 
--- The steps are done and the input was read to its end. The records after the header are these, the course is the plan's
+-- The steps are done and the input was read to its end. The records after the header are these, the trace is the plan's
 -- over them, and the output got all that it sends.
-pub record IsOver (cluster : Cluster) (choice : Choice) (plan : Planned) (head : Head) (text left begun out : Tape) (course : Course) (packets : ℕ) (ending : InputEnd) : Type 0 where
+pub record IsOver (cluster : Cluster) (choice : Choice) (plan : Planned) (head : Head) (text left begun out : Tape) (trace : Trace) (packets : ℕ) (ending : InputEnd) : Type 0 where
   pub records : List Record
   pub told : IsTold head text.bytes records ending
   pub unfailed : Unfailed text left
-  pub course_is : course ≡ course_of cluster choice plan head.link records
+  pub trace_is : trace ≡ trace_of cluster choice plan head.link records
   pub count : packets ≡ length records
   pub wrote : Wrote begun out (sendings cluster choice plan head.link records)

@@ -7,12 +7,12 @@ use Rattle.ip_headers.specs.Ipv4.{frame_answer}
 use Rattle.pool_versions.specs.declared.backend.Backend.{Backend}
 use Rattle.gre_tunnel.specs.Gre.{wrapped}
 use Rattle.pcap_file.specs.Device.{Tape, Unfailed, PutRefused}
-use Rattle.pcap_file.specs.Format.{Packet as Record, written_head, written_record}
+use Rattle.pcap_file.specs.Format.{Record, written_head, written_record}
 use Rattle.cluster_node.specs.declared.packets.Packet.{Packet}
 use Rattle.cluster_node.specs.declared.packets.Packet.TheVariants.{Good, Bad}
 use Rattle.cluster_node.specs.declared.outcomes.Outcome.{Outcome}
 use Rattle.cluster_node.specs.declared.outcomes.Outcome.TheVariants.{Installed, Placed, Forward, Dropped, Restarted, Refused}
-use Rattle.cluster_node.specs.declared.events.Said.{Said}
+use Rattle.cluster_node.specs.declared.events.LogEntry.{LogEntry}
 use Rattle.cluster_core.specs.Reading.{packet_read}
 use Rattle.simulation.specs.declared.fault.SimulationFault.{SimulationFault}
 use Rattle.simulation.specs.declared.fault.SimulationFault.TheVariants.{Capture, Write, Memory}
@@ -74,7 +74,7 @@ sent_by t (Restarted l) = []
 sent_by t (Refused r) = []
 
 -- what a list of events sends, in order
-abbrev pub sent : Traffic → List Said → List Sending
+abbrev pub sent : Traffic → List LogEntry → List Sending
 sent t [] = []
 sent t (s ∷ ss) = sent_by t s.outcome ++ sent t ss
 

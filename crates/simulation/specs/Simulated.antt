@@ -5,13 +5,13 @@ use Rattle.ip_headers.specs.declared.Link.{Link}
 use Rattle.pcap_file.specs.declared.format.Head.{Head}
 use Rattle.pcap_file.specs.declared.format.InputEnd.{InputEnd}
 use Rattle.pcap_file.specs.Device.{Tape, Unfailed, WithinCalls, PutRefused}
-use Rattle.pcap_file.specs.Format.{Packet as Record, head_answer, written_head}
+use Rattle.pcap_file.specs.Format.{Record, head_answer, written_head}
 use Rattle.pcap_file.specs.Capture.{HeadRead, HeadCause}
 use Rattle.pcap_file.specs.Text.{Reads, ending_of}
 use Rattle.spreader.specs.Choices.{Choice}
 use Rattle.cluster_core.specs.Cluster.{Cluster}
-use Rattle.course.specs.Course.{Course}
-use Rattle.course.specs.Steps.{world_of, run, start}
+use Rattle.event_trace.specs.Trace.{Trace}
+use Rattle.event_trace.specs.Steps.{world_of, run, start}
 use Rattle.simulation.specs.declared.fault.SimulationFault.{SimulationFault}
 use Rattle.simulation.specs.declared.fault.SimulationFault.TheVariants.{Capture, Write, Memory}
 use Rattle.simulation.specs.Plans.{Planned}
@@ -23,9 +23,9 @@ abbrev pub InputIs : Option (List ℕ) → Head → List Record → InputEnd →
 InputIs None head records ending = Unit {0}
 InputIs (Some text) head records ending = (head_answer text ≡ Ok head) × Reads head 0 (drop 24 text) records (ending_of ending)
 
--- the course of the plan's steps over these records
-unfoldable pub course_of : Cluster → Choice → Planned → Link → List Record → Course
-course_of cluster choice plan link records =
+-- the trace of the plan's steps over these records
+unfoldable pub trace_of : Cluster → Choice → Planned → Link → List Record → Trace
+trace_of cluster choice plan link records =
     run (world_of cluster choice (packets_of link plan.check records)) plan.steps (start (length plan.nodes))
 
 abbrev pub traffic_of : Planned → Link → List Record → Traffic
@@ -33,16 +33,16 @@ traffic_of plan link records = record { nodes = plan.nodes; link = link; check =
 
 -- what it sends, in order
 abbrev pub sendings : Cluster → Choice → Planned → Link → List Record → List Sending
-sendings cluster choice plan link records = sent (traffic_of plan link records) (reverse (course_of cluster choice plan link records).past)
+sendings cluster choice plan link records = sent (traffic_of plan link records) (reverse (trace_of cluster choice plan link records).past)
 
--- The course is that of the input's records, of which there are so many, up to how the input ends. The output got the
+-- The trace is that of the input's records, of which there are so many, up to how the input ends. The output got the
 -- capture of all that it sends; neither device failed.
-pub record Simulated (cluster : Cluster) (choice : Choice) (plan : Planned) (input input' output output' : Tape) (course : Course) (packets : ℕ) (ending : InputEnd) : Type 0 where
+pub record Simulated (cluster : Cluster) (choice : Choice) (plan : Planned) (input input' output output' : Tape) (trace : Trace) (packets : ℕ) (ending : InputEnd) : Type 0 where
   pub head : Head
   pub records : List Record
   pub input_is : InputIs input.bytes head records ending
   pub input_unfailed : Unfailed input input'
-  pub course_is : course ≡ course_of cluster choice plan head.link records
+  pub trace_is : trace ≡ trace_of cluster choice plan head.link records
   pub count : packets ≡ length records
   pub output_is : Appends output.bytes output'.bytes (capture_text (sendings cluster choice plan head.link records))
   pub output_unfailed : Unfailed output output'

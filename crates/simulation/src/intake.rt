@@ -1,7 +1,7 @@
 //! The records of a capture, read one by one.
 ghost use Rattle.std.specs.Prelude.{◌≡◌, ◌<◌, ◌≤◌, ◌+◌, true, false, None, IfOk, IfErr, OnOk, IsOk, List, is_some};
 ghost use Rattle.pcap_file.specs.Device.{Tape};
-ghost use Rattle.pcap_file.specs.Format.{Packet as Record, packet, max_records};
+ghost use Rattle.pcap_file.specs.Format.{Record, packet, max_records};
 ghost use Rattle.pcap_file.specs.Text.{RefusedBehind};
 ghost use Rattle.simulation.specs.declared.fault.SimulationFault.TheVariants.{Capture};
 ghost use Rattle.simulation.specs.Intake.{Taking, Seen, SeenMore, ReadOn, ReadStops};

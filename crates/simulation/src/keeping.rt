@@ -1,12 +1,12 @@
 //! Records that are kept since a step that is left delivers them again.
 ghost use Rattle.std.specs.Prelude.{◌≡◌, ◌==◌, ◌++◌, ◌∷◌, [], ℕ, List, Some, None, IfOk, OnOk, if◌then◌else◌, option_map, length, slice_get};
-ghost use Rattle.pcap_file.specs.Format.{Packet as Record, packet};
-ghost use Rattle.scenario_steps.specs.declared.Step.{Step};
-ghost use Rattle.course.specs.PrivateStreams.{again_of};
+ghost use Rattle.pcap_file.specs.Format.{Record, packet};
+ghost use Rattle.event_trace.specs.declared.steps.ScenarioStep.{ScenarioStep};
+ghost use Rattle.event_trace.specs.PrivateStreams.{again_of};
 ghost use Rattle.simulation.specs.PrivateKeeping.{kept_of, kept_at, times_in, KeepsNamed};
 
+use event_trace::ScenarioStep;
 use pcap_file::Frame;
-use scenario_steps::Step;
 use std::alloc::{AllocError, Global};
 use std::collections::BTreeMap;
 use std::rc::Rc;
@@ -21,7 +21,7 @@ pub(crate) struct Later {
 
 /// The records that steps which are left deliver again, by place in the capture.
 #[derive(Drop)]
-pub(crate) struct Kept {
+pub(crate) struct KeptRecords {
     places: BTreeMap<u32, Later>,
 }
 
@@ -48,7 +48,7 @@ fn share(frame: &Option<Rc<Frame>>) -> Result<Option<Rc<Frame>>, AllocError>
     }
 }
 
-impl Kept {
+impl KeptRecords {
     // How many steps that are left name a place.
     #[inline(always)]
     fn times(&self, place: u32) -> u64
@@ -77,14 +77,14 @@ impl Kept {
     }
 
     // No record was read, and all steps are left.
-    pub(crate) fn of_steps(alloc: Global, steps: &[Step]) -> Result<Kept, AllocError>
+    pub(crate) fn of_steps(alloc: Global, steps: &[ScenarioStep]) -> Result<KeptRecords, AllocError>
         ensures { IfOk result (KeepsNamed [] steps.now) }
     {
-        let mut kept = Kept {
+        let mut kept = KeptRecords {
             places: BTreeMap::new(alloc),
         };
         for step in steps {
-            if let Step::Again(place) = step {
+            if let ScenarioStep::Again(place) = step {
                 let times = kept.times(*place) + 1;
                 kept.set(*place, Later { times, frame: None })?;
             }
@@ -100,7 +100,7 @@ impl Kept {
         place: u32,
         frame: &Frame,
     ) -> Result<(), AllocError>
-        ensures { (seen : List Record) (ss : List Step) → place ≡ length seen → KeepsNamed seen ss self.old → OnOk result (KeepsNamed (seen ++ packet frame.now ∷ []) ss self.new) }
+        ensures { (seen : List Record) (ss : List ScenarioStep) → place ≡ length seen → KeepsNamed seen ss self.old → OnOk result (KeepsNamed (seen ++ packet frame.now ∷ []) ss self.new) }
     {
         let times = self.times(place);
         if times == 0 {
@@ -112,8 +112,8 @@ impl Kept {
 
     // A step that names a place is done: the record, if it was read. With the last of these steps it is let go.
     pub(crate) fn take(&mut self, place: u32) -> Result<Option<Rc<Frame>>, AllocError>
-        ensures record { (seen : List Record) (ss : List Step) → KeepsNamed seen (again_of place ∷ ss) self.old → IfOk result (λ o. option_map (λ f. packet f.value) o ≡ slice_get seen place) }
-        ensures keeps { (seen : List Record) (ss : List Step) → KeepsNamed seen (again_of place ∷ ss) self.old → OnOk result (KeepsNamed seen ss self.new) }
+        ensures record { (seen : List Record) (ss : List ScenarioStep) → KeepsNamed seen (again_of place ∷ ss) self.old → IfOk result (λ o. option_map (λ f. packet f.value) o ≡ slice_get seen place) }
+        ensures keeps { (seen : List Record) (ss : List ScenarioStep) → KeepsNamed seen (again_of place ∷ ss) self.old → OnOk result (KeepsNamed seen ss self.new) }
     {
         let Some(Later { times, frame }) = self.let_go(place) else {
             return Ok(None);

@@ -13,6 +13,6 @@ mod staging;
 mod waiting;
 
 pub use fault::SimulationFault;
-pub use plan::{Plan, Run};
+pub use plan::{Plan, RunContext};
 pub use playing::{Played, play_capture};
 pub use sending::Wire;

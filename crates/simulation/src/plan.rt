@@ -1,4 +1,4 @@
-use course::Step;
+use event_trace::ScenarioStep;
 use std::alloc::Global;
 
 /// What a run takes of a scenario.
@@ -9,12 +9,12 @@ pub struct Plan<'a> {
     /// Whether the IPv4 headers' checksums are tested.
     pub check: bool,
     /// The steps, in order.
-    pub steps: &'a [Step],
+    pub steps: &'a [ScenarioStep],
 }
 
 /// What is fixed for a run over a capture.
 #[derive(Drop)]
-pub struct Run<'a, S> {
+pub struct RunContext<'a, S> {
     /// Where the run takes its memory.
     pub alloc: Global,
     /// What it takes of a scenario.

@@ -16,7 +16,7 @@ pub(crate) struct Queue {
 
 impl Model for Queue {
     ghost use Rattle.std.specs.Prelude.{List, map};
-    ghost use Rattle.pcap_file.specs.Format.{Packet as Record, packet};
+    ghost use Rattle.pcap_file.specs.Format.{Record, packet};
 
     ghost Value = { List Record };
 

@@ -1,9 +1,9 @@
 //! The frames of the packets that wait, and what is sent of them as events come.
 ghost use Rattle.std.specs.Prelude.{◌≡◌, true, ◌*◌, List, [], ◌∷◌, length, IfOk, IfErr, OnOk};
-ghost use Rattle.pcap_file.specs.Format.{Packet as Record, packet};
-ghost use Rattle.cluster_node.specs.declared.events.Said.{Said};
+ghost use Rattle.pcap_file.specs.Format.{Record, packet};
+ghost use Rattle.cluster_node.specs.declared.events.LogEntry.{LogEntry};
 ghost use Rattle.cluster_core.specs.Cluster.{Cluster};
-ghost use Rattle.course.specs.Deliveries.{if_there, events_of};
+ghost use Rattle.event_trace.specs.Deliveries.{if_there, events_of};
 ghost use Rattle.simulation.specs.PrivateMirrors.{Mirrors, CanFollow, ComesAs, IsNoArrival};
 ghost use Rattle.simulation.specs.Sent.{packet_in, sent, sent_by, Wrote, WroteUntil};
 ghost use Rattle.simulation.specs.Simulated.{IsOfRun};
@@ -15,8 +15,8 @@ use crate::fault::SimulationFault;
 use crate::intake::Intake;
 use crate::sending::Wire;
 use crate::waiting::Waiting;
-use cluster_node::{Outcome, Packet, Passed, Said};
-use course::Delivery;
+use cluster_node::{LogEntry, Outcome, Packet, Passed};
+use event_trace::Delivery;
 use pcap_file::{Frame, Sink};
 use std::alloc::{AllocError, Global};
 
@@ -93,14 +93,14 @@ impl Relay {
     fn settle_one<O: Sink>(
         &mut self,
         wire: &Wire<'_>,
-        said: &Said,
+        said: &LogEntry,
         output: &mut O,
     ) -> Result<(), SimulationFault>
         ensures count { length self.new.waiting ≡ length self.old.waiting }
-        ensures settled { (all : List Record) (k : Cluster) (past : List Said) → CanFollow all k past said.now self.old.waiting → IsNoArrival said.now.event →
+        ensures settled { (all : List Record) (k : Cluster) (past : List LogEntry) → CanFollow all k past said.now self.old.waiting → IsNoArrival said.now.event →
             OnOk result (Mirrors all k (said.now ∷ past) self.new.waiting × Wrote (O.tape output.old) (O.tape output.new) (sent_by (traffic wire.now all) said.now.outcome)) }
         ensures named { IfErr result IsOfRun }
-        ensures cut { (all : List Record) (k : Cluster) (past : List Said) → CanFollow all k past said.now self.old.waiting → IsNoArrival said.now.event →
+        ensures cut { (all : List Record) (k : Cluster) (past : List LogEntry) → CanFollow all k past said.now self.old.waiting → IsNoArrival said.now.event →
             IfErr result (λ fault. WroteUntil fault (O.tape output.old) (O.tape output.new) (sent_by (traffic wire.now all) said.now.outcome)) }
     {
         let Some(frame) = self.waiting.settle(said) else {
@@ -114,14 +114,14 @@ impl Relay {
     pub(crate) fn settle<O: Sink>(
         &mut self,
         wire: &Wire<'_>,
-        said: Option<Said>,
+        said: Option<LogEntry>,
         output: &mut O,
     ) -> Result<(), SimulationFault>
         ensures count { length self.new.waiting ≡ length self.old.waiting }
-        ensures settled { (all : List Record) (k : Cluster) (past : List Said) → CanSettle all k past (if_there said) self.old.waiting → NoArrivals (if_there said) →
+        ensures settled { (all : List Record) (k : Cluster) (past : List LogEntry) → CanSettle all k past (if_there said) self.old.waiting → NoArrivals (if_there said) →
             OnOk result (Mirrors all k (onto past (if_there said)) self.new.waiting × Wrote (O.tape output.old) (O.tape output.new) (sent (traffic wire.now all) (if_there said))) }
         ensures named { IfErr result IsOfRun }
-        ensures cut { (all : List Record) (k : Cluster) (past : List Said) → CanSettle all k past (if_there said) self.old.waiting → NoArrivals (if_there said) →
+        ensures cut { (all : List Record) (k : Cluster) (past : List LogEntry) → CanSettle all k past (if_there said) self.old.waiting → NoArrivals (if_there said) →
             IfErr result (λ fault. WroteUntil fault (O.tape output.old) (O.tape output.new) (sent (traffic wire.now all) (if_there said))) }
     {
         match said {
@@ -132,9 +132,9 @@ impl Relay {
 
     // Follows an arrival, whose packet has the record that was read last.
     #[inline(always)]
-    fn take_in(&mut self, said: &Said, intake: &mut Intake) -> Result<(), AllocError>
+    fn take_in(&mut self, said: &LogEntry, intake: &mut Intake) -> Result<(), AllocError>
         ensures count { length self.new.waiting ≡ length self.old.waiting }
-        ensures taken { (all : List Record) (k : Cluster) (past : List Said) → CanFollow all k past said.now self.old.waiting → ComesAs all intake.old.record_read said.now.event →
+        ensures taken { (all : List Record) (k : Cluster) (past : List LogEntry) → CanFollow all k past said.now self.old.waiting → ComesAs all intake.old.record_read said.now.event →
             OnOk result (Mirrors all k (said.now ∷ past) self.new.waiting) }
         ensures intake { (intake.new.given ≡ intake.old.given) × (intake.new.ended ≡ intake.old.ended) × (intake.new.head ≡ intake.old.head) }
     {
@@ -159,11 +159,11 @@ impl Relay {
         ensures count { length self.new.waiting ≡ length self.old.waiting }
         ensures intake { (intake.new.given ≡ intake.old.given) × (intake.new.ended ≡ intake.old.ended) × (intake.new.head ≡ intake.old.head) }
         ensures settled { let events = events_of read.now delivery.now in
-            (all : List Record) (k : Cluster) (past : List Said) → CanSettle all k past events self.old.waiting → ArrivesFirst all intake.old.record_read events →
+            (all : List Record) (k : Cluster) (past : List LogEntry) → CanSettle all k past events self.old.waiting → ArrivesFirst all intake.old.record_read events →
             OnOk result (Mirrors all k (onto past events) self.new.waiting × Wrote (O.tape output.old) (O.tape output.new) (sent (traffic wire.now all) events)) }
         ensures named { IfErr result IsOfRun }
         ensures cut { let events = events_of read.now delivery.now in
-            (all : List Record) (k : Cluster) (past : List Said) → CanSettle all k past events self.old.waiting → ArrivesFirst all intake.old.record_read events →
+            (all : List Record) (k : Cluster) (past : List LogEntry) → CanSettle all k past events self.old.waiting → ArrivesFirst all intake.old.record_read events →
             IfErr result (λ fault. WroteUntil fault (O.tape output.old) (O.tape output.new) (sent (traffic wire.now all) events)) }
     {
         let arrival = delivery.arrival(read);
@@ -189,11 +189,11 @@ impl Relay {
         ensures count { length self.new.waiting ≡ length self.old.waiting }
         ensures intake { (intake.new.given ≡ intake.old.given) × (intake.new.ended ≡ intake.old.ended) × (intake.new.head ≡ intake.old.head) }
         ensures settled { let events = events_of read.now delivery.now in
-            (all : List Record) (k : Cluster) (past : List Said) → CanSettle all k past events self.old.waiting → ArrivesFirst all intake.old.record_read events →
+            (all : List Record) (k : Cluster) (past : List LogEntry) → CanSettle all k past events self.old.waiting → ArrivesFirst all intake.old.record_read events →
             OnOk result (Mirrors all k (onto past events) self.new.waiting × Wrote (O.tape output.old) (O.tape output.new) (sent (traffic wire.now all) events)) }
         ensures named { IfErr result IsOfRun }
         ensures cut { let events = events_of read.now delivery.now in
-            (all : List Record) (k : Cluster) (past : List Said) → CanSettle all k past events self.old.waiting → ArrivesFirst all intake.old.record_read events →
+            (all : List Record) (k : Cluster) (past : List LogEntry) → CanSettle all k past events self.old.waiting → ArrivesFirst all intake.old.record_read events →
             IfErr result (λ fault. WroteUntil fault (O.tape output.old) (O.tape output.new) (sent (traffic wire.now all) events)) }
     {
         if !delivery.arrived {

@@ -1,11 +1,11 @@
 //! A run record by record.
 ghost use Rattle.std.specs.Prelude.{◌≡◌, ◌≢◌, ◌<◌, ◌≤◌, ◌+◌, ◌^◌, ◌∷◌, ◌++◌, [], ℕ, List, Some, true, false, length, slice_get, reverse, IfOk, IfErr, OnOk};
 ghost use Rattle.pcap_file.specs.Device.{Tape};
-ghost use Rattle.pcap_file.specs.Format.{Packet as Record, packet, max_records};
-ghost use Rattle.scenario_steps.specs.declared.Step.{Step};
-ghost use Rattle.course.specs.Steps.{World, SameChoice, deliver, serve, serve_times, drain_from, after, names_records, says_many, start, below};
-ghost use Rattle.course.specs.PrivateStreams.{take_of, lose_of, again_of};
-ghost use Rattle.course.specs.Room.{Counted};
+ghost use Rattle.pcap_file.specs.Format.{Record, packet, max_records};
+ghost use Rattle.event_trace.specs.declared.steps.ScenarioStep.{ScenarioStep};
+ghost use Rattle.event_trace.specs.Steps.{World, SameChoice, deliver, serve, serve_times, drain_from, after, names_records, says_many, start, below};
+ghost use Rattle.event_trace.specs.PrivateStreams.{take_of, lose_of, again_of};
+ghost use Rattle.event_trace.specs.Room.{Counted};
 ghost use Rattle.simulation.specs.Plans.{Planned, planned};
 ghost use Rattle.spreader.specs.Choices.{Choice};
 ghost use Rattle.cluster_core.specs.Cluster.{Cluster, Orderly};
@@ -18,26 +18,25 @@ ghost use Rattle.simulation.specs.PrivateStages.{Sound, Going, Reached, IsOver, 
 
 use crate::fault::SimulationFault;
 use crate::intake::Intake;
-use crate::keeping::Kept;
-use crate::plan::{Plan, Run};
+use crate::keeping::KeptRecords;
+use crate::plan::{Plan, RunContext};
 use crate::playing::Played;
 use crate::relaying::Relay;
 use crate::sending::Wire;
 use cluster_core::Core;
-use course::{Delivery, Play};
+use event_trace::{Delivery, Play, ScenarioStep};
 use pcap_file::{Head, Sink, Source};
-use scenario_steps::Step;
 use spreader::Spread;
 use std::alloc::{AllocError, Global};
 
-/// The course so far, and what one delivery reports. Beside these: the frames that wait, the records that come again, and
+/// The trace so far, and what one delivery reports. Beside these: the frames that wait, the records that come again, and
 /// those that are read.
 #[derive(Drop)]
 pub(crate) struct Stage<P: Spread> {
     play: Play<P>,
     delivery: Delivery,
     relay: Relay,
-    kept: Kept,
+    kept: KeptRecords,
     intake: Intake,
 }
 
@@ -46,8 +45,8 @@ impl<P: Spread> Stage<P> {
     fn make(alloc: Global, plan: Plan<'_>, spread: P, head: Head) -> Result<Stage<P>, AllocError>
         requires live { P.live spread ≡ below (length plan.nodes.now) }
         requires nodes { length plan.nodes.now ≤ 64 }
-        ensures fresh { IfOk result (λ s. Counted s.intake.given 0 s.play.course) }
-        ensures play { IfOk result (λ s. s.play.course ≡ start (length plan.entry.nodes.now)) }
+        ensures fresh { IfOk result (λ s. Counted s.intake.given 0 s.play.trace) }
+        ensures play { IfOk result (λ s. s.play.trace ≡ start (length plan.entry.nodes.now)) }
         ensures spread { IfOk result (λ s. s.play.spread ≡ spread) }
         ensures head { IfOk result (λ s. s.intake.head ≡ head) }
         ensures reached { (cluster : Cluster) (choice : Choice) (text out : Tape) → cluster.workers ≤ 16 → cluster.nodes ≡ length plan.entry.nodes.now → Orderly cluster →
@@ -58,7 +57,7 @@ impl<P: Spread> Stage<P> {
             play: Play::start(alloc, spread, nodes)?,
             delivery: Delivery::new(),
             relay: Relay::new(alloc, nodes)?,
-            kept: Kept::of_steps(alloc, plan.steps)?,
+            kept: KeptRecords::of_steps(alloc, plan.steps)?,
             intake: Intake::new(alloc, head),
         })
     }
@@ -79,26 +78,26 @@ impl<P: Spread> Stage<P> {
     #[inline(always)]
     fn deliver<C: Core, O: Sink>(
         &mut self,
-        run: &Run<'_, C::Setup>,
+        run: &RunContext<'_, C::Setup>,
         core: &mut C,
         place: u32,
         output: &mut O,
     ) -> Result<(), SimulationFault>
-        requires stands { C.stands run.now.setup.now self.old.play.course.past core.old }
-        requires room { self.old.play.course.unrouted + 1 < 2 ^ 64 }
-        requires many { self.old.play.course.nth + 1 < 2 ^ 64 }
-        ensures stands { OnOk result (C.stands run.now.setup.now self.new.play.course.past core.new) }
+        requires stands { C.stands run.now.setup.now self.old.play.trace.past core.old }
+        requires room { self.old.play.trace.unrouted + 1 < 2 ^ 64 }
+        requires many { self.old.play.trace.nth + 1 < 2 ^ 64 }
+        ensures stands { OnOk result (C.stands run.now.setup.now self.new.play.trace.past core.new) }
         ensures spread { self.new.play.spread ≡ self.old.play.spread }
         ensures kept { self.new.kept ≡ self.old.kept }
         ensures intake { (self.new.intake.given ≡ self.old.intake.given) × (self.new.intake.ended ≡ self.old.intake.ended) × (self.new.intake.head ≡ self.old.intake.head) }
-        ensures play { OnOk result ((w : World) → w.cluster ≡ C.cluster run.now.setup.now → SameChoice w.choice (P.choice self.old.play.spread) → self.new.play.course ≡ deliver w place (packet_in self.old.intake.head.link run.now.plan.check self.old.intake.record_read) self.old.play.course) }
+        ensures play { OnOk result ((w : World) → w.cluster ≡ C.cluster run.now.setup.now → SameChoice w.choice (P.choice self.old.play.spread) → self.new.play.trace ≡ deliver w place (packet_in self.old.intake.head.link run.now.plan.check self.old.intake.record_read) self.old.play.trace) }
         ensures sound { (all : List Record) (begun : Tape) →
-            Sound (C.cluster run.now.setup.now) (planned run.now.plan) self.old.intake.head.link all self.old.play.course self.old.relay.waiting begun (O.tape output.old) → slice_get all place ≡ Some self.old.intake.record_read →
-            OnOk result (Sound (C.cluster run.now.setup.now) (planned run.now.plan) self.old.intake.head.link all self.new.play.course self.new.relay.waiting begun (O.tape output.new)) }
+            Sound (C.cluster run.now.setup.now) (planned run.now.plan) self.old.intake.head.link all self.old.play.trace self.old.relay.waiting begun (O.tape output.old) → slice_get all place ≡ Some self.old.intake.record_read →
+            OnOk result (Sound (C.cluster run.now.setup.now) (planned run.now.plan) self.old.intake.head.link all self.new.play.trace self.new.relay.waiting begun (O.tape output.new)) }
         ensures named { IfErr result IsOfRun }
         ensures cut { (w : World) (all : List Record) (begun : Tape) → w.cluster ≡ C.cluster run.now.setup.now → SameChoice w.choice (P.choice self.old.play.spread) →
-            Sound (C.cluster run.now.setup.now) (planned run.now.plan) self.old.intake.head.link all self.old.play.course self.old.relay.waiting begun (O.tape output.old) → slice_get all place ≡ Some self.old.intake.record_read →
-            IfErr result (λ fault. WroteUntil fault begun (O.tape output.new) (sent (traffic_of (planned run.now.plan) self.old.intake.head.link all) (reverse (deliver w place (packet_in self.old.intake.head.link run.now.plan.check self.old.intake.record_read) self.old.play.course).past))) }
+            Sound (C.cluster run.now.setup.now) (planned run.now.plan) self.old.intake.head.link all self.old.play.trace self.old.relay.waiting begun (O.tape output.old) → slice_get all place ≡ Some self.old.intake.record_read →
+            IfErr result (λ fault. WroteUntil fault begun (O.tape output.new) (sent (traffic_of (planned run.now.plan) self.old.intake.head.link all) (reverse (deliver w place (packet_in self.old.intake.head.link run.now.plan.check self.old.intake.record_read) self.old.play.trace).past))) }
     {
         let wire = self.wire(run.plan);
         let packet = wire.packet(self.intake.frame());
@@ -112,25 +111,25 @@ impl<P: Spread> Stage<P> {
     #[inline(always)]
     fn serve<C: Core, O: Sink>(
         &mut self,
-        run: &Run<'_, C::Setup>,
+        run: &RunContext<'_, C::Setup>,
         core: &mut C,
         node: u16,
         worker: u16,
         output: &mut O,
     ) -> Result<(), SimulationFault>
-        requires stands { C.stands run.now.setup.now self.old.play.course.past core.old }
-        ensures stands { OnOk result (C.stands run.now.setup.now self.new.play.course.past core.new) }
+        requires stands { C.stands run.now.setup.now self.old.play.trace.past core.old }
+        ensures stands { OnOk result (C.stands run.now.setup.now self.new.play.trace.past core.new) }
         ensures spread { self.new.play.spread ≡ self.old.play.spread }
         ensures kept { self.new.kept ≡ self.old.kept }
         ensures intake { self.new.intake ≡ self.old.intake }
-        ensures play { OnOk result ((w : World) → w.cluster ≡ C.cluster run.now.setup.now → self.new.play.course ≡ serve w node worker self.old.play.course) }
+        ensures play { OnOk result ((w : World) → w.cluster ≡ C.cluster run.now.setup.now → self.new.play.trace ≡ serve w node worker self.old.play.trace) }
         ensures sound { (all : List Record) (begun : Tape) →
-            Sound (C.cluster run.now.setup.now) (planned run.now.plan) self.old.intake.head.link all self.old.play.course self.old.relay.waiting begun (O.tape output.old) →
-            OnOk result (Sound (C.cluster run.now.setup.now) (planned run.now.plan) self.old.intake.head.link all self.new.play.course self.new.relay.waiting begun (O.tape output.new)) }
+            Sound (C.cluster run.now.setup.now) (planned run.now.plan) self.old.intake.head.link all self.old.play.trace self.old.relay.waiting begun (O.tape output.old) →
+            OnOk result (Sound (C.cluster run.now.setup.now) (planned run.now.plan) self.old.intake.head.link all self.new.play.trace self.new.relay.waiting begun (O.tape output.new)) }
         ensures named { IfErr result IsOfRun }
         ensures cut { (w : World) (all : List Record) (begun : Tape) → w.cluster ≡ C.cluster run.now.setup.now →
-            Sound (C.cluster run.now.setup.now) (planned run.now.plan) self.old.intake.head.link all self.old.play.course self.old.relay.waiting begun (O.tape output.old) →
-            IfErr result (λ fault. WroteUntil fault begun (O.tape output.new) (sent (traffic_of (planned run.now.plan) self.old.intake.head.link all) (reverse (serve w node worker self.old.play.course).past))) }
+            Sound (C.cluster run.now.setup.now) (planned run.now.plan) self.old.intake.head.link all self.old.play.trace self.old.relay.waiting begun (O.tape output.old) →
+            IfErr result (λ fault. WroteUntil fault begun (O.tape output.new) (sent (traffic_of (planned run.now.plan) self.old.intake.head.link all) (reverse (serve w node worker self.old.play.trace).past))) }
     {
         let wire = self.wire(run.plan);
         let said = self.play.serve(core, run.setup, node, worker)?;
@@ -140,26 +139,26 @@ impl<P: Spread> Stage<P> {
     // A worker serves so many times.
     fn serve_times<C: Core, O: Sink>(
         &mut self,
-        run: &Run<'_, C::Setup>,
+        run: &RunContext<'_, C::Setup>,
         core: &mut C,
         node: u16,
         worker: u16,
         times: u64,
         output: &mut O,
     ) -> Result<(), SimulationFault>
-        requires stands { C.stands run.now.setup.now self.old.play.course.past core.old }
-        ensures stands { OnOk result (C.stands run.now.setup.now self.new.play.course.past core.new) }
+        requires stands { C.stands run.now.setup.now self.old.play.trace.past core.old }
+        ensures stands { OnOk result (C.stands run.now.setup.now self.new.play.trace.past core.new) }
         ensures spread { self.new.play.spread ≡ self.old.play.spread }
         ensures kept { self.new.kept ≡ self.old.kept }
         ensures intake { self.new.intake ≡ self.old.intake }
-        ensures play { OnOk result ((w : World) → w.cluster ≡ C.cluster run.now.setup.now → self.new.play.course ≡ serve_times w node worker times self.old.play.course) }
+        ensures play { OnOk result ((w : World) → w.cluster ≡ C.cluster run.now.setup.now → self.new.play.trace ≡ serve_times w node worker times self.old.play.trace) }
         ensures sound { (all : List Record) (begun : Tape) →
-            Sound (C.cluster run.now.setup.now) (planned run.now.plan) self.old.intake.head.link all self.old.play.course self.old.relay.waiting begun (O.tape output.old) →
-            OnOk result (Sound (C.cluster run.now.setup.now) (planned run.now.plan) self.old.intake.head.link all self.new.play.course self.new.relay.waiting begun (O.tape output.new)) }
+            Sound (C.cluster run.now.setup.now) (planned run.now.plan) self.old.intake.head.link all self.old.play.trace self.old.relay.waiting begun (O.tape output.old) →
+            OnOk result (Sound (C.cluster run.now.setup.now) (planned run.now.plan) self.old.intake.head.link all self.new.play.trace self.new.relay.waiting begun (O.tape output.new)) }
         ensures named { IfErr result IsOfRun }
         ensures cut { (w : World) (all : List Record) (begun : Tape) → w.cluster ≡ C.cluster run.now.setup.now →
-            Sound (C.cluster run.now.setup.now) (planned run.now.plan) self.old.intake.head.link all self.old.play.course self.old.relay.waiting begun (O.tape output.old) →
-            IfErr result (λ fault. WroteUntil fault begun (O.tape output.new) (sent (traffic_of (planned run.now.plan) self.old.intake.head.link all) (reverse (serve_times w node worker times self.old.play.course).past))) }
+            Sound (C.cluster run.now.setup.now) (planned run.now.plan) self.old.intake.head.link all self.old.play.trace self.old.relay.waiting begun (O.tape output.old) →
+            IfErr result (λ fault. WroteUntil fault begun (O.tape output.new) (sent (traffic_of (planned run.now.plan) self.old.intake.head.link all) (reverse (serve_times w node worker times self.old.play.trace).past))) }
     {
         for _ in 0..times {
             self.serve(run, core, node, worker, output)?;
@@ -170,25 +169,25 @@ impl<P: Spread> Stage<P> {
     // So many of a node's workers serve all that waits for them.
     fn drain<C: Core, O: Sink>(
         &mut self,
-        run: &Run<'_, C::Setup>,
+        run: &RunContext<'_, C::Setup>,
         core: &mut C,
         node: u16,
         workers: u16,
         output: &mut O,
     ) -> Result<(), SimulationFault>
-        requires stands { C.stands run.now.setup.now self.old.play.course.past core.old }
-        ensures stands { OnOk result (C.stands run.now.setup.now self.new.play.course.past core.new) }
+        requires stands { C.stands run.now.setup.now self.old.play.trace.past core.old }
+        ensures stands { OnOk result (C.stands run.now.setup.now self.new.play.trace.past core.new) }
         ensures spread { self.new.play.spread ≡ self.old.play.spread }
         ensures kept { self.new.kept ≡ self.old.kept }
         ensures intake { self.new.intake ≡ self.old.intake }
-        ensures play { OnOk result ((w : World) → w.cluster ≡ C.cluster run.now.setup.now → self.new.play.course ≡ drain_from w node 0 workers self.old.play.course) }
+        ensures play { OnOk result ((w : World) → w.cluster ≡ C.cluster run.now.setup.now → self.new.play.trace ≡ drain_from w node 0 workers self.old.play.trace) }
         ensures sound { (all : List Record) (begun : Tape) →
-            Sound (C.cluster run.now.setup.now) (planned run.now.plan) self.old.intake.head.link all self.old.play.course self.old.relay.waiting begun (O.tape output.old) →
-            OnOk result (Sound (C.cluster run.now.setup.now) (planned run.now.plan) self.old.intake.head.link all self.new.play.course self.new.relay.waiting begun (O.tape output.new)) }
+            Sound (C.cluster run.now.setup.now) (planned run.now.plan) self.old.intake.head.link all self.old.play.trace self.old.relay.waiting begun (O.tape output.old) →
+            OnOk result (Sound (C.cluster run.now.setup.now) (planned run.now.plan) self.old.intake.head.link all self.new.play.trace self.new.relay.waiting begun (O.tape output.new)) }
         ensures named { IfErr result IsOfRun }
         ensures cut { (w : World) (all : List Record) (begun : Tape) → w.cluster ≡ C.cluster run.now.setup.now →
-            Sound (C.cluster run.now.setup.now) (planned run.now.plan) self.old.intake.head.link all self.old.play.course self.old.relay.waiting begun (O.tape output.old) →
-            IfErr result (λ fault. WroteUntil fault begun (O.tape output.new) (sent (traffic_of (planned run.now.plan) self.old.intake.head.link all) (reverse (drain_from w node 0 workers self.old.play.course).past))) }
+            Sound (C.cluster run.now.setup.now) (planned run.now.plan) self.old.intake.head.link all self.old.play.trace self.old.relay.waiting begun (O.tape output.old) →
+            IfErr result (λ fault. WroteUntil fault begun (O.tape output.new) (sent (traffic_of (planned run.now.plan) self.old.intake.head.link all) (reverse (drain_from w node 0 workers self.old.play.trace).past))) }
     {
         for worker in 0..workers {
             let times = core.waiting(run.setup, node, worker);
@@ -200,24 +199,24 @@ impl<P: Spread> Stage<P> {
     // A step that says one event at most.
     fn alone<C: Core, O: Sink>(
         &mut self,
-        run: &Run<'_, C::Setup>,
+        run: &RunContext<'_, C::Setup>,
         core: &mut C,
-        step: &Step,
+        step: &ScenarioStep,
         output: &mut O,
     ) -> Result<(), SimulationFault>
-        requires stands { C.stands run.now.setup.now self.old.play.course.past core.old }
-        ensures stands { OnOk result (C.stands run.now.setup.now self.new.play.course.past core.new) }
+        requires stands { C.stands run.now.setup.now self.old.play.trace.past core.old }
+        ensures stands { OnOk result (C.stands run.now.setup.now self.new.play.trace.past core.new) }
         ensures choice { SameChoice (P.choice self.old.play.spread) (P.choice self.new.play.spread) }
         ensures kept { self.new.kept ≡ self.old.kept }
         ensures intake { self.new.intake ≡ self.old.intake }
-        ensures play { OnOk result ((w : World) → w.cluster ≡ C.cluster run.now.setup.now → says_many step.now ≡ false → self.new.play.course ≡ after w step.now self.old.play.course) }
+        ensures play { OnOk result ((w : World) → w.cluster ≡ C.cluster run.now.setup.now → says_many step.now ≡ false → self.new.play.trace ≡ after w step.now self.old.play.trace) }
         ensures sound { (all : List Record) (begun : Tape) → says_many step.now ≡ false →
-            Sound (C.cluster run.now.setup.now) (planned run.now.plan) self.old.intake.head.link all self.old.play.course self.old.relay.waiting begun (O.tape output.old) →
-            OnOk result (Sound (C.cluster run.now.setup.now) (planned run.now.plan) self.old.intake.head.link all self.new.play.course self.new.relay.waiting begun (O.tape output.new)) }
+            Sound (C.cluster run.now.setup.now) (planned run.now.plan) self.old.intake.head.link all self.old.play.trace self.old.relay.waiting begun (O.tape output.old) →
+            OnOk result (Sound (C.cluster run.now.setup.now) (planned run.now.plan) self.old.intake.head.link all self.new.play.trace self.new.relay.waiting begun (O.tape output.new)) }
         ensures named { IfErr result IsOfRun }
         ensures cut { (w : World) (all : List Record) (begun : Tape) → w.cluster ≡ C.cluster run.now.setup.now → says_many step.now ≡ false →
-            Sound (C.cluster run.now.setup.now) (planned run.now.plan) self.old.intake.head.link all self.old.play.course self.old.relay.waiting begun (O.tape output.old) →
-            IfErr result (λ fault. WroteUntil fault begun (O.tape output.new) (sent (traffic_of (planned run.now.plan) self.old.intake.head.link all) (reverse (after w step.now self.old.play.course).past))) }
+            Sound (C.cluster run.now.setup.now) (planned run.now.plan) self.old.intake.head.link all self.old.play.trace self.old.relay.waiting begun (O.tape output.old) →
+            IfErr result (λ fault. WroteUntil fault begun (O.tape output.new) (sent (traffic_of (planned run.now.plan) self.old.intake.head.link all) (reverse (after w step.now self.old.play.trace).past))) }
     {
         let wire = self.wire(run.plan);
         let said = self.play.step_alone(run.alloc, core, run.setup, step)?;
@@ -225,29 +224,29 @@ impl<P: Spread> Stage<P> {
     }
 
     // A step that names no record.
-    fn apart<C: Core, O: Sink>(
+    fn settle_without_record<C: Core, O: Sink>(
         &mut self,
-        run: &Run<'_, C::Setup>,
+        run: &RunContext<'_, C::Setup>,
         core: &mut C,
-        step: &Step,
+        step: &ScenarioStep,
         output: &mut O,
     ) -> Result<(), SimulationFault>
-        requires stands { C.stands run.now.setup.now self.old.play.course.past core.old }
-        ensures stands { OnOk result (C.stands run.now.setup.now self.new.play.course.past core.new) }
+        requires stands { C.stands run.now.setup.now self.old.play.trace.past core.old }
+        ensures stands { OnOk result (C.stands run.now.setup.now self.new.play.trace.past core.new) }
         ensures choice { SameChoice (P.choice self.old.play.spread) (P.choice self.new.play.spread) }
         ensures kept { self.new.kept ≡ self.old.kept }
         ensures intake { self.new.intake ≡ self.old.intake }
-        ensures play { OnOk result ((w : World) → w.cluster ≡ C.cluster run.now.setup.now → names_records step.now ≡ false → self.new.play.course ≡ after w step.now self.old.play.course) }
+        ensures play { OnOk result ((w : World) → w.cluster ≡ C.cluster run.now.setup.now → names_records step.now ≡ false → self.new.play.trace ≡ after w step.now self.old.play.trace) }
         ensures sound { (all : List Record) (begun : Tape) → names_records step.now ≡ false →
-            Sound (C.cluster run.now.setup.now) (planned run.now.plan) self.old.intake.head.link all self.old.play.course self.old.relay.waiting begun (O.tape output.old) →
-            OnOk result (Sound (C.cluster run.now.setup.now) (planned run.now.plan) self.old.intake.head.link all self.new.play.course self.new.relay.waiting begun (O.tape output.new)) }
+            Sound (C.cluster run.now.setup.now) (planned run.now.plan) self.old.intake.head.link all self.old.play.trace self.old.relay.waiting begun (O.tape output.old) →
+            OnOk result (Sound (C.cluster run.now.setup.now) (planned run.now.plan) self.old.intake.head.link all self.new.play.trace self.new.relay.waiting begun (O.tape output.new)) }
         ensures named { IfErr result IsOfRun }
         ensures cut { (w : World) (all : List Record) (begun : Tape) → w.cluster ≡ C.cluster run.now.setup.now → names_records step.now ≡ false →
-            Sound (C.cluster run.now.setup.now) (planned run.now.plan) self.old.intake.head.link all self.old.play.course self.old.relay.waiting begun (O.tape output.old) →
-            IfErr result (λ fault. WroteUntil fault begun (O.tape output.new) (sent (traffic_of (planned run.now.plan) self.old.intake.head.link all) (reverse (after w step.now self.old.play.course).past))) }
+            Sound (C.cluster run.now.setup.now) (planned run.now.plan) self.old.intake.head.link all self.old.play.trace self.old.relay.waiting begun (O.tape output.old) →
+            IfErr result (λ fault. WroteUntil fault begun (O.tape output.new) (sent (traffic_of (planned run.now.plan) self.old.intake.head.link all) (reverse (after w step.now self.old.play.trace).past))) }
     {
         match step {
-            Step::Drain(node) => {
+            ScenarioStep::Drain(node) => {
                 self.play.release(*node);
                 self.drain(run, core, *node, C::workers(run.setup), output)
             }
@@ -264,7 +263,7 @@ impl<P: Spread> Stage<P> {
         ensures more { (text : Tape) (seen : List Record) → Seen text seen (I.tape input.old) self.old.intake → IfOk result (λ more. SeenMore more text seen (I.tape input.new) self.new.intake) }
         ensures same { IfOk result (λ more. more ≡ true → (self.new.intake.ended ≡ self.old.intake.ended) × (self.new.intake.given ≡ self.old.intake.given + 1)) }
         ensures none { IfOk result (λ more. more ≡ false → (self.new.intake.given ≡ self.old.intake.given) × (self.new.kept ≡ self.old.kept)) }
-        ensures keeps { (seen : List Record) (ss : List Step) → self.old.intake.given ≡ length seen → KeepsNamed seen ss self.old.kept →
+        ensures keeps { (seen : List Record) (ss : List ScenarioStep) → self.old.intake.given ≡ length seen → KeepsNamed seen ss self.old.kept →
             IfOk result (λ more. more ≡ true → KeepsNamed (seen ++ self.new.intake.record_read ∷ []) ss self.new.kept) }
         ensures few { self.new.intake.given ≤ max_records }
         ensures unwritten { IfErr result (λ fault. fault ≢ SimulationFault.Write) }
@@ -283,21 +282,21 @@ impl<P: Spread> Stage<P> {
     #[inline(always)]
     fn take_one<C: Core, I: Source, O: Sink>(
         &mut self,
-        run: &Run<'_, C::Setup>,
+        run: &RunContext<'_, C::Setup>,
         core: &mut C,
         input: &mut I,
         output: &mut O,
     ) -> Result<bool, SimulationFault>
-        requires stands { C.stands run.now.setup.now self.old.play.course.past core.old }
-        requires few { (n : ℕ) × (n < 2 ^ 32) × Counted self.old.intake.given n self.old.play.course }
-        ensures stands { OnOk result (C.stands run.now.setup.now self.new.play.course.past core.new) }
+        requires stands { C.stands run.now.setup.now self.old.play.trace.past core.old }
+        requires few { (n : ℕ) × (n < 2 ^ 32) × Counted self.old.intake.given n self.old.play.trace }
+        ensures stands { OnOk result (C.stands run.now.setup.now self.new.play.trace.past core.new) }
         ensures spread { self.new.play.spread ≡ self.old.play.spread }
-        ensures few { (n : ℕ) → Counted self.old.intake.given n self.old.play.course → OnOk result (Counted self.new.intake.given n self.new.play.course) }
+        ensures few { (n : ℕ) → Counted self.old.intake.given n self.old.play.trace → OnOk result (Counted self.new.intake.given n self.new.play.trace) }
         ensures head { self.new.intake.head ≡ self.old.intake.head }
-        ensures reached { (choice : Choice) (text begun : Tape) (ss : List Step) (k : ℕ) → SameChoice choice (P.choice self.old.play.spread) →
+        ensures reached { (choice : Choice) (text begun : Tape) (ss : List ScenarioStep) (k : ℕ) → SameChoice choice (P.choice self.old.play.spread) →
             Reached (C.cluster run.now.setup.now) choice (planned run.now.plan) text begun (take_of (k + 1) ∷ ss) self.old (I.tape input.old) (O.tape output.old) →
             IfOk result (λ more. Reached (C.cluster run.now.setup.now) choice (planned run.now.plan) text begun (still_to_take more k ss) self.new (I.tape input.new) (O.tape output.new)) }
-        ensures short { (choice : Choice) (text begun : Tape) (ss : List Step) (k : ℕ) → SameChoice choice (P.choice self.old.play.spread) →
+        ensures short { (choice : Choice) (text begun : Tape) (ss : List ScenarioStep) (k : ℕ) → SameChoice choice (P.choice self.old.play.spread) →
             Reached (C.cluster run.now.setup.now) choice (planned run.now.plan) text begun (take_of (k + 1) ∷ ss) self.old (I.tape input.old) (O.tape output.old) →
             IfErr result (λ fault. Shortened (C.cluster run.now.setup.now) choice (planned run.now.plan) self.old.intake.head text (I.tape input.new) begun (O.tape output.new) fault) }
     {
@@ -313,22 +312,22 @@ impl<P: Spread> Stage<P> {
     // Takes so many records, or those that remain.
     fn take<C: Core, I: Source, O: Sink>(
         &mut self,
-        run: &Run<'_, C::Setup>,
+        run: &RunContext<'_, C::Setup>,
         core: &mut C,
         count: u32,
         input: &mut I,
         output: &mut O,
     ) -> Result<(), SimulationFault>
-        requires stands { C.stands run.now.setup.now self.old.play.course.past core.old }
-        requires few { (n : ℕ) × (n < 2 ^ 32) × Counted self.old.intake.given n self.old.play.course }
-        ensures stands { OnOk result (C.stands run.now.setup.now self.new.play.course.past core.new) }
+        requires stands { C.stands run.now.setup.now self.old.play.trace.past core.old }
+        requires few { (n : ℕ) × (n < 2 ^ 32) × Counted self.old.intake.given n self.old.play.trace }
+        ensures stands { OnOk result (C.stands run.now.setup.now self.new.play.trace.past core.new) }
         ensures spread { self.new.play.spread ≡ self.old.play.spread }
-        ensures few { (n : ℕ) → Counted self.old.intake.given n self.old.play.course → OnOk result (Counted self.new.intake.given n self.new.play.course) }
+        ensures few { (n : ℕ) → Counted self.old.intake.given n self.old.play.trace → OnOk result (Counted self.new.intake.given n self.new.play.trace) }
         ensures head { self.new.intake.head ≡ self.old.intake.head }
-        ensures reached { (choice : Choice) (text begun : Tape) (ss : List Step) → SameChoice choice (P.choice self.old.play.spread) →
+        ensures reached { (choice : Choice) (text begun : Tape) (ss : List ScenarioStep) → SameChoice choice (P.choice self.old.play.spread) →
             Reached (C.cluster run.now.setup.now) choice (planned run.now.plan) text begun (take_of count ∷ ss) self.old (I.tape input.old) (O.tape output.old) →
             OnOk result (Reached (C.cluster run.now.setup.now) choice (planned run.now.plan) text begun ss self.new (I.tape input.new) (O.tape output.new)) }
-        ensures short { (choice : Choice) (text begun : Tape) (ss : List Step) → SameChoice choice (P.choice self.old.play.spread) →
+        ensures short { (choice : Choice) (text begun : Tape) (ss : List ScenarioStep) → SameChoice choice (P.choice self.old.play.spread) →
             Reached (C.cluster run.now.setup.now) choice (planned run.now.plan) text begun (take_of count ∷ ss) self.old (I.tape input.old) (O.tape output.old) →
             IfErr result (λ fault. Shortened (C.cluster run.now.setup.now) choice (planned run.now.plan) self.old.intake.head text (I.tape input.new) begun (O.tape output.new) fault) }
     {
@@ -343,15 +342,15 @@ impl<P: Spread> Stage<P> {
 
     // Reads the next record and loses it. Says whether there was one.
     fn lose_one<I: Source>(&mut self, alloc: Global, input: &mut I) -> Result<bool, SimulationFault>
-        requires few { (n : ℕ) × (n < 2 ^ 32) × Counted self.old.intake.given n self.old.play.course }
-        ensures past { OnOk result (self.new.play.course.past ≡ self.old.play.course.past) }
+        requires few { (n : ℕ) × (n < 2 ^ 32) × Counted self.old.intake.given n self.old.play.trace }
+        ensures past { OnOk result (self.new.play.trace.past ≡ self.old.play.trace.past) }
         ensures spread { self.new.play.spread ≡ self.old.play.spread }
-        ensures few { (n : ℕ) → Counted self.old.intake.given n self.old.play.course → OnOk result (Counted self.new.intake.given n self.new.play.course) }
+        ensures few { (n : ℕ) → Counted self.old.intake.given n self.old.play.trace → OnOk result (Counted self.new.intake.given n self.new.play.trace) }
         ensures head { self.new.intake.head ≡ self.old.intake.head }
-        ensures reached { (cluster : Cluster) (choice : Choice) (plan : Planned) (text begun out : Tape) (ss : List Step) (k : ℕ) →
+        ensures reached { (cluster : Cluster) (choice : Choice) (plan : Planned) (text begun out : Tape) (ss : List ScenarioStep) (k : ℕ) →
             Reached cluster choice plan text begun (lose_of (k + 1) ∷ ss) self.old (I.tape input.old) out →
             IfOk result (λ more. Reached cluster choice plan text begun (still_to_lose more k ss) self.new (I.tape input.new) out) }
-        ensures short { (cluster : Cluster) (choice : Choice) (plan : Planned) (text begun out : Tape) (ss : List Step) →
+        ensures short { (cluster : Cluster) (choice : Choice) (plan : Planned) (text begun out : Tape) (ss : List ScenarioStep) →
             Reached cluster choice plan text begun ss self.old (I.tape input.old) out → IfErr result (λ fault. Shortened cluster choice plan self.old.intake.head text (I.tape input.new) begun out fault) }
     {
         let more = self.read_one(alloc, input)?;
@@ -369,15 +368,15 @@ impl<P: Spread> Stage<P> {
         count: u32,
         input: &mut I,
     ) -> Result<(), SimulationFault>
-        requires few { (n : ℕ) × (n < 2 ^ 32) × Counted self.old.intake.given n self.old.play.course }
-        ensures past { OnOk result (self.new.play.course.past ≡ self.old.play.course.past) }
+        requires few { (n : ℕ) × (n < 2 ^ 32) × Counted self.old.intake.given n self.old.play.trace }
+        ensures past { OnOk result (self.new.play.trace.past ≡ self.old.play.trace.past) }
         ensures spread { self.new.play.spread ≡ self.old.play.spread }
-        ensures few { (n : ℕ) → Counted self.old.intake.given n self.old.play.course → OnOk result (Counted self.new.intake.given n self.new.play.course) }
+        ensures few { (n : ℕ) → Counted self.old.intake.given n self.old.play.trace → OnOk result (Counted self.new.intake.given n self.new.play.trace) }
         ensures head { self.new.intake.head ≡ self.old.intake.head }
-        ensures reached { (cluster : Cluster) (choice : Choice) (plan : Planned) (text begun out : Tape) (ss : List Step) →
+        ensures reached { (cluster : Cluster) (choice : Choice) (plan : Planned) (text begun out : Tape) (ss : List ScenarioStep) →
             Reached cluster choice plan text begun (lose_of count ∷ ss) self.old (I.tape input.old) out →
             OnOk result (Reached cluster choice plan text begun ss self.new (I.tape input.new) out) }
-        ensures short { (cluster : Cluster) (choice : Choice) (plan : Planned) (text begun out : Tape) (ss : List Step) →
+        ensures short { (cluster : Cluster) (choice : Choice) (plan : Planned) (text begun out : Tape) (ss : List ScenarioStep) →
             Reached cluster choice plan text begun (lose_of count ∷ ss) self.old (I.tape input.old) out → IfErr result (λ fault. Shortened cluster choice plan self.old.intake.head text (I.tape input.new) begun out fault) }
     {
         for _ in 0..count {
@@ -392,22 +391,22 @@ impl<P: Spread> Stage<P> {
     // Delivers a record again, or skips it where it wasn't read.
     fn again<C: Core, O: Sink>(
         &mut self,
-        run: &Run<'_, C::Setup>,
+        run: &RunContext<'_, C::Setup>,
         core: &mut C,
         place: u32,
         output: &mut O,
     ) -> Result<(), SimulationFault>
-        requires stands { C.stands run.now.setup.now self.old.play.course.past core.old }
-        requires few { (n : ℕ) × (n < 2 ^ 32) × Counted self.old.intake.given n self.old.play.course }
-        ensures stands { OnOk result (C.stands run.now.setup.now self.new.play.course.past core.new) }
+        requires stands { C.stands run.now.setup.now self.old.play.trace.past core.old }
+        requires few { (n : ℕ) × (n < 2 ^ 32) × Counted self.old.intake.given n self.old.play.trace }
+        ensures stands { OnOk result (C.stands run.now.setup.now self.new.play.trace.past core.new) }
         ensures spread { self.new.play.spread ≡ self.old.play.spread }
-        ensures few { (n : ℕ) → Counted self.old.intake.given n self.old.play.course → OnOk result (Counted self.new.intake.given (n + 1) self.new.play.course) }
+        ensures few { (n : ℕ) → Counted self.old.intake.given n self.old.play.trace → OnOk result (Counted self.new.intake.given (n + 1) self.new.play.trace) }
         ensures head { self.new.intake.head ≡ self.old.intake.head }
         ensures named { IfErr result IsOfRun }
-        ensures reached { (choice : Choice) (text begun left : Tape) (ss : List Step) → SameChoice choice (P.choice self.old.play.spread) →
+        ensures reached { (choice : Choice) (text begun left : Tape) (ss : List ScenarioStep) → SameChoice choice (P.choice self.old.play.spread) →
             Reached (C.cluster run.now.setup.now) choice (planned run.now.plan) text begun (again_of place ∷ ss) self.old left (O.tape output.old) →
             OnOk result (Reached (C.cluster run.now.setup.now) choice (planned run.now.plan) text begun ss self.new left (O.tape output.new)) }
-        ensures short { (choice : Choice) (text begun left : Tape) (ss : List Step) → SameChoice choice (P.choice self.old.play.spread) →
+        ensures short { (choice : Choice) (text begun left : Tape) (ss : List ScenarioStep) → SameChoice choice (P.choice self.old.play.spread) →
             Reached (C.cluster run.now.setup.now) choice (planned run.now.plan) text begun (again_of place ∷ ss) self.old left (O.tape output.old) →
             IfErr result (λ fault. Shortened (C.cluster run.now.setup.now) choice (planned run.now.plan) self.old.intake.head text left begun (O.tape output.new) fault) }
     {
@@ -426,74 +425,74 @@ impl<P: Spread> Stage<P> {
     }
 
     // A step that names no record, among the others.
-    fn aside<C: Core, O: Sink>(
+    fn step_without_record<C: Core, O: Sink>(
         &mut self,
-        run: &Run<'_, C::Setup>,
+        run: &RunContext<'_, C::Setup>,
         core: &mut C,
-        step: &Step,
+        step: &ScenarioStep,
         output: &mut O,
     ) -> Result<(), SimulationFault>
-        requires stands { C.stands run.now.setup.now self.old.play.course.past core.old }
+        requires stands { C.stands run.now.setup.now self.old.play.trace.past core.old }
         requires apart { names_records step.now ≡ false }
-        ensures stands { OnOk result (C.stands run.now.setup.now self.new.play.course.past core.new) }
+        ensures stands { OnOk result (C.stands run.now.setup.now self.new.play.trace.past core.new) }
         ensures choice { SameChoice (P.choice self.old.play.spread) (P.choice self.new.play.spread) }
-        ensures few { (n : ℕ) → Counted self.old.intake.given n self.old.play.course → OnOk result (Counted self.new.intake.given (n + 1) self.new.play.course) }
+        ensures few { (n : ℕ) → Counted self.old.intake.given n self.old.play.trace → OnOk result (Counted self.new.intake.given (n + 1) self.new.play.trace) }
         ensures head { self.new.intake.head ≡ self.old.intake.head }
         ensures named { IfErr result IsOfRun }
-        ensures reached { (choice : Choice) (text begun left : Tape) (ss : List Step) →
+        ensures reached { (choice : Choice) (text begun left : Tape) (ss : List ScenarioStep) →
             Reached (C.cluster run.now.setup.now) choice (planned run.now.plan) text begun (step.now ∷ ss) self.old left (O.tape output.old) →
             OnOk result (Reached (C.cluster run.now.setup.now) choice (planned run.now.plan) text begun ss self.new left (O.tape output.new)) }
-        ensures short { (choice : Choice) (text begun left : Tape) (ss : List Step) →
+        ensures short { (choice : Choice) (text begun left : Tape) (ss : List ScenarioStep) →
             Reached (C.cluster run.now.setup.now) choice (planned run.now.plan) text begun (step.now ∷ ss) self.old left (O.tape output.old) →
             IfErr result (λ fault. Shortened (C.cluster run.now.setup.now) choice (planned run.now.plan) self.old.intake.head text left begun (O.tape output.new) fault) }
     {
-        self.apart(run, core, step, output)
+        self.settle_without_record(run, core, step, output)
     }
 
     // A step.
     fn step<C: Core, I: Source, O: Sink>(
         &mut self,
-        run: &Run<'_, C::Setup>,
+        run: &RunContext<'_, C::Setup>,
         core: &mut C,
-        step: &Step,
+        step: &ScenarioStep,
         input: &mut I,
         output: &mut O,
     ) -> Result<(), SimulationFault>
-        requires stands { C.stands run.now.setup.now self.old.play.course.past core.old }
-        requires few { (n : ℕ) × (n < 2 ^ 32) × Counted self.old.intake.given n self.old.play.course }
-        ensures stands { OnOk result (C.stands run.now.setup.now self.new.play.course.past core.new) }
+        requires stands { C.stands run.now.setup.now self.old.play.trace.past core.old }
+        requires few { (n : ℕ) × (n < 2 ^ 32) × Counted self.old.intake.given n self.old.play.trace }
+        ensures stands { OnOk result (C.stands run.now.setup.now self.new.play.trace.past core.new) }
         ensures choice { SameChoice (P.choice self.old.play.spread) (P.choice self.new.play.spread) }
-        ensures few { (n : ℕ) → Counted self.old.intake.given n self.old.play.course → OnOk result (Counted self.new.intake.given (n + 1) self.new.play.course) }
+        ensures few { (n : ℕ) → Counted self.old.intake.given n self.old.play.trace → OnOk result (Counted self.new.intake.given (n + 1) self.new.play.trace) }
         ensures head { self.new.intake.head ≡ self.old.intake.head }
-        ensures reached { (choice : Choice) (text begun : Tape) (ss : List Step) → SameChoice choice (P.choice self.old.play.spread) →
+        ensures reached { (choice : Choice) (text begun : Tape) (ss : List ScenarioStep) → SameChoice choice (P.choice self.old.play.spread) →
             Reached (C.cluster run.now.setup.now) choice (planned run.now.plan) text begun (step.now ∷ ss) self.old (I.tape input.old) (O.tape output.old) →
             OnOk result (Reached (C.cluster run.now.setup.now) choice (planned run.now.plan) text begun ss self.new (I.tape input.new) (O.tape output.new)) }
-        ensures short { (choice : Choice) (text begun : Tape) (ss : List Step) → SameChoice choice (P.choice self.old.play.spread) →
+        ensures short { (choice : Choice) (text begun : Tape) (ss : List ScenarioStep) → SameChoice choice (P.choice self.old.play.spread) →
             Reached (C.cluster run.now.setup.now) choice (planned run.now.plan) text begun (step.now ∷ ss) self.old (I.tape input.old) (O.tape output.old) →
             IfErr result (λ fault. Shortened (C.cluster run.now.setup.now) choice (planned run.now.plan) self.old.intake.head text (I.tape input.new) begun (O.tape output.new) fault) }
     {
         match step {
-            Step::Take(count) => self.take(run, core, *count, input, output),
-            Step::Lose(count) => self.lose(run.alloc, *count, input),
-            Step::Again(place) => self.again(run, core, *place, output),
-            _ => self.aside(run, core, step, output),
+            ScenarioStep::Take(count) => self.take(run, core, *count, input, output),
+            ScenarioStep::Lose(count) => self.lose(run.alloc, *count, input),
+            ScenarioStep::Again(place) => self.again(run, core, *place, output),
+            _ => self.step_without_record(run, core, step, output),
         }
     }
 
     // All steps.
     fn steps<C: Core, I: Source, O: Sink>(
         &mut self,
-        run: &Run<'_, C::Setup>,
+        run: &RunContext<'_, C::Setup>,
         core: &mut C,
         input: &mut I,
         output: &mut O,
     ) -> Result<(), SimulationFault>
-        requires stands { C.stands run.now.setup.now self.old.play.course.past core.old }
-        requires fresh { Counted self.old.intake.given 0 self.old.play.course }
+        requires stands { C.stands run.now.setup.now self.old.play.trace.past core.old }
+        requires fresh { Counted self.old.intake.given 0 self.old.play.trace }
         requires some { length run.now.plan.steps.now ≤ 100000 }
-        ensures stands { OnOk result (C.stands run.now.setup.now self.new.play.course.past core.new) }
+        ensures stands { OnOk result (C.stands run.now.setup.now self.new.play.trace.past core.new) }
         ensures head { self.new.intake.head ≡ self.old.intake.head }
-        ensures read { OnOk result (self.new.play.course.read ≤ self.new.intake.given) }
+        ensures read { OnOk result (self.new.play.trace.read ≤ self.new.intake.given) }
         ensures reached { (choice : Choice) (text begun : Tape) → SameChoice choice (P.choice self.old.play.spread) →
             Reached (C.cluster run.now.setup.now) choice (planned run.now.plan) text begun run.now.plan.steps.now self.old (I.tape input.old) (O.tape output.old) →
             OnOk result (Reached (C.cluster run.now.setup.now) choice (planned run.now.plan) text begun [] self.new (I.tape input.new) (O.tape output.new)) }
@@ -509,12 +508,12 @@ impl<P: Spread> Stage<P> {
 
     // Reads what is left of the input. The run is over then.
     fn finish<I: Source>(self, input: &mut I) -> Result<Played<P>, SimulationFault>
-        requires { self.play.course.read ≤ self.intake.given }
+        requires { self.play.trace.read ≤ self.intake.given }
         ensures play { IfOk result (λ p. p.play ≡ self.play) }
-        ensures read { IfOk result (λ p. p.play.course.read ≤ p.packets) }
+        ensures read { IfOk result (λ p. p.play.trace.read ≤ p.packets) }
         ensures over { (cluster : Cluster) (choice : Choice) (plan : Planned) (text begun out : Tape) →
             Reached cluster choice plan text begun [] self (I.tape input.old) out →
-            IfOk result (λ p. IsOver cluster choice plan self.intake.head text (I.tape input.new) begun out p.play.course p.packets p.ending) }
+            IfOk result (λ p. IsOver cluster choice plan self.intake.head text (I.tape input.new) begun out p.play.trace p.packets p.ending) }
         ensures short { (cluster : Cluster) (choice : Choice) (plan : Planned) (text begun out : Tape) →
             Reached cluster choice plan text begun [] self (I.tape input.old) out →
             IfErr result (λ fault. Shortened cluster choice plan self.intake.head text (I.tape input.new) begun out fault) }
@@ -537,7 +536,7 @@ impl<P: Spread> Stage<P> {
 
 /// Runs the steps over the records after a file header, record by record.
 pub(crate) fn play_records<C: Core, P: Spread, I: Source, O: Sink>(
-    run: &Run<'_, C::Setup>,
+    run: &RunContext<'_, C::Setup>,
     core: &mut C,
     spread: P,
     head: Head,
@@ -551,9 +550,9 @@ pub(crate) fn play_records<C: Core, P: Spread, I: Source, O: Sink>(
     requires workers { (C.cluster run.now.setup.now).workers ≤ 16 }
     requires cluster { (C.cluster run.now.setup.now).nodes ≡ length run.now.plan.nodes.now }
     requires orderly { Orderly (C.cluster run.now.setup.now) }
-    ensures over { IfOk result (λ p. IsOver (C.cluster run.now.setup.now) (P.choice spread) (planned run.now.plan) head (I.tape input.old) (I.tape input.new) (O.tape output.old) (O.tape output.new) p.play.course p.packets p.ending) }
-    ensures read { IfOk result (λ p. p.play.course.read ≤ p.packets) }
-    ensures stands { IfOk result (λ p. C.stands run.now.setup.now p.play.course.past core.new) }
+    ensures over { IfOk result (λ p. IsOver (C.cluster run.now.setup.now) (P.choice spread) (planned run.now.plan) head (I.tape input.old) (I.tape input.new) (O.tape output.old) (O.tape output.new) p.play.trace p.packets p.ending) }
+    ensures read { IfOk result (λ p. p.play.trace.read ≤ p.packets) }
+    ensures stands { IfOk result (λ p. C.stands run.now.setup.now p.play.trace.past core.new) }
     ensures short { IfErr result (λ fault. Shortened (C.cluster run.now.setup.now) (P.choice spread) (planned run.now.plan) head (I.tape input.old) (I.tape input.new) (O.tape output.old) (O.tape output.new) fault) }
 {
     let mut stage = Stage::make(run.alloc, run.plan, spread, head)?;

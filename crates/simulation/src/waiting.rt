@@ -3,8 +3,8 @@
 //! A cluster's core queues packets by their places in a capture. Where the capture isn't kept, `Waiting` keeps the frames
 //! beside those queues. It follows the record of events, and a frame is there exactly while its packet waits.
 ghost use Rattle.std.specs.Prelude.{◌≡◌, true, ◌*◌, ◌<◌, ◌∷◌, ◌++◌, [], ℕ, Bool, false, List, length, drop, replicate, slice_get, slice_set, option_map, Some, IfOk, OnOk, OnErr, IfSome, IsSomeAnd};
-ghost use Rattle.pcap_file.specs.Format.{Packet as Record, packet};
-ghost use Rattle.cluster_node.specs.declared.events.Said.{Said};
+ghost use Rattle.pcap_file.specs.Format.{Record, packet};
+ghost use Rattle.cluster_node.specs.declared.events.LogEntry.{LogEntry};
 ghost use Rattle.cluster_node.specs.declared.events.Event.TheVariants.{Arrive, Serve};
 ghost use Rattle.cluster_node.specs.declared.outcomes.Outcome.TheVariants.{Placed, Forward};
 ghost use Rattle.cluster_node.specs.Record.{accepted};
@@ -13,7 +13,7 @@ ghost use Rattle.simulation.specs.PrivateQueues.{place_of, Moves, only_at, place
 ghost use Rattle.simulation.specs.PrivateMirrors.{Mirrors, CanFollow, ComesAs, IsNoArrival};
 
 use crate::queue::Queue;
-use cluster_node::{Event, Outcome, Packet, Said};
+use cluster_node::{Event, LogEntry, Outcome, Packet};
 use pcap_file::Frame;
 use std::alloc::{AllocError, Global};
 use std::marker::Model;
@@ -29,7 +29,7 @@ pub(crate) struct Waiting {
 
 impl Model for Waiting {
     ghost use Rattle.std.specs.Prelude.{List};
-    ghost use Rattle.pcap_file.specs.Format.{Packet as Record};
+    ghost use Rattle.pcap_file.specs.Format.{Record};
 
     ghost Value = { List (List Record) };
 
@@ -52,7 +52,7 @@ fn place_of(count: usize, node: u16, worker: u16) -> Option<usize>
 
 // The node and the worker where an arrival made its packet wait.
 #[inline(always)]
-fn placed_by(said: &Said) -> Option<(u16, u16)>
+fn placed_by(said: &LogEntry) -> Option<(u16, u16)>
     ensures { result ≡ placed_by said.now.event said.now.packet said.now.outcome }
 {
     match (said.event, said.packet, said.outcome) {
@@ -172,8 +172,8 @@ impl Waiting {
     /// Whether the packet of an arrival waits from now on. Where it doesn't, the arrival is followed with the queues as they
     /// are.
     #[inline(always)]
-    pub(crate) fn waits(&self, said: &Said) -> bool
-        ensures mirrors { (all : List Record) (k : Cluster) (past : List Said) (r : Record) → result ≡ false → CanFollow all k past said.now self.now → ComesAs all r said.now.event →
+    pub(crate) fn waits(&self, said: &LogEntry) -> bool
+        ensures mirrors { (all : List Record) (k : Cluster) (past : List LogEntry) (r : Record) → result ≡ false → CanFollow all k past said.now self.now → ComesAs all r said.now.event →
             Mirrors all k (said.now ∷ past) self.now }
     {
         placed_by(said).is_some()
@@ -182,10 +182,10 @@ impl Waiting {
     /// Follows an arrival, whose packet has this frame. Where the packet waits now, the frame is kept after those that wait
     /// at its worker.
     #[inline(always)]
-    pub(crate) fn arrive(&mut self, said: &Said, frame: Rc<Frame>) -> Result<(), AllocError>
+    pub(crate) fn arrive(&mut self, said: &LogEntry, frame: Rc<Frame>) -> Result<(), AllocError>
         ensures queues { OnOk result (Moves self.old self.new (arrived said.now (packet frame.value))) }
         ensures err { OnErr result (self.new ≡ self.old) }
-        ensures mirrors { (all : List Record) (k : Cluster) (past : List Said) → CanFollow all k past said.now self.old → ComesAs all (packet frame.value) said.now.event →
+        ensures mirrors { (all : List Record) (k : Cluster) (past : List LogEntry) → CanFollow all k past said.now self.old → ComesAs all (packet frame.value) said.now.event →
             OnOk result (Mirrors all k (said.now ∷ past) self.new) }
     {
         match placed_by(said) {
@@ -198,12 +198,12 @@ impl Waiting {
     ///
     /// By the clause `sent` this is, where a packet was sent, that packet's frame.
     #[inline(always)]
-    pub(crate) fn settle(&mut self, said: &Said) -> Option<Rc<Frame>>
+    pub(crate) fn settle(&mut self, said: &LogEntry) -> Option<Rc<Frame>>
         ensures queues { Moves self.old self.new (settled said.now) }
         ensures taken { option_map (λ f. packet f.value) result ≡ taken_out said.now self.old }
-        ensures mirrors { (all : List Record) (k : Cluster) (past : List Said) → CanFollow all k past said.now self.old → IsNoArrival said.now.event →
+        ensures mirrors { (all : List Record) (k : Cluster) (past : List LogEntry) → CanFollow all k past said.now self.old → IsNoArrival said.now.event →
             Mirrors all k (said.now ∷ past) self.new }
-        ensures sent { (all : List Record) (k : Cluster) (past : List Said) → CanFollow all k past said.now self.old →
+        ensures sent { (all : List Record) (k : Cluster) (past : List LogEntry) → CanFollow all k past said.now self.old →
             (n w i : ℕ) (x : _) (b : _) (v : ℕ) → said.now.outcome ≡ Forward n w i x b v → IsSomeAnd result (λ frame. slice_get all i ≡ Some (packet frame.value)) }
     {
         if is_accepted(&said.outcome) {

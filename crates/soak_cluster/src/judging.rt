@@ -1,8 +1,8 @@
 //! What a run's record is held to, apart from the contract of the run.
 use cluster_node::{Cause, Event, Outcome};
-use node_records::{Command, NodeRecord};
 use stats_book::Stats;
 use std::alloc::{AllocError, Global};
+use thread_records::{Command, NodeRecord};
 
 // The event is the node's own step for this command.
 fn obeys(event: &Event, command: &Command, at: usize) -> bool {

@@ -21,21 +21,21 @@ use crate::judging::{are_counted, are_lived};
 use crate::scene::{Throw, catalogue, packets, setup, thrown};
 use cluster_core::Setup;
 use cluster_node::Packet;
-use cluster_threads::{ClusterRun, run_cluster};
 use connection_table::{ConnTable, LruTable, PlainTable};
 use hash_laws::Fnv;
 use maglev_table::TableSize;
-use node_records::Command;
+use node_threads::{ClusterRun, run_cluster};
 use pool_versions::Catalogue;
 use selection::{Maglev, RoundRobin, Scheme};
 use std::alloc::{AllocError, Global};
 use std::env;
 use std::sync::Wait;
 use std::thread::Threads;
+use thread_records::Command;
 
 /// The outcome of the runs.
 #[derive(Clone, Copy, Drop)]
-struct Tally {
+struct SoakCounts {
     runs: u64,
     commands: u64,
     faults: u64,
@@ -88,7 +88,7 @@ fn soak_on<S: Scheme + Send + Sync, T: ConnTable + Send, R: Threads + Wait + Syn
     setup: &Setup<S, Fnv>,
     catalogue: &Catalogue,
     throw: &Throw,
-    tally: &mut Tally,
+    tally: &mut SoakCounts,
 ) -> Result<(), AllocError>
 where
     S::Prepared: Send + Sync,
@@ -128,7 +128,7 @@ fn soak<S: Scheme + Send + Sync, R: Threads + Wait + Sync>(
     scheme: S,
     size: TableSize,
     dice: &mut Dice,
-    tally: &mut Tally,
+    tally: &mut SoakCounts,
 ) -> Result<(), AllocError>
 where
     S::Prepared: Send + Sync,
@@ -146,8 +146,8 @@ fn soak_all<R: Threads + Wait + Sync>(
     size: TableSize,
     seed: u64,
     count: u64,
-) -> Result<Tally, AllocError> {
-    let mut tally = Tally {
+) -> Result<SoakCounts, AllocError> {
+    let mut tally = SoakCounts {
         runs: 0,
         commands: 0,
         faults: 0,

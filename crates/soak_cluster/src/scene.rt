@@ -9,10 +9,10 @@ use cluster_node::{Cause, Packet};
 use five_tuple::Flow;
 use hash_laws::Fnv;
 use maglev_table::{Name, TableSize, Weight};
-use node_records::Command;
 use pool_versions::{Backend, Catalogue, Member, Service, Version};
 use selection::Scheme;
 use std::alloc::{AllocError, Global};
+use thread_records::Command;
 
 const VIP: u32 = 0xc000_0201;
 

@@ -11,7 +11,7 @@ use Rattle.five_tuple.specs.declared.Flow.{Flow}
 use Rattle.cluster_node.specs.declared.packets.Packet.{Packet}
 use Rattle.cluster_node.specs.declared.packets.Packet.TheVariants.{Good, Bad}
 use Rattle.cluster_core.specs.Reading.{packet_read}
-use Rattle.listing.specs.Names.{cause_name}
+use Rattle.run_report.specs.Names.{cause_name}
 use Rattle.selection.specs.Picks.{slot_of_flow}
 use Rattle.maglev_texts.specs.Printing.{flow_text}
 use Rattle.table_entrants.specs.Ranking.{names_of, owners_of, IsRanked}

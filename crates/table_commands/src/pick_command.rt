@@ -12,10 +12,10 @@ use five_tuple::Flow;
 use hash_laws::{AnyHash, FlowHash};
 use hex::FromHexError;
 use ip_headers::Link;
-use listing::CauseText;
 use maglev_table::TableSize;
 use maglev_texts::FlowText;
 use pcap_file::{Sink, Source, fill};
+use run_report::CauseText;
 use std::alloc::{AllocError, Global};
 use table_entrants::{Entrant, table_of};
 

@@ -10,7 +10,7 @@ use Rattle.atomic_table.specs.Table.{Me, keeps, step, Allows, Splits, Joins}
 use Rattle.atomic_table.proofs.Lists.{at_set, at_snoc}
 use Rattle.version_board.specs.declared.rule.View.{View}
 use Rattle.version_board.specs.Numbers.{newest, IsAscending}
-use Rattle.version_board.specs.Rule.{publisher, watcher, newcomer, Fits, IsBoard, HoldsBoard, Published, Looked, Kept, Compared}
+use Rattle.version_board.specs.Rule.{publisher, watcher, newcomer, Fits, IsBoard, HoldsBoard, Published, Looked, Unchanged, Compared}
 
 off : false ≡ true → ⊥
 off e = true≢false (sym e)
@@ -133,7 +133,7 @@ looks first slots id me is s h homes at small =
 
 -- a step on the other word
 pub keeps_view : (first slots id : ℕ) (me : Me Unit View) (f found : ℕ → ℕ)
-    → Allows (HoldsBoard first) slots id me 1 f (λ n. Kept (step slots 1 0 0 none) me (found n))
+    → Allows (HoldsBoard first) slots id me 1 f (λ n. Unchanged (step slots 1 0 0 none) me (found n))
 keeps_view first slots id me f found s h homes at small =
     let here : slice_index (set s.words 1 (f (slice_index s.words 1))) 0 ≡ slice_index s.words 0 = get_or-set_other s.words 1 0 (f (slice_index s.words 1)) 0 (λ e. omega arith) in (
       me.0,

@@ -44,8 +44,8 @@ abbrev pub Looked : Step Unit → Me Unit View → ℕ → Me Unit View → Type
 Looked s me found after = (after ≡ (watcher (me.0.numbers ++ found ∷ []), me.1)) × (found < 2 ^ 32) × All (λ n. n ≤ found) me.0.numbers
 
 -- the view stays as it is
-abbrev pub Kept : Step Unit → Me Unit View → ℕ → Me Unit View → Type 0
-Kept s me found after = after ≡ me
+abbrev pub Unchanged : Step Unit → Me Unit View → ℕ → Me Unit View → Type 0
+Unchanged s me found after = after ≡ me
 
 -- what was given back is among the publisher's numbers
 abbrev pub Compared : Step Unit → Me Unit View → ℕ → Me Unit View → Type 0

@@ -47,9 +47,9 @@ impl Play<(), View> for Looks {
 pub struct Keeps;
 
 impl Play<(), View> for Keeps {
-    ghost use Rattle.version_board.specs.Rule.{Kept};
+    ghost use Rattle.version_board.specs.Rule.{Unchanged};
 
-    ghost then = { Kept };
+    ghost then = { Unchanged };
 }
 
 /// The publisher learns that what was given back is among its numbers.

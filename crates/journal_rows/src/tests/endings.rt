@@ -1,16 +1,16 @@
 //! How lives end: records that don't fit, lives that aren't drained, and what was gathered.
 use super::journals::{
-    Act, Node, Told, does, empty_queues, fresh_node, handles, same_told, setup_of, shared, told,
+    Act, Node, Reply, does, empty_queues, fresh_node, handles, same_told, setup_of, shared, told,
 };
 use super::{Row, Sums, catalogue, flow, forward, good, holds, packets, version};
 use cluster_node::{Item, Outcome};
 use connection_table::{LruTable, PlainTable};
 use hash_laws::{AnyHash, SumHash};
 use maglev_table::TableSize;
-use node_records::{Journal, LifeFault, Rings, WorkerRecord, are_of};
 use selection::{Maglev, PreparedVersion};
 use std::alloc::Global;
 use std::process::Abort;
+use thread_records::{Journal, LifeFault, Rings, WorkerRecord, are_of};
 
 fn same_fault(rt: &impl Abort, found: Option<LifeFault>, wanted: Option<LifeFault>, at: usize) {
     assert_eq!(rt; found, wanted, "row {at}");
@@ -28,7 +28,7 @@ impl Rings for Refusing {
     }
 }
 
-fn arrives(rt: &impl Abort, journal: &mut Journal, rings: &mut Refusing, wanted: Told) {
+fn arrives(rt: &impl Abort, journal: &mut Journal, rings: &mut Refusing, wanted: Reply) {
     let outcome = journal.arrive(&SumHash, &[good(1000)], 0, rings);
     same_told(rt, told(&outcome.expect(rt, "memory")), wanted, 0);
 }
@@ -269,18 +269,18 @@ fn records_under_other_versions(rt: HostRuntime) {
     }
 }
 
-static TWO_PLACED: [(Act, Told); 3] = [
+static TWO_PLACED: [(Act, Reply); 3] = [
     (Act::Install(1), ("installed", 0, 0)),
     (Act::Arrive(0), ("placed", 0, 1)),
     (Act::Arrive(0), ("placed", 0, 1)),
 ];
 
-static ONE_SERVED: [(Act, Told); 2] = [
+static ONE_SERVED: [(Act, Reply); 2] = [
     (Act::Arrive(0), ("placed", 0, 1)),
     (Act::Serve(0, 1), ("forward", 1, 1)),
 ];
 
-fn is_last(rt: &impl Abort, outcomes: &[Outcome], wanted: Told) {
+fn is_last(rt: &impl Abort, outcomes: &[Outcome], wanted: Reply) {
     let last = outcomes.last().expect(rt, "an outcome");
     same_told(rt, told(last), wanted, 0);
 }
@@ -317,7 +317,7 @@ fn a_life_that_is_not_drained(rt: HostRuntime) {
     same_fault(&rt, fault, None, 0);
 }
 
-static TWO_SERVED: [(Act, Told); 5] = [
+static TWO_SERVED: [(Act, Reply); 5] = [
     (Act::Install(1), ("installed", 0, 0)),
     (Act::Arrive(0), ("placed", 0, 1)),
     (Act::Arrive(1), ("placed", 0, 1)),

@@ -7,11 +7,11 @@ use cluster_node::{Cause, Event, Item, Outcome, Reason};
 use connection_table::{ConnTable, LruTable, PlainTable};
 use forwarder::Choice;
 use hash_laws::SumHash;
-use node_records::{Journal, Rings, Step, WorkerRecord};
 use selection::{Maglev, PlainHash, PreparedVersion, RoundRobin, Scheme};
 use std::alloc::Global;
 use std::process::Abort;
 use std::sync::Arc;
+use thread_records::{Journal, Rings, Step, WorkerRecord};
 
 /// A queue of so many places for each worker, the oldest packet in front.
 #[derive(Drop)]
@@ -152,11 +152,11 @@ pub(super) enum Act {
     Serve(u16, u32),
 }
 
-pub(super) type Told = (&'static str, u32, u32);
+pub(super) type Reply = (&'static str, u32, u32);
 
 // What a worker's step says: a word and two numbers. Of a packet that was sent the last byte of the backend's address and
 // the origin. With ample memory each new entry is made.
-fn told_step(step: &Step) -> Told {
+fn told_step(step: &Step) -> Reply {
     match step {
         Step::Behind => ("behind", 0, 0),
         Step::Done(served) => match served.choice {
@@ -185,7 +185,7 @@ fn word_of_reason(reason: Reason) -> &'static str {
     }
 }
 
-pub(super) fn told(outcome: &Outcome) -> Told {
+pub(super) fn told(outcome: &Outcome) -> Reply {
     match outcome {
         Outcome::Installed => ("installed", 0, 0),
         Outcome::Placed { worker, floor } => ("placed", u32::from(*worker), *floor),
@@ -196,7 +196,7 @@ pub(super) fn told(outcome: &Outcome) -> Told {
     }
 }
 
-pub(super) fn same_told(rt: &impl Abort, found: Told, wanted: Told, step: usize) {
+pub(super) fn same_told(rt: &impl Abort, found: Reply, wanted: Reply, step: usize) {
     assert_eq!(rt; found, wanted, "step {step}");
 }
 
@@ -222,7 +222,7 @@ fn serves<S: Scheme, T: ConnTable>(
     node: &mut Node<S, T>,
     worker: u16,
     number: u32,
-) -> Told {
+) -> Reply {
     let Some(item) = node.queues.front(worker) else {
         return ("idle", 0, 0);
     };
@@ -233,7 +233,7 @@ fn serves<S: Scheme, T: ConnTable>(
     told_step(&step)
 }
 
-fn acted<S: Scheme, T: ConnTable>(rt: &impl Abort, node: &mut Node<S, T>, act: Act) -> Told {
+fn acted<S: Scheme, T: ConnTable>(rt: &impl Abort, node: &mut Node<S, T>, act: Act) -> Reply {
     match act {
         Act::Install(number) => {
             let outcome = node.journal.install(number < 6, number);
@@ -252,7 +252,7 @@ fn acted<S: Scheme, T: ConnTable>(rt: &impl Abort, node: &mut Node<S, T>, act: A
 pub(super) fn does<S: Scheme, T: ConnTable>(
     rt: &impl Abort,
     node: &mut Node<S, T>,
-    steps: &[(Act, Told)],
+    steps: &[(Act, Reply)],
 ) {
     for (at, (act, wanted)) in steps.iter().enumerate() {
         let found = acted(rt, node, *act);
@@ -292,7 +292,7 @@ pub(super) fn replays<S: Scheme>(
 struct Example {
     workers: u16,
     ring: u32,
-    steps: &'static [(Act, Told)],
+    steps: &'static [(Act, Reply)],
 }
 
 fn plays<S: Scheme, T: ConnTable>(rt: &impl Abort, alloc: Global, scheme: S, example: &Example) {

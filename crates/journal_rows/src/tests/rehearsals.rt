@@ -7,11 +7,11 @@ use cluster_core::Setup;
 use cluster_node::Outcome;
 use connection_table::{ConnTable, LruTable, PlainTable};
 use hash_laws::SumHash;
-use node_records::{Command, NodeRecord, join_runs};
 use node_rehearsal::rehearse;
 use selection::Maglev;
 use std::alloc::Global;
 use std::process::Abort;
+use thread_records::{Command, NodeRecord, join_runs};
 
 fn rehearsed<T: ConnTable>(
     rt: &impl Abort,

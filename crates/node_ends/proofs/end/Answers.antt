@@ -1,6 +1,6 @@
 use Rattle.std.proofs.Common.{refl}
-use Rattle.node_records.specs.Ends.{all_handled}
-use Rattle.node_duties.proofs.Counting.{counts_served}
+use Rattle.thread_records.specs.Ends.{all_handled}
+use Rattle.thread_roles.proofs.Counting.{counts_served}
 use Rattle.cluster_node.specs.Rules.{Rules}
 use Rattle.cluster_core.specs.Setups.{rules_for}
 use Rattle.node_ends.proofs.end.Goals as goal

@@ -1,8 +1,8 @@
-use Rattle.node_records.specs.Ends.{all_handled}
-use Rattle.node_duties.proofs.Counting.{counts_ended}
+use Rattle.thread_records.specs.Ends.{all_handled}
+use Rattle.thread_roles.proofs.Counting.{counts_ended}
 use Rattle.cluster_node.specs.Rules.{Rules}
 use Rattle.cluster_core.specs.Setups.{rules_for}
-use Rattle.node_duties.proofs.Goes.{goes_ended}
+use Rattle.thread_roles.proofs.Goes.{goes_ended}
 use Rattle.node_ends.proofs.end_life.Goals as goal
 
 pub returns-in-Ok-clause-going : goal.returns-in-Ok-clause-going

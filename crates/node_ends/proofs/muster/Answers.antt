@@ -2,11 +2,11 @@ use Rattle.std.proofs.Common.{◌≡◌, ◌+◌, ◌++◌, ◌∷◌, [], List,
 use Rattle.std.specs.Prelude.{All}
 use Rattle.std.proofs.lemmas.List.{map_push, append-nil}
 use Rattle.std.proofs.lemmas.List.Elements.{All-head, All-rest, All-same}
-use Rattle.node_records.specs.Works.{WorkView}
-use Rattle.node_records.specs.Ends.{all_handled}
+use Rattle.thread_records.specs.Works.{WorkView}
+use Rattle.thread_records.specs.Ends.{all_handled}
 use Rattle.cluster_node.specs.declared.outcomes.Outcome.{Outcome}
-use Rattle.node_duties.specs.Counts.{Counts, IsWork, served_from}
-use Rattle.node_duties.proofs.Counting.{counts_more}
+use Rattle.thread_roles.specs.Counts.{Counts, IsWork, served_from}
+use Rattle.thread_roles.proofs.Counting.{counts_more}
 use Rattle.node_ends.proofs.muster.Goals as goal
 
 pub loop-done-preserved : goal.loop-done-preserved

@@ -1,8 +1,8 @@
 use Rattle.std.proofs.Common.{◌≡◌, ◌+◌, ◌++◌, ℕ, List, length}
 use Rattle.std.specs.Prelude.{All}
 use Rattle.cluster_node.specs.declared.outcomes.Outcome.{Outcome}
-use Rattle.node_records.specs.Ends.{all_handled}
-use Rattle.node_duties.specs.Counts.{Counts, IsWork, served_from}
+use Rattle.thread_records.specs.Ends.{all_handled}
+use Rattle.thread_roles.specs.Counts.{Counts, IsWork, served_from}
 use Rattle.node_ends.proofs.muster.Given as goal
 
 abbrev pub invariant-loop-done : goal.invariant-loop-done

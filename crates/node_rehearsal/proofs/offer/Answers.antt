@@ -1,8 +1,8 @@
 use Rattle.std.proofs.Common.{refl, sym, ap}
 use Rattle.cluster_node.specs.Rules.{Rules}
 use Rattle.cluster_core.specs.Setups.{rules_for}
-use Rattle.node_records.specs.declared.command.Command.TheVariants.{Offer}
-use Rattle.node_records.proofs.Losses.{keeps_on}
+use Rattle.thread_records.specs.declared.command.Command.TheVariants.{Offer}
+use Rattle.thread_records.proofs.Losses.{keeps_on}
 use Rattle.node_rehearsal.proofs.Goes.{goes_more}
 use Rattle.node_rehearsal.proofs.offer.Goals as goal
 

@@ -1,10 +1,10 @@
 use Rattle.std.proofs.Common.{◌≤◌, ◌+◌, ℕ, List, [], length, take, sym, subst, ap, ◌∙◌, arith}
 use Rattle.cluster_node.specs.Rules.{Rules}
 use Rattle.cluster_core.specs.Setups.{rules_for}
-use Rattle.node_records.specs.declared.command.Command.TheVariants.{Publish, Offer}
-use Rattle.node_records.specs.Losses.{drained_lives, losses, KeepDrained}
-use Rattle.node_records.specs.Histories.{commands_of}
-use Rattle.node_records.specs.Journals.{JournalView}
+use Rattle.thread_records.specs.declared.command.Command.TheVariants.{Publish, Offer}
+use Rattle.thread_records.specs.Losses.{drained_lives, losses, KeepDrained}
+use Rattle.thread_records.specs.Histories.{commands_of}
+use Rattle.thread_records.specs.Journals.{JournalView}
 use Rattle.node_rehearsal.specs.PrivateGoing.{Going}
 use Rattle.node_rehearsal.proofs.Goes.{is_ending, obeyed_more, obeyed_all, same_run}
 use Rattle.node_rehearsal.proofs.rehearse.Goals as goal

@@ -1,4 +1,4 @@
-use Rattle.cluster_core.proofs.Told.{came_told, went_told, sends_told}
+use Rattle.cluster_core.proofs.Reversed.{came_told, went_told, sends_told}
 use Rattle.cluster_core.proofs.laws.histories_are_told.Goals as goal
 
 pub returns-clause-picked : goal.returns-clause-picked

@@ -3,10 +3,10 @@ use Rattle.std.proofs.lemmas.Result.{IfOk-weaker, IfErr-weaker}
 use Rattle.std.specs.Io.KnownBytes.{Appends}
 use Rattle.pcap_file.specs.Device.{Unfailed, PutRefused}
 use Rattle.scenario.specs.declared.playing.Played.TheVariants.{OnThreads}
-use Rattle.cluster_play.proofs.Known.{known_steps}
+use Rattle.run_scenario.proofs.Known.{known_steps}
 use Rattle.command_faults.specs.declared.fault.CliFault.TheVariants.{Write}
 use Rattle.scenario_commands.specs.Scenarios.{ScenarioFails}
-use Rattle.maglev_cli.specs.Runs.{Runs, RunStops, RunReportFails}
+use Rattle.maglev_cli.specs.Runs.{Runs, RunFails, RunReportFails}
 use Rattle.maglev_cli.proofs.running.run_keyed.Goals as goal
 
 pub returns-in-Ok-run_scenario-clause-ran : goal.returns-in-Ok-run_scenario-clause-ran
@@ -29,7 +29,7 @@ pub returns-in-Ok-run_scenario-clause-stopped : goal.returns-in-Ok-run_scenario-
 returns-in-Ok-run_scenario-clause-stopped g c =
     IfErr-weaker c.put_text.result (λ fault. (fault ≡ Write) × PutRefused c.as_str.result.now (g.R.Sink.tape c.args.report.now) (g.R.Sink.tape c.put_text.new.sink))
     (λ fault. (ScenarioFails OnThreads fault c.args.scenario.now × ((c.run_scenario.new.input ≡ c.args.input.now) × (c.run_scenario.new.output ≡ c.args.output.now) × (c.put_text.new.sink ≡ c.args.report.now)))
-    ⊎ ((RunStops fault c.args.scenario.now (g.I.Source.tape c.args.input.now) (g.I.Source.tape c.run_scenario.new.input) (g.O.Sink.tape c.args.output.now) (g.O.Sink.tape c.run_scenario.new.output) × (c.put_text.new.sink ≡ c.args.report.now))
+    ⊎ ((RunFails fault c.args.scenario.now (g.I.Source.tape c.args.input.now) (g.I.Source.tape c.run_scenario.new.input) (g.O.Sink.tape c.args.output.now) (g.O.Sink.tape c.run_scenario.new.output) × (c.put_text.new.sink ≡ c.args.report.now))
     ⊎ RunReportFails fault c.args.splits c.args.scenario.now (g.I.Source.tape c.args.input.now) (g.I.Source.tape c.run_scenario.new.input) (g.O.Sink.tape c.args.output.now) (g.O.Sink.tape c.run_scenario.new.output) (g.R.Sink.tape c.args.report.now) (g.R.Sink.tape c.put_text.new.sink)))
     (λ _ is. inr (inr (record {
       scenario = c.in-Ok.scenario;
@@ -49,7 +49,7 @@ returns-clause-stopped g c =
         means = c.in-Ok.ensures.means;
         known = known_steps c.args.scenario.now c.in-Ok.scenario c.in-Ok.ensures.means;
         why = c.in-Err-run_scenario.stop;
-        named = c.stop_fault.ensures;
+        named = c.failure_fault.ensures;
         stopped = c.in-Err-run_scenario.ensures.stopped;
       },
       refl,

@@ -4,14 +4,14 @@ use Rattle.stats_book.specs.Counts.{Counted}
 use Rattle.cluster_node.specs.Rules.{Rules}
 use Rattle.cluster_node.specs.declared.outcomes.Outcome.{Outcome}
 use Rattle.cluster_core.specs.Setups.{rules_for}
-use Rattle.node_records.specs.declared.nodes.NodeRecord.{NodeRecord}
-use Rattle.node_records.specs.Histories.{commands_of}
-use Rattle.node_records.specs.Journals.{JournalView}
-use Rattle.node_records.specs.Losses.{losses, KeepDrained}
-use Rattle.node_records.specs.Runs.{IsRunOf}
-use Rattle.node_duties.specs.Counts.{Counts, counted}
-use Rattle.node_duties.specs.Going.{LifeView, IsLived}
-use Rattle.node_duties.proofs.Goes.{same_run}
+use Rattle.thread_records.specs.declared.nodes.NodeRecord.{NodeRecord}
+use Rattle.thread_records.specs.Histories.{commands_of}
+use Rattle.thread_records.specs.Journals.{JournalView}
+use Rattle.thread_records.specs.Losses.{losses, KeepDrained}
+use Rattle.thread_records.specs.Runs.{IsRunOf}
+use Rattle.thread_roles.specs.Counts.{Counts, counted}
+use Rattle.thread_roles.specs.Going.{LifeView, IsLived}
+use Rattle.thread_roles.proofs.Goes.{same_run}
 use Rattle.node_threads.proofs.node.run_counted.Goals as goal
 
 pub loop-sent-init : goal.loop-sent-init

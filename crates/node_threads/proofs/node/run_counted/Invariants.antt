@@ -1,7 +1,7 @@
 use Rattle.std.proofs.Common.{◌≡◌, ◌≤◌, ◌-◌, length, take}
 use Rattle.cluster_core.specs.Setups.{rules_for}
-use Rattle.node_duties.specs.Counts.{AreRead, Counts}
-use Rattle.node_duties.specs.Going.{Going}
+use Rattle.thread_roles.specs.Counts.{AreRead, Counts}
+use Rattle.thread_roles.specs.Going.{Going}
 use Rattle.node_threads.proofs.node.run_counted.Given as goal
 
 abbrev pub invariant-loop-sent : goal.invariant-loop-sent

@@ -4,7 +4,7 @@ use Rattle.pcap_file.specs.declared.format.InputEnd.TheVariants as ends
 use Rattle.pcap_file.specs.declared.format.Ending.TheVariants.{Failed}
 use Rattle.pcap_file.specs.Device.{CallsAtMost}
 use Rattle.pcap_file.specs.Reading.{Gave}
-use Rattle.pcap_file.specs.Format.{packet, Packet}
+use Rattle.pcap_file.specs.Format.{packet, Record}
 use Rattle.pcap_file.specs.Text.{Passed, calls_for}
 use Rattle.pcap_file.proofs.Records.{calls-next}
 use Rattle.pcap_file.proofs.Texts.{passed-push, passed-stop, calls_for-push}
@@ -18,7 +18,7 @@ loop-frame-preserved g c =
     let before = map packet c.loop-frame.frames.items in
     let pushed : map packet c.push.new.self.items ≡ before ++ packet frame ∷ [] = rw items (map_push packet c.loop-frame.frames.items frame) in
     let len : length (map packet c.push.new.self.items) ≡ length before + 1 = ap length pushed ∙ length-append before (packet frame ∷ []) in
-    let Now : List Packet → Type 0 = λ ps. Passed c.args.head (g.S.Source.tape c.args.source.now).bytes ps (g.S.Source.tape c.read_record.new.source).bytes in
+    let Now : List Record → Type 0 = λ ps. Passed c.args.head (g.S.Source.tape c.args.source.now).bytes ps (g.S.Source.tape c.read_record.new.source).bytes in
     let Calls : ℕ → Type 0 = λ n. CallsAtMost n (g.S.Source.tape c.args.source.now) (g.S.Source.tape c.read_record.new.source) in
     record {
       few = omega (arith, c.in-Ok.ensures.room, len, old.given);

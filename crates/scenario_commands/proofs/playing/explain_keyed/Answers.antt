@@ -1,6 +1,6 @@
 use Rattle.std.proofs.Common.{ℕ, inl, inr, subst}
 use Rattle.scenario_commands.specs.Scenarios.{RunFails, ReportFails, unkept}
-use Rattle.scenario_play.specs.declared.asking.Asked.TheVariants.{Events}
+use Rattle.simulate_scenario.specs.declared.asking.Query.TheVariants.{Events}
 use Rattle.scenario_commands.proofs.Unkept.{never_written}
 use Rattle.scenario_commands.proofs.playing.explain_keyed.Goals as goal
 

@@ -1,7 +1,7 @@
 use Rattle.std.proofs.Common.{IfOk, IfErr, sym, subst, ◌∙◌}
 use Rattle.pcap_file.specs.declared.format.Head.{Head}
 use Rattle.simulation.specs.declared.fault.SimulationFault.TheVariants.{Memory}
-use Rattle.course.proofs.Choosing.{same_choice}
+use Rattle.event_trace.proofs.Choosing.{same_choice}
 use Rattle.simulation.specs.Plans.{planned}
 use Rattle.simulation.specs.PrivateGoing.{Shortened}
 use Rattle.simulation.specs.PrivateStages.{IsOver}
@@ -33,5 +33,5 @@ returns-clause-over g c =
     let same = same_choice (λ s. g.P.Spread.choice s) (sym c.in_ok-stage.ensures.spread) in
     let start = c.in_ok-stage.ensures.reached (g.C.Core.cluster c.args.run.now.setup.now) (g.P.Spread.choice c.args.spread) (g.I.Source.tape c.args.input.now) (g.O.Sink.tape c.args.output.now) c.requires.workers c.requires.cluster c.requires.orderly in
     let r = c.in_ok-steps.ensures.reached (g.P.Spread.choice c.args.spread) (g.I.Source.tape c.args.input.now) (g.O.Sink.tape c.args.output.now) same start in
-    subst (λ (h : Head). IfOk c.finish.result (λ p. IsOver (g.C.Core.cluster c.args.run.now.setup.now) (g.P.Spread.choice c.args.spread) (planned c.args.run.now.plan) h (g.I.Source.tape c.args.input.now) (g.I.Source.tape c.finish.new.input) (g.O.Sink.tape c.args.output.now) (g.O.Sink.tape c.steps.new.output) p.play.course p.packets p.ending)) (c.in_ok-steps.ensures.head ∙ c.in_ok-stage.ensures.head)
+    subst (λ (h : Head). IfOk c.finish.result (λ p. IsOver (g.C.Core.cluster c.args.run.now.setup.now) (g.P.Spread.choice c.args.spread) (planned c.args.run.now.plan) h (g.I.Source.tape c.args.input.now) (g.I.Source.tape c.finish.new.input) (g.O.Sink.tape c.args.output.now) (g.O.Sink.tape c.steps.new.output) p.play.trace p.packets p.ending)) (c.in_ok-steps.ensures.head ∙ c.in_ok-stage.ensures.head)
     (c.finish.ensures.over (g.C.Core.cluster c.args.run.now.setup.now) (g.P.Spread.choice c.args.spread) (planned c.args.run.now.plan) (g.I.Source.tape c.args.input.now) (g.O.Sink.tape c.args.output.now) _ r)

@@ -1,5 +1,5 @@
 use Rattle.cluster_core.specs.Deployed.{rules_of}
-use Rattle.cluster_core.proofs.Asked.{balanced_run}
+use Rattle.cluster_core.proofs.Between.{balanced_run}
 use Rattle.cluster_core.proofs.Ordered.{told_balance}
 use Rattle.cluster_core.proofs.balancers.Balancers.keep_balance.Goals as goal
 

@@ -1,5 +1,5 @@
 use Rattle.std.proofs.Common.{◌∙◌}
-use Rattle.cluster_core.proofs.Asked.{newest_is}
+use Rattle.cluster_core.proofs.Between.{newest_is}
 use Rattle.cluster_core.proofs.running.Run.newest.Goals as goal
 
 pub returns-clause-said : goal.returns-clause-said

@@ -1,5 +1,5 @@
 use Rattle.std.proofs.Common.{◌∙◌}
-use Rattle.cluster_core.proofs.Asked.{waiting_is}
+use Rattle.cluster_core.proofs.Between.{waiting_is}
 use Rattle.cluster_core.proofs.running.Run.waiting.Goals as goal
 
 pub returns-clause-said : goal.returns-clause-said

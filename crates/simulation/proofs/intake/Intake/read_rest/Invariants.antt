@@ -1,6 +1,6 @@
 use Rattle.std.proofs.Common.{◌≡◌, ◌-◌, ◌≤◌, List}
 use Rattle.pcap_file.specs.Device.{Tape}
-use Rattle.pcap_file.specs.Format.{Packet as Record, max_records}
+use Rattle.pcap_file.specs.Format.{Record, max_records}
 use Rattle.simulation.specs.Intake.{Seen}
 use Rattle.simulation.proofs.Intakes.{Onward}
 use Rattle.simulation.proofs.intake.Intake.read_rest.Given as goal

@@ -1,7 +1,7 @@
 use Rattle.std.proofs.Common.{◌≡◌, [], ◌∷◌, List, ◌∙◌, sym, subst}
 use Rattle.std.specs.Prelude.{OnOk, IfErr}
-use Rattle.cluster_node.specs.declared.events.Said.{Said}
-use Rattle.course.specs.Deliveries.{events_of}
+use Rattle.cluster_node.specs.declared.events.LogEntry.{LogEntry}
+use Rattle.event_trace.specs.Deliveries.{events_of}
 use Rattle.simulation.specs.PrivateMirrors.{Mirrors}
 use Rattle.simulation.specs.Sent.{Sending, sent, Wrote, WroteUntil}
 use Rattle.simulation.specs.Wires.{traffic}
@@ -20,7 +20,7 @@ returns-in-Some-clause-settled g c = λ all k past can first.
     let f = first_of all k past events (t ∷ []) s r qs is can first in
     let m = c.in_ok-take_in.ensures.taken all k past f.can f.comes in
     let b = behind_arrival c.args.wire.now all k past events s t r qs c.take_in.new.self.waiting is can first c.take_in.ensures.count m in
-    subst (λ (l : List Said). OnOk c.settle_one.result (Mirrors all k (onto past l) c.settle_one.new.self.waiting × Wrote (g.O.Sink.tape c.args.output.now) (g.O.Sink.tape c.settle_one.new.output) (sent (traffic c.args.wire.now all) events))) (sym is)
+    subst (λ (l : List LogEntry). OnOk c.settle_one.result (Mirrors all k (onto past l) c.settle_one.new.self.waiting × Wrote (g.O.Sink.tape c.args.output.now) (g.O.Sink.tape c.settle_one.new.output) (sent (traffic c.args.wire.now all) events))) (sym is)
     (subst (λ (l : List Sending). OnOk c.settle_one.result (Mirrors all k (t ∷ s ∷ past) c.settle_one.new.self.waiting × Wrote (g.O.Sink.tape c.args.output.now) (g.O.Sink.tape c.settle_one.new.output) l))
     b.sends (c.settle_one.ensures.settled all k (s ∷ past) b.can b.quiet))
 
@@ -46,6 +46,6 @@ returns-in-None-clause-settled g c = λ all k past can first.
     let events = events_of c.args.read.now c.args.delivery.now in
     let is : events ≡ s ∷ [] = told_one c.args.read.now c.args.delivery.now s c.requires c.arrival-arrival.ensures (sym c.serving.ensures ∙ c.in-None.is) in
     let f = first_of all k past events [] s r qs is can first in (
-      subst (λ (l : List Said). Mirrors all k (onto past l) c.take_in.new.self.waiting) (sym is) (c.in_ok-take_in.ensures.taken all k past f.can f.comes),
+      subst (λ (l : List LogEntry). Mirrors all k (onto past l) c.take_in.new.self.waiting) (sym is) (c.in_ok-take_in.ensures.taken all k past f.can f.comes),
       wrote_nothing _ _ (sym (first_sends c.args.wire.now all k past events [] s r qs is can first)),
     )

@@ -1,11 +1,11 @@
 use Rattle.std.proofs.Common.{◌≡◌, ◌+◌, ◌∷◌, ◌++◌, [], ℕ, Some, None, slice_get, refl, sym, subst, ap, ◌∙◌, arith, reverse, option_map}
 use Rattle.pcap_file.specs.Format.{packet}
-use Rattle.course.specs.Course.{Course}
-use Rattle.course.specs.Room.{Counted}
-use Rattle.course.specs.Steps.{world_of, deliver}
-use Rattle.course.specs.PrivateStreams.{again_of}
-use Rattle.course.proofs.Moves.{deliver_hands}
-use Rattle.course.proofs.Coming.{repeat_some, repeat_none}
+use Rattle.event_trace.specs.Trace.{Trace}
+use Rattle.event_trace.specs.Room.{Counted}
+use Rattle.event_trace.specs.Steps.{world_of, deliver}
+use Rattle.event_trace.specs.PrivateStreams.{again_of}
+use Rattle.event_trace.proofs.Moves.{deliver_hands}
+use Rattle.event_trace.proofs.Coming.{repeat_some, repeat_none}
 use Rattle.simulation.specs.Plans.{planned}
 use Rattle.simulation.specs.Intake.{Taking}
 use Rattle.simulation.specs.Sent.{packet_in, packets_of, sent, WroteUntil}
@@ -33,7 +33,7 @@ returns-in_err-frame-clause-short g c = λ choice text begun left ss same r.
 
 pub returns-in-None-clause-few : goal.returns-in-None-clause-few
 returns-in-None-clause-few g c = λ n h.
-    counted_skip c.args.self.now.intake.given n c.args.self.now.play.course c.skip.new.self.course c.skip.ensures.after h
+    counted_skip c.args.self.now.intake.given n c.args.self.now.play.trace c.skip.new.self.trace c.skip.ensures.after h
 
 pub returns-in-None-clause-reached : goal.returns-in-None-clause-reached
 returns-in-None-clause-reached g c = λ choice text begun left ss same r.
@@ -43,19 +43,19 @@ returns-in-None-clause-reached g c = λ choice text begun left ss same r.
     let new : Stage _ = record { play = c.skip.new.self; delivery = old.delivery; relay = old.relay; kept = c.take.new.self; intake = old.intake } in
     let skip = c.skip.ensures.after in
     let none : None ≡ slice_get r.seen c.args.place = sym (ap (λ o. option_map (λ f. packet f.value) o) c.in-None.is) ∙ c.in_ok-frame.ensures.record r.seen ss r.kept in
-    reached_same cluster choice plan text begun (again_of c.args.place ∷ ss) ss old new left _ _ r (refl, refl, refl) (ap (λ (x : Course). x.read) skip) (c.in_ok-frame.ensures.keeps r.seen ss r.kept)
+    reached_same cluster choice plan text begun (again_of c.args.place ∷ ss) ss old new left _ _ r (refl, refl, refl) (ap (λ (x : Trace). x.read) skip) (c.in_ok-frame.ensures.keeps r.seen ss r.kept)
     (λ more l. let w = world_of cluster choice (packets_of old.intake.head.link plan.check (r.seen ++ more)) in
-    repeated cluster choice plan old.intake.head.link (r.seen ++ more) c.args.place ss old.play.course new.play.course None
-    (packet_none old.intake.head.link plan.check r.seen more c.args.place old.play.course.read r.place none)
-    (skip ∙ sym (repeat_none w c.args.place old.play.course)) l)
-    (λ more s. sound_same cluster plan old.intake.head.link (r.seen ++ more) old.play.course new.play.course old.relay.waiting old.relay.waiting begun _ (ap (λ (x : Course). x.past) skip) refl s)
+    repeated cluster choice plan old.intake.head.link (r.seen ++ more) c.args.place ss old.play.trace new.play.trace None
+    (packet_none old.intake.head.link plan.check r.seen more c.args.place old.play.trace.read r.place none)
+    (skip ∙ sym (repeat_none w c.args.place old.play.trace)) l)
+    (λ more s. sound_same cluster plan old.intake.head.link (r.seen ++ more) old.play.trace new.play.trace old.relay.waiting old.relay.waiting begun _ (ap (λ (x : Trace). x.past) skip) refl s)
 
 pub returns-in-Some-clause-few : goal.returns-in-Some-clause-few
 returns-in-Some-clause-few g c = λ n h. where_done c.deliver.result _ (λ got.
     let w0 = world_of (g.C.Core.cluster c.args.run.now.setup.now) (g.P.Spread.choice c.args.self.now.play.spread) [] in
     let same : c.deliver.new.self.intake.given ≡ c.args.self.now.intake.given = c.deliver.ensures.intake.0 ∙ ap (λ (t : Taking). t.given) c.lend.ensures in
-    subst (λ (m : ℕ). Counted m (n + 1) c.deliver.new.self.play.course) (sym same)
-    (counted_again c.args.self.now.intake.given n w0 _ c.args.self.now.play.course c.deliver.new.self.play.course c.args.place (got _ c.deliver.ensures.play w0 refl (λ live flow nth. refl)) h))
+    subst (λ (m : ℕ). Counted m (n + 1) c.deliver.new.self.play.trace) (sym same)
+    (counted_again c.args.self.now.intake.given n w0 _ c.args.self.now.play.trace c.deliver.new.self.play.trace c.args.place (got _ c.deliver.ensures.play w0 refl (λ live flow nth. refl)) h))
 
 pub returns-in-Some-clause-reached : goal.returns-in-Some-clause-reached
 returns-in-Some-clause-reached g c = λ choice text begun left ss same r. where_done c.deliver.result _ (λ done.
@@ -71,18 +71,18 @@ returns-in-Some-clause-reached g c = λ choice text begun left ss same r. where_
     let after = done _ c.deliver.ensures.play in
     reached_same cluster choice plan text begun (again_of c.args.place ∷ ss) ss old new left _ _ r
     (c.deliver.ensures.intake.0 ∙ ap (λ (t : Taking). t.given) rest, c.deliver.ensures.intake.1 ∙ ap (λ (t : Taking). t.ended) rest, c.deliver.ensures.intake.2 ∙ ap (λ (t : Taking). t.head) rest)
-    (ap (λ (y : Course). y.read) (after w0 refl same) ∙ (deliver_hands w0 c.args.place _ old.play.course).read)
+    (ap (λ (y : Trace). y.read) (after w0 refl same) ∙ (deliver_hands w0 c.args.place _ old.play.trace).read)
     (subst (KeepsNamed r.seen ss) (sym c.deliver.ensures.kept) (c.in_ok-frame.ensures.keeps r.seen ss r.kept))
     (λ more l. let all = r.seen ++ more in
     let w = world_of cluster choice (packets_of link plan.check all) in
     let there = is_there r.seen more c.args.place x got in
-    repeated cluster choice plan link all c.args.place ss old.play.course new.play.course (Some (packet_in link plan.check x))
-    (packet_there link plan.check all c.args.place old.play.course.read (Some x) (omega (arith, there.0, r.place)) there.1)
-    (after w refl same ∙ ap (λ (t : Taking). deliver w c.args.place (packet_in t.head.link plan.check t.record_read) old.play.course) rest ∙ sym (repeat_some w c.args.place (packet_in link plan.check x) old.play.course)) l)
+    repeated cluster choice plan link all c.args.place ss old.play.trace new.play.trace (Some (packet_in link plan.check x))
+    (packet_there link plan.check all c.args.place old.play.trace.read (Some x) (omega (arith, there.0, r.place)) there.1)
+    (after w refl same ∙ ap (λ (t : Taking). deliver w c.args.place (packet_in t.head.link plan.check t.record_read) old.play.trace) rest ∙ sym (repeat_some w c.args.place (packet_in link plan.check x) old.play.trace)) l)
     (λ more s. let all = r.seen ++ more in
-    subst (λ (t : Taking). Sound cluster plan t.head.link all new.play.course new.relay.waiting begun (g.O.Sink.tape c.deliver.new.output)) rest
+    subst (λ (t : Taking). Sound cluster plan t.head.link all new.play.trace new.relay.waiting begun (g.O.Sink.tape c.deliver.new.output)) rest
     (done _ (c.deliver.ensures.sound all begun
-    (subst (λ (t : Taking). Sound cluster plan t.head.link all old.play.course old.relay.waiting begun (g.O.Sink.tape c.args.output.now)) (sym rest) s)
+    (subst (λ (t : Taking). Sound cluster plan t.head.link all old.play.trace old.relay.waiting begun (g.O.Sink.tape c.args.output.now)) (sym rest) s)
     ((is_there r.seen more c.args.place x got).1 ∙ ap (λ (t : Taking). Some t.record_read) (sym rest))))))
 
 pub returns-in-Some-clause-short : goal.returns-in-Some-clause-short
@@ -96,12 +96,12 @@ returns-in-Some-clause-short g c = λ choice text begun left ss same r. where_fa
     let lt = (is_there r.seen [] c.args.place x got).0 in
     let rest = c.lend.ensures in
     let w = world_of cluster choice (packets_of link plan.check r.seen) in
-    let d : Course = deliver w c.args.place (packet_in link plan.check x) old.play.course in
+    let d : Trace = deliver w c.args.place (packet_in link plan.check x) old.play.trace in
     short_same cluster choice plan text begun (again_of c.args.place ∷ ss) ss old left _ _ d fault r (failed _ c.deliver.ensures.named)
-    (λ l. repeated cluster choice plan link r.seen c.args.place ss old.play.course d (Some (packet_in link plan.check x))
-    (packet_there link plan.check r.seen c.args.place old.play.course.read (Some x) (omega (arith, lt, r.place)) (sym got))
-    (sym (repeat_some w c.args.place (packet_in link plan.check x) old.play.course)) l)
-    (λ s. subst (λ (t : Taking). WroteUntil fault begun (g.O.Sink.tape c.deliver.new.output) (sent (traffic_of plan t.head.link r.seen) (reverse (deliver w c.args.place (packet_in t.head.link plan.check t.record_read) old.play.course).past))) rest
+    (λ l. repeated cluster choice plan link r.seen c.args.place ss old.play.trace d (Some (packet_in link plan.check x))
+    (packet_there link plan.check r.seen c.args.place old.play.trace.read (Some x) (omega (arith, lt, r.place)) (sym got))
+    (sym (repeat_some w c.args.place (packet_in link plan.check x) old.play.trace)) l)
+    (λ s. subst (λ (t : Taking). WroteUntil fault begun (g.O.Sink.tape c.deliver.new.output) (sent (traffic_of plan t.head.link r.seen) (reverse (deliver w c.args.place (packet_in t.head.link plan.check t.record_read) old.play.trace).past))) rest
     (failed _ (c.deliver.ensures.cut w r.seen begun refl same
-    (subst (λ (t : Taking). Sound cluster plan t.head.link r.seen old.play.course old.relay.waiting begun (g.O.Sink.tape c.args.output.now)) (sym rest) s)
+    (subst (λ (t : Taking). Sound cluster plan t.head.link r.seen old.play.trace old.relay.waiting begun (g.O.Sink.tape c.args.output.now)) (sym rest) s)
     (sym got ∙ ap (λ (t : Taking). Some t.record_read) (sym rest))))))

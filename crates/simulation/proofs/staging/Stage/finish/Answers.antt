@@ -7,7 +7,7 @@ use Rattle.simulation.proofs.staging.Stage.finish.Goals as goal
 
 pub returns-clause-over : goal.returns-clause-over
 returns-clause-over g c = λ cluster choice plan text begun out r.
-    subst (λ (n : ℕ). IsOver cluster choice plan c.args.self.intake.head text (g.I.Source.tape c.read_rest.new.input) begun out c.args.self.play.course n c.in_ok-ending.ending) (sym c.given.ensures.value)
+    subst (λ (n : ℕ). IsOver cluster choice plan c.args.self.intake.head text (g.I.Source.tape c.read_rest.new.input) begun out c.args.self.play.trace n c.in_ok-ending.ending) (sym c.given.ensures.value)
     (over_of cluster choice plan text begun c.args.self _ _ out c.in_ok-ending.ending _ r (c.in_ok-ending.ensures.told text r.seen r.read))
 
 pub returns-in_err-ending-clause-short : goal.returns-in_err-ending-clause-short

@@ -1,5 +1,5 @@
 use Rattle.std.proofs.Common.{Bool, ◌+◌, ◌-◌, ◌∷◌, ℕ, subst, ◌∙◌, arith}
-use Rattle.course.specs.PrivateStreams.{lose_of}
+use Rattle.event_trace.specs.PrivateStreams.{lose_of}
 use Rattle.pcap_file.specs.declared.format.Head.{Head}
 use Rattle.simulation.specs.PrivateGoing.{Shortened}
 use Rattle.simulation.specs.PrivateStages.{Reached, still_to_lose}
@@ -34,7 +34,7 @@ loop-preserved g c = record {
 pub returns-clause-reached : goal.returns-clause-reached
 returns-clause-reached g c = λ cluster choice plan text begun out ss r.
     reached_turn cluster choice plan text begun (lose_of (c.args.count - c.loop.counter)) ss c.loop.self _ _ (c.loop.invariant.reached cluster choice plan text begun out ss r)
-    (λ k seen h. h) (no_more_lost cluster choice plan (c.args.count - c.loop.counter) ss c.loop.self.play.course (omega arith))
+    (λ k seen h. h) (no_more_lost cluster choice plan (c.args.count - c.loop.counter) ss c.loop.self.play.trace (omega arith))
 
 pub returns-in_err-more-clause-short : goal.returns-in_err-more-clause-short
 returns-in_err-more-clause-short g c = λ cluster choice plan text begun out ss r.

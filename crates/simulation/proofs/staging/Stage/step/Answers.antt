@@ -1,6 +1,6 @@
 use Rattle.std.proofs.Common.{◌∷◌, sym, subst}
-use Rattle.scenario_steps.specs.declared.Step.{Step}
-use Rattle.course.proofs.Choosing.{same_choice}
+use Rattle.event_trace.specs.declared.steps.ScenarioStep.{ScenarioStep}
+use Rattle.event_trace.proofs.Choosing.{same_choice}
 use Rattle.simulation.specs.Plans.{planned}
 use Rattle.simulation.specs.PrivateStages.{Reached}
 use Rattle.simulation.proofs.staging.Stage.step.Goals as goal
@@ -8,17 +8,17 @@ use Rattle.simulation.proofs.staging.Stage.step.Goals as goal
 pub returns-in-Take-clause-short : goal.returns-in-Take-clause-short
 returns-in-Take-clause-short g c = λ choice text begun ss same r.
     c.take.ensures.short choice text begun ss same
-    (subst (λ (s : Step). Reached (g.C.Core.cluster c.args.run.now.setup.now) choice (planned c.args.run.now.plan) text begun (s ∷ ss) c.args.self.now (g.I.Source.tape c.args.input.now) (g.O.Sink.tape c.args.output.now)) c.in-Take.is r)
+    (subst (λ (s : ScenarioStep). Reached (g.C.Core.cluster c.args.run.now.setup.now) choice (planned c.args.run.now.plan) text begun (s ∷ ss) c.args.self.now (g.I.Source.tape c.args.input.now) (g.O.Sink.tape c.args.output.now)) c.in-Take.is r)
 
 pub returns-in-Lose-clause-short : goal.returns-in-Lose-clause-short
 returns-in-Lose-clause-short g c = λ choice text begun ss same r.
     c.lose.ensures.short (g.C.Core.cluster c.args.run.now.setup.now) choice (planned c.args.run.now.plan) text begun (g.O.Sink.tape c.args.output.now) ss
-    (subst (λ (s : Step). Reached (g.C.Core.cluster c.args.run.now.setup.now) choice (planned c.args.run.now.plan) text begun (s ∷ ss) c.args.self.now (g.I.Source.tape c.args.input.now) (g.O.Sink.tape c.args.output.now)) c.in-Lose.is r)
+    (subst (λ (s : ScenarioStep). Reached (g.C.Core.cluster c.args.run.now.setup.now) choice (planned c.args.run.now.plan) text begun (s ∷ ss) c.args.self.now (g.I.Source.tape c.args.input.now) (g.O.Sink.tape c.args.output.now)) c.in-Lose.is r)
 
 pub returns-in-Again-clause-short : goal.returns-in-Again-clause-short
 returns-in-Again-clause-short g c = λ choice text begun ss same r.
     c.again.ensures.short choice text begun _ ss same
-    (subst (λ (s : Step). Reached (g.C.Core.cluster c.args.run.now.setup.now) choice (planned c.args.run.now.plan) text begun (s ∷ ss) c.args.self.now (g.I.Source.tape c.args.input.now) (g.O.Sink.tape c.args.output.now)) c.in-Again.is r)
+    (subst (λ (s : ScenarioStep). Reached (g.C.Core.cluster c.args.run.now.setup.now) choice (planned c.args.run.now.plan) text begun (s ∷ ss) c.args.self.now (g.I.Source.tape c.args.input.now) (g.O.Sink.tape c.args.output.now)) c.in-Again.is r)
 
 pub returns-in-Take-clause-choice : goal.returns-in-Take-clause-choice
 returns-in-Take-clause-choice g c = same_choice (λ s. g.P.Spread.choice s) (sym c.take.ensures.spread)
@@ -31,10 +31,10 @@ returns-in-Again-clause-choice g c = same_choice (λ s. g.P.Spread.choice s) (sy
 
 pub returns-in_default : goal.returns-in_default
 returns-in_default g c = record {
-  stands = c.aside.ensures.stands;
-  choice = c.aside.ensures.choice;
-  few = c.aside.ensures.few;
-  head = c.aside.ensures.head;
-  reached = λ choice text begun ss same r. c.aside.ensures.reached choice text begun _ ss r;
-  short = λ choice text begun ss same r. c.aside.ensures.short choice text begun _ ss r;
+  stands = c.step_without_record.ensures.stands;
+  choice = c.step_without_record.ensures.choice;
+  few = c.step_without_record.ensures.few;
+  head = c.step_without_record.ensures.head;
+  reached = λ choice text begun ss same r. c.step_without_record.ensures.reached choice text begun _ ss r;
+  short = λ choice text begun ss same r. c.step_without_record.ensures.short choice text begun _ ss r;
 }

@@ -1,7 +1,7 @@
 use Rattle.std.proofs.Common.{◌≡◌, drop}
 use Rattle.spreader.specs.Choices.{Choice}
-use Rattle.course.specs.Steps.{SameChoice}
-use Rattle.course.specs.Room.{Counted}
+use Rattle.event_trace.specs.Steps.{SameChoice}
+use Rattle.event_trace.specs.Room.{Counted}
 use Rattle.simulation.specs.Plans.{planned}
 use Rattle.pcap_file.specs.Device.{Tape}
 use Rattle.simulation.specs.PrivateStages.{Reached}
@@ -9,9 +9,9 @@ use Rattle.simulation.proofs.staging.Stage.steps.Given as goal
 
 abbrev pub invariant-loop-step : goal.invariant-loop-step
 invariant-loop-step g l = record {
-  stands : g.C.Core.stands l.run.setup.now l.self.play.course.past l.core;
+  stands : g.C.Core.stands l.run.setup.now l.self.play.trace.past l.core;
   same : SameChoice (g.P.Spread.choice l.initial.self.play.spread) (g.P.Spread.choice l.self.play.spread);
-  counted : Counted l.self.intake.given l.step-index l.self.play.course;
+  counted : Counted l.self.intake.given l.step-index l.self.play.trace;
   head : l.self.intake.head ≡ l.initial.self.intake.head;
   reached : (choice : Choice) (text begun : Tape) → SameChoice choice (g.P.Spread.choice l.initial.self.play.spread) →
       Reached (g.C.Core.cluster l.run.setup.now) choice (planned l.run.plan) text begun l.run.plan.steps.now l.initial.self (g.I.Source.tape l.initial.input) (g.O.Sink.tape l.initial.output) →

@@ -1,7 +1,7 @@
 use Rattle.std.proofs.Common.{Bool, ◌+◌, ◌-◌, ◌∷◌, ℕ, subst, ◌∙◌, arith}
 use Rattle.pcap_file.specs.declared.format.Head.{Head}
-use Rattle.course.specs.PrivateStreams.{take_of}
-use Rattle.course.proofs.Choosing.{chosen_still}
+use Rattle.event_trace.specs.PrivateStreams.{take_of}
+use Rattle.event_trace.proofs.Choosing.{chosen_still}
 use Rattle.simulation.specs.Plans.{planned}
 use Rattle.simulation.specs.PrivateGoing.{Shortened}
 use Rattle.simulation.specs.PrivateStages.{Reached, still_to_take}
@@ -47,4 +47,4 @@ pub returns-clause-reached : goal.returns-clause-reached
 returns-clause-reached g c = λ choice text begun ss same r.
     let cluster = g.C.Core.cluster c.args.run.now.setup.now in
     reached_turn cluster choice (planned c.args.run.now.plan) text begun (take_of (c.args.count - c.loop.counter)) ss c.loop.self _ _ (c.loop.invariant.reached choice text begun ss same r)
-    (λ k seen h. h) (no_more_taken cluster choice (planned c.args.run.now.plan) (c.args.count - c.loop.counter) ss c.loop.self.play.course (omega arith))
+    (λ k seen h. h) (no_more_taken cluster choice (planned c.args.run.now.plan) (c.args.count - c.loop.counter) ss c.loop.self.play.trace (omega arith))

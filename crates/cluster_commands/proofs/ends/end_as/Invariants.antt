@@ -1,6 +1,0 @@
-use Rattle.std.proofs.Common.{map}
-use Rattle.cluster_commands.specs.PrivateTelling.{EndBelow}
-use Rattle.cluster_commands.proofs.ends.end_as.Given as goal
-
-abbrev pub invariant-loop-node : goal.invariant-loop-node
-invariant-loop-node l = EndBelow l.steps l.node (map (λ c. c.items) l.fn.commands.items) (map (λ c. c.items) l.commands.items)

@@ -1,5 +1,0 @@
-use Rattle.cluster_commands.proofs.Lives.{ends_are_told}
-use Rattle.cluster_commands.proofs.laws.ends_are_told.Goals as goal
-
-pub returns : goal.returns
-returns c = λ choice packets ss nodes n. ends_are_told choice packets ss nodes n

@@ -1,5 +1,0 @@
-pub mod Sends
-pub mod Inputs
-pub mod Runs
-pub mod Kept
-pub mod PrivateStops

@@ -1,0 +1,10 @@
+//! Tests of the cluster's core: lists of events and what each comes to, with both connection tables and every scheme, how a
+//! frame is read, what a setup refuses, and scenarios that `event_trace` plays on its balancers.
+#![tactic(auto)]
+
+#[cfg(test)]
+mod balancers;
+#[cfg(test)]
+mod checks;
+#[cfg(test)]
+mod tests;

@@ -1,9 +1,0 @@
-//! What is true of every course.
-ghost use Rattle.course.specs.Sums.{CoursesAddUp};
-
-/// Each outcome of a course is the judge's, and its counts add up. A record was lost, handed to the spreader or is left. A
-/// repeat was handed to it or skipped. What was handed to it found no live node or arrived. Each arrival is of a record that
-/// was read, with that record's packet. The clause is the law; the body does nothing.
-pub fn courses_add_up()
-    ensures { CoursesAddUp }
-{}

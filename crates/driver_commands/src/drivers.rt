@@ -1,0 +1,115 @@
+//! The commands of each node's driver.
+ghost use Rattle.std.specs.Prelude.{◌≡◌, ◌<◌, ◌^◌, [], length, map, replicate, IfOk, OnOk, All};
+ghost use Rattle.cluster_core.specs.Cluster.{Cluster, WereRead};
+ghost use Rattle.event_trace.specs.Steps.{below};
+ghost use Rattle.event_trace.specs.Tally.{tally_of};
+ghost use Rattle.thread_records.specs.Losses.{as_written, drained_lives};
+ghost use Rattle.driver_commands.specs.Orders.{events_of, trace_on, orders_in, plan_of, ends_on, orders_of, IsThere};
+ghost use Rattle.driver_commands.specs.PrivateTelling.{Follows, pushed};
+
+use crate::ends::end_as;
+use crate::notes::IdleCore;
+use crate::told::Orders;
+use cluster_node::{Event, LogEntry, Packet};
+use event_trace::{Play, ScenarioStep};
+use spreader::Spread;
+use std::alloc::{AllocError, Global};
+use thread_records::Command;
+
+// A list for each node.
+fn empty_lists(alloc: Global, nodes: u16) -> Result<Vec<Vec<Command>>, AllocError>
+    ensures { IfOk result (λ v. map (λ c. c.items) v.items ≡ replicate nodes []) }
+{
+    let mut lists = Vec::new(alloc);
+    for _ in 0..nodes {
+        lists.push(Vec::new(alloc))?;
+    }
+    Ok(lists)
+}
+
+// Gives a node's driver one more command, where the node is there.
+fn push(commands: &mut Vec<Vec<Command>>, node: u16, command: Command) -> Result<(), AllocError>
+    ensures { OnOk result (map (λ c. c.items) commands.new.items ≡ pushed node command (map (λ c. c.items) commands.old.items)) }
+{
+    let at = node as usize;
+    if at < commands.len() {
+        let own = &mut commands[at];
+        own.push(command)?;
+    }
+    Ok(())
+}
+
+// What follows from an event.
+fn tell(commands: &mut Vec<Vec<Command>>, event: &Event) -> Result<(), AllocError>
+    ensures { OnOk result (Follows event.now (map (λ c. c.items) commands.old.items) (map (λ c. c.items) commands.new.items)) }
+{
+    match event {
+        Event::Install { node, version } => push(commands, *node, Command::Publish(*version)),
+        Event::Arrive {
+            node,
+            packet,
+            refused: _,
+        } => push(commands, *node, Command::Offer(*packet)),
+        Event::Serve {
+            node: _,
+            worker: _,
+            version: _,
+            refused: _,
+        } => Ok(()),
+        Event::Restart { node } => push(commands, *node, Command::Restart),
+    }
+}
+
+// What each node's driver has to do, event by event.
+fn commands_by(
+    alloc: Global,
+    nodes: u16,
+    history: &[LogEntry],
+) -> Result<Vec<Vec<Command>>, AllocError>
+    ensures { IfOk result (λ v. map (λ c. c.items) v.items ≡ orders_in nodes (map (λ s. s.event) history.now)) }
+{
+    let mut commands = empty_lists(alloc, nodes)?;
+    for said in history {
+        tell(&mut commands, &said.event)?;
+    }
+    Ok(commands)
+}
+
+/// What the steps tell the drivers of so many nodes, and what becomes of the capture's records.
+///
+/// The spreader is asked once for each packet that is delivered, in the order of the steps. `full`, `hold` and `drain` tell
+/// nobody anything; [`first_unsupported_step`](crate::first_unsupported_step) finds them. Neither does what names a node
+/// that isn't there.
+/// These are the commands and the counts of the steps' trace on any cluster (`anywhere`). Only the servings, and the marks
+/// of workers that refuse, are left out of it. In a trace a stop is a restart; the commands have it as a stop (`ends`).
+pub fn orders<P: Spread>(
+    alloc: Global,
+    nodes: u16,
+    spread: P,
+    packets: &[Packet],
+    steps: &[ScenarioStep],
+) -> Result<Orders, AllocError>
+    requires read { WereRead packets.now }
+    requires live { P.live spread ≡ below nodes }
+    requires places { length packets.now < 2 ^ 32 }
+    requires steps { length steps.now < 2 ^ 32 }
+    ensures commands { IfOk result (λ o. map (λ c. c.items) o.commands.items ≡ orders_of (P.choice spread) packets.now steps.now nodes) }
+    ensures tally { IfOk result (λ o. o.tally ≡ tally_of (length packets.now) (plan_of (P.choice spread) packets.now steps.now nodes)) }
+    ensures anywhere { IfOk result (λ o. (cluster : Cluster) →
+        (map (λ c. map as_written c.items) o.commands.items ≡ orders_in nodes (events_of (trace_on cluster (P.choice spread) packets.now steps.now nodes)))
+        × (o.tally ≡ tally_of (length packets.now) (trace_on cluster (P.choice spread) packets.now steps.now nodes))) }
+    // each life that the steps end is ended, in their order, and drained unless they stop it
+    ensures ends { IfOk result (λ o. map (λ c. drained_lives c.items) o.commands.items ≡ map (λ n. ends_on n steps.now) (below nodes)) }
+    // each packet that is offered is one of a record that was read
+    ensures there { IfOk result (λ o. All (λ c. All (IsThere (plan_of (P.choice spread) packets.now steps.now nodes).read) c.items) o.commands.items) }
+{
+    let mut play = Play::start(alloc, spread, nodes)?;
+    let mut events = Vec::new(alloc);
+    play.run(alloc, &mut IdleCore, &(), packets, steps, &mut events)?;
+    let mut commands = commands_by(alloc, nodes, events.as_slice())?;
+    end_as(alloc, nodes, steps, &mut commands)?;
+    Ok(Orders {
+        commands,
+        tally: play.tally(packets.len() as u32),
+    })
+}

@@ -1,0 +1,12 @@
+pub mod Repeats
+pub mod Moves
+pub mod Bounds
+pub mod Coming
+pub mod Readings
+pub mod Judging
+pub mod Quiet
+pub mod Adding
+pub mod Behind
+pub mod Passing
+pub mod Counted
+pub mod Choosing

@@ -1,6 +1,0 @@
-pub mod Lasts
-pub mod Members
-pub mod Pairs
-pub mod Explained
-pub mod Walks
-pub mod Agreed

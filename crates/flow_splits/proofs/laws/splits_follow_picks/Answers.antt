@@ -1,8 +1,0 @@
-use Rattle.flow_splits.proofs.Agreed.{follow_picks, follow_tables}
-use Rattle.flow_splits.proofs.laws.splits_follow_picks.Goals as goal
-
-pub returns-clause-picks : goal.returns-clause-picks
-returns-clause-picks c = follow_picks
-
-pub returns-clause-tables : goal.returns-clause-tables
-returns-clause-tables c = follow_tables

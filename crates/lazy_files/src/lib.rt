@@ -1,0 +1,430 @@
+//! Files and standard streams that are opened at the first call, and remember what the system refused them.
+#![tactic(auto)]
+
+ghost use Rattle.std.specs.Io.{ReadsAtMost, WritesAtMost};
+
+use std::alloc::Global;
+use std::fs::{File, metadata};
+use std::io;
+use std::io::{BufReader, BufWriter, ErrorKind, Printer, Read, Stdin, Write};
+use std::os::fd::AsRawFd;
+use std::os::unix::fs::MetadataExt;
+
+/// The bytes that a file's buffer holds.
+const BUFFER: usize = 65_536;
+
+/// The descriptor of standard error, the last of the standard streams.
+const LAST_STANDARD: i32 = 2;
+
+/// The word that means standard input or standard output in the place of a path.
+const STANDARD: &str = "-";
+
+/// Whether a path means a standard stream.
+pub fn is_standard(path: &str) -> bool {
+    path == STANDARD
+}
+
+/// Gives each standard stream that is closed a file that has nothing to read and can't be written. So no file that is opened
+/// later takes its place. The files take the places of the streams as long as they are kept.
+pub fn stand_for_closed(rt: &HostRuntime) -> [Option<File>; 3] {
+    let first = stand_in(rt);
+    // Descriptors are given from the least one on, so that after one above the streams' no stream is closed.
+    let second = first.as_ref().and_then(|_| stand_in(rt));
+    let third = second.as_ref().and_then(|_| stand_in(rt));
+    [first, second, third]
+}
+
+// A file of the least descriptor that is free, where that is a standard stream's.
+fn stand_in(rt: &HostRuntime) -> Option<File> {
+    match File::open(rt, "/dev/null") {
+        Ok(file) if file.as_raw_fd() <= LAST_STANDARD => Some(file),
+        _ => None,
+    }
+}
+
+/// Why a file isn't open.
+#[derive(Clone, Copy, Debug, PartialEq, Eq)]
+pub enum FileFault {
+    /// There was no memory for its buffer.
+    Memory,
+    /// The system refused it, or what is written would have come to a file that is read.
+    Refused,
+}
+
+/// What the system answered where it refused a file.
+#[derive(Clone, Copy)]
+pub struct Refusal {
+    kind: ErrorKind,
+    code: Option<i32>,
+}
+
+impl Refusal {
+    /// That of an error.
+    pub fn of(error: &io::Error) -> Refusal {
+        Refusal {
+            kind: error.kind(),
+            code: error.raw_os_error(),
+        }
+    }
+
+    // The fault of a file that can't be opened.
+    fn fault(self) -> FileFault {
+        match self.kind {
+            ErrorKind::OutOfMemory => FileFault::Memory,
+            _ => FileFault::Refused,
+        }
+    }
+
+    /// Whether it isn't the system's: what is written would have come to a file that is read.
+    pub fn is_of_one_file(self) -> bool {
+        self.code.is_none() && self.kind == ErrorKind::InvalidInput
+    }
+
+    /// The error, which prints the system's words.
+    pub fn error(self) -> io::Error {
+        match self.code {
+            Some(code) => io::Error::from_raw_os_error(code),
+            None => io::Error::from(self.kind),
+        }
+    }
+}
+
+/// The bytes of a capture's file header, as far as they were read.
+#[derive(Clone, Copy)]
+pub struct FirstBytes {
+    bytes: [u8; 24],
+    length: usize,
+}
+
+impl FirstBytes {
+    /// No byte yet.
+    pub fn empty() -> FirstBytes {
+        FirstBytes {
+            bytes: [0; 24],
+            length: 0,
+        }
+    }
+
+    // Takes what is missing from the front of some bytes.
+    fn note(&mut self, bytes: &[u8]) {
+        let missing = self.bytes.len().saturating_sub(self.length);
+        for byte in bytes.iter().take(missing) {
+            if let Some(place) = self.bytes.get_mut(self.length) {
+                *place = *byte;
+                self.length = self.length.saturating_add(1);
+            }
+        }
+    }
+
+    /// The bytes.
+    pub fn bytes(&self) -> &[u8] {
+        self.bytes.get(..self.length).unwrap_or(&[])
+    }
+}
+
+// The device and the number of what a path names there.
+fn identity(rt: &HostRuntime, path: &str) -> Option<(u64, u64)> {
+    match metadata(rt, path) {
+        Ok(found) => Some((found.dev(), found.ino())),
+        Err(_) => None,
+    }
+}
+
+// Whether a path names a regular file, of which writing changes what is read.
+fn is_regular(rt: &HostRuntime, path: &str) -> bool {
+    match metadata(rt, path) {
+        Ok(found) => found.is_file(),
+        Err(_) => false,
+    }
+}
+
+// The path of what is read, where a standard stream has one too.
+fn path_read(path: &str) -> &str {
+    if is_standard(path) {
+        "/dev/stdin"
+    } else {
+        path
+    }
+}
+
+// The path of what is written, where a standard stream has one too.
+fn path_written(path: &str) -> &str {
+    if is_standard(path) {
+        "/dev/stdout"
+    } else {
+        path
+    }
+}
+
+// Whether two paths name one file.
+fn are_one(rt: &HostRuntime, one: &str, other: &str) -> bool {
+    match (identity(rt, one), identity(rt, other)) {
+        (Some(one), Some(other)) => one == other,
+        _ => false,
+    }
+}
+
+/// Whether what is written to a path comes out of standard output, so that nothing else may be written there.
+pub fn is_standard_output(rt: &HostRuntime, path: &str) -> bool {
+    is_standard(path) || (are_one(rt, path, "/dev/stdout") && !are_one(rt, path, "/dev/null"))
+}
+
+// What an input is read from.
+#[derive(Drop)]
+enum Reader {
+    File(BufReader<File>),
+    Standard(BufReader<Stdin>),
+}
+
+/// An input that is opened at the first read.
+#[derive(Drop)]
+pub struct InputFile<'a> {
+    rt: &'a HostRuntime,
+    path: &'a str,
+    reader: Option<Reader>,
+    head: FirstBytes,
+    refusal: Option<Refusal>,
+}
+
+impl<'a> InputFile<'a> {
+    /// The file of this path, not opened yet.
+    pub fn new(rt: &'a HostRuntime, path: &'a str) -> InputFile<'a> {
+        InputFile {
+            rt,
+            path,
+            reader: None,
+            head: FirstBytes::empty(),
+            refusal: None,
+        }
+    }
+
+    fn open(&self) -> io::Result<Reader> {
+        let alloc: Global = self.rt.alloc();
+        if is_standard(self.path) {
+            let reader = BufReader::with_capacity(alloc, BUFFER, self.rt.stdin())?;
+            return Ok(Reader::Standard(reader));
+        }
+        let file = File::open(self.rt, self.path)?;
+        Ok(Reader::File(BufReader::with_capacity(alloc, BUFFER, file)?))
+    }
+
+    fn opened(&mut self) -> io::Result<()> {
+        match self.open() {
+            Ok(reader) => {
+                self.reader = Some(reader);
+                self.refusal = None;
+                Ok(())
+            }
+            Err(error) => {
+                self.refusal = Some(Refusal::of(&error));
+                Err(error)
+            }
+        }
+    }
+
+    /// What opening the file was refused with, if it was.
+    pub fn fault(&self) -> Option<FileFault> {
+        match (&self.reader, self.refusal) {
+            (None, Some(refusal)) => Some(refusal.fault()),
+            _ => None,
+        }
+    }
+
+    /// What the system answered at the last refusal.
+    pub fn refusal(&self) -> Option<Refusal> {
+        self.refusal
+    }
+
+    /// The first bytes that were read.
+    pub fn head(&self) -> FirstBytes {
+        self.head
+    }
+
+    #[inline(always)]
+    fn read_on(&mut self, buf: &mut [u8]) -> io::Result<usize>
+        ensures { ReadsAtMost result buf.new }
+    {
+        match &mut self.reader {
+            Some(Reader::File(reader)) => reader.read(buf),
+            Some(Reader::Standard(reader)) => reader.read(buf),
+            None => Ok(0),
+        }
+    }
+}
+
+impl Read for InputFile<'_> {
+    #[inline(always)]
+    fn read(&mut self, buf: &mut [u8]) -> io::Result<usize> {
+        if self.reader.is_none() {
+            self.opened()?;
+        }
+        let read = self.read_on(buf);
+        match &read {
+            Ok(length) => self.head.note(buf.get(..*length).unwrap_or(&[])),
+            Err(error) => self.refusal = Some(Refusal::of(error)),
+        }
+        read
+    }
+}
+
+// What an output is written to.
+#[derive(Drop)]
+enum Writer<'a> {
+    File(BufWriter<File>),
+    Standard(BufWriter<Printer<'a, HostRuntime>>),
+}
+
+/// An output that is made, or emptied, at the first write. It is refused where it is one of the files that are read, whatever
+/// each of them is called: standard input and standard output may be files too.
+#[derive(Drop)]
+pub struct OutputFile<'a> {
+    rt: &'a HostRuntime,
+    path: &'a str,
+    read: [&'a str; 2],
+    writer: Option<Writer<'a>>,
+    refusal: Option<Refusal>,
+}
+
+impl<'a> OutputFile<'a> {
+    /// The file of this path, not opened yet, beside the paths of files that are read.
+    pub fn new(rt: &'a HostRuntime, path: &'a str, read: [&'a str; 2]) -> OutputFile<'a> {
+        OutputFile {
+            rt,
+            path,
+            read,
+            writer: None,
+            refusal: None,
+        }
+    }
+
+    // Whether it is a file that is read.
+    fn is_what_is_read(&self) -> bool {
+        let path = path_written(self.path);
+        is_regular(self.rt, path)
+            && self
+                .read
+                .iter()
+                .any(|read| are_one(self.rt, path, path_read(read)))
+    }
+
+    fn open(&self) -> io::Result<Writer<'a>> {
+        let alloc: Global = self.rt.alloc();
+        if self.is_what_is_read() {
+            return Err(io::Error::from(ErrorKind::InvalidInput));
+        }
+        if is_standard(self.path) {
+            let writer = BufWriter::with_capacity(alloc, BUFFER, io::writer(self.rt))?;
+            return Ok(Writer::Standard(writer));
+        }
+        let file = File::create(self.rt, self.path)?;
+        Ok(Writer::File(BufWriter::with_capacity(alloc, BUFFER, file)?))
+    }
+
+    fn opened(&mut self) -> io::Result<()> {
+        match self.open() {
+            Ok(writer) => {
+                self.writer = Some(writer);
+                self.refusal = None;
+                Ok(())
+            }
+            Err(error) => {
+                self.refusal = Some(Refusal::of(&error));
+                Err(error)
+            }
+        }
+    }
+
+    /// What opening the file was refused with, if it was.
+    pub fn fault(&self) -> Option<FileFault> {
+        match (&self.writer, self.refusal) {
+            (None, Some(refusal)) => Some(refusal.fault()),
+            _ => None,
+        }
+    }
+
+    /// What the system answered at the last refusal.
+    pub fn refusal(&self) -> Option<Refusal> {
+        self.refusal
+    }
+
+    #[inline(always)]
+    fn write_on(&mut self, buf: &[u8]) -> io::Result<usize>
+        ensures { WritesAtMost result buf.now }
+    {
+        match &mut self.writer {
+            Some(Writer::File(writer)) => writer.write(buf),
+            Some(Writer::Standard(writer)) => writer.write(buf),
+            None => Ok(0),
+        }
+    }
+
+    fn flush_on(&mut self) -> io::Result<()> {
+        match &mut self.writer {
+            Some(Writer::File(writer)) => writer.flush(),
+            Some(Writer::Standard(writer)) => writer.flush(),
+            None => Ok(()),
+        }
+    }
+}
+
+impl Write for OutputFile<'_> {
+    #[inline(always)]
+    fn write(&mut self, buf: &[u8]) -> io::Result<usize> {
+        if self.writer.is_none() {
+            self.opened()?;
+        }
+        let written = self.write_on(buf);
+        if let Err(error) = &written {
+            self.refusal = Some(Refusal::of(error));
+        }
+        written
+    }
+
+    fn flush(&mut self) -> io::Result<()> {
+        let flushed = self.flush_on();
+        if let Err(error) = &flushed {
+            self.refusal = Some(Refusal::of(error));
+        }
+        flushed
+    }
+}
+
+/// A text that is kept until it is printed.
+#[derive(Drop)]
+pub struct KeptText {
+    text: Vec<u8>,
+    is_short: bool,
+}
+
+impl KeptText {
+    /// No text yet.
+    pub fn new(alloc: Global) -> KeptText {
+        KeptText {
+            text: Vec::new(alloc),
+            is_short: false,
+        }
+    }
+
+    /// The text.
+    pub fn text(&self) -> &[u8] {
+        self.text.as_slice()
+    }
+
+    /// Whether memory for the text was refused.
+    pub fn is_short(&self) -> bool {
+        self.is_short
+    }
+}
+
+impl Write for KeptText {
+    #[inline(always)]
+    fn write(&mut self, buf: &[u8]) -> io::Result<usize> {
+        let written = self.text.write(buf);
+        self.is_short = written.is_err();
+        written
+    }
+
+    fn flush(&mut self) -> io::Result<()> {
+        Ok(())
+    }
+}

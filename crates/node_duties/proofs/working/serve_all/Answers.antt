@@ -1,4 +1,0 @@
-use Rattle.node_duties.proofs.working.serve_all.Goals as goal
-
-pub loop-preserved : goal.loop-preserved
-loop-preserved g c = c.in_ok-serve_gated.ensures c.loop.invariant

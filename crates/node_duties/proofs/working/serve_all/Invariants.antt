@@ -1,5 +1,0 @@
-use Rattle.node_duties.specs.Counts.{IsWork}
-use Rattle.node_duties.proofs.working.serve_all.Given as goal
-
-abbrev pub invariant-loop : goal.invariant-loop
-invariant-loop g l = IsWork l.run.record l.run.tally.lost l.run.tally.shares

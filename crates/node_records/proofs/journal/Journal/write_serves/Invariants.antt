@@ -1,6 +1,0 @@
-use Rattle.std.proofs.Common.{◌≡◌, take}
-use Rattle.node_records.specs.Ends.{with_serves}
-use Rattle.node_records.proofs.journal.Journal.write_serves.Given as goal
-
-abbrev pub invariant-loop-one : goal.invariant-loop-one
-invariant-loop-one l = l.self ≡ with_serves l.worker (take l.one-index l.handled) l.fn.self

@@ -1,6 +1,0 @@
-use Rattle.std.proofs.Common.{◌≡◌, take}
-use Rattle.node_records.specs.Ends.{items_of}
-use Rattle.node_records.proofs.journal.closing.begins.Given as goal
-
-abbrev pub invariant-loop-at : goal.invariant-loop-at
-invariant-loop-at l = items_of (take l.at l.handled) ≡ take l.at l.placed

@@ -1,0 +1,45 @@
+-- One more node.
+use Rattle.std.proofs.Common.{◌≡◌, ◌+◌, ◌++◌, ◌∷◌, [], ℕ, Bool, false, List, length, refl, sym, ap, ◌∙◌, subst, arith}
+use Rattle.std.specs.Prelude.{Result, Ok, Err, IfOk}
+use Rattle.std.proofs.lemmas.List.{append-nil, append_assoc}
+use Rattle.stats_book.specs.Counts.{Counted}
+use Rattle.cluster_node.specs.declared.outcomes.Outcome.{Outcome}
+use Rattle.thread_records.specs.Joins.{all_outcomes}
+use Rattle.thread_roles.specs.Counts.{counted, plus}
+use Rattle.thread_roles.proofs.Counting.{counts_plus}
+use Rattle.thread_records.specs.declared.nodes.NodeRecord.{NodeRecord}
+use Rattle.thread_records.specs.Runs.{IsRunOf, AreRuns}
+use Rattle.cluster_node.specs.Rules.{Rules}
+use Rattle.cluster_node.specs.declared.packets.Packet.{Packet}
+use Rattle.thread_records.specs.declared.command.Command.{Command}
+use Rattle.node_threads.specs.Handed.{IsCounted}
+use Rattle.node_threads.specs.PrivateClusters.{AreNumbered, AreCounted}
+
+pub numbered_more : (k m : ℕ) (ns : List ℕ) → AreNumbered k ns → m ≡ k + length ns → AreNumbered k (ns ++ m ∷ [])
+numbered_more k m [] h e = (omega (arith, e), tt)
+numbered_more k m (n ∷ ns) h e = (h.0, numbered_more (k + 1) m ns h.1 (omega (arith, e)))
+
+pub runs_more : (rules : Rules) (packets : List Packet) (ring k m : ℕ) (cs : List (List Command)) (c : List Command) (rs : List NodeRecord) (r : NodeRecord) → AreRuns rules packets ring k cs rs → m ≡ k + length cs → IsRunOf rules packets m ring c r → AreRuns rules packets ring k (cs ++ c ∷ []) (rs ++ r ∷ [])
+runs_more rules packets ring k m [] c [] r h e is = let same : m ≡ k = omega (arith, e) in (subst (λ (n : ℕ). IsRunOf rules packets n ring c r) same is, tt)
+runs_more rules packets ring k m [] c (x ∷ xs) r h e is = absurd h
+runs_more rules packets ring k m (d ∷ ds) c [] r h e is = absurd h
+runs_more rules packets ring k m (d ∷ ds) c (x ∷ xs) r h e is = (h.0, runs_more rules packets ring (k + 1) m ds c xs r h.1 (omega (arith, e)) is)
+
+outcomes_push : (rs : List NodeRecord) (r : NodeRecord) → all_outcomes (rs ++ r ∷ []) ≡ all_outcomes rs ++ r.outcomes.items
+outcomes_push [] r = append-nil r.outcomes.items
+outcomes_push (q ∷ qs) r = ap (λ (l : List Outcome). q.outcomes.items ++ l) (outcomes_push qs r) ∙ sym (append_assoc q.outcomes.items (all_outcomes qs) r.outcomes.items)
+
+-- one more node's run, and what was counted on it
+pub counted_more : (rules : Rules) (packets : List Packet) (ring m workers : ℕ) (cs : List (List Command)) (c : List Command) (rs new : List NodeRecord) (r : NodeRecord) (had own all : Counted) →
+    AreCounted rules packets ring cs rs had → m ≡ length cs → IsCounted rules packets m ring workers c r own → new ≡ rs ++ r ∷ [] → all ≡ plus had own → AreCounted rules packets ring (cs ++ c ∷ []) new all
+counted_more rules packets ring m workers cs c rs new r had own all h len is items put = record {
+  runs = subst (λ (l : List NodeRecord). AreRuns rules packets ring 0 (cs ++ c ∷ []) l) (sym items) (runs_more rules packets ring 0 m cs c rs r h.runs (omega (arith, len)) is.run);
+  counts = λ read.
+      let both : all ≡ counted all.parts (all_outcomes rs ++ r.outcomes.items) = counts_plus false false false had own all (all_outcomes rs) r.outcomes.items (λ e. (refl, refl)) put (λ e. h.counts read) (λ e. is.counts read) refl in
+      both ∙ ap (λ (os : List Outcome). counted all.parts os) (sym (ap all_outcomes items ∙ outcomes_push rs r));
+}
+
+-- what an answer is said to be by each of three clauses, the last of them under a premise
+pub by_clauses : {X E : Type 0} (A : Type 0) (P Q R : X → Type 0) (r : Result X E) → IfOk r P → IfOk r Q → (A → IfOk r R) → IfOk r (λ x. P x × Q x × (A → R x))
+by_clauses A P Q R (Ok x) p q s = (p, q, s)
+by_clauses A P Q R (Err e) p q s = tt

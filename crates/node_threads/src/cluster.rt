@@ -1,0 +1,511 @@
+//! A cluster on threads: each node's run, with its driver in a thread of its own.
+ghost use Rattle.std.specs.Prelude.{◌≡◌, ◌≤◌, ◌<◌, ◌+◌, ◌*◌, ◌++◌, ◌∷◌, [], ℕ, List, ◌↔◌, length, map, None, Some, Ok, IfOk, IsTrue, All, slice_get, slice_index, slice_index_or};
+ghost use Rattle.cluster_core.specs.Setups.{Fixed, rules_for};
+ghost use Rattle.cluster_core.specs.Headline.{Agreement, Keeping};
+ghost use Rattle.cluster_core.specs.Histories.{IsSteady};
+ghost use Rattle.cluster_core.specs.Runs.{verdicts};
+ghost use Rattle.cluster_node.specs.declared.packets.Packet.{Packet};
+ghost use Rattle.cluster_node.specs.Records.{WasRead};
+ghost use Rattle.thread_records.specs.declared.command.Command.{Command};
+ghost use Rattle.thread_records.specs.declared.nodes.NodeRecord.{NodeRecord};
+ghost use Rattle.thread_records.specs.Joins.{all_outcomes};
+ghost use Rattle.thread_records.specs.Runs.{AreRuns, JoinsRuns};
+ghost use Rattle.thread_roles.specs.Counts.{AreRead, AreTotals, counted, plus};
+ghost use Rattle.node_threads.specs.declared.run.CountedRun.{CountedRun};
+ghost use Rattle.node_threads.specs.Handed.{IsCounted};
+ghost use Rattle.node_threads.specs.PrivateClusters.{AreNumbered, rank_of, first_fault, AreCounted};
+
+use crate::node::run_counted;
+use crate::run::CountedRun;
+use cluster_core::Setup;
+use cluster_node::{Event, Outcome, Packet};
+use connection_table::ConnTable;
+use hash_laws::FlowHash;
+use pool_versions::Catalogue;
+use selection::Scheme;
+use stats_book::{Blanks, Names, Shares, Stats, StatsBook};
+use std::alloc::{AllocError, Global};
+use std::marker::Brand;
+use std::sync::{Mutex, Wait};
+use std::thread;
+use std::thread::{Promise, PromisedHandle, Scope, Threads};
+use thread_records::{Command, History, NodeRecord, join_runs};
+use thread_roles::{Gate, NodeTask, RunFault};
+
+// Parts of the counts for 64 drivers and 16 workers of each, and one more.
+const PARTS: u64 = 64 * 17 + 1;
+
+/// What the nodes of a cluster did.
+#[derive(Drop)]
+pub struct ClusterRun {
+    /// Each node's own record, in the order of the nodes.
+    pub nodes: Vec<NodeRecord>,
+    /// One history of all nodes, node by node.
+    pub history: History,
+    /// The counts of the run.
+    pub stats: Stats,
+}
+
+impl ClusterRun {
+    /// The events of all nodes, those of node 0 in front.
+    pub fn history(&self) -> &[Event]
+        ensures { result.now ≡ self.now.history.events.items }
+    {
+        self.history.events.as_slice()
+    }
+
+    /// The outcome of each event.
+    pub fn outcomes(&self) -> &[Outcome]
+        ensures { result.now ≡ self.now.history.outcomes.items }
+    {
+        self.history.outcomes.as_slice()
+    }
+
+    /// What a node that is there sent: for each of its lives the packets in the order in which they were gathered.
+    pub fn sent(&self, node: u16) -> &[Vec<Outcome>]
+        requires { node < length self.now.nodes.items }
+        ensures { (d : NodeRecord) → result.now ≡ (slice_index_or self.now.nodes.items node d).sent.items }
+    {
+        self.nodes[node as usize].sent.as_slice()
+    }
+
+    /// The counts of the run.
+    pub fn stats(&self) -> Stats
+        ensures { result ≡ self.now.stats }
+    {
+        self.stats
+    }
+
+    /// Whether the outcomes are those of the events in this cluster, one after another: the events are replayed on tables of
+    /// their own. The packets were read, and the catalogue is one for the cluster's table size. So it is true of what the
+    /// run itself was given.
+    pub fn audit<S: Scheme, H: FlowHash, T: ConnTable>(
+        &self,
+        alloc: Global,
+        setup: &Setup<S, H>,
+        catalogue: &Catalogue,
+        packets: &[Packet],
+    ) -> Result<bool, AllocError>
+        requires size { catalogue.now.size ≡ setup.now.size }
+        requires read { (k : ℕ) (p : Packet) → slice_get packets.now k ≡ Some p → WasRead (Some p) }
+        ensures { let rules = rules_for (λ s z. S.pick s z) (λ h. H.plain h) setup.now catalogue.now in
+            IfOk result (λ b. IsTrue b ↔ (self.now.history.outcomes.items ≡ verdicts rules [] packets.now self.now.history.events.items)) }
+    {
+        self.history
+            .audit::<S, H, T>(alloc, setup, catalogue, packets)
+    }
+}
+
+// What all nodes are to do: there is a list of commands for each, and a ring has places.
+struct Tasks<'e, S: Scheme, H: FlowHash, G, B: Names> {
+    setup: &'e Setup<S, H>,
+    catalogue: &'e Catalogue,
+    packets: &'e [Packet],
+    lists: &'e [Vec<Command>],
+    gate: &'e G,
+    book: &'e Mutex<StatsBook<B>>,
+    ring: u32,
+    ghost each: { length lists.now ≡ length setup.now.nodes },
+    ghost some: { 0 < ring },
+    ghost limit: { ring ≤ 65536 },
+}
+
+// Shares for all nodes, on which nothing was counted: parts for 64 drivers and 16 workers of each, and one more.
+#[derive(Drop)]
+struct Supply<B: Names> {
+    shares: Shares<B>,
+    ghost enough: { 64 * 17 < shares.parts },
+    ghost fresh: { shares ≡ counted shares.parts [] },
+}
+
+impl<'e, S: Scheme, H: FlowHash, G, B: Names> Clone for Tasks<'e, S, H, G, B> {
+    fn clone(&self) -> Result<Self, AllocError> {
+        Ok(*self)
+    }
+}
+
+impl<'e, S: Scheme, H: FlowHash, G, B: Names> Copy for Tasks<'e, S, H, G, B> {}
+
+impl<'e, S: Scheme, H: FlowHash, G, B: Names> Tasks<'e, S, H, G, B> {
+    // What a node is to do.
+    fn task_of(
+        self,
+        node: u16,
+        commands: &'e [Command],
+        shares: Shares<B>,
+    ) -> NodeTask<'e, S, H, G, B>
+        requires there { node < length self.setup.now.nodes }
+        requires parts { shares.parts ≡ self.setup.now.workers + 1 }
+        requires fresh { shares ≡ counted shares.parts [] }
+        ensures setup { result.setup.now ≡ self.entry.setup.now }
+        ensures catalogue { result.catalogue.now ≡ self.entry.catalogue.now }
+        ensures packets { result.packets.now ≡ self.entry.packets.now }
+        ensures commands { result.commands.now ≡ commands.now }
+        ensures place { (result.node ≡ node) × (result.ring ≡ self.entry.ring) }
+    {
+        NodeTask {
+            setup: self.setup,
+            catalogue: self.catalogue,
+            packets: self.packets,
+            commands,
+            gate: self.gate,
+            book: self.book,
+            node,
+            ring: self.ring,
+            shares,
+        }
+    }
+}
+
+/// What a driver's thread promises: that its record is one of its node's commands, and that it counted its outcomes.
+#[derive(Drop)]
+pub struct OfNode<'e, S: Scheme, H: FlowHash> {
+    /// The cluster.
+    pub setup: &'e Setup<S, H>,
+    /// Its versions.
+    pub catalogue: &'e Catalogue,
+    /// The packets that the commands offer.
+    pub packets: &'e [Packet],
+    /// The commands of the node's driver.
+    pub commands: &'e [Command],
+    /// The node's place.
+    pub node: u16,
+    /// The places of a ring.
+    pub ring: u32,
+}
+
+impl<'e, S: Scheme, H: FlowHash, B: Names> Promise<Result<CountedRun<B>, RunFault>>
+    for OfNode<'e, S, H> {
+    ghost kept_by = { λ p r. IfOk r (λ run. IsCounted (rules_for (λ s z. S.pick s z) (λ h. H.plain h) p.setup.now p.catalogue.now) p.packets.now p.node p.ring p.setup.now.workers p.commands.now run.record run.shares) };
+}
+
+// What a driver's thread answers.
+type Answer<B> = Result<CountedRun<B>, RunFault>;
+
+// The drivers' threads, and why not all were started.
+#[derive(Drop)]
+struct Drivers<'e, S: Scheme, H: FlowHash, B: Names> {
+    handles: Vec<PromisedHandle<Answer<B>, OfNode<'e, S, H>>>,
+    fault: Option<RunFault>,
+}
+
+// What all nodes did, and what was counted.
+#[derive(Drop)]
+struct Gathered<B: Names> {
+    nodes: Vec<NodeRecord>,
+    shares: Shares<B>,
+}
+
+// What was joined so far. Once there is a fault the rest is kept for nothing.
+#[derive(Drop)]
+struct Joined<B: Names> {
+    nodes: Vec<NodeRecord>,
+    shares: Shares<B>,
+    fault: Option<RunFault>,
+}
+
+// The place of a fault in the order in which faults are reported.
+fn rank(fault: RunFault) -> u8
+    ensures { result ≡ rank_of fault }
+{
+    match fault {
+        RunFault::Memory => 0,
+        RunFault::ThreadLost => 1,
+        RunFault::Foreign => 2,
+        RunFault::RingLost => 3,
+        RunFault::BookLost => 4,
+    }
+}
+
+// The fault of two that is reported.
+fn first_of(fault: Option<RunFault>, other: RunFault) -> RunFault
+    ensures { result ≡ first_fault fault other }
+{
+    match fault {
+        Some(fault) if rank(fault) <= rank(other) => fault,
+        _ => other,
+    }
+}
+
+impl<B: Names> Joined<B> {
+    // Keeps what a node did.
+    fn keep(&mut self, answer: Answer<B>)
+        ensures { self.new.fault ≡ None → (self.old.fault ≡ None) × ((r : CountedRun _) × (answer ≡ Ok r) × (self.new.nodes.items ≡ self.old.nodes.items ++ r.record ∷ []) × (self.new.shares ≡ plus self.old.shares r.shares)) }
+    {
+        match answer {
+            Err(fault) => self.fault = Some(first_of(self.fault, fault)),
+            Ok(run) => {
+                let CountedRun { record, shares } = run;
+                self.shares.merge(shares);
+                let Ok(()) = self.nodes.push(record) else {
+                    self.fault = Some(RunFault::Memory);
+                    return;
+                };
+            }
+        }
+    }
+
+    // Joins a driver.
+    fn join<'e, S: Scheme, H: FlowHash, G, R: Threads>(
+        &mut self,
+        rt: &R,
+        tasks: Tasks<'e, S, H, G, B>,
+        handle: PromisedHandle<Answer<B>, OfNode<'e, S, H>>,
+    )
+        requires { (handle.promise.setup.now ≡ tasks.setup.now) × (handle.promise.catalogue.now ≡ tasks.catalogue.now) × (handle.promise.packets.now ≡ tasks.packets.now) × (handle.promise.ring ≡ tasks.ring) }
+        ensures kept { self.new.fault ≡ None → self.old.fault ≡ None }
+        ensures more { let rules = rules_for (λ s z. S.pick s z) (λ h. H.plain h) tasks.entry.setup.now tasks.entry.catalogue.now in
+            (cs : List (List Command)) → (self.old.fault ≡ None → AreCounted rules tasks.entry.packets.now tasks.entry.ring cs self.old.nodes.items self.old.shares) → handle.entry.promise.node ≡ length cs → self.new.fault ≡ None →
+            AreCounted rules tasks.entry.packets.now tasks.entry.ring (cs ++ handle.entry.promise.commands.now ∷ []) self.new.nodes.items self.new.shares }
+        ensures parts { self.new.fault ≡ None → self.new.shares.parts ≡ self.old.shares.parts + (tasks.entry.setup.now.workers + 1) }
+    {
+        let _ = (tasks.setup.workers(), tasks.catalogue.size());
+        let answer = handle.join(rt);
+        self.keep(answer);
+    }
+}
+
+// Starts the drivers, up to the first that can't be started.
+fn start_drivers<
+    's,
+    'e: 's,
+    S: Scheme + Send + Sync + 'e,
+    H: FlowHash + Send + Sync + 'e,
+    T: ConnTable + Send + 'e,
+    G: Gate + Sync + 'e,
+    B: Names + Send + Sync + 'e,
+    R: Threads + Wait + Sync + 'e,
+>(
+    scope: &Scope<'s, &'e ()>,
+    rt: &'e R,
+    alloc: Global,
+    tasks: Tasks<'e, S, H, G, B>,
+    shares: &mut Shares<B>,
+) -> Drivers<'e, S, H, B>
+where
+    S::Prepared: Send + Sync,
+    requires parts { 64 * 17 < shares.old.parts }
+    requires fresh { shares.old ≡ counted shares.old.parts [] }
+    ensures same { All (λ h. (h.promise.setup.now ≡ tasks.entry.setup.now) × (h.promise.catalogue.now ≡ tasks.entry.catalogue.now) × (h.promise.packets.now ≡ tasks.entry.packets.now) × (h.promise.ring ≡ tasks.entry.ring)) result.handles.items }
+    ensures numbered { AreNumbered 0 (map (λ h. h.promise.node) result.handles.items) }
+    ensures lists { result.fault ≡ None → map (λ h. h.promise.commands.now) result.handles.items ≡ map (λ c. c.items) tasks.entry.lists.now }
+    ensures parts { result.fault ≡ None → shares.new.parts + length result.handles.items * (tasks.entry.setup.now.workers + 1) ≡ shares.old.parts }
+    ensures rest { shares.new ≡ record shares.old { parts = shares.new.parts } }
+{
+    let each = u64::from(tasks.setup.workers()) + 1;
+    let _few = tasks.setup.nodes();
+    let mut handles = Vec::new(alloc);
+    for at in 0..tasks.lists.len() {
+        if handles.reserve(1).is_err() {
+            let fault = Some(RunFault::Memory);
+            return Drivers { handles, fault };
+        }
+        let node = at as u16;
+        let commands = tasks.lists[at].as_slice();
+        let promise = OfNode {
+            setup: tasks.setup,
+            catalogue: tasks.catalogue,
+            packets: tasks.packets,
+            commands,
+            node,
+            ring: tasks.ring,
+        };
+        let task = tasks.task_of(node, commands, shares.split_off(each));
+        match scope.spawn_with(
+            promise,
+            move || -> Result<CountedRun<B>, RunFault>
+                ensures { IfOk result (λ run. IsCounted (rules_for (λ s z. S.pick s z) (λ h. H.plain h) task.entry.setup.now task.entry.catalogue.now) task.entry.packets.now task.entry.node task.entry.ring task.entry.setup.now.workers task.entry.commands.now run.record run.shares) }
+            { run_counted::<S, H, T, G, B, R>(rt, alloc, task) },
+        ) {
+            Ok(handle) => handles.push_reserved(handle),
+            Err(_) => {
+                let fault = Some(RunFault::ThreadLost);
+                return Drivers { handles, fault };
+            }
+        }
+    }
+    Drivers {
+        handles,
+        fault: None,
+    }
+}
+
+// Starts all drivers and joins them.
+fn run_drivers<
+    's,
+    'e: 's,
+    S: Scheme + Send + Sync + 'e,
+    H: FlowHash + Send + Sync + 'e,
+    T: ConnTable + Send + 'e,
+    G: Gate + Sync + 'e,
+    B: Names + Send + Sync + 'e,
+    R: Threads + Wait + Sync + 'e,
+>(
+    scope: &Scope<'s, &'e ()>,
+    rt: &'e R,
+    alloc: Global,
+    tasks: Tasks<'e, S, H, G, B>,
+    supply: Supply<B>,
+) -> Result<Gathered<B>, RunFault>
+where
+    S::Prepared: Send + Sync,
+    ensures { IfOk result (λ v. AreCounted (rules_for (λ s z. S.pick s z) (λ h. H.plain h) tasks.entry.setup.now tasks.entry.catalogue.now) tasks.entry.packets.now tasks.entry.ring (map (λ c. c.items) tasks.entry.lists.now) v.nodes.items v.shares × (v.shares.parts ≡ supply.shares.parts)) }
+{
+    let Supply { shares } = supply;
+    let mut shares = shares;
+    let drivers: Drivers<'e, S, H, B> = start_drivers::<S, H, T, G, B, R>(
+        scope,
+        rt,
+        alloc,
+        tasks,
+        &mut shares,
+    );
+    let Drivers { handles, fault } = drivers;
+    let mut joined = Joined {
+        nodes: Vec::new(alloc),
+        shares,
+        fault,
+    };
+    for handle in handles {
+        joined.join(rt, tasks, handle);
+    }
+    let Joined {
+        nodes,
+        shares,
+        fault,
+    } = joined;
+    match fault {
+        None => Ok(Gathered { nodes, shares }),
+        Some(fault) => Err(fault),
+    }
+}
+
+// All drivers in one scope.
+fn run_nodes<
+    'e,
+    S: Scheme + Send + Sync + 'e,
+    H: FlowHash + Send + Sync + 'e,
+    T: ConnTable + Send + 'e,
+    G: Gate + Sync + 'e,
+    B: Names + Send + Sync + 'e,
+    R: Threads + Wait + Sync + 'e,
+>(
+    rt: &'e R,
+    alloc: Global,
+    tasks: Tasks<'e, S, H, G, B>,
+    supply: Supply<B>,
+) -> Result<Gathered<B>, RunFault>
+where
+    S::Prepared: Send + Sync,
+    ensures { IfOk result (λ v. AreCounted (rules_for (λ s z. S.pick s z) (λ h. H.plain h) tasks.entry.setup.now tasks.entry.catalogue.now) tasks.entry.packets.now tasks.entry.ring (map (λ c. c.items) tasks.entry.lists.now) v.nodes.items v.shares × (v.shares.parts ≡ supply.shares.parts)) }
+{
+    thread::scope(
+        thread::scope_env(),
+        rt,
+        move |scope| -> Result<Gathered<B>, RunFault>
+            ensures { IfOk result (λ v. AreCounted (rules_for (λ s z. S.pick s z) (λ h. H.plain h) tasks.entry.setup.now tasks.entry.catalogue.now) tasks.entry.packets.now tasks.entry.ring (map (λ c. c.items) tasks.entry.lists.now) v.nodes.items v.shares × (v.shares.parts ≡ supply.shares.parts)) }
+        { run_drivers::<S, H, T, G, B, R>(scope, rt, alloc, tasks, supply) },
+    )
+}
+
+// The run of a cluster with a book of its own.
+fn run_booked<
+    S: Scheme + Send + Sync,
+    H: FlowHash + Send + Sync,
+    T: ConnTable + Send,
+    G: Gate + Sync,
+    B: Names + Send + Sync,
+    R: Threads + Wait + Sync,
+>(
+    rt: &R,
+    alloc: Global,
+    setup: &Setup<S, H>,
+    catalogue: &Catalogue,
+    packets: &[Packet],
+    commands: &[Vec<Command>],
+    ring: u32,
+    gate: &G,
+    blanks: Blanks,
+) -> Result<ClusterRun, RunFault>
+where
+    S::Prepared: Send + Sync,
+    requires nodes { length commands.now ≡ length setup.now.nodes }
+    requires some { 0 < ring }
+    requires limit { ring ≤ 65536 }
+    requires names { (n : ℕ) → slice_index blanks.names n ≡ B.names n }
+    requires parts { (blanks.parts ≡ B.parts) × (64 * 17 < B.parts) }
+    ensures runs { let rules = rules_for (λ s z. S.pick s z) (λ h. H.plain h) setup.now catalogue.now in IfOk result (λ run.
+        AreRuns rules packets.now ring 0 (map (λ c. c.items) commands.now) run.nodes.items × JoinsRuns rules packets.now run.nodes.items run.history) }
+    ensures stats { AreRead packets.now → IfOk result (λ run. AreTotals run.stats run.history.outcomes.items) }
+{
+    let (book, shares) = StatsBook::<B>::open(blanks);
+    let book = Mutex::new(book);
+    let tasks = Tasks {
+        setup,
+        catalogue,
+        packets,
+        lists: commands,
+        gate,
+        book: &book,
+        ring,
+    };
+    let supply = Supply { shares };
+    let gathered = run_nodes::<S, H, T, G, B, R>(rt, alloc, tasks, supply)?;
+    let Gathered { nodes, shares } = gathered;
+    let history = join_runs(alloc, nodes.as_slice())?;
+    let mut book = book.into_inner();
+    let mut shares = shares;
+    book.audit(&mut shares);
+    Ok(ClusterRun {
+        nodes,
+        history,
+        stats: book.stats(),
+    })
+}
+
+/// The runs of all nodes of a cluster at once, each as `run_node` does it, with its driver in a thread of its own. There is
+/// a list of commands for each node. All threads are joined before anything is answered.
+///
+/// Whatever the schedule was, each record is one of a run of its node's commands, and the history has all of them, node by
+/// node. The outcome of each event in it is that of the event in its node. Of several faults Memory is reported first, then
+/// ThreadLost, Foreign, RingLost and BookLost. A driver that can't be started is ThreadLost, and so the others end first.
+///
+/// So what is promised of every list of events is promised of the run. Two packets of one flow that were sent to different
+/// backends, by any nodes, were chosen under versions that pick these backends (`agreement`). A worker keeps a flow's
+/// backend while its entry stands and the backend is up (`keeping`).
+pub fn run_cluster<
+    S: Scheme + Send + Sync,
+    H: FlowHash + Send + Sync,
+    T: ConnTable + Send,
+    G: Gate + Sync,
+    R: Threads + Wait + Sync,
+>(
+    rt: &R,
+    alloc: Global,
+    setup: &Setup<S, H>,
+    catalogue: &Catalogue,
+    packets: &[Packet],
+    commands: &[Vec<Command>],
+    ring: u32,
+    gate: &G,
+) -> Result<ClusterRun, RunFault>
+where
+    S::Prepared: Send + Sync,
+    requires nodes { length commands.now ≡ length setup.now.nodes }
+    requires some { 0 < ring }
+    requires limit { ring ≤ 65536 }
+    ensures runs { let rules = rules_for (λ s z. S.pick s z) (λ h. H.plain h) setup.now catalogue.now in IfOk result (λ run.
+        AreRuns rules packets.now ring 0 (map (λ c. c.items) commands.now) run.nodes.items × JoinsRuns rules packets.now run.nodes.items run.history) }
+    // agreement, for a scheme to which the turn doesn't matter, and keeping
+    ensures agreement { let rules = rules_for (λ s z. S.pick s z) (λ h. H.plain h) setup.now catalogue.now in
+        IfOk result (λ run. IsSteady rules → Agreement rules run.history.outcomes.items) }
+    ensures keeping { let rules = rules_for (λ s z. S.pick s z) (λ h. H.plain h) setup.now catalogue.now in
+        IfOk result (λ run. Keeping rules [] packets.now run.history.events.items run.history.outcomes.items) }
+    // where all packets were read, the counts are the totals of the outcomes, and nothing waits
+    ensures stats { AreRead packets.now → IfOk result (λ run. AreTotals run.stats run.history.outcomes.items) }
+{
+    let blanks = Blanks::new(PARTS);
+    run_booked::<S, H, T, G, Brand, R>(
+        rt, alloc, setup, catalogue, packets, commands, ring, gate, blanks,
+    )
+}

@@ -1,0 +1,87 @@
+-- One send more among the last sends.
+use Rattle.std.proofs.Common.{◌≡◌, ℕ, Bool, true, false, List, Option, Some, None, refl, sym, ap, ◌∙◌, subst, cond}
+use Rattle.std.specs.Prelude.{option_map, slice_get, if◌then◌else◌}
+use Rattle.std.specs.HashMap.{get}
+use Rattle.std.proofs.lemmas.Option.{same_Some, none-some}
+use Rattle.five_tuple.specs.declared.Flow.{Flow}
+use Rattle.connection_table.specs.Touches.{same_flow}
+use Rattle.connection_table.proofs.Standing.{same_flow-true}
+use Rattle.pool_versions.specs.declared.backend.Backend.{Backend}
+use Rattle.run_report.specs.declared.backends.Backends.{Backends}
+use Rattle.run_report.specs.declared.last_sends.FlowKey.{FlowKey}
+use Rattle.run_report.specs.declared.last_sends.LastSend.{LastSend}
+use Rattle.run_report.specs.declared.last_sends.LastSends.{LastSends}
+use Rattle.run_report.specs.declared.sending.Sending.{Sending}
+use Rattle.run_report.specs.Books.{Keeps, same_key, told, AreLast}
+
+-- an entry stands for the same send while its backend keeps its place
+told_yet : (old new : List Backend) → Keeps old new → (x : Flow) (o : Option LastSend) (s : Option Sending)
+    → option_map (λ l. told old x l) o ≡ option_map Some s → option_map (λ l. told new x l) o ≡ option_map Some s
+told_yet old new k x None s h = h
+told_yet old new k x (Some l) None h = absurd cc
+told_yet old new k x (Some l) (Some t) h = go (slice_get old l.place) refl
+  where
+    sending : Backend → Sending
+    sending b = record { number = l.number; flow = x; version = l.version; backend = b; origin = l.origin }
+
+    go : (b : Option Backend) → slice_get old l.place ≡ b → Some (told new x l) ≡ Some (Some t)
+    go None n = absurd (none-some t (same_Some None (Some t) (sym (ap (λ (y : Option Backend). Some (option_map sending y)) n) ∙ h)))
+    go (Some b) n = ap (λ (y : Option Backend). Some (option_map sending y)) (k l.place b n ∙ sym n) ∙ h
+
+-- a send is its flow's last
+told_now : (new : List Backend) (l : LastSend) (later : Sending) → slice_get new l.place ≡ Some later.backend → l.number ≡ later.number → l.version ≡ later.version
+    → l.origin ≡ later.origin → (x : Flow) → same_flow later.flow x ≡ true → told new x l ≡ Some later
+told_now new l later at number version origin x is =
+    subst (λ (y : Flow). told new y l ≡ Some later) (same_flow-true later.flow x is)
+    (ap (λ (b : Option Backend). option_map (made l.number l.version l.origin) b) at
+    ∙ ap (λ (n : ℕ). Some (made n l.version l.origin later.backend)) number
+    ∙ ap (λ (n : ℕ). Some (made later.number n l.origin later.backend)) version
+    ∙ ap (λ (n : ℕ). Some (made later.number later.version n later.backend)) origin)
+  where
+    made : ℕ → ℕ → ℕ → Backend → Sending
+    made n v o b = record { number = n; flow = later.flow; version = v; backend = b; origin = o }
+
+pub last_more : (sent : Flow → Option Sending) (old new : LastSends) (l : LastSend) (later : Sending) → AreLast sent old → Keeps old.backends.all.items new.backends.all.items
+    → slice_get new.backends.all.items l.place ≡ Some later.backend → l.number ≡ later.number → l.version ≡ later.version → l.origin ≡ later.origin
+    → ((q : FlowKey) → get same_key new.sends q ≡ cond (same_key (record { flow = later.flow }) q) (Some l) (get same_key old.sends q))
+    → AreLast (λ x. if same_flow later.flow x then Some later else sent x) new
+last_more sent old new l later h k at number version origin put = record { each = λ x. go x (same_flow later.flow x) refl }
+  where
+    go : (x : Flow) (b : Bool) → same_flow later.flow x ≡ b → option_map (λ s. told new.backends.all.items x s) (get same_key new.sends (record { flow = x })) ≡ option_map Some (if b then Some later else sent x)
+    go x true is =
+        ap (λ (o : Option LastSend). option_map (λ s. told new.backends.all.items x s) o)
+        (put (record { flow = x }) ∙ ap (λ (c : Bool). cond c (Some l) (get same_key old.sends (record { flow = x }))) is)
+        ∙ ap Some (told_now new.backends.all.items l later at number version origin x is)
+    go x false is =
+        ap (λ (o : Option LastSend). option_map (λ s. told new.backends.all.items x s) o)
+        (put (record { flow = x }) ∙ ap (λ (c : Bool). cond c (Some l) (get same_key old.sends (record { flow = x }))) is)
+        ∙ told_yet old.backends.all.items new.backends.all.items k x (get same_key old.sends (record { flow = x })) (sent x) (h.each x)
+
+-- a map that was written its own value has the same values
+same_value : (o : Option LastSend) (p : Option LastSend) (l : LastSend) (b : Bool) → (b ≡ true → p ≡ Some l) → o ≡ cond b (Some l) p → o ≡ p
+same_value o p l true is e = e ∙ sym (is refl)
+same_value o p l false is e = e
+
+pub kept_yet : (sent : Flow → Option Sending) (old new : LastSends) (flow : Flow) (l : LastSend) → AreLast sent old → new.backends ≡ old.backends
+    → get same_key old.sends (record { flow = flow }) ≡ Some l
+    → ((q : FlowKey) → get same_key new.sends q ≡ cond (same_key (record { flow = flow }) q) (Some l) (get same_key old.sends q)) → AreLast sent new
+kept_yet sent old new flow l h same found put = record {
+  each = λ x.
+      ap (λ (bs : Backends). option_map (λ s. told bs.all.items x s) (get same_key new.sends (record { flow = x }))) same
+      ∙ ap (λ (o : Option LastSend). option_map (λ s. told old.backends.all.items x s) o)
+      (same_value (get same_key new.sends (record { flow = x })) (get same_key old.sends (record { flow = x })) l (same_flow flow x)
+      (λ e. subst (λ (y : Flow). get same_key old.sends (record { flow = y }) ≡ Some l) (same_flow-true flow x e) found) (put (record { flow = x })))
+      ∙ h.each x;
+}
+
+-- the flow's last send, where its entry has this backend
+pub first_is : (sent : Flow → Option Sending) (old : LastSends) (flow : Flow) (l : LastSend) (b : Backend) → AreLast sent old → get same_key old.sends (record { flow = flow }) ≡ Some l
+    → slice_get old.backends.all.items l.place ≡ Some b → sent flow ≡ Some (record { number = l.number; flow = flow; version = l.version; backend = b; origin = l.origin })
+first_is sent old flow l b h found at = go (sent flow) (sym (h.each flow) ∙ ap (λ (o : Option LastSend). option_map (λ s. told old.backends.all.items flow s) o) found ∙ ap (λ (o : Option Backend). Some (option_map made o)) at)
+  where
+    made : Backend → Sending
+    made b = record { number = l.number; flow = flow; version = l.version; backend = b; origin = l.origin }
+
+    go : (o : Option Sending) → option_map Some o ≡ Some (Some (made b)) → o ≡ Some (made b)
+    go None e = absurd cc
+    go (Some s) e = same_Some (Some s) (Some (made b)) e

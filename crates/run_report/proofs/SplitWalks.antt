@@ -1,0 +1,88 @@
+-- A split more in a walk over them.
+use Rattle.std.proofs.Common.{◌≡◌, ℕ, suc, ◌+◌, ◌-◌, ◌<◌, List, [], ◌∷◌, ◌++◌, length, get_or, drop, reverse, None, Result, Ok, Err, refl, sym, ap, ◌∙◌, append_assoc, arith, ◌⊎◌, inl, inr}
+use Rattle.std.specs.Prelude.{OnOk}
+use Rattle.std.specs.List.{flat_map, sum_by}
+use Rattle.cluster_node.specs.declared.events.LogEntry.{LogEntry}
+use Rattle.std.proofs.Math.Seq.{drop-cons}
+use Rattle.std.proofs.lemmas.List.Sums.{sum_by-cons}
+use Rattle.std.proofs.lemmas.List.{append-nil, reverse-append, reverse-reverse}
+use Rattle.cluster_node.specs.declared.events.Event.{Event}
+use Rattle.cluster_node.specs.declared.outcomes.Outcome.{Outcome}
+use Rattle.run_report.specs.declared.cause.SplitCause.{SplitCause}
+use Rattle.run_report.specs.declared.cause.SplitCause.TheVariants.{Down, Moved}
+use Rattle.run_report.specs.declared.sending.Split.{Split}
+use Rattle.run_report.specs.Splits.{splits_of, flows_of, said_of}
+use Rattle.run_report.specs.Texts.{split_line, split_counts, text_of, splits_text}
+use Rattle.run_report.specs.Causes.{Lookups, cause_of, down_one, moved_one, down_count, moved_count}
+
+rest_of : {X : Type 0} (xs : List X) (i : ℕ) (x : X) → i < length xs → x ≡ get_or xs i x → drop i xs ≡ x ∷ drop (i + 1) xs
+rest_of xs i x low is = drop-cons xs i x low ∙ ap (λ y. y ∷ drop (suc i) xs) (sym is) ∙ ap (λ (n : ℕ). x ∷ drop n xs) (let e : suc i ≡ i + 1 = omega arith in e)
+
+pub lines_more : {X : Type 0} (f : X → List ℕ) (xs : List X) (i : ℕ) (x : X) (old new whole : List ℕ) → i < length xs → x ≡ get_or xs i x → new ≡ old ++ f x
+    → old ++ flat_map f (drop i xs) ≡ whole → new ++ flat_map f (drop (i + 1) xs) ≡ whole
+lines_more f xs i x old new whole low is grown e =
+    ap (λ (text : List ℕ). text ++ flat_map f (drop (i + 1) xs)) grown ∙ append_assoc old (f x) (flat_map f (drop (i + 1) xs))
+    ∙ ap (λ (ys : List _). old ++ flat_map f ys) (sym (rest_of xs i x low is)) ∙ e
+
+pub sum_more : {X : Type 0} (f : X → ℕ) (xs : List X) (i : ℕ) (x : X) (count whole : ℕ) → i < length xs → x ≡ get_or xs i x
+    → count + sum_by f (drop i xs) ≡ whole → count + f x + sum_by f (drop (i + 1) xs) ≡ whole
+sum_more f xs i x count whole low is e =
+    let step : sum_by f (drop i xs) ≡ f x + sum_by f (drop (i + 1) xs) = ap (λ ys. sum_by f ys) (rest_of xs i x low is) ∙ sum_by-cons f x (drop (i + 1) xs) in
+    omega (arith, step, e)
+
+-- each split has one cause
+one_cause : (c : SplitCause) → down_one c + moved_one c ≡ 1
+one_cause Down = refl
+one_cause Moved = refl
+
+pub causes_add_up : (lookups : Lookups) (ps : List Split) → down_count lookups ps + moved_count lookups ps ≡ length ps
+causes_add_up lookups [] = refl
+causes_add_up lookups (p ∷ ps) =
+    let h : down_count lookups ps + moved_count lookups ps ≡ length ps = causes_add_up lookups ps in
+    let d : down_count lookups (p ∷ ps) ≡ down_one (cause_of lookups p) + down_count lookups ps = sum_by-cons (λ q. down_one (cause_of lookups q)) p ps in
+    let m : moved_count lookups (p ∷ ps) ≡ moved_one (cause_of lookups p) + moved_count lookups ps = sum_by-cons (λ q. moved_one (cause_of lookups q)) p ps in
+    let o : down_one (cause_of lookups p) + moved_one (cause_of lookups p) ≡ 1 = one_cause (cause_of lookups p) in
+    omega (arith, h, d, m, o)
+
+-- the lines, and behind them the counts
+pub text_told : {E : Type 0} (lookups : Lookups) (past : List LogEntry) (r : Result (Unit {0}) E) (ps : List Split) (flows split down : ℕ) (old lines new : List ℕ) → ps ≡ splits_of past → flows ≡ length (flows_of past) → split ≡ length ps
+    → down ≡ down_count lookups ps → lines ≡ old ++ flat_map (split_line lookups) ps → OnOk r (new ≡ lines ++ split_counts flows split down (split - down)) → OnOk r (new ≡ old ++ splits_text lookups past)
+text_told {E} lookups past r ps flows split down old lines new is many few low made grown = ok r grown
+  where
+    rest : split - down ≡ moved_count lookups ps
+    rest = let whole : down_count lookups ps + moved_count lookups ps ≡ length ps = causes_add_up lookups ps in omega (arith, whole, few, low)
+
+    all : lines ++ split_counts flows split down (split - down) ≡ old ++ splits_text lookups past
+    all = ap (λ (text : List ℕ). text ++ split_counts flows split down (split - down)) made
+        ∙ append_assoc old (flat_map (split_line lookups) ps) (split_counts flows split down (split - down))
+        ∙ ap (λ (n : ℕ). old ++ (flat_map (split_line lookups) ps ++ split_counts flows split down n)) rest
+        ∙ ap (λ (n : ℕ). old ++ (flat_map (split_line lookups) ps ++ split_counts flows split n (moved_count lookups ps))) low
+        ∙ ap (λ (n : ℕ). old ++ (flat_map (split_line lookups) ps ++ split_counts flows n (down_count lookups ps) (moved_count lookups ps))) few
+        ∙ ap (λ (n : ℕ). old ++ text_of lookups n ps) many
+        ∙ ap (λ (qs : List Split). old ++ text_of lookups (length (flows_of past)) qs) is
+
+    ok : (s : Result (Unit {0}) E) → OnOk s (new ≡ lines ++ split_counts flows split down (split - down)) → OnOk s (new ≡ old ++ splits_text lookups past)
+    ok (Ok done) h = h ∙ all
+    ok (Err fault) h = tt
+
+-- ---- a history event by event
+
+pub said_more : (past : List LogEntry) (es fs : List Event) (os ps : List Outcome) (e : Event) (o : Outcome) (whole : List LogEntry) → es ≡ e ∷ fs → os ≡ o ∷ ps
+    → reverse past ++ said_of es os ≡ whole → reverse (record { event = e; packet = None; outcome = o } ∷ past) ++ said_of fs ps ≡ whole
+said_more past es fs os ps e o whole front back h =
+    let s : LogEntry = record { event = e; packet = None; outcome = o } in
+    ap (λ (l : List LogEntry). l ++ said_of fs ps) (reverse-append (s ∷ []) past) ∙ append_assoc (reverse past) (s ∷ []) (said_of fs ps)
+    ∙ ap (λ (l : List LogEntry). reverse past ++ l) (sym step) ∙ h
+  where
+    step : said_of es os ≡ record { event = e; packet = None; outcome = o } ∷ said_of fs ps
+    step = ap (λ (l : List Event). said_of l os) front ∙ ap (λ (l : List Outcome). said_of (e ∷ fs) l) back
+
+none_said : (es : List Event) (os : List Outcome) → (es ≡ []) ⊎ (os ≡ []) → said_of es os ≡ []
+none_said es os (inl h) = ap (λ (l : List Event). said_of l os) h
+none_said [] os (inr h) = refl
+none_said (e ∷ es) os (inr h) = ap (λ (l : List Outcome). said_of (e ∷ es) l) h
+
+pub said_end : (past : List LogEntry) (es : List Event) (os : List Outcome) (whole : List LogEntry) → (es ≡ []) ⊎ (os ≡ []) → reverse past ++ said_of es os ≡ whole → past ≡ reverse whole
+said_end past es os whole none h =
+    let all : reverse past ≡ whole = sym (append-nil (reverse past)) ∙ ap (λ (l : List LogEntry). reverse past ++ l) (sym (none_said es os none)) ∙ h in
+    sym (reverse-reverse past) ∙ ap reverse all

@@ -1,0 +1,10 @@
+pub mod Lines
+pub mod Names
+pub mod Report
+pub mod Verdicts
+pub mod Splits
+pub mod Pairs
+pub mod Agreeing
+pub mod Causes
+pub mod Texts
+pub mod Books

@@ -1,0 +1,125 @@
+//! The last send of each flow.
+ghost use Rattle.std.specs.Prelude.{◌≡◌, ◌+◌, [], ◌∷◌, Option, Some, None, IfOk, OnOk, is_some, if◌then◌else◌};
+ghost use Rattle.std.specs.HashMap.{hash_map_len};
+ghost use Rattle.five_tuple.specs.declared.Flow.{Flow};
+ghost use Rattle.five_tuple.specs.Flow.{flow_bytes};
+ghost use Rattle.connection_table.specs.Touches.{same_flow};
+ghost use Rattle.run_report.specs.declared.sending.Sending.{Sending};
+ghost use Rattle.run_report.specs.Books.{told, with_send, AreLast, RenewedAs};
+
+use crate::backends::Backends;
+use crate::sending::Sending;
+use connection_table::TableKey;
+use five_tuple::Flow;
+use std::alloc::{AllocError, Global};
+use std::collections::HashMap;
+use std::hash::{Hash, Hasher};
+
+/// A flow as the key of a map: its 13 bytes are hashed in one piece.
+#[derive(Clone, Copy, PartialEq, Eq)]
+struct FlowKey {
+    flow: Flow,
+}
+
+impl Hash for FlowKey {
+    ghost use Rattle.std.specs.Cmp.Rules.{hashing};
+    ghost use borrow.Author.Rules.{rules};
+
+    ghost hash_input = { λ k. flow_bytes k.flow ∷ [] };
+
+    ghost respects_eq = { Prim.search (hashing, rules) };
+
+    fn hash<H: Hasher>(&self, state: &mut H) {
+        state.write(&self.flow.bytes());
+    }
+}
+
+/// A send of a flow, with its backend's place.
+#[derive(Clone, Copy)]
+struct LastSend {
+    number: u64,
+    place: usize,
+    version: u32,
+    origin: u32,
+}
+
+/// The last send of each flow. An entry takes 24 bytes beside its flow, since a backend is kept once for all of them.
+#[derive(Drop)]
+pub(crate) struct LastSends {
+    sends: HashMap<FlowKey, LastSend, TableKey>,
+    backends: Backends,
+}
+
+impl LastSends {
+    /// Those of no sends. Flows are hashed by the key.
+    pub(crate) fn new(alloc: Global, key: TableKey) -> LastSends
+        ensures last { AreLast (λ x. None) result }
+        ensures flows { hash_map_len result.sends ≡ 0 }
+    {
+        LastSends {
+            sends: HashMap::with_hasher(alloc, key),
+            backends: Backends::new(alloc),
+        }
+    }
+
+    /// How many flows there are.
+    pub(crate) fn len(&self) -> usize
+        ensures { result ≡ hash_map_len self.now.sends }
+    {
+        self.sends.len()
+    }
+
+    // The send that a flow's entry stands for.
+    fn told(&self, flow: &Flow, last: &LastSend) -> Option<Sending>
+        ensures { result ≡ told self.now.backends.all.items flow.now last.now }
+    {
+        let backend = self.backends.at(last.place)?;
+        Some(Sending {
+            number: last.number,
+            flow: *flow,
+            version: last.version,
+            backend: *backend,
+            origin: last.origin,
+        })
+    }
+
+    /// Takes a send as its flow's last where the one before it went to the same backend, by one look into the map. Whether it did.
+    pub(crate) fn renew(&mut self, later: &Sending) -> bool
+        ensures { (sent : Flow → Option Sending) → AreLast sent self.old → RenewedAs result sent later.now self.old self.new }
+    {
+        let Some(last) = self.sends.get_mut(&FlowKey { flow: later.flow }) else {
+            return false;
+        };
+        let place = last.place;
+        if !self.backends.is_at(place, &later.backend) {
+            return false;
+        }
+        *last = LastSend {
+            number: later.number,
+            place,
+            version: later.version,
+            origin: later.origin,
+        };
+        true
+    }
+
+    /// A send is its flow's last. The answer is the one before it. Where memory is refused nothing more is known of these.
+    pub(crate) fn put(&mut self, later: &Sending) -> Result<Option<Sending>, AllocError>
+        ensures first { (sent : Flow → Option Sending) → AreLast sent self.old → IfOk result (λ first. first ≡ sent later.now.flow) }
+        ensures last { (sent : Flow → Option Sending) → AreLast sent self.old → OnOk result (AreLast (with_send sent later.now) self.new) }
+        ensures flows { (sent : Flow → Option Sending) → AreLast sent self.old → OnOk result (hash_map_len self.new.sends ≡ hash_map_len self.old.sends + (if is_some (sent later.now.flow) then 0 else 1)) }
+    {
+        let key = FlowKey { flow: later.flow };
+        let place = self.backends.place_of(&later.backend)?;
+        let send = LastSend {
+            number: later.number,
+            place,
+            version: later.version,
+            origin: later.origin,
+        };
+        let Ok(last) = self.sends.insert(key, send) else {
+            return Err(AllocError);
+        };
+        Ok(last.and_then(|last| self.told(&later.flow, &last)))
+    }
+}

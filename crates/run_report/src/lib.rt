@@ -1,0 +1,28 @@
+//! What a user reads of a run: its events with their outcomes, its report, why two packets went where they went, and which
+//! connections were split, and why.
+//!
+//! A split is two packets of one flow that were sent to different backends, with no packet of that flow sent between them.
+//! `SplitBook` finds them as a cluster's events come; it keeps the last send of each flow and the splits, and no event.
+#![tactic(auto)]
+
+mod backends;
+mod book;
+mod cause;
+mod last_sends;
+mod laws;
+mod lines;
+mod names;
+mod reports;
+mod sending;
+mod split_lines;
+mod verdicts;
+
+pub use book::SplitBook;
+pub use cause::{SplitCause, cause_of};
+pub use laws::{splits_are_all_pairs, splits_are_explained, splits_follow_picks};
+pub use lines::push_line;
+pub use names::CauseText;
+pub use reports::report_text;
+pub use sending::{Sending, Split};
+pub use split_lines::push_splits;
+pub use verdicts::verdict_text;

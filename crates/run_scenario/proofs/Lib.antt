@@ -1,0 +1,6 @@
+pub mod Walks
+pub mod Ruled
+pub mod InWords
+pub mod Halts
+pub mod Audited
+pub mod Known

@@ -1,0 +1,50 @@
+-- What is sent of a list, item by item, and the packets of a list of records.
+use Rattle.std.proofs.Common.{◌≡◌, ◌<◌, ◌≤◌, ℕ, ◌+◌, Bool, zero, suc, List, [], ◌∷◌, ◌++◌, length, map, take, drop, get_or, Option, sym, ap, ◌∙◌, subst, append-nil, take-append-drop}
+use Rattle.std.specs.List.{flat_map}
+use Rattle.std.proofs.lemmas.List.{take_more, take_all, map_push}
+use Rattle.std.proofs.lemmas.List.Concat.{flat_map-append}
+use Rattle.std.proofs.lemmas.Option.{none-some}
+use Rattle.ip_headers.specs.declared.Link.{Link}
+use Rattle.pcap_file.specs.declared.format.Frame.{Frame}
+use Rattle.pcap_file.specs.Device.{Tape}
+use Rattle.pcap_file.specs.Format.{Record, packet}
+use Rattle.cluster_node.specs.declared.packets.Packet.{Packet}
+use Rattle.cluster_node.specs.Records.{WasRead}
+use Rattle.cluster_core.proofs.Frames.{was_read}
+use Rattle.cluster_core.specs.Cluster.{WereRead}
+use Rattle.simulation.specs.declared.fault.SimulationFault.{SimulationFault}
+use Rattle.simulation.specs.Sent.{Sending, Wrote, WroteUntil, packet_in, packets_of, time_of}
+use Rattle.simulation.proofs.Sends.{wrote_both, until_more, until_behind}
+
+module _ {X : Type 0} (f : X → List Sending) (xs : List X) (i : ℕ) (x : X) (lt : i < length xs) (is : x ≡ get_or xs i x) where
+  front : take (i + 1) xs ≡ take i xs ++ x ∷ []
+  front = take_more xs i x lt ∙ ap (λ (y : X). take i xs ++ y ∷ []) (sym is)
+
+  sent_more : flat_map f (take (i + 1) xs) ≡ flat_map f (take i xs) ++ f x
+  sent_more = ap (flat_map f) front ∙ flat_map-append f (take i xs) (x ∷ []) ∙ ap (λ (l : List Sending). flat_map f (take i xs) ++ l) (append-nil (f x))
+
+  sent_whole : flat_map f xs ≡ (flat_map f (take i xs) ++ f x) ++ flat_map f (drop (i + 1) xs)
+  sent_whole = ap (flat_map f) (sym (take-append-drop (i + 1) xs)) ∙ flat_map-append f (take (i + 1) xs) (drop (i + 1) xs) ∙ ap (λ (l : List Sending). l ++ flat_map f (drop (i + 1) xs)) sent_more
+
+  -- one item more was written
+  pub wrote_more : (a b c : Tape) → Wrote a b (flat_map f (take i xs)) → Wrote b c (f x) → Wrote a c (flat_map f (take (i + 1) xs))
+  wrote_more a b c h k = subst (λ (l : List Sending). Wrote a c l) (sym sent_more) (wrote_both a b c (flat_map f (take i xs)) (f x) h k)
+
+  -- the writing stopped inside an item
+  pub cut_at : (fault : SimulationFault) (a b c : Tape) → Wrote a b (flat_map f (take i xs)) → WroteUntil fault b c (f x) → WroteUntil fault a c (flat_map f xs)
+  cut_at fault a b c h k = until_more fault a c (flat_map f (take i xs) ++ f x) (flat_map f (drop (i + 1) xs)) (flat_map f xs) sent_whole (until_behind fault a b c (flat_map f (take i xs)) (f x) h k)
+
+pub wrote_all : {X : Type 0} (f : X → List Sending) (xs : List X) (i : ℕ) (a b : Tape) → length xs ≤ i → Wrote a b (flat_map f (take i xs)) → Wrote a b (flat_map f xs)
+wrote_all {X} f xs i a b le h = subst (λ (l : List X). Wrote a b (flat_map f l)) (take_all i xs le) h
+
+-- the packet of one record more
+pub packets_more : (link : Link) (check : Bool) (fs : List Frame) (i : ℕ) (x : Frame) → i < length fs → x ≡ get_or fs i x → packets_of link check (map packet (take (i + 1) fs)) ≡ packets_of link check (map packet (take i fs)) ++ packet_in link check (packet x) ∷ []
+packets_more link check fs i x lt is =
+    ap (λ (l : List Frame). packets_of link check (map packet l)) (take_more fs i x lt ∙ ap (λ (y : Frame). take i fs ++ y ∷ []) (sym is))
+    ∙ ap (λ (l : List Record). packets_of link check l) (map_push packet (take i fs) x)
+    ∙ map_push (packet_in link check) (map packet (take i fs)) (packet x)
+
+pub all_read : (link : Link) (check : Bool) (rs : List Record) → WereRead (packets_of link check rs)
+all_read link check [] k p e = absurd (none-some p e)
+all_read link check (r ∷ rs) zero p e = subst (λ (o : Option Packet). WasRead o) e (was_read link r.bytes (time_of r) check)
+all_read link check (r ∷ rs) (suc k) p e = all_read link check rs k p e

@@ -1,0 +1,5 @@
+pub mod Sends
+pub mod Inputs
+pub mod Runs
+pub mod Kept
+pub mod PrivateFailures

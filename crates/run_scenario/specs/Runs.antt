@@ -1,0 +1,102 @@
+-- The run of a scenario's cluster on threads over a capture that was read whole.
+use Rattle.std.specs.Prelude.{◌≡◌, ◌⊎◌, ℕ, Bool, true, false, List, [], ◌++◌, length, reverse, codes, Some, None}
+use Rattle.std.specs.Io.KnownBytes.{Appends}
+use Rattle.ip_headers.specs.declared.Link.{Link}
+use Rattle.pcap_file.specs.declared.format.Head.{Head}
+use Rattle.pcap_file.specs.declared.format.InputEnd.{InputEnd}
+use Rattle.pcap_file.specs.Device.{Tape, Unfailed}
+use Rattle.pcap_file.specs.Format.{Record}
+use Rattle.cluster_node.specs.declared.packets.Packet.{Packet}
+use Rattle.cluster_node.specs.declared.events.LogEntry.{LogEntry}
+use Rattle.run_report.specs.Splits.{said_of}
+use Rattle.run_report.specs.Texts.{splits_text}
+use Rattle.cluster_core.specs.declared.counts.Totals.{Totals}
+use Rattle.event_trace.specs.declared.play.Tally.{Tally}
+use Rattle.event_trace.specs.Tally.{tally_of}
+use Rattle.driver_commands.specs.Knowing.{first_unsupported_of}
+use Rattle.driver_commands.specs.Orders.{orders_of, plan_of}
+use Rattle.thread_records.specs.declared.command.Command.{Command}
+use Rattle.thread_records.specs.declared.nodes.NodeRecord.{NodeRecord}
+use Rattle.thread_records.specs.declared.nodes.History.{History}
+use Rattle.thread_records.specs.Runs.{AreRuns, JoinsRuns}
+use Rattle.scenario.specs.declared.reading.Scenario.{Scenario}
+use Rattle.simulate_scenario.specs.Described.{rules_in, choice_in, plan_in, lookups_in}
+use Rattle.simulate_scenario.specs.Answers.{totals_in, is_cut}
+use Rattle.run_report.specs.Report.{report_text}
+use Rattle.simulation.specs.declared.fault.SimulationFault.{SimulationFault}
+use Rattle.simulation.specs.declared.fault.SimulationFault.TheVariants.{Memory}
+use Rattle.simulation.specs.Sent.{packets_of, capture_text}
+use Rattle.simulation.specs.Simulated.{traffic_of, CaptureUntil, IsOfRun}
+use Rattle.run_scenario.specs.declared.failure.RunFailure.{RunFailure}
+use Rattle.run_scenario.specs.declared.failure.RunFailure.TheVariants.{UnsupportedStep, Simulation, Threads}
+use Rattle.run_scenario.specs.Inputs.{IsReadWhole, WholeWasRead, ReadingFails}
+use Rattle.run_scenario.specs.Sends.{sent_by_nodes}
+
+abbrev pub packets_in : Scenario → Link → List Record → List Packet
+packets_in s link records = packets_of link s.check records
+
+-- what the scenario's steps, with the choices of its spreader, tell each node, and what they mean for the records
+abbrev pub commands_in : Scenario → Link → List Record → List (List Command)
+commands_in s link records = orders_of (choice_in s) (packets_in s link records) s.steps.items (length s.nodes.items)
+
+abbrev pub tally_in : Scenario → Link → List Record → Tally
+tally_in s link records = tally_of (length records) (plan_of (choice_in s) (packets_in s link records) s.steps.items (length s.nodes.items))
+
+-- the records and the history of a run in which each node did what the steps tell it
+pub record AreOfRun (s : Scenario) (link : Link) (records : List Record) (nodes : List NodeRecord) (history : History) : Type 0 where
+  pub runs : AreRuns (rules_in s) (packets_in s link records) s.ring 0 (commands_in s link records) nodes
+  pub joins : JoinsRuns (rules_in s) (packets_in s link records) nodes history
+
+-- whether a replay of the history's events gives the outcomes that it has
+abbrev pub audit_line : Bool → List ℕ
+audit_line true = codes "audit agrees\n"
+audit_line false = codes "audit differs\n"
+
+-- the record of a history, which has the newest event in front; the packets of arrivals are left out
+abbrev pub record_of : History → List LogEntry
+record_of h = reverse (said_of h.events.items h.outcomes.items)
+
+-- what is reported of the splits of a history, where it is asked for
+abbrev pub splits_if : Bool → Scenario → History → List ℕ
+splits_if true s h = splits_text (lookups_in s) (record_of h)
+splits_if false s h = []
+
+abbrev pub audited_report : Tally → Totals → Bool → Bool → List ℕ
+audited_report tally totals cut agrees = report_text tally totals cut ++ audit_line agrees
+
+-- A cluster on threads knows each step, and it ran over the whole input. The output got the capture of what the nodes sent,
+-- node by node and life by life. The text is the report of that run, after what is reported of its splits where it is asked
+-- for.
+pub record Ran (s : Scenario) (splits : Bool) (input input' output output' : Tape) (text : List ℕ) : Type 0 where
+  pub known : first_unsupported_of s.steps.items ≡ None
+  pub head : Head
+  pub records : List Record
+  pub ending : InputEnd
+  pub read : IsReadWhole input input' head records ending
+  pub nodes : List NodeRecord
+  pub history : History
+  pub run : AreOfRun s head.link records nodes history
+  pub written : Appends output.bytes output'.bytes (capture_text (sent_by_nodes (traffic_of (plan_in s) head.link records) nodes))
+  pub unfailed : Unfailed output output'
+  pub report : text ≡ splits_if splits s history ++ audited_report (tally_in s head.link records) (totals_in history.outcomes.items) (is_cut ending) true
+
+-- the same up to the output, which got a prefix of that capture; it is cut between records, unless writing failed
+pub record BreaksOff (fault : SimulationFault) (s : Scenario) (input input' output output' : Tape) : Type 0 where
+  pub head : Head
+  pub records : List Record
+  pub ending : InputEnd
+  pub read : IsReadWhole input input' head records ending
+  pub nodes : List NodeRecord
+  pub history : History
+  pub run : AreOfRun s head.link records nodes history
+  pub not_reading : IsOfRun fault
+  pub wrote : CaptureUntil fault output output' (sent_by_nodes (traffic_of (plan_in s) head.link records) nodes)
+
+-- The run stopped by this fault. No device is called where a step is one that no cluster on threads knows. A fault of
+-- reading, a fault of the threads, and a refusal of memory before the output was begun leave the output as it was.
+abbrev pub Halted : Scenario → Tape → Tape → Tape → Tape → RunFailure → Type 0
+Halted s input input' output output' (UnsupportedStep place) = (first_unsupported_of s.steps.items ≡ Some place) × (input' ≡ input) × (output' ≡ output)
+Halted s input input' output output' (Threads fault) = WholeWasRead input input' × (output' ≡ output)
+Halted s input input' output output' (Simulation fault) =
+    (ReadingFails fault input input' × (output' ≡ output))
+    ⊎ (((fault ≡ Memory) × WholeWasRead input input' × (output' ≡ output)) ⊎ BreaksOff fault s input input' output output')

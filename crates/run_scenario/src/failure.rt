@@ -1,0 +1,49 @@
+//! Why a run on threads stopped.
+use node_threads::RunFault;
+use simulation::SimulationFault;
+use std::alloc::AllocError;
+
+/// Why the run of a scenario's cluster on threads stopped.
+#[derive(Clone, Copy, Debug, PartialEq, Eq)]
+pub enum RunFailure {
+    /// This step, from 0, is the first that no cluster on threads knows: `full`, `hold` or `drain`. Nothing was called.
+    UnsupportedStep(u32),
+    /// The input isn't a capture or couldn't be read, the output couldn't be written, or memory was refused.
+    Simulation(SimulationFault),
+    /// The threads' run had this fault.
+    Threads(RunFault),
+}
+
+impl From<SimulationFault> for RunFailure {
+    ghost use Rattle.std.specs.Prelude.{◌≡◌};
+    ghost use Rattle.run_scenario.specs.declared.failure.RunFailure.TheVariants.{Simulation};
+
+    ghost from_gives = { λ fault stop. stop ≡ Simulation fault };
+
+    fn from(fault: SimulationFault) -> RunFailure {
+        RunFailure::Simulation(fault)
+    }
+}
+
+impl From<RunFault> for RunFailure {
+    ghost use Rattle.std.specs.Prelude.{◌≡◌};
+    ghost use Rattle.run_scenario.specs.declared.failure.RunFailure.TheVariants.{Threads};
+
+    ghost from_gives = { λ fault stop. stop ≡ Threads fault };
+
+    fn from(fault: RunFault) -> RunFailure {
+        RunFailure::Threads(fault)
+    }
+}
+
+impl From<AllocError> for RunFailure {
+    ghost use Rattle.std.specs.Prelude.{◌≡◌};
+    ghost use Rattle.simulation.specs.declared.fault.SimulationFault.TheVariants.{Memory};
+    ghost use Rattle.run_scenario.specs.declared.failure.RunFailure.TheVariants.{Simulation};
+
+    ghost from_gives = { λ _ stop. stop ≡ Simulation Memory };
+
+    fn from(_: AllocError) -> RunFailure {
+        RunFailure::Simulation(SimulationFault::Memory)
+    }
+}

@@ -1,0 +1,14 @@
+//! Runs a scenario's cluster on threads over a capture that was read whole. What the nodes sent is written as another
+//! capture, node by node. A report says what became of the run, and ends in whether its history is a replay's.
+#![tactic(auto)]
+
+mod failure;
+mod orders;
+mod reading;
+mod report;
+mod running;
+mod sending;
+mod threads;
+
+pub use failure::RunFailure;
+pub use running::run_scenario;

@@ -1,0 +1,141 @@
+//! A scenario's cluster runs on threads over a capture.
+ghost use Rattle.std.specs.Prelude.{◌≡◌, ◌≤◌, ◌++◌, ℕ, length, map, Some, Err, IfOk, IfErr, string_bytes, true};
+ghost use Rattle.pcap_file.specs.Format.{packet, max_records};
+ghost use Rattle.driver_commands.specs.Knowing.{first_unsupported_of};
+ghost use Rattle.scenario.specs.Meaning.{HasLimits};
+ghost use Rattle.simulate_scenario.specs.Answers.{totals_in, is_cut};
+ghost use Rattle.run_scenario.specs.Runs.{AreOfRun, Ran, Halted, tally_in, splits_if, audited_report};
+ghost use Rattle.run_scenario.specs.Kept.{KeepsPromises};
+ghost use Rattle.run_scenario.specs.PrivateFailures.{IsOfThreads};
+
+use crate::failure::RunFailure;
+use crate::orders::orders_of;
+use crate::reading::{Captured, packets_of, read_whole};
+use crate::report::{audited_report, splits_told};
+use crate::sending::write_capture;
+use crate::threads::run_named;
+use connection_table::TableKey;
+use driver_commands::first_unsupported_step;
+use ip_headers::Link;
+use node_threads::ClusterRun;
+use pcap_file::{Sink, Source};
+use scenario::Scenario;
+use simulation::Wire;
+use std::alloc::Global;
+use std::sync::Wait;
+use std::thread::Threads;
+
+// What the nodes did, and the report.
+#[derive(Drop)]
+struct Done {
+    run: ClusterRun,
+    text: String,
+}
+
+// The nodes' addresses, and how the records of a capture are read.
+fn wire_of(scenario: &Scenario, link: Link) -> Wire<'_>
+    ensures nodes { result.nodes.now ≡ scenario.now.nodes.items }
+    ensures link { result.link ≡ link }
+    ensures check { result.check ≡ scenario.now.check }
+{
+    Wire {
+        nodes: scenario.nodes.as_slice(),
+        link,
+        check: scenario.check,
+    }
+}
+
+// Runs the cluster over a capture that was read.
+fn run_over<R: Threads + Wait + Sync>(
+    rt: &R,
+    alloc: Global,
+    key: TableKey,
+    scenario: &Scenario,
+    captured: &Captured,
+    splits: bool,
+) -> Result<Done, RunFailure>
+    requires limits { HasLimits scenario.now }
+    requires size { scenario.now.catalogue.size ≡ scenario.now.size }
+    requires few { length captured.now.frames.items ≤ max_records }
+    ensures run { IfOk result (λ d. AreOfRun scenario.now captured.now.head.link (map packet captured.now.frames.items) d.run.nodes.items d.run.history) }
+    ensures report { IfOk result (λ d. string_bytes d.text ≡ splits_if splits scenario.now d.run.history ++ audited_report (tally_in scenario.now captured.now.head.link (map packet captured.now.frames.items)) (totals_in d.run.history.outcomes.items) (is_cut captured.now.ending) true) }
+    ensures stopped { IfErr result IsOfThreads }
+{
+    let wire = wire_of(scenario, captured.head.link);
+    let packets = packets_of(alloc, &wire, captured.frames.as_slice())?;
+    let orders = orders_of(alloc, scenario, packets.as_slice())?;
+    let audited = run_named(
+        rt,
+        alloc,
+        key,
+        scenario,
+        packets.as_slice(),
+        orders.commands.as_slice(),
+    )?;
+    let outcomes = audited.run.outcomes();
+    let mut text = splits_told(alloc, key, scenario, &audited.run, splits)?;
+    let report = audited_report(
+        alloc,
+        orders.tally,
+        outcomes,
+        captured.ending,
+        audited.agrees,
+    )?;
+    text.push_str(report.as_str())?;
+    Ok(Done {
+        run: audited.run,
+        text,
+    })
+}
+
+/// Runs a scenario's cluster on threads over a capture, and answers the report. The report ends in `audit agrees` where a
+/// replay of the run's history gives the outcomes that it has: by the clause `ok` it always does. With `splits` the report
+/// begins with a line for each split, and then how many there were. A split is two packets that follow one another in a
+/// flow, in the history's order, and went to different backends; events are numbered as in the history.
+///
+/// The capture is read to its end before any thread starts, and the steps become the nodes' commands. Once all threads are
+/// joined, what the nodes sent is written as another capture: node by node, and of each node life by life. The connection
+/// tables and the book of splits hash by the key.
+///
+/// Before anything is called the steps are looked at: a cluster on threads has no `full`, `hold` and `drain`. Whatever goes
+/// wrong before the writing leaves the output as it was. Where memory for a datagram in a tunnel is refused the output is
+/// cut between records.
+///
+/// By the clause `kept` the run keeps the promises, whatever the schedule was. For a scheme to which the turn doesn't
+/// matter, two packets of one flow that were sent to different backends were chosen under versions that pick these backends.
+/// Where the scheme is Maglev, their tables name the two backends at the flow's slot. A worker keeps a flow's backend while
+/// its entry stands and the backend is up. Every slot of Maglev's tables names an up backend, and backends' slot counts are
+/// in proportion to their weights. The two versions of each split pick its two backends, for such a scheme, and for Maglev
+/// name them at the flow's slot.
+pub fn run_scenario<R: Threads + Wait + Sync, I: Source, O: Sink>(
+    rt: &R,
+    alloc: Global,
+    key: TableKey,
+    scenario: &Scenario,
+    splits: bool,
+    input: &mut I,
+    output: &mut O,
+) -> Result<String, RunFailure>
+    requires limits { HasLimits scenario.now }
+    requires size { scenario.now.catalogue.size ≡ scenario.now.size }
+    ensures ok { IfOk result (λ s. Ran scenario.now splits (I.tape input.old) (I.tape input.new) (O.tape output.old) (O.tape output.new) (string_bytes s)) }
+    ensures kept { IfOk result (λ s. (ran : Ran scenario.now splits (I.tape input.old) (I.tape input.new) (O.tape output.old) (O.tape output.new) (string_bytes s)) → KeepsPromises scenario.now ran.head.link ran.records ran.history) }
+    ensures unknown { (place : ℕ) → first_unsupported_of scenario.now.steps.items ≡ Some place → result ≡ Err (RunFailure.UnsupportedStep place) }
+    ensures stopped { IfErr result (Halted scenario.now (I.tape input.old) (I.tape input.new) (O.tape output.old) (O.tape output.new)) }
+{
+    let _slots = scenario.size.slots();
+    scenario.catalogue.keeps_doubles_out();
+    match first_unsupported_step(scenario.steps.as_slice()) {
+        Some(step) => return Err(RunFailure::UnsupportedStep(step)),
+        None => {}
+    }
+    let captured = read_whole(alloc, input)?;
+    let done = run_over(rt, alloc, key, scenario, &captured, splits)?;
+    let wire = wire_of(scenario, captured.head.link);
+    let frames = captured.frames.as_slice();
+    let nodes = done.run.nodes.as_slice();
+    match write_capture(alloc, output, &wire, frames, nodes) {
+        Ok(()) => Ok(done.text),
+        Err(fault) => Err(RunFailure::Simulation(fault)),
+    }
+}

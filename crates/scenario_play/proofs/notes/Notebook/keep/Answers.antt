@@ -1,6 +1,0 @@
-use Rattle.cluster_core.specs.Noting.{said_by}
-use Rattle.scenario_play.proofs.Noted.{keeps_more}
-use Rattle.scenario_play.proofs.notes.Notebook.keep.Goals as goal
-
-pub returns : goal.returns
-returns c = λ past event packet k. keeps_more c.args.one c.args.other past (said_by event packet c.args.outcome.now) c.args.self.now _ k c.in_ok-self.ensures c.kept-self.ensures c.kept-self-2.ensures

@@ -1,6 +1,0 @@
-use Rattle.cluster_core.specs.Noting.{said_by}
-use Rattle.scenario_play.proofs.Noted.{lists_more}
-use Rattle.scenario_play.proofs.notes.Notebook.list.Goals as goal
-
-pub returns-clause-lists : goal.returns-clause-lists
-returns-clause-lists c = λ past packet l. lists_more past (said_by c.args.event.now packet c.args.outcome.now) c.args.self.now _ l c.in_ok-self.ensures c.in_ok-push_line.ensures

@@ -1,6 +1,0 @@
-use Rattle.std.proofs.Common.{refl}
-use Rattle.scenario_play.proofs.Noted.{none_noted}
-use Rattle.scenario_play.proofs.notes.Notebook.new.Goals as goal
-
-pub returns : goal.returns
-returns c = λ asked. none_noted _ c.new.ensures refl c.new-2.ensures.bytes c.new-3.ensures refl refl asked

@@ -1,0 +1,278 @@
+//! The places at which a scenario is refused, and that reading refuses it there.
+
+use scenario::{Played, ScenarioFault, format_of, pools_in};
+use scenario_diagnostics::{Flaw, Key, Place, key_place, member_place, pool_place};
+use std::alloc::Global;
+use std::process::Abort;
+
+static GOOD: &str = "format = 1
+size = 7
+hash = 'sum'
+scheme = 'maglev'
+spread = 'turn'
+workers = 1
+capacity = 2
+nodes = ['10.9.0.1', '10.9.0.2']
+steps = ['install 0 1', 'take 1']
+[[versions]]
+number = 1
+services = []
+[[versions]]
+number = 2
+[[versions.services]]
+vip = '192.0.2.1'
+proto = 'tcp'
+port = 80
+members = ['A@10.8.0.1', 'B@10.8.0.2/down']
+";
+
+// A text, what stands in its first place in the good scenario, and the place that is found then.
+type Row = (&'static str, &'static str, Option<Place>);
+
+fn changed(rt: &impl Abort, alloc: Global, row: &Row) -> String {
+    GOOD.replacen(alloc, row.0, row.1, 1).expect(rt, "memory")
+}
+
+// The place is there where reading answers its fault, and only there.
+fn is_at(rt: &impl Abort, found: Option<Place>, row: &Row, refused: bool, at: usize) {
+    assert_eq!(rt; found, row.2, "row {at}");
+    assert!(rt; found.is_some() == refused, "row {at}");
+}
+
+const UNKNOWN: Option<Place> = Some(Place::Root(Flaw::Unknown));
+
+static KEYS: [Row; 20] = [
+    ("", "", None),
+    ("", "color = 1\n", UNKNOWN),
+    (
+        "size = 7",
+        "size = 8",
+        Some(Place::Root(Flaw::Value(Key::Size))),
+    ),
+    ("'sum'", "'md5'", Some(Place::Root(Flaw::Value(Key::Hash)))),
+    ("'maglev'", "1", Some(Place::Root(Flaw::Value(Key::Scheme)))),
+    (
+        "'turn'",
+        "'turns'",
+        Some(Place::Root(Flaw::Value(Key::Spread))),
+    ),
+    (
+        "workers = 1",
+        "workers = 17",
+        Some(Place::Root(Flaw::Value(Key::Workers))),
+    ),
+    (
+        "capacity = 2\n",
+        "",
+        Some(Place::Root(Flaw::Value(Key::Capacity))),
+    ),
+    (
+        "size = 7",
+        "size = 7\nring = 0",
+        Some(Place::Root(Flaw::Value(Key::Ring))),
+    ),
+    (
+        "size = 7",
+        "size = 7\ncheck = 1",
+        Some(Place::Root(Flaw::Value(Key::Check))),
+    ),
+    (
+        "['10.9.0.1', '10.9.0.2']",
+        "[]",
+        Some(Place::Root(Flaw::Value(Key::Nodes))),
+    ),
+    (
+        "['install 0 1', 'take 1']",
+        "1",
+        Some(Place::Root(Flaw::Value(Key::Steps))),
+    ),
+    ("format = 1", "format = 1\nidle = 5", UNKNOWN),
+    ("format = 1", "format = 2\nidle = 0", None),
+    ("format = 1", "format = 2\nidle = 4294967295000000", None),
+    (
+        "format = 1",
+        "format = 2\nidle = 4294967295000001",
+        Some(Place::Root(Flaw::Value(Key::Idle))),
+    ),
+    (
+        "format = 1",
+        "format = 2\nidle = -1",
+        Some(Place::Root(Flaw::Value(Key::Idle))),
+    ),
+    (
+        "format = 1",
+        "format = 2\nidle = '5'",
+        Some(Place::Root(Flaw::Value(Key::Idle))),
+    ),
+    (
+        "10.9.0.2",
+        "10.9.0.02",
+        Some(Place::Root(Flaw::Item(Key::Nodes, 1))),
+    ),
+    (
+        "'take 1'",
+        "3",
+        Some(Place::Root(Flaw::Item(Key::Steps, 1))),
+    ),
+];
+
+static KEYS_OF_VERSIONS: [Row; 10] = [
+    (
+        "number = 2",
+        "",
+        Some(Place::Version(1, Flaw::Value(Key::Number))),
+    ),
+    (
+        "services = []",
+        "",
+        Some(Place::Version(0, Flaw::Value(Key::Services))),
+    ),
+    (
+        "number = 2",
+        "number = 2\nname = 'b'",
+        Some(Place::Version(1, Flaw::Unknown)),
+    ),
+    (
+        "192.0.2.1",
+        "192.0.2.256",
+        Some(Place::Service(1, 0, Flaw::Value(Key::Vip))),
+    ),
+    (
+        "'tcp'",
+        "'sctp'",
+        Some(Place::Service(1, 0, Flaw::Value(Key::Proto))),
+    ),
+    (
+        "port = 80",
+        "port = 65536",
+        Some(Place::Service(1, 0, Flaw::Value(Key::Port))),
+    ),
+    (
+        "port = 80",
+        "port = 80\nweight = 1",
+        Some(Place::Service(1, 0, Flaw::Unknown)),
+    ),
+    (
+        "'B@10.8.0.2/down'",
+        "2",
+        Some(Place::Service(1, 0, Flaw::Item(Key::Members, 1))),
+    ),
+    (
+        "services = []",
+        "services = [1]",
+        Some(Place::Service(0, 0, Flaw::NoTable)),
+    ),
+    ("B@", "B", None),
+];
+
+fn finds_keys(rt: &impl Abort, alloc: Global, row: &Row, at: usize) {
+    let text = changed(rt, alloc, row);
+    let table = toml::table_from_str(alloc, text.as_str()).expect(rt, "a document");
+    let format = format_of(&table).expect(rt, "a format");
+    let place = key_place(alloc, format, &table).expect(rt, "memory");
+    let fault = scenario::read(alloc, Played::InTurn, text.as_bytes()).err();
+    is_at(rt, place, row, fault == Some(ScenarioFault::BadKey), at);
+}
+
+#[test]
+fn places_of_the_setup(rt: HostRuntime) {
+    for (at, row) in KEYS.iter().enumerate() {
+        finds_keys(&rt, rt.alloc(), row, at);
+    }
+}
+
+#[test]
+fn places_of_the_versions(rt: HostRuntime) {
+    for (at, row) in KEYS_OF_VERSIONS.iter().enumerate() {
+        finds_keys(&rt, rt.alloc(), row, at);
+    }
+}
+
+static MEMBERS: [Row; 4] = [
+    ("", "", None),
+    (
+        "A@10",
+        "A@010",
+        Some(Place::Service(1, 0, Flaw::Item(Key::Members, 0))),
+    ),
+    (
+        "/down",
+        "/up",
+        Some(Place::Service(1, 0, Flaw::Item(Key::Members, 1))),
+    ),
+    (
+        "/down",
+        "*2",
+        Some(Place::Service(1, 0, Flaw::Item(Key::Members, 1))),
+    ),
+];
+
+fn finds_members(rt: &impl Abort, alloc: Global, row: &Row, at: usize) {
+    let text = changed(rt, alloc, row);
+    let table = toml::table_from_str(alloc, text.as_str()).expect(rt, "a document");
+    let format = format_of(&table).expect(rt, "a format");
+    let place = member_place(alloc, format, &table).expect(rt, "memory");
+    let fault = scenario::read(alloc, Played::InTurn, text.as_bytes()).err();
+    is_at(rt, place, row, fault == Some(ScenarioFault::BadMember), at);
+}
+
+#[test]
+fn places_of_members(rt: HostRuntime) {
+    for (at, row) in MEMBERS.iter().enumerate() {
+        finds_members(&rt, rt.alloc(), row, at);
+    }
+}
+
+#[test]
+fn names_of_keys(rt: HostRuntime) {
+    assert!(rt; Key::Vip.name() == "vip");
+    assert!(rt; Key::Members.name() == "members");
+}
+
+// What a catalogue refuses.
+static POOLS: [Row; 6] = [
+    ("", "", None),
+    (
+        "number = 1",
+        "number = 0",
+        Some(Place::Version(0, Flaw::Value(Key::Number))),
+    ),
+    (
+        "number = 1",
+        "number = 2",
+        Some(Place::Version(1, Flaw::Value(Key::Number))),
+    ),
+    (
+        "B@10.8.0.2",
+        "A@10.8.0.2",
+        Some(Place::Service(1, 0, Flaw::Item(Key::Members, 1))),
+    ),
+    (
+        "'A@10.8.0.1'",
+        "'A@10.8.0.1', 'C@10.8.0.3', 'D@10.8.0.4', 'E@10.8.0.5', 'F@10.8.0.6', 'G@10.8.0.7', 'H@10.8.0.8'",
+        Some(Place::Service(1, 0, Flaw::Item(Key::Members, 7))),
+    ),
+    (
+        "services = []",
+        "services = [{ vip = '192.0.2.1', proto = 'udp', port = 53, members = [] }, { vip = '192.0.2.1', proto = 'udp', port = 53, members = [] }]",
+        Some(Place::Version(0, Flaw::Item(Key::Services, 1))),
+    ),
+];
+
+fn finds_in_pools(rt: &impl Abort, alloc: Global, row: &Row, at: usize) {
+    let text = changed(rt, alloc, row);
+    let table = toml::table_from_str(alloc, text.as_str()).expect(rt, "a document");
+    let pools = pools_in(alloc, &table).expect(rt, "memory");
+    let (size, versions) = pools.expect(rt, "versions");
+    let place = pool_place(alloc, size, versions.as_slice()).expect(rt, "memory");
+    let fault = scenario::read(alloc, Played::InTurn, text.as_bytes()).err();
+    let refused = matches!(fault, Some(ScenarioFault::Pool(_)));
+    is_at(rt, place, row, refused, at);
+}
+
+#[test]
+fn places_of_the_pools(rt: HostRuntime) {
+    for (at, row) in POOLS.iter().enumerate() {
+        finds_in_pools(&rt, rt.alloc(), row, at);
+    }
+}

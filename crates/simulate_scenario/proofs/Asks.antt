@@ -1,0 +1,37 @@
+-- What a history has at an event, and what is explained of two.
+use Rattle.std.proofs.Common.{◌≡◌, ℕ, List, reverse, Option, Some, None, Result, refl, sym, ap, ◌∙◌, subst, option_map}
+use Rattle.std.proofs.lemmas.Option.{slice_get-map}
+use Rattle.std.specs.Prelude.{slice_get, option_and_then, IfSome, IfOk}
+use Rattle.run_report.specs.Causes.{Lookups}
+use Rattle.cluster_node.specs.declared.events.LogEntry.{LogEntry}
+use Rattle.cluster_node.specs.declared.outcomes.Outcome.{Outcome}
+use Rattle.cluster_node.specs.Rules.{Rules}
+use Rattle.cluster_core.specs.Histories.{outcomes_of}
+use Rattle.cluster_core.specs.Explain.{Send, send_of, explained, PickedSend, PickedSends}
+use Rattle.pcap_file.specs.declared.format.InputEnd.{InputEnd}
+use Rattle.event_trace.specs.Trace.{Trace}
+use Rattle.run_report.specs.Verdicts.{verdict_text}
+use Rattle.simulate_scenario.specs.declared.asking.Query.{Query}
+use Rattle.simulate_scenario.specs.declared.asking.Query.TheVariants.{Events}
+use Rattle.simulate_scenario.specs.Answers.{send_at, answer_of}
+
+-- what was sent at an event, by its outcome
+pub send_told : (h : List LogEntry) (k : ℕ) (o : Option Outcome) → o ≡ slice_get (outcomes_of h) k → option_and_then (λ q. send_of q) o ≡ send_at h k
+send_told h k o e = ap (option_and_then (λ (q : Outcome). send_of q)) (e ∙ slice_get-map (λ (s : LogEntry). s.outcome) h k) ∙ through (slice_get h k)
+  where
+    through : (x : Option LogEntry) → option_and_then (λ q. send_of q) (option_map (λ s. s.outcome) x) ≡ option_and_then (λ s. send_of s.outcome) x
+    through None = refl
+    through (Some s) = refl
+
+pub picked_if : (rules : Rules) (outs : List Outcome) (k : ℕ) (o : Option Outcome) → PickedSends rules outs → o ≡ slice_get outs k → IfSome o (λ q. PickedSend rules (send_of q))
+picked_if rules outs k None p e = tt
+picked_if rules outs k (Some o) p e = p k o (sym e)
+
+-- the line that says why two packets went where they went, by the outcomes of their events
+pub line_told : {X E : Type 0} (bytes : X → List ℕ) (r : Result X E) (lookups : Lookups) (asked : Query) (trace : Trace) (packets : ℕ) (ending : InputEnd) (i j : ℕ) (a b : Option Outcome)
+    → asked ≡ Events i j → a ≡ slice_get (outcomes_of (reverse trace.past)) i → b ≡ slice_get (outcomes_of (reverse trace.past)) j
+    → IfOk r (λ s. bytes s ≡ verdict_text (explained lookups.slot (option_and_then (λ o. send_of o) a) (option_and_then (λ o. send_of o) b))) → IfOk r (λ s. bytes s ≡ answer_of lookups asked trace packets ending)
+line_told bytes r lookups asked trace packets ending i j a b e f g h =
+    subst (λ (q : Query). IfOk r (λ s. bytes s ≡ answer_of lookups q trace packets ending)) (sym e)
+    (subst (λ (x : Option Send). IfOk r (λ s. bytes s ≡ verdict_text (explained lookups.slot x (send_at (reverse trace.past) j)))) (send_told (reverse trace.past) i a f)
+    (subst (λ (y : Option Send). IfOk r (λ s. bytes s ≡ verdict_text (explained lookups.slot (option_and_then (λ o. send_of o) a) y))) (send_told (reverse trace.past) j b g) h))

@@ -1,0 +1,64 @@
+-- The setup that is made of a scenario is what the scenario describes.
+use Rattle.std.proofs.Common.{◌≡◌, ℕ, List, ap, ◌∙◌, subst, length}
+use Rattle.std.specs.Prelude.{is_some}
+use Rattle.hash_laws.specs.declared.any.AnyHash.{AnyHash}
+use Rattle.hash_laws.specs.Any.{plain_of}
+use Rattle.forwarder.specs.Serving.{Pick}
+use Rattle.run_report.specs.Causes.{lookups_of}
+use Rattle.pool_versions.specs.Pool.{version_at}
+use Rattle.selection.specs.Candidates.{candidates_of}
+use Rattle.cluster_node.specs.Rules.{Rules}
+use Rattle.cluster_core.specs.Setups.{Fixed}
+use Rattle.cluster_core.specs.Deployed.{Deployed, rules_of}
+use Rattle.cluster_core.specs.Runs.{cluster_by}
+use Rattle.event_trace.specs.declared.steps.ScenarioStep.{ScenarioStep}
+use Rattle.scenario.specs.declared.reading.Scenario.{Scenario}
+use Rattle.pcap_file.specs.Device.{Tape}
+use Rattle.simulation.specs.declared.fault.SimulationFault.{SimulationFault}
+use Rattle.simulation.specs.Plans.{Planned}
+use Rattle.simulation.specs.Simulated.{Stopped}
+use Rattle.simulate_scenario.specs.declared.asking.Query.{Query}
+use Rattle.simulate_scenario.specs.Described.{pick_by, rules_in, cluster_in, choice_by, choice_in, plan_in, lookups_in}
+use Rattle.simulate_scenario.specs.Answers.{Answers}
+
+abbrev pub fixed_of : {S : Type 0} → S → Scenario → Fixed S AnyHash
+fixed_of scheme s = record { hash = s.hash; scheme = scheme; size = s.size; nodes = s.nodes.items; workers = s.workers; capacity = s.capacity; idle = s.idle }
+
+abbrev pub ruling_of : {S : Type 0} → S → Scenario → Deployed S AnyHash
+ruling_of scheme s = record { setup = fixed_of scheme s; catalogue = s.catalogue }
+
+pub ruled : {S : Type 0} (scheme : S) (s : Scenario) (r : Deployed S AnyHash) (setup : Fixed S AnyHash) → r ≡ record { setup = setup; catalogue = s.catalogue } → setup ≡ fixed_of scheme s → r ≡ ruling_of scheme s
+ruled {S} scheme s r setup e f = e ∙ ap (λ (x : Fixed S AnyHash). record { setup = x; catalogue = s.catalogue }) f
+
+described : {S : Type 0} (pick_of : S → ℕ → Pick) (scheme : S) (s : Scenario) → pick_of scheme s.size ≡ pick_by s.scheme (plain_of s.hash) s.size → rules_of pick_of plain_of (ruling_of scheme s) ≡ rules_in s
+described pick_of scheme s e = ap (λ (p : Pick). record {
+  pick = p;
+  plain = plain_of s.hash;
+  known = λ v. is_some (version_at v s.catalogue.versions);
+  ups = λ v x. candidates_of s.catalogue v x;
+  nodes = length s.nodes.items;
+  workers = s.workers;
+  capacity = s.capacity;
+  idle = s.idle;
+}) e
+
+pub answers : {S : Type 0} (pick_of : S → ℕ → Pick) (scheme : S) (s : Scenario) (r : Deployed S AnyHash) (plan : Planned) (asked : Query) (i i' o o' : Tape) (text : List ℕ)
+    → pick_of scheme s.size ≡ pick_by s.scheme (plain_of s.hash) s.size → r ≡ ruling_of scheme s → plan ≡ plan_in s
+    → Answers (cluster_by (rules_of pick_of plain_of r)) (choice_by s.spread (plain_of r.setup.hash)) plan (lookups_of (plain_of r.setup.hash) r.setup.size r.catalogue) asked i i' o o' text
+    → Answers (cluster_in s) (choice_in s) (plan_in s) (lookups_in s) asked i i' o o' text
+answers {S} pick_of scheme s r plan asked i i' o o' text e f g h =
+    subst (λ (rules : Rules). Answers (cluster_by rules) (choice_in s) (plan_in s) (lookups_in s) asked i i' o o' text) (described pick_of scheme s e)
+    (subst (λ (q : Deployed S AnyHash). Answers (cluster_by (rules_of pick_of plain_of q)) (choice_by s.spread (plain_of q.setup.hash)) (plan_in s) (lookups_of (plain_of q.setup.hash) q.setup.size q.catalogue) asked i i' o o' text) f
+    (subst (λ (p : Planned). Answers (cluster_by (rules_of pick_of plain_of r)) (choice_by s.spread (plain_of r.setup.hash)) p (lookups_of (plain_of r.setup.hash) r.setup.size r.catalogue) asked i i' o o' text) g h))
+
+pub stops : {S : Type 0} (pick_of : S → ℕ → Pick) (scheme : S) (s : Scenario) (r : Deployed S AnyHash) (plan : Planned) (i i' o o' : Tape) (fault : SimulationFault)
+    → pick_of scheme s.size ≡ pick_by s.scheme (plain_of s.hash) s.size → r ≡ ruling_of scheme s → plan ≡ plan_in s
+    → Stopped (cluster_by (rules_of pick_of plain_of r)) (choice_by s.spread (plain_of r.setup.hash)) plan i i' o o' fault
+    → Stopped (cluster_in s) (choice_in s) (plan_in s) i i' o o' fault
+stops {S} pick_of scheme s r plan i i' o o' fault e f g h =
+    subst (λ (rules : Rules). Stopped (cluster_by rules) (choice_in s) (plan_in s) i i' o o' fault) (described pick_of scheme s e)
+    (subst (λ (q : Deployed S AnyHash). Stopped (cluster_by (rules_of pick_of plain_of q)) (choice_by s.spread (plain_of q.setup.hash)) (plan_in s) i i' o o' fault) f
+    (subst (λ (p : Planned). Stopped (cluster_by (rules_of pick_of plain_of r)) (choice_by s.spread (plain_of r.setup.hash)) p i i' o o' fault) g h))
+
+pub planned_as : (s : Scenario) (ns : List ℕ) (steps : List ScenarioStep) → ns ≡ s.nodes.items → steps ≡ s.steps.items → record { nodes = ns; check = s.check; steps = steps } ≡ plan_in s
+planned_as s ns steps e f = ap (λ (l : List ℕ). record { nodes = l; check = s.check; steps = steps }) e ∙ ap (λ (l : List ScenarioStep). record { nodes = s.nodes.items; check = s.check; steps = l }) f

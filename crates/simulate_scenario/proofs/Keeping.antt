@@ -1,0 +1,38 @@
+-- The run of a scenario keeps the promises.
+use Rattle.std.proofs.Common.{◌≡◌, ℕ, true, List, reverse, sym, ap, subst, refl}
+use Rattle.std.proofs.lemmas.List.{reverse-reverse}
+use Rattle.hash_laws.specs.Any.{plain_of}
+use Rattle.maglev_table.specs.Sizes.{is_table_size}
+use Rattle.pcap_file.specs.declared.format.InputEnd.{InputEnd}
+use Rattle.pcap_file.specs.Device.{Tape}
+use Rattle.pool_versions.specs.Pool.{AreSound}
+use Rattle.spreader.specs.Choices.{Choice}
+use Rattle.cluster_node.specs.declared.events.LogEntry.{LogEntry}
+use Rattle.cluster_node.specs.Records.{Judged}
+use Rattle.cluster_core.specs.Runs.{verdict}
+use Rattle.cluster_core.specs.Tables.{AreMaglevs}
+use Rattle.cluster_core.proofs.Promised.{histories_keep, maglev_keeps}
+use Rattle.event_trace.specs.Trace.{Trace}
+use Rattle.scenario.specs.declared.reading.Scenario.{Scenario}
+use Rattle.run_report.proofs.Agreed.{follow_picks, follow_tables}
+use Rattle.scenario.specs.declared.words.SchemeKind.{SchemeKind}
+use Rattle.scenario.specs.declared.words.SchemeKind.TheVariants.{Maglev}
+use Rattle.simulation.specs.Plans.{Planned}
+use Rattle.simulation.specs.Simulated.{Simulated}
+use Rattle.simulate_scenario.specs.Described.{pick_by, rules_in, cluster_in}
+use Rattle.simulate_scenario.specs.Kept.{KeepsPromises}
+use Rattle.simulate_scenario.proofs.Runs.{judged}
+
+maglev_in : (s : Scenario) → is_table_size s.size ≡ true → AreSound s.catalogue → s.scheme ≡ Maglev → AreMaglevs (plain_of s.hash) s.size s.catalogue (rules_in s)
+maglev_in s listed sound is = record { listed = listed; sound = sound; pick = λ candidates x turn. ap (λ (kind : SchemeKind). pick_by kind (plain_of s.hash) s.size candidates x turn) is; ups = λ v x. refl }
+
+pub keeps : (s : Scenario) (choice : Choice) (plan : Planned) (i i' o o' : Tape) (c : Trace) (n : ℕ) (e : InputEnd) → is_table_size s.size ≡ true → AreSound s.catalogue → Simulated (cluster_in s) choice plan i i' o o' c n e → KeepsPromises s c
+keeps s choice plan i i' o o' c n e listed sound run =
+    let j : Judged (verdict (rules_in s)) c.past = judged (cluster_in s) choice plan i i' o o' c n e run in
+    let k : Judged (verdict (rules_in s)) (reverse (reverse c.past)) = subst (λ (past : List LogEntry). Judged (verdict (rules_in s)) past) (sym (reverse-reverse c.past)) j in
+    record {
+      promises = histories_keep (rules_in s) (reverse c.past) k;
+      tables = λ is. maglev_keeps (plain_of s.hash) s.size s.catalogue (rules_in s) (reverse c.past) (maglev_in s listed sound is) k;
+      splits = λ steady. follow_picks (rules_in s) c.past steady j;
+      slots = λ is. follow_tables (plain_of s.hash) s.size s.catalogue (rules_in s) c.past (maglev_in s listed sound is) j;
+    }

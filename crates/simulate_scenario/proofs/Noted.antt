@@ -1,0 +1,93 @@
+-- What is kept of a record that has one event more.
+use Rattle.std.proofs.Common.{◌≡◌, ℕ, zero, suc, ◌+◌, Bool, true, false, List, [], ◌∷◌, ◌++◌, length, reverse, string_bytes, Option, Some, None, refl, sym, ap, ◌∙◌, subst, arith}
+use Rattle.std.specs.Prelude.{◌==◌, if◌then◌else◌, slice_get}
+use Rattle.std.proofs.lemmas.List.{reverse-append, length-reverse}
+use Rattle.std.proofs.lemmas.Bool.{eqb-true, eq-eqb, true≢false}
+use Rattle.cluster_node.specs.declared.events.LogEntry.{LogEntry}
+use Rattle.cluster_node.specs.declared.outcomes.Outcome.{Outcome}
+use Rattle.cluster_core.specs.Histories.{outcomes_of}
+use Rattle.event_trace.specs.declared.counts.Counts.{Counts}
+use Rattle.event_trace.specs.Counting.{CountsAre, totals_by}
+use Rattle.event_trace.proofs.Counted.{counted_turned, outcomes_turned}
+use Rattle.run_report.specs.Lines.{line_text, listing}
+use Rattle.run_report.proofs.Walks.{lines_push}
+use Rattle.run_report.specs.declared.book.SplitBook.{SplitBook}
+use Rattle.run_report.specs.Books.{IsBookOf}
+use Rattle.simulate_scenario.specs.declared.notes.Notebook.{Notebook}
+use Rattle.simulate_scenario.specs.declared.asking.Query.{Query}
+use Rattle.simulate_scenario.specs.declared.asking.Query.TheVariants.{Report, Events}
+use Rattle.simulate_scenario.specs.Notebooks.{Lists, ListsIf, BookIf, KeepsTwo, AreOf}
+use Rattle.simulate_scenario.specs.Answers.{totals_in}
+
+none_listed : (n : Notebook) → n.number ≡ 0 → string_bytes n.lines ≡ [] → (list : Bool) → ListsIf list [] n
+none_listed n k l true = record { number = k; lines = l }
+none_listed n k l false = l
+
+none_booked : (b : SplitBook) → IsBookOf [] b → (splits : Bool) → BookIf splits [] b
+none_booked b h true = h
+none_booked b h false = tt
+
+pub none_noted : (n : Notebook) → CountsAre [] n.counts → n.number ≡ 0 → string_bytes n.lines ≡ [] → IsBookOf [] n.book → n.one ≡ None → n.other ≡ None → (asked : Query) → AreOf asked [] n
+none_noted n c k l b o p (Report wanted) = (c, none_listed n k l wanted.list, none_booked n.book b wanted.splits)
+none_noted n c k l b o p (Events i j) = record { number = k; one_is = o; other_is = p }
+
+-- the lines are the same
+pub lists_same : (list : Bool) (past : List LogEntry) (n m : Notebook) → m.number ≡ n.number → m.lines ≡ n.lines → ListsIf list past n → ListsIf list past m
+lists_same true past n m e f l = record { number = e ∙ l.number; lines = ap string_bytes f ∙ l.lines }
+lists_same false past n m e f l = ap string_bytes f ∙ l
+
+pub lists_more : (past : List LogEntry) (s : LogEntry) (n m : Notebook) → Lists past n → m.number ≡ n.number + 1 → string_bytes m.lines ≡ string_bytes n.lines ++ line_text n.number s → Lists (s ∷ past) m
+lists_more past s n m l e f = record {
+  number = omega (arith, e, l.number);
+  lines = f
+      ∙ ap (λ (text : List ℕ). text ++ line_text n.number s) l.lines
+      ∙ ap (λ (k : ℕ). listing (reverse past) ++ line_text k s) (l.number ∙ sym (length-reverse past) ∙ (let e : length (reverse past) ≡ 0 + length (reverse past) = omega arith in e))
+      ∙ sym (lines_push 0 (reverse past) s)
+      ∙ ap listing (sym (reverse-append (s ∷ []) past));
+}
+
+-- an outcome behind others
+at_end : (os : List Outcome) (o : Outcome) → slice_get (os ++ o ∷ []) (length os) ≡ Some o
+at_end [] o = refl
+at_end (x ∷ os) o = at_end os o
+
+not_at_end : (os : List Outcome) (o : Outcome) (k : ℕ) → (k ≡ length os → ⊥) → slice_get (os ++ o ∷ []) k ≡ slice_get os k
+not_at_end [] o zero h = absurd (h refl)
+not_at_end [] o (suc k) h = refl
+not_at_end (x ∷ os) o zero h = refl
+not_at_end (x ∷ os) o (suc k) h = not_at_end os o k (λ e. h (ap suc e))
+
+outcomes_more : (past : List LogEntry) (s : LogEntry) → outcomes_of (reverse (s ∷ past)) ≡ outcomes_of (reverse past) ++ s.outcome ∷ []
+outcomes_more past s = outcomes_turned (s ∷ past) ∙ reverse-append (s.outcome ∷ []) (outcomes_of past) ∙ ap (λ (l : List Outcome). l ++ s.outcome ∷ []) (sym (outcomes_turned past))
+
+outcomes_length : (past : List LogEntry) → length (outcomes_of (reverse past)) ≡ length past
+outcomes_length past = ap length (outcomes_turned past) ∙ length-reverse (outcomes_of past) ∙ same past
+  where
+    same : (l : List LogEntry) → length (outcomes_of l) ≡ length l
+    same [] = refl
+    same (s ∷ l) = ap suc (same l)
+
+kept_more : (past : List LogEntry) (s : LogEntry) (number asked : ℕ) (was : Option Outcome) → number ≡ length past → was ≡ slice_get (outcomes_of (reverse past)) asked
+    → (if number == asked then Some s.outcome else was) ≡ slice_get (outcomes_of (reverse (s ∷ past))) asked
+kept_more past s number asked was e f = go (number == asked) refl
+  where
+    go : (b : Bool) → (number == asked) ≡ b → (if b then Some s.outcome else was) ≡ slice_get (outcomes_of (reverse (s ∷ past))) asked
+    go true h =
+        let at : length (outcomes_of (reverse past)) ≡ asked = outcomes_length past ∙ sym e ∙ eqb-true number asked h in
+        sym (ap (λ (k : ℕ). slice_get (outcomes_of (reverse past) ++ s.outcome ∷ []) k) (sym at) ∙ at_end (outcomes_of (reverse past)) s.outcome) ∙ ap (λ (l : List Outcome). slice_get l asked) (sym (outcomes_more past s))
+    go false h =
+        f ∙ sym (not_at_end (outcomes_of (reverse past)) s.outcome asked (λ k. true≢false (sym (eq-eqb number asked (e ∙ sym (outcomes_length past) ∙ sym k)) ∙ h))) ∙ ap (λ (l : List Outcome). slice_get l asked) (sym (outcomes_more past s))
+
+pub keeps_more : (one other : ℕ) (past : List LogEntry) (s : LogEntry) (n m : Notebook) → KeepsTwo one other past n → m.number ≡ n.number + 1 → m.one ≡ (if n.number == one then Some s.outcome else n.one) → m.other ≡ (if n.number == other then Some s.outcome else n.other) → KeepsTwo one other (s ∷ past) m
+keeps_more one other past s n m k e f g = record {
+  number = omega (arith, e, k.number);
+  one_is = f ∙ kept_more past s n.number one n.one k.number k.one_is;
+  other_is = g ∙ kept_more past s n.number other n.other k.number k.other_is;
+}
+
+-- the totals of a history, by the counts of its record
+pub totals_told : (past : List LogEntry) (c : Counts) → CountsAre (outcomes_of past) c → totals_by c ≡ totals_in (outcomes_of (reverse past))
+totals_told past c h = of_fields (outcomes_of (reverse past)) (subst (λ (l : List Outcome). CountsAre l c) (sym (outcomes_turned past)) (counted_turned (outcomes_of past) c h))
+  where
+    of_fields : (os : List Outcome) → CountsAre os c → totals_by c ≡ totals_in os
+    of_fields os h = rw (sym h.received, sym h.forwarded, sym h.dropped, sym h.placed, sym h.taken, sym h.refused) refl

@@ -1,0 +1,32 @@
+-- What a run that came to its end is.
+use Rattle.std.proofs.Common.{◌≡◌, ℕ, Bool, List, length, sym, subst, Result}
+use Rattle.std.specs.Prelude.{IfOk}
+use Rattle.std.specs.declared.alloc.AllocError.{AllocError}
+use Rattle.pcap_file.specs.declared.format.InputEnd.{InputEnd}
+use Rattle.pcap_file.specs.Device.{Tape}
+use Rattle.pcap_file.specs.Format.{Record}
+use Rattle.spreader.specs.Choices.{Choice}
+use Rattle.cluster_node.specs.Records.{Judged}
+use Rattle.cluster_core.specs.declared.counts.Totals.{Totals}
+use Rattle.cluster_core.specs.Cluster.{Cluster}
+use Rattle.event_trace.specs.Trace.{Trace}
+use Rattle.event_trace.specs.Steps.{world_of, start}
+use Rattle.event_trace.specs.declared.play.Tally.{Tally}
+use Rattle.event_trace.proofs.Judging.{run_told}
+use Rattle.run_report.specs.Report.{report_text}
+use Rattle.simulation.specs.Plans.{Planned}
+use Rattle.simulation.specs.Sent.{packets_of}
+use Rattle.simulation.specs.Simulated.{trace_of, Simulated}
+
+trace_told : (cluster : Cluster) (choice : Choice) (plan : Planned) (link : _) (records : List Record) → Judged cluster.judge (trace_of cluster choice plan link records).past
+unfolding trace_of
+trace_told cluster choice plan link records = run_told (world_of cluster choice (packets_of link plan.check records)) plan.steps (start (length plan.nodes)) tt
+
+pub judged : (cluster : Cluster) (choice : Choice) (plan : Planned) (i i' o o' : Tape) (c : Trace) (n : ℕ) (e : InputEnd) → Simulated cluster choice plan i i' o o' c n e → Judged cluster.judge c.past
+judged cluster choice plan i i' o o' c n e s = subst (λ (d : Trace). Judged cluster.judge d.past) (sym s.trace_is) (trace_told cluster choice plan s.head.link s.records)
+
+pub told : {X : Type 0} (bytes : X → List ℕ) (r : Result X AllocError) (t t' : Tally) (a a' : Totals) (b b' : Bool) → t ≡ t' → a ≡ a' → b ≡ b' → IfOk r (λ s. bytes s ≡ report_text t a b) → IfOk r (λ s. bytes s ≡ report_text t' a' b')
+told bytes r t t' a a' b b' e f g h =
+    subst (λ (x : Bool). IfOk r (λ s. bytes s ≡ report_text t' a' x)) g
+    (subst (λ (x : Totals). IfOk r (λ s. bytes s ≡ report_text t' x b)) f
+    (subst (λ (x : Tally). IfOk r (λ s. bytes s ≡ report_text x a b)) e h))

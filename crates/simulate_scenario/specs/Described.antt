@@ -1,0 +1,55 @@
+-- The cluster that a scenario describes.
+use Rattle.std.specs.Prelude.{ℕ, List, length, is_some}
+use Rattle.hash_laws.specs.Any.{plain_of}
+use Rattle.pool_versions.specs.Pool.{version_at}
+use Rattle.selection.specs.Candidates.{candidates_of}
+use Rattle.selection.specs.Picks.{pick_at, flow_hash, table_pick}
+use Rattle.forwarder.specs.Serving.{Pick}
+use Rattle.spreader.specs.Choices.{Choice, node_by_hash, node_by_turn}
+use Rattle.cluster_node.specs.Rules.{Rules}
+use Rattle.cluster_core.specs.Cluster.{Cluster}
+use Rattle.cluster_core.specs.Runs.{cluster_by}
+use Rattle.run_report.specs.Causes.{Lookups, lookups_of}
+use Rattle.scenario.specs.declared.words.SchemeKind.{SchemeKind}
+use Rattle.scenario.specs.declared.words.SchemeKind.TheVariants.{Maglev, Plain, Round}
+use Rattle.scenario.specs.declared.words.SpreadKind.{SpreadKind}
+use Rattle.scenario.specs.declared.words.SpreadKind.TheVariants as spreads
+use Rattle.scenario.specs.declared.reading.Scenario.{Scenario}
+use Rattle.simulation.specs.Plans.{Planned}
+
+-- how a flow gets its backend among those that are up: by its slot in their table, by its hash, or by turns
+abbrev pub pick_by : SchemeKind → (List ℕ → ℕ) → ℕ → Pick
+pick_by Maglev plain size = λ ups x turn. table_pick plain size ups x
+pick_by Plain plain size = λ ups x turn. pick_at ups.backends (flow_hash plain x)
+pick_by Round plain size = λ ups x turn. pick_at ups.backends turn
+
+abbrev pub rules_in : Scenario → Rules
+rules_in s = record {
+  pick = pick_by s.scheme (plain_of s.hash) s.size;
+  plain = plain_of s.hash;
+  known = λ v. is_some (version_at v s.catalogue.versions);
+  ups = λ v x. candidates_of s.catalogue v x;
+  nodes = length s.nodes.items;
+  workers = s.workers;
+  capacity = s.capacity;
+  idle = s.idle;
+}
+
+abbrev pub cluster_in : Scenario → Cluster
+cluster_in s = cluster_by (rules_in s)
+
+-- which node a packet goes to
+abbrev pub choice_by : SpreadKind → (List ℕ → ℕ) → Choice
+choice_by spreads.Hash plain = node_by_hash plain
+choice_by spreads.Turn plain = node_by_turn
+
+abbrev pub choice_in : Scenario → Choice
+choice_in s = choice_by s.spread (plain_of s.hash)
+
+-- what the run takes of it
+abbrev pub plan_in : Scenario → Planned
+plan_in s = record { nodes = s.nodes.items; check = s.check; steps = s.steps.items }
+
+-- what its splits and explanations are described by
+abbrev pub lookups_in : Scenario → Lookups
+lookups_in s = lookups_of (plain_of s.hash) s.size s.catalogue

@@ -1,0 +1,37 @@
+-- What is kept of a run's events for what is asked of it.
+use Rattle.std.specs.Prelude.{◌≡◌, ℕ, Bool, true, false, List, [], length, reverse, string_bytes, slice_get}
+use Rattle.cluster_node.specs.declared.events.LogEntry.{LogEntry}
+use Rattle.cluster_core.specs.Histories.{outcomes_of}
+use Rattle.event_trace.specs.Counting.{CountsAre}
+use Rattle.run_report.specs.Lines.{listing}
+use Rattle.run_report.specs.declared.book.SplitBook.{SplitBook}
+use Rattle.run_report.specs.Books.{IsBookOf}
+use Rattle.simulate_scenario.specs.declared.asking.Query.{Query}
+use Rattle.simulate_scenario.specs.declared.asking.Query.TheVariants.{Report, Events}
+use Rattle.simulate_scenario.specs.declared.notes.Notebook.{Notebook}
+
+-- the lines are those of a record, which has so many events
+pub record Lists (past : List LogEntry) (n : Notebook) : Type 0 where
+  pub number : n.number ≡ length past
+  pub lines : string_bytes n.lines ≡ listing (reverse past)
+
+-- where they are asked for, and else there are none
+abbrev pub ListsIf : Bool → List LogEntry → Notebook → Type 0
+ListsIf true past n = Lists past n
+ListsIf false past n = string_bytes n.lines ≡ []
+
+-- a book of splits is the record's, where they are asked for
+abbrev pub BookIf : Bool → List LogEntry → SplitBook → Type 0
+BookIf true past b = IsBookOf past b
+BookIf false past b = Unit {0}
+
+-- of a record, which has so many events, the outcomes of two are kept: those of these numbers, the oldest of number 0
+pub record KeepsTwo (one other : ℕ) (past : List LogEntry) (n : Notebook) : Type 0 where
+  pub number : n.number ≡ length past
+  pub one_is : n.one ≡ slice_get (outcomes_of (reverse past)) one
+  pub other_is : n.other ≡ slice_get (outcomes_of (reverse past)) other
+
+-- the notes are those of a record, for what is asked
+abbrev pub AreOf : Query → List LogEntry → Notebook → Type 0
+AreOf (Report wanted) past n = CountsAre (outcomes_of past) n.counts × ListsIf wanted.list past n × BookIf wanted.splits past n.book
+AreOf (Events one other) past n = KeepsTwo one other past n

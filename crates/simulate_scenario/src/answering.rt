@@ -1,0 +1,147 @@
+//! The text that answers what is asked of a run.
+ghost use Rattle.std.specs.Prelude.{◌≡◌, ◌≤◌, ◌++◌, IfOk, OnOk, IfSome, string_bytes, reverse, true, option_and_then};
+ghost use Rattle.hash_laws.specs.Any.{plain_of};
+ghost use Rattle.selection.specs.Picks.{slot_of_flow};
+ghost use Rattle.cluster_node.specs.Records.{Judged};
+ghost use Rattle.cluster_core.specs.Histories.{outcomes_of};
+ghost use Rattle.cluster_core.specs.Explain.{send_of, explained, PickedSend};
+ghost use Rattle.cluster_core.specs.Deployed.{rules_of, cluster_of, IsBalanced};
+ghost use Rattle.event_trace.specs.Counting.{CountsAre};
+ghost use Rattle.simulate_scenario.specs.declared.asking.Query.TheVariants.{Report};
+ghost use Rattle.run_report.specs.Verdicts.{verdict_text};
+ghost use Rattle.run_report.specs.Causes.{lookups_of};
+ghost use Rattle.event_trace.specs.Trace.{Trace};
+ghost use Rattle.simulate_scenario.specs.Answers.{is_cut, plain_report, splits_if, report_of, answer_of};
+ghost use Rattle.simulate_scenario.specs.Notebooks.{BookIf, AreOf};
+
+use crate::asking::{Query, Wanted};
+use crate::notes::Notebook;
+use cluster_core::{Deployment, Task, Verdict, explain};
+use cluster_node::Outcome;
+use event_trace::Counts;
+use hash_laws::FlowHash;
+use pcap_file::InputEnd;
+use run_report::{SplitBook, push_splits, report_text, verdict_text};
+use selection::Scheme;
+use simulation::Played;
+use spreader::Spread;
+use std::alloc::{AllocError, Global};
+
+/// Whether a capture ended inside a record.
+pub fn is_cut(ending: InputEnd) -> bool
+    ensures { result ≡ is_cut ending }
+{
+    match ending {
+        InputEnd::End => false,
+        InputEnd::Cut => true,
+    }
+}
+
+fn plain_report<P: Spread>(
+    alloc: Global,
+    played: &Played<P>,
+    counts: &Counts,
+) -> Result<String, AllocError>
+    requires read { played.now.play.trace.read ≤ played.now.packets }
+    requires balance { IsBalanced (reverse played.now.play.trace.past) }
+    requires counts { CountsAre (outcomes_of played.now.play.trace.past) counts.now }
+    ensures { IfOk result (λ s. string_bytes s ≡ plain_report played.now.play.trace played.now.packets played.now.ending) }
+{
+    let tally = played.play.tally(played.packets);
+    let totals = counts.totals();
+    report_text(alloc, tally, &totals, is_cut(played.ending))
+}
+
+// What is reported of the splits, where it is asked for.
+fn push_splits_if<S: Scheme, H: FlowHash>(
+    text: &mut String,
+    deployment: &Deployment<S, H>,
+    splits: bool,
+    book: &SplitBook,
+) -> Result<(), AllocError>
+    ensures { (trace : Trace) → BookIf splits trace.past book.now → OnOk result (string_bytes text.new ≡ string_bytes text.old ++ splits_if splits (lookups_of (H.plain deployment.now.setup.hash) deployment.now.setup.size deployment.now.catalogue) trace) }
+{
+    if splits {
+        push_splits(
+            text,
+            &deployment.setup().hash(),
+            deployment.catalogue(),
+            book,
+        )
+    } else {
+        Ok(())
+    }
+}
+
+fn report<S: Scheme, H: FlowHash, P: Spread>(
+    alloc: Global,
+    deployment: &Deployment<S, H>,
+    played: &Played<P>,
+    notes: Notebook,
+    wanted: Wanted,
+) -> Result<String, AllocError>
+    requires read { played.now.play.trace.read ≤ played.now.packets }
+    requires balance { IsBalanced (reverse played.now.play.trace.past) }
+    requires notes { AreOf (Report wanted) played.now.play.trace.past notes }
+    ensures { IfOk result (λ s. string_bytes s ≡ report_of (lookups_of (H.plain deployment.now.setup.hash) deployment.now.setup.size deployment.now.catalogue) wanted played.now.play.trace played.now.packets played.now.ending) }
+{
+    let report = plain_report(alloc, played, &notes.counts)?;
+    let mut text = notes.lines;
+    push_splits_if(&mut text, deployment, wanted.splits, &notes.book)?;
+    text.push_str(report.as_str())?;
+    Ok(text)
+}
+
+// Why the packets of two events went where they went.
+fn verdict<S: Scheme, H: FlowHash>(
+    deployment: &Deployment<S, H>,
+    one: Option<Outcome>,
+    other: Option<Outcome>,
+) -> Verdict
+    requires one { S.STEADY ≡ true → IfSome one (λ o. PickedSend (rules_of (λ s z. S.pick s z) (λ h. H.plain h) deployment.now) (send_of o)) }
+    requires other { S.STEADY ≡ true → IfSome other (λ o. PickedSend (rules_of (λ s z. S.pick s z) (λ h. H.plain h) deployment.now) (send_of o)) }
+    ensures { result ≡ explained (λ x. slot_of_flow (H.plain deployment.now.setup.hash) deployment.now.setup.size x) (option_and_then (λ o. send_of o) one) (option_and_then (λ o. send_of o) other) }
+{
+    let Some(one) = one else {
+        return Verdict::NotSent;
+    };
+    let Some(other) = other else {
+        return Verdict::NotSent;
+    };
+    explain(deployment.setup(), deployment.catalogue(), &one, &other)
+}
+
+fn line<S: Scheme, H: FlowHash>(
+    alloc: Global,
+    deployment: &Deployment<S, H>,
+    notes: &Notebook,
+) -> Result<String, AllocError>
+    requires one { S.STEADY ≡ true → IfSome notes.now.one (λ o. PickedSend (rules_of (λ s z. S.pick s z) (λ h. H.plain h) deployment.now) (send_of o)) }
+    requires other { S.STEADY ≡ true → IfSome notes.now.other (λ o. PickedSend (rules_of (λ s z. S.pick s z) (λ h. H.plain h) deployment.now) (send_of o)) }
+    ensures { IfOk result (λ s. string_bytes s ≡ verdict_text (explained (λ x. slot_of_flow (H.plain deployment.now.setup.hash) deployment.now.setup.size x) (option_and_then (λ o. send_of o) notes.now.one) (option_and_then (λ o. send_of o) notes.now.other))) }
+{
+    let verdict = verdict(deployment, notes.one, notes.other);
+    verdict_text(alloc, &verdict)
+}
+
+/// The text that answers what is asked of a run, of whose events these are the notes.
+pub(crate) fn answer<S: Scheme, H: FlowHash, P: Spread>(
+    alloc: Global,
+    task: &Task<S, H, Query>,
+    played: &Played<P>,
+    notes: Notebook,
+) -> Result<String, AllocError>
+    requires read { played.now.play.trace.read ≤ played.now.packets }
+    requires balance { IsBalanced (reverse played.now.play.trace.past) }
+    requires judged { Judged (cluster_of (λ s z. S.pick s z) (λ h. H.plain h) task.now.deployment).judge played.now.play.trace.past }
+    requires notes { AreOf task.now.asked played.now.play.trace.past notes }
+    ensures { IfOk result (λ s. string_bytes s ≡ answer_of (lookups_of (H.plain task.now.deployment.setup.hash) task.now.deployment.setup.size task.now.deployment.catalogue) task.now.asked played.now.play.trace played.now.packets played.now.ending) }
+{
+    match task.asked {
+        Query::Report(wanted) => report(alloc, &task.deployment, played, notes, wanted),
+        Query::Events { one: _, other: _ } => {
+            task.deployment.send_by_picks();
+            line(alloc, &task.deployment, &notes)
+        }
+    }
+}

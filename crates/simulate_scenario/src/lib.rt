@@ -1,0 +1,12 @@
+//! Plays a scenario over a capture, and answers what is asked of the run: its report, or why two packets went where they
+//! went.
+#![tactic(auto)]
+
+mod answering;
+mod asking;
+mod notes;
+mod playing;
+
+pub use answering::is_cut;
+pub use asking::{Query, Wanted};
+pub use playing::play_scenario;

@@ -1,0 +1,132 @@
+//! What is kept of a run's events for what is asked of it.
+ghost use Rattle.std.specs.Prelude.{◌≡◌, ◌==◌, ◌+◌, ◌∷◌, [], List, Option, Some, IfOk, OnOk, if◌then◌else◌};
+ghost use Rattle.cluster_node.specs.declared.events.Event.{Event};
+ghost use Rattle.simulate_scenario.specs.declared.asking.Query.{Query};
+ghost use Rattle.cluster_node.specs.declared.events.LogEntry.{LogEntry};
+ghost use Rattle.cluster_node.specs.declared.packets.Packet.{Packet};
+ghost use Rattle.cluster_core.specs.Noting.{said_by};
+
+use crate::asking::Query;
+use cluster_core::Notes;
+use cluster_node::{Event, Outcome};
+use connection_table::TableKey;
+use event_trace::Counts;
+use run_report::{SplitBook, push_line};
+use std::alloc::{AllocError, Global};
+
+/// For a report the counts, and the lines and the splits where it has them; else the outcomes of two events. How many events
+/// there were is kept where it is needed.
+#[derive(Drop)]
+pub(crate) struct Notebook {
+    pub(crate) counts: Counts,
+    pub(crate) lines: String,
+    pub(crate) book: SplitBook,
+    pub(crate) number: u64,
+    pub(crate) one: Option<Outcome>,
+    pub(crate) other: Option<Outcome>,
+}
+
+// The number of the next event. Where it has no room it is refused, as memory is.
+fn next(number: u64) -> Result<u64, AllocError>
+    ensures { IfOk result (λ n. n ≡ number + 1) }
+{
+    match number.checked_add(1) {
+        Some(next) => Ok(next),
+        None => Err(AllocError),
+    }
+}
+
+// What is kept of an event, of which there was nothing before: its outcome, where it has the number that is asked for.
+fn kept(was: Option<Outcome>, number: u64, asked: u64, outcome: &Outcome) -> Option<Outcome>
+    ensures { result ≡ (if number == asked then Some outcome.now else was) }
+{
+    if number == asked { Some(*outcome) } else { was }
+}
+
+impl Notebook {
+    ghost use Rattle.simulate_scenario.specs.Notebooks.{Lists, ListsIf, BookIf, KeepsTwo, AreOf};
+
+    /// Nothing was noted. The book of splits hashes by the key.
+    pub(crate) fn new(alloc: Global, key: TableKey) -> Notebook
+        ensures { (asked : Query) → AreOf asked [] result }
+    {
+        Notebook {
+            counts: Counts::new(),
+            lines: String::new(alloc),
+            book: SplitBook::new(alloc, key),
+            number: 0,
+            one: None,
+            other: None,
+        }
+    }
+
+    // The line of an event.
+    fn list(&mut self, event: &Event, outcome: &Outcome) -> Result<(), AllocError>
+        ensures lists { (past : List LogEntry) (packet : Option Packet) → Lists past self.old → OnOk result (Lists (said_by event.now packet outcome.now ∷ past) self.new) }
+        ensures counts { self.new.counts ≡ self.old.counts }
+        ensures book { self.new.book ≡ self.old.book }
+    {
+        push_line(&mut self.lines, self.number, event, outcome)?;
+        self.number = next(self.number)?;
+        Ok(())
+    }
+
+    // The same, where lines are asked for.
+    #[inline(always)]
+    fn list_if(&mut self, list: bool, event: &Event, outcome: &Outcome) -> Result<(), AllocError>
+        ensures lists { (past : List LogEntry) (packet : Option Packet) → ListsIf list past self.old → OnOk result (ListsIf list (said_by event.now packet outcome.now ∷ past) self.new) }
+        ensures counts { self.new.counts ≡ self.old.counts }
+        ensures book { self.new.book ≡ self.old.book }
+    {
+        if list {
+            self.list(event, outcome)
+        } else {
+            Ok(())
+        }
+    }
+
+    // An event goes into the book, where splits are asked for.
+    #[inline(always)]
+    fn book_if(&mut self, splits: bool, event: &Event, outcome: &Outcome) -> Result<(), AllocError>
+        ensures books { (past : List LogEntry) (packet : Option Packet) → BookIf splits past self.old.book → OnOk result (BookIf splits (said_by event.now packet outcome.now ∷ past) self.new.book) }
+        ensures lines { self.new.lines ≡ self.old.lines }
+        ensures number { self.new.number ≡ self.old.number }
+        ensures counts { self.new.counts ≡ self.old.counts }
+    {
+        if splits {
+            self.book.note(event, outcome)
+        } else {
+            Ok(())
+        }
+    }
+
+    // The outcome of an event, where it is one of the two that are asked for.
+    fn keep(&mut self, one: u64, other: u64, outcome: &Outcome) -> Result<(), AllocError>
+        ensures { (past : List LogEntry) (event : Event) (packet : Option Packet) → KeepsTwo one other past self.old → OnOk result (KeepsTwo one other (said_by event packet outcome.now ∷ past) self.new) }
+    {
+        self.one = kept(self.one, self.number, one, outcome);
+        self.other = kept(self.other, self.number, other, outcome);
+        self.number = next(self.number)?;
+        Ok(())
+    }
+}
+
+impl Notes for Notebook {
+    type Query = Query;
+
+    ghost use Rattle.simulate_scenario.specs.Notebooks.{AreOf};
+
+    ghost are_of = { λ asked past notes. AreOf asked past notes };
+
+    #[inline(always)]
+    fn note(&mut self, asked: &Query, event: &Event, outcome: &Outcome) -> Result<(), AllocError> {
+        match *asked {
+            Query::Report(wanted) => {
+                self.counts.count(outcome)?;
+                self.list_if(wanted.list, event, outcome)?;
+                self.book_if(wanted.splits, event, outcome)
+            }
+            Query::Events { one, other } => self.keep(one, other, outcome),
+        }
+    }
+}

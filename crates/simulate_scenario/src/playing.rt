@@ -1,0 +1,208 @@
+//! A scenario is played.
+ghost use Rattle.std.specs.Prelude.{◌≡◌, ◌≤◌, [], IfOk, IfErr, string_bytes, length, reverse};
+ghost use Rattle.hash_laws.specs.Any.{plain_of};
+ghost use Rattle.event_trace.specs.Steps.{below};
+ghost use Rattle.cluster_core.specs.Deployed.{cluster_of};
+ghost use Rattle.scenario.specs.Meaning.{HasLimits};
+ghost use Rattle.simulation.specs.Plans.{planned};
+ghost use Rattle.simulation.specs.Simulated.{Stopped};
+ghost use Rattle.run_report.specs.Causes.{lookups_of};
+ghost use Rattle.simulate_scenario.specs.Described.{pick_by, cluster_in, choice_in, choice_by, plan_in, lookups_in};
+ghost use Rattle.simulate_scenario.specs.Answers.{Answers};
+ghost use Rattle.simulate_scenario.specs.Kept.{KeepsPromises};
+
+use crate::answering::answer;
+use crate::asking::Query;
+use crate::notes::Notebook;
+use cluster_core::{Balancers, Deployment, Setup, Task};
+use connection_table::{LruTable, TableKey};
+use event_trace::all_live;
+use hash_laws::AnyHash;
+use pcap_file::{Sink, Source};
+use scenario::{Scenario, SchemeKind, SpreadKind};
+use selection::{Maglev, PlainHash, RoundRobin, Scheme};
+use simulation::{Plan, RunContext, SimulationFault, play_capture};
+use spreader::{HashSpread, Spread, TurnSpread};
+use std::alloc::Global;
+
+// Plays the steps with this spreader, and answers.
+fn play_with<S: Scheme, P: Spread, I: Source, O: Sink>(
+    alloc: Global,
+    task: &Task<S, AnyHash, Query>,
+    spread: P,
+    plan: Plan<'_>,
+    input: &mut I,
+    output: &mut O,
+) -> Result<String, SimulationFault>
+    requires live { P.live spread ≡ below (length plan.nodes.now) }
+    requires nodes { length plan.nodes.now ≤ 64 }
+    requires steps { length plan.steps.now ≤ 100000 }
+    requires cluster { length task.now.deployment.setup.nodes ≡ length plan.nodes.now }
+    requires workers { task.now.deployment.setup.workers ≤ 16 }
+    ensures ok { IfOk result (λ s. Answers (cluster_of (λ s z. S.pick s z) (λ h. plain_of h) task.now.deployment) (P.choice spread) (planned plan.entry) (lookups_of (plain_of task.now.deployment.setup.hash) task.now.deployment.setup.size task.now.deployment.catalogue) task.now.asked (I.tape input.old) (I.tape input.new) (O.tape output.old) (O.tape output.new) (string_bytes s)) }
+    ensures stopped { IfErr result (Stopped (cluster_of (λ s z. S.pick s z) (λ h. plain_of h) task.now.deployment) (P.choice spread) (planned plan.entry) (I.tape input.old) (I.tape input.new) (O.tape output.old) (O.tape output.new)) }
+{
+    let deployment = &task.deployment;
+    let notes = Notebook::new(alloc, deployment.setup().key());
+    let mut balancers = Balancers::<S, AnyHash, LruTable, Notebook>::make(
+        alloc, deployment, notes,
+    )?;
+    deployment.keep_order();
+    let run = RunContext {
+        alloc,
+        plan,
+        setup: task,
+    };
+    match play_capture(&run, &mut balancers, spread, input, output) {
+        Ok(played) => {
+            balancers.keep_balance(deployment);
+            let (_, notes) = balancers.into_parts();
+            match answer(alloc, task, &played, notes) {
+                Ok(text) => Ok(text),
+                Err(_) => Err(SimulationFault::Memory),
+            }
+        }
+        Err(fault) => Err(fault),
+    }
+}
+
+// Plays with the spreader that the scenario names.
+fn play_over<S: Scheme, I: Source, O: Sink>(
+    alloc: Global,
+    task: &Task<S, AnyHash, Query>,
+    spread: SpreadKind,
+    plan: Plan<'_>,
+    input: &mut I,
+    output: &mut O,
+) -> Result<String, SimulationFault>
+    requires nodes { length plan.nodes.now ≤ 64 }
+    requires steps { length plan.steps.now ≤ 100000 }
+    requires cluster { length task.now.deployment.setup.nodes ≡ length plan.nodes.now }
+    requires workers { task.now.deployment.setup.workers ≤ 16 }
+    ensures ok { IfOk result (λ s. Answers (cluster_of (λ s z. S.pick s z) (λ h. plain_of h) task.now.deployment) (choice_by spread (plain_of task.now.deployment.setup.hash)) (planned plan.entry) (lookups_of (plain_of task.now.deployment.setup.hash) task.now.deployment.setup.size task.now.deployment.catalogue) task.now.asked (I.tape input.old) (I.tape input.new) (O.tape output.old) (O.tape output.new) (string_bytes s)) }
+    ensures stopped { IfErr result (Stopped (cluster_of (λ s z. S.pick s z) (λ h. plain_of h) task.now.deployment) (choice_by spread (plain_of task.now.deployment.setup.hash)) (planned plan.entry) (I.tape input.old) (I.tape input.new) (O.tape output.old) (O.tape output.new)) }
+{
+    let live = all_live(alloc, plan.nodes.len() as u16)?;
+    match spread {
+        SpreadKind::Hash => {
+            let spread = HashSpread::new(task.deployment.setup().hash(), live);
+            play_with(alloc, task, spread, plan, input, output)
+        }
+        SpreadKind::Turn => {
+            let spread = TurnSpread::new(live);
+            play_with(alloc, task, spread, plan, input, output)
+        }
+    }
+}
+
+// Plays with this scheme.
+fn play_by<S: Scheme, I: Source, O: Sink>(
+    alloc: Global,
+    key: TableKey,
+    scheme: S,
+    scenario: Scenario,
+    asked: Query,
+    input: &mut I,
+    output: &mut O,
+) -> Result<String, SimulationFault>
+    requires limits { HasLimits scenario }
+    requires size { scenario.catalogue.size ≡ scenario.size }
+    requires picks { S.pick scheme scenario.size ≡ pick_by scenario.scheme (plain_of scenario.hash) scenario.size }
+    ensures ok { IfOk result (λ s. Answers (cluster_in scenario) (choice_in scenario) (plan_in scenario) (lookups_in scenario) asked (I.tape input.old) (I.tape input.new) (O.tape output.old) (O.tape output.new) (string_bytes s)) }
+    ensures stopped { IfErr result (Stopped (cluster_in scenario) (choice_in scenario) (plan_in scenario) (I.tape input.old) (I.tape input.new) (O.tape output.old) (O.tape output.new)) }
+{
+    let Scenario {
+        size,
+        hash,
+        scheme: _,
+        spread,
+        workers,
+        capacity,
+        ring: _,
+        check,
+        idle,
+        nodes,
+        catalogue,
+        steps,
+    } = scenario;
+    let Ok(setup) = Setup::new(hash, scheme, size, nodes, workers, capacity, idle) else {
+        unreachable!()
+    };
+    let Some(deployment) = Deployment::new(setup.keyed(key), catalogue) else {
+        unreachable!()
+    };
+    let task = Task { deployment, asked };
+    let plan = Plan {
+        nodes: task.deployment.setup().nodes(),
+        check,
+        steps: steps.as_slice(),
+    };
+    match play_over(alloc, &task, spread, plan, input, output) {
+        Ok(text) => Ok(text),
+        Err(fault) => Err(fault),
+    }
+}
+
+// Plays with the scheme that the scenario names.
+fn play_named<I: Source, O: Sink>(
+    alloc: Global,
+    key: TableKey,
+    scenario: Scenario,
+    asked: Query,
+    input: &mut I,
+    output: &mut O,
+) -> Result<String, SimulationFault>
+    requires limits { HasLimits scenario }
+    requires size { scenario.catalogue.size ≡ scenario.size }
+    ensures ok { IfOk result (λ s. Answers (cluster_in scenario) (choice_in scenario) (plan_in scenario) (lookups_in scenario) asked (I.tape input.old) (I.tape input.new) (O.tape output.old) (O.tape output.new) (string_bytes s)) }
+    ensures stopped { IfErr result (Stopped (cluster_in scenario) (choice_in scenario) (plan_in scenario) (I.tape input.old) (I.tape input.new) (O.tape output.old) (O.tape output.new)) }
+{
+    let hash = scenario.hash;
+    match scenario.scheme {
+        SchemeKind::Maglev => play_by(alloc, key, Maglev { hash }, scenario, asked, input, output),
+        SchemeKind::Plain => play_by(
+            alloc,
+            key,
+            PlainHash { hash },
+            scenario,
+            asked,
+            input,
+            output,
+        ),
+        SchemeKind::Round => play_by(alloc, key, RoundRobin, scenario, asked, input, output),
+    }
+}
+
+/// Plays a scenario over a capture, and answers what is asked of the run. What the cluster sends is written as another
+/// capture, which is begun once the input's header was accepted. Whatever goes wrong but a write, the output is cut between
+/// records. The connection tables and the book of splits hash by the key. The memory of a run is given back before its answer
+/// is made. A step `stop`, which no scenario has that was read as one played in turn, is played as the restart that it is in a
+/// trace.
+///
+/// By the clause `kept` the run keeps the promises. For a scheme to which the turn doesn't matter, two packets of one flow
+/// that were sent to different backends were chosen under versions that pick these backends. Where the scheme is Maglev,
+/// their tables name the two backends at the flow's slot. A forwarder keeps a flow's backend while its entry stands and the
+/// backend is up. Every slot of Maglev's tables names an up backend, and backends' slot counts are in proportion to their
+/// weights. The two versions of each split pick its two backends, for such a scheme, and for Maglev name them at the flow's
+/// slot.
+pub fn play_scenario<I: Source, O: Sink>(
+    alloc: Global,
+    key: TableKey,
+    scenario: Scenario,
+    asked: Query,
+    input: &mut I,
+    output: &mut O,
+) -> Result<String, SimulationFault>
+    requires limits { HasLimits scenario }
+    requires size { scenario.catalogue.size ≡ scenario.size }
+    ensures ok { IfOk result (λ s. Answers (cluster_in scenario) (choice_in scenario) (plan_in scenario) (lookups_in scenario) asked (I.tape input.old) (I.tape input.new) (O.tape output.old) (O.tape output.new) (string_bytes s)) }
+    ensures kept { IfOk result (λ s. (a : Answers (cluster_in scenario) (choice_in scenario) (plan_in scenario) (lookups_in scenario) asked (I.tape input.old) (I.tape input.new) (O.tape output.old) (O.tape output.new) (string_bytes s)) → KeepsPromises scenario a.trace) }
+    ensures stopped { IfErr result (Stopped (cluster_in scenario) (choice_in scenario) (plan_in scenario) (I.tape input.old) (I.tape input.new) (O.tape output.old) (O.tape output.new)) }
+{
+    let _slots = scenario.size.slots();
+    scenario.catalogue.keeps_doubles_out();
+    match play_named(alloc, key, scenario, asked, input, output) {
+        Ok(text) => Ok(text),
+        Err(fault) => Err(fault),
+    }
+}

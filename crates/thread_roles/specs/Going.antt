@@ -1,0 +1,77 @@
+-- A journal that has obeyed some commands, and how far a life got in them.
+use Rattle.std.specs.Prelude.{◌≡◌, ◌≤◌, ◌<◌, ◌+◌, ℕ, Bool, true, false, not, List, Option, Some, None, length, map, take, slice_get}
+use Rattle.stats_book.specs.Counts.{Counted}
+use Rattle.cluster_node.specs.Rules.{Rules}
+use Rattle.cluster_core.specs.Setups.{Fixed}
+use Rattle.pool_versions.specs.Pool.{Pools}
+use Rattle.thread_roles.specs.Counts.{AreRead, Counts}
+use Rattle.cluster_node.specs.declared.packets.Packet.{Packet}
+use Rattle.thread_records.specs.declared.command.Command.{Command}
+use Rattle.thread_records.specs.declared.command.Command.TheVariants.{Publish, Offer, Restart, Stop}
+use Rattle.thread_records.specs.Histories.{commands_of, past_of, NoneWaits}
+use Rattle.thread_records.specs.Journals.{JournalView, Tells, Drives}
+use Rattle.thread_records.specs.Losses.{ending, as_written, drained_lives, losses, KeepDrained}
+
+pub record Going (rules : Rules) (packets : List Packet) (commands : List Command) (n places : ℕ) (j : JournalView) : Type 0 where
+  pub drives : Drives rules packets j
+  pub obeyed : commands_of j.events ≡ map as_written commands
+  pub kept : KeepDrained (drained_lives commands) (losses j.outcomes)
+  pub own : j.node ≡ n
+  pub ring : j.ring ≡ places
+
+-- a command is there, and it is a stop
+abbrev pub stops : Option Command → Bool
+stops None = false
+stops (Some (Publish v)) = false
+stops (Some (Offer k)) = false
+stops (Some Restart) = false
+stops (Some Stop) = true
+
+-- the commands from one place up to another were obeyed, and there a life ends: with a command that ends it, or with the list
+pub record IsDriven (rules : Rules) (packets : List Packet) (commands : List Command) (n places start stop : ℕ) (j : JournalView) : Type 0 where
+  pub going : Going rules packets (take stop commands) n places j
+  pub onward : start ≤ stop
+  pub within : stop ≤ length commands
+  pub ends : stop < length commands → slice_get commands stop ≡ Some (ending (not (stops (slice_get commands stop))))
+
+-- all was obeyed, and what was placed in the last life was served
+pub record IsLast (rules : Rules) (packets : List Packet) (commands : List Command) (n places : ℕ) (j : JournalView) : Type 0 where
+  pub tells : Tells rules packets j
+  pub drained : NoneWaits (past_of rules packets j.node j.events)
+  pub obeyed : commands_of j.events ≡ map as_written commands
+  pub kept : KeepDrained (drained_lives commands) (losses j.outcomes)
+  pub own : j.node ≡ n
+  pub ring : j.ring ≡ places
+
+-- a life ended at a place of the commands: with the restart or the stop there, or with their end
+pub record IsEnded (rules : Rules) (packets : List Packet) (commands : List Command) (n places start stop : ℕ) (j : JournalView) : Type 0 where
+  pub onward : start ≤ stop
+  pub within : stop ≤ length commands
+  pub next : stop < length commands → Going rules packets (take (stop + 1) commands) n places j
+  pub last : length commands ≤ stop → IsLast rules packets commands n places j
+
+-- a life may begin at a place of the commands: those before it were obeyed, and unless a count was lost the shares have what
+-- the journal's outcomes come to
+pub record Begins (rules : Rules) (packets : List Packet) (commands : List Command) (n places start : ℕ) (j : JournalView) (lost : Bool) (shares : Counted) : Type 0 where
+  pub within : start ≤ length commands
+  pub going : Going rules packets (take start commands) n places j
+  pub some : 0 < shares.parts
+  pub counts : AreRead packets → Counts lost shares j.outcomes
+
+-- one life of a node as contracts see it: what its threads share, the place of its first command, and the parts of the
+-- counts that are left to its driver
+pub record LifeView (S H : Type 0) : Type 0 where
+  pub setup : Fixed S H
+  pub catalogue : Pools
+  pub packets : List Packet
+  pub commands : List Command
+  pub node : ℕ
+  pub ring : ℕ
+  pub start : ℕ
+  pub parts : ℕ
+
+-- a life ended, with shares of so many parts that have what the journal's outcomes come to then
+pub record IsLived (rules : Rules) (packets : List Packet) (commands : List Command) (n places start parts stop : ℕ) (j : JournalView) (lost : Bool) (shares : Counted) : Type 0 where
+  pub ended : IsEnded rules packets commands n places start stop j
+  pub parts_are : shares.parts ≡ parts
+  pub counts : AreRead packets → Counts lost shares j.outcomes

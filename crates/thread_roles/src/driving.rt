@@ -1,0 +1,205 @@
+//! What the driver does in one life.
+ghost use Rattle.std.specs.Prelude.{◌≡◌, ◌≤◌, ◌<◌, ◌++◌, ◌∷◌, [], ℕ, Bool, false, List, Some, take, length, IfOk, OnOk, is_some, slice_get};
+ghost use Rattle.pool_versions.specs.Pool.{version_at};
+ghost use Rattle.cluster_core.specs.Setups.{Fixed, rules_for};
+ghost use Rattle.cluster_node.specs.declared.packets.Packet.{Packet};
+ghost use Rattle.thread_records.specs.declared.command.Command.{Command};
+ghost use Rattle.thread_records.specs.declared.command.Command.TheVariants.{Publish, Offer};
+ghost use Rattle.thread_records.specs.Journals.{JournalView};
+ghost use Rattle.stats_book.specs.Counts.{Counted};
+ghost use Rattle.thread_roles.specs.Counts.{AreRead, Counts, with_came, with_drop};
+ghost use Rattle.thread_roles.specs.Going.{Going, IsDriven, stops};
+
+use crate::fault::RunFault;
+use crate::gate::Gate;
+use crate::live::{Shared, prepare_after};
+use crate::plan::{NodePlan, Progress};
+use crate::post::Desk;
+use crate::ring::Inputs;
+use crate::tally::ThreadShares;
+use cluster_node::{Outcome, Packet};
+use hash_laws::FlowHash;
+use pool_versions::Catalogue;
+use selection::Scheme;
+use stats_book::{Names, StatsBook};
+use std::alloc::Global;
+use std::sync::{Mutex, Wait};
+use thread_records::{Command, Journal};
+
+// Whether the catalogue has a version of this number.
+fn knows(catalogue: &Catalogue, number: u32) -> bool
+    ensures { result ≡ is_some (version_at number catalogue.now.versions) }
+{
+    catalogue.get(number).is_some()
+}
+
+// A version that was installed is prepared after the newest one, and shown to the workers.
+fn show_next<S: Scheme, H: FlowHash, G: Gate, B: Names, R: Wait + Drop>(
+    alloc: Global,
+    plan: NodePlan<'_, S, H, G, B>,
+    desk: &mut Desk<'_, S, R>,
+    newest: &mut Option<Shared<S>>,
+    number: u32,
+) -> Result<(), RunFault> {
+    // Only a version that the catalogue has is installed.
+    let Some(version) = plan.catalogue.get(number) else {
+        return Err(RunFault::Foreign);
+    };
+    plan.gate.preparing(plan.node, number);
+    let next = prepare_after(alloc, plan.setup, version, newest)?;
+    desk.publish(&next)?;
+    *newest = Some(next);
+    Ok(())
+}
+
+// A version is installed, and then prepared and shown. One that isn't installed is neither.
+fn publish<S: Scheme, H: FlowHash, G: Gate, B: Names, R: Wait + Drop>(
+    alloc: Global,
+    plan: NodePlan<'_, S, H, G, B>,
+    journal: &mut Journal,
+    desk: &mut Desk<'_, S, R>,
+    newest: &mut Option<Shared<S>>,
+    number: u32,
+) -> Result<(), RunFault>
+    ensures going { let rules = rules_for (λ s z. S.pick s z) (λ h. H.plain h) plan.entry.setup.now plan.entry.catalogue.now in
+        (packets : List Packet) (cs : List Command) (n : ℕ) (places : ℕ) → Going rules packets cs n places journal.old → OnOk result (Going rules packets (cs ++ Publish number ∷ []) n places journal.new) }
+    ensures counts { (lost : Bool) (shares : Counted) → Counts lost shares journal.old.outcomes → OnOk result (Counts lost shares journal.new.outcomes) }
+{
+    let _ = plan.setup.workers();
+    match journal.install(knows(plan.catalogue, number), number) {
+        Ok(Outcome::Installed) => match show_next(alloc, plan, desk, newest, number) {
+            Ok(()) => Ok(()),
+            Err(fault) => Err(fault),
+        },
+        Ok(_) => Ok(()),
+        Err(_) => Err(RunFault::Memory),
+    }
+}
+
+// Counts that a packet came, if it is there.
+fn count_arrival<B: Names, R: Wait>(
+    rt: &R,
+    book: &Mutex<StatsBook<B>>,
+    tally: &mut ThreadShares<B>,
+    packets: &[Packet],
+    packet: u32,
+)
+    requires { 0 < tally.old.shares.parts }
+    ensures parts { tally.new.shares.parts ≡ tally.old.shares.parts }
+    ensures lost { tally.new.lost ≡ false → (tally.old.lost ≡ false) × (tally.new.shares ≡ with_came (slice_get packets.now packet) tally.old.shares) }
+{
+    match packets.get(packet as usize) {
+        None => (),
+        Some(_) => tally.receive(rt, book),
+    }
+}
+
+// Counts the outcome of an arrival, if that is a drop.
+fn count_drop<B: Names, R: Wait>(
+    rt: &R,
+    book: &Mutex<StatsBook<B>>,
+    tally: &mut ThreadShares<B>,
+    outcome: &Outcome,
+)
+    requires { 0 < tally.old.shares.parts }
+    ensures parts { tally.new.shares.parts ≡ tally.old.shares.parts }
+    ensures lost { tally.new.lost ≡ false → (tally.old.lost ≡ false) × (tally.new.shares ≡ with_drop outcome.now tally.old.shares) }
+{
+    if let Outcome::Dropped { cause, .. } = *outcome {
+        tally.drop_one(rt, book, cause);
+    }
+}
+
+// A packet arrives. Where it is there it is counted first, and as dropped once it is.
+fn offer<S: Scheme, H: FlowHash, G, B: Names, R: Wait>(
+    rt: &R,
+    plan: NodePlan<'_, S, H, G, B>,
+    journal: &mut Journal,
+    tally: &mut ThreadShares<B>,
+    inputs: &mut Inputs,
+    packet: u32,
+) -> Result<(), RunFault>
+    requires { 0 < tally.old.shares.parts }
+    ensures going { let rules = rules_for (λ s z. S.pick s z) (λ h. H.plain h) plan.entry.setup.now plan.entry.catalogue.now in
+        (cs : List Command) (n : ℕ) (places : ℕ) → Going rules plan.entry.packets.now cs n places journal.old → OnOk result (Going rules plan.entry.packets.now (cs ++ Offer packet ∷ []) n places journal.new) }
+    ensures parts { tally.new.shares.parts ≡ tally.old.shares.parts }
+    ensures counts { AreRead plan.entry.packets.now → Counts tally.old.lost tally.old.shares journal.old.outcomes → OnOk result (Counts tally.new.lost tally.new.shares journal.new.outcomes) }
+{
+    let _ = plan.catalogue.size();
+    count_arrival(rt, plan.book, tally, plan.packets, packet);
+    match journal.arrive(&plan.setup.hash(), plan.packets, packet, inputs) {
+        Ok(outcome) => {
+            count_drop(rt, plan.book, tally, &outcome);
+            Ok(())
+        }
+        Err(_) => Err(RunFault::Memory),
+    }
+}
+
+/// Whether the command at a place is there and is a stop.
+pub fn stops_at(commands: &[Command], at: usize) -> bool
+    ensures { result ≡ stops (slice_get commands.now at) }
+{
+    matches!(commands.get(at), Some(Command::Stop))
+}
+
+// The command at a place.
+fn command_at(commands: &[Command], at: usize) -> Command
+    requires { at < length commands.now }
+    ensures { slice_get commands.now at ≡ Some result }
+{
+    commands[at]
+}
+
+/// Obeys the commands from one place on, up to one that ends the life or the end of the list. A version is prepared when it
+/// is installed, after the newest one, and shown then.
+pub fn drive<S: Scheme, H: FlowHash, G: Gate, B: Names, R: Wait, W: Wait + Drop>(
+    rt: &R,
+    alloc: Global,
+    plan: NodePlan<'_, S, H, G, B>,
+    progress: Progress<S, B>,
+    desk: &mut Desk<'_, S, W>,
+    inputs: &mut Inputs,
+) -> Result<Progress<S, B>, RunFault>
+    requires within { progress.at ≤ length plan.commands.now }
+    requires going { let rules = rules_for (λ s z. S.pick s z) (λ h. H.plain h) plan.setup.now plan.catalogue.now in Going rules plan.packets.now (take progress.at plan.commands.now) plan.node plan.ring progress.journal }
+    requires some { 0 < progress.tally.shares.parts }
+    requires counts { AreRead plan.packets.now → Counts progress.tally.lost progress.tally.shares progress.journal.outcomes }
+    ensures driven { let rules = rules_for (λ s z. S.pick s z) (λ h. H.plain h) plan.entry.setup.now plan.entry.catalogue.now in IfOk result (λ d. IsDriven rules plan.entry.packets.now plan.entry.commands.now plan.entry.node plan.entry.ring progress.at d.at d.journal) }
+    ensures parts { IfOk result (λ d. d.tally.shares.parts ≡ progress.tally.shares.parts) }
+    ensures counts { AreRead plan.entry.packets.now → IfOk result (λ d. Counts d.tally.lost d.tally.shares d.journal.outcomes) }
+{
+    let Progress {
+        journal,
+        newest,
+        at: from,
+        tally,
+    } = progress;
+    let mut journal = journal;
+    let mut newest = newest;
+    let mut tally = tally;
+    for at in from..plan.commands.len() {
+        match command_at(plan.commands, at) {
+            Command::Publish(number) => {
+                publish(alloc, plan, &mut journal, desk, &mut newest, number)?;
+            }
+            Command::Offer(packet) => {
+                offer(rt, plan, &mut journal, &mut tally, inputs, packet)?;
+            }
+            Command::Restart | Command::Stop => {
+                return Ok(Progress {
+                    journal,
+                    newest,
+                    at,
+                    tally,
+                });
+            }
+        }
+    }
+    Ok(Progress {
+        journal,
+        newest,
+        at: plan.commands.len(),
+        tally,
+    })
+}

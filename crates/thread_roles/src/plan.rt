@@ -1,0 +1,85 @@
+//! What all threads of a node's run share.
+ghost use Rattle.std.specs.Prelude.{◌≡◌, ◌<◌, ◌≤◌, ◌+◌, [], length};
+ghost use Rattle.thread_roles.specs.Counts.{counted};
+
+use crate::live::Shared;
+use crate::tally::ThreadShares;
+use cluster_core::Setup;
+use cluster_node::Packet;
+use hash_laws::FlowHash;
+use pool_versions::Catalogue;
+use selection::Scheme;
+use stats_book::{Names, Shares, StatsBook};
+use std::alloc::AllocError;
+use std::sync::Mutex;
+use thread_records::{Command, Journal};
+
+/// What a node is to do, beside which others may run, and its shares of the counts. By its type the node is there and a ring
+/// has places. Nothing is counted on the shares yet, and they have a part for its driver and one for each worker.
+#[derive(Drop)]
+pub struct NodeTask<'e, S: Scheme, H: FlowHash, G, B: Names> {
+    /// The cluster.
+    pub setup: &'e Setup<S, H>,
+    /// Its versions.
+    pub catalogue: &'e Catalogue,
+    /// The packets that the commands offer, by number.
+    pub packets: &'e [Packet],
+    /// The commands of the node's driver.
+    pub commands: &'e [Command],
+    /// What is called round each serving.
+    pub gate: &'e G,
+    /// Where all threads count.
+    pub book: &'e Mutex<StatsBook<B>>,
+    /// The node's place among the cluster's nodes.
+    pub node: u16,
+    /// The places of a ring.
+    pub ring: u32,
+    /// What the node's threads count on.
+    pub shares: Shares<B>,
+    pub ghost there: { node < length setup.now.nodes },
+    pub ghost some: { 0 < ring },
+    pub ghost limit: { ring ≤ 65536 },
+    pub ghost parts: { shares.parts ≡ setup.now.workers + 1 },
+    pub ghost fresh: { shares ≡ counted shares.parts [] },
+}
+
+/// What all threads of a node's run share. None of them changes anything but the book.
+pub struct NodePlan<'e, S: Scheme, H: FlowHash, G, B: Names> {
+    /// The cluster.
+    pub setup: &'e Setup<S, H>,
+    /// Its versions.
+    pub catalogue: &'e Catalogue,
+    /// The packets that the commands offer, by number.
+    pub packets: &'e [Packet],
+    /// The commands of the node's driver.
+    pub commands: &'e [Command],
+    /// What is called round each serving.
+    pub gate: &'e G,
+    /// Where all threads count.
+    pub book: &'e Mutex<StatsBook<B>>,
+    /// The node's place among the cluster's nodes.
+    pub node: u16,
+    /// The places of a ring.
+    pub ring: u32,
+}
+
+impl<'e, S: Scheme, H: FlowHash, G, B: Names> Clone for NodePlan<'e, S, H, G, B> {
+    fn clone(&self) -> Result<Self, AllocError> {
+        Ok(*self)
+    }
+}
+
+impl<'e, S: Scheme, H: FlowHash, G, B: Names> Copy for NodePlan<'e, S, H, G, B> {}
+
+/// How far a node got in its commands.
+#[derive(Drop)]
+pub struct Progress<S: Scheme, B: Names> {
+    /// What its driver has written.
+    pub journal: Journal,
+    /// The newest version installed, prepared. A life begins with it.
+    pub newest: Option<Shared<S>>,
+    /// The place of the next command, or that of the restart at which a life ends.
+    pub at: usize,
+    /// What was counted for what the driver has written.
+    pub tally: ThreadShares<B>,
+}

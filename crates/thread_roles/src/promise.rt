@@ -1,0 +1,30 @@
+//! What a worker's thread promises.
+ghost use Rattle.std.specs.Prelude.{IfOk};
+ghost use Rattle.thread_records.specs.Works.{WorkView};
+ghost use Rattle.thread_roles.specs.Counts.{IsWork};
+
+use crate::fault::RunFault;
+use crate::tally::ThreadShares;
+use connection_table::ConnTable;
+use selection::Scheme;
+use stats_book::Names;
+use std::thread::Promise;
+use thread_records::WorkerRecord;
+
+/// What a worker did in a life: its record, and what it counted.
+#[derive(Drop)]
+pub struct WorkerRun<S: Scheme, T: ConnTable, B: Names> {
+    /// What it handled.
+    pub record: WorkerRecord<S, T>,
+    /// What it counted.
+    pub tally: ThreadShares<B>,
+}
+
+/// What a worker's thread promises: that it counted what it handled.
+#[derive(Clone, Copy, Drop)]
+pub struct CountsOwn;
+
+impl<S: Scheme, T: ConnTable, B: Names> Promise<Result<WorkerRun<S, T, B>, RunFault>>
+    for CountsOwn {
+    ghost kept_by = { λ p r. IfOk r (λ w. IsWork w.record w.tally.lost w.tally.shares) };
+}

@@ -1,0 +1,108 @@
+//! What goes through the rings, and waiting at them.
+use cluster_node::{Item, Outcome};
+use rtrb::{Consumer, Producer, PushError};
+use std::hint::spin_loop;
+use std::sync::Wait;
+use std::thread::yield_now;
+use thread_records::Rings;
+
+/// What a driver pushes to a worker.
+#[derive(Clone, Copy)]
+pub enum Message {
+    /// A packet to be served.
+    Serve(Item),
+    /// The life's end.
+    Close,
+}
+
+/// What a worker pushes to the mux.
+#[derive(Clone, Copy)]
+pub enum Output {
+    /// A packet that is sent on.
+    Send(Outcome),
+    /// The worker's last word.
+    Close,
+}
+
+// How often an idle thread looks again before it gives its processor up.
+const SPINS: u32 = 64;
+
+/// A thread that has nothing to do: it spins for some turns, and from then on gives its processor up at each turn.
+#[derive(Drop)]
+pub struct Idle {
+    turns: u32,
+}
+
+impl Idle {
+    /// A thread that just had something to do.
+    pub fn new() -> Idle {
+        Idle { turns: 0 }
+    }
+
+    /// One turn.
+    pub fn wait(&mut self) {
+        if self.turns < SPINS {
+            self.turns += 1;
+            spin_loop();
+        } else {
+            yield_now();
+        }
+    }
+}
+
+/// Pushes the item, and tries again while the ring is full.
+pub fn push_waiting<T, R: Wait>(rt: &R, ring: &mut Producer<T>, item: T) {
+    let mut item = item;
+    let mut idle = Idle::new();
+    for _ in rt.forever() {
+        match ring.push(item) {
+            Ok(()) => return,
+            Err(PushError::Full(back)) => item = back,
+        }
+        idle.wait();
+    }
+    unreachable!()
+}
+
+/// Pops the next item, and tries again while the ring is empty.
+pub fn pop_waiting<T, R: Wait>(rt: &R, ring: &mut Consumer<T>) -> T {
+    let mut idle = Idle::new();
+    for _ in rt.forever() {
+        if let Ok(item) = ring.pop() {
+            return item;
+        }
+        idle.wait();
+    }
+    unreachable!()
+}
+
+/// The driver's ends of the workers' rings.
+#[derive(Drop)]
+pub struct Inputs {
+    /// One for each worker.
+    pub rings: Vec<Producer<Message>>,
+}
+
+impl Rings for Inputs {
+    fn offer(&mut self, worker: u16, item: Item) -> bool {
+        let at = worker as usize;
+        if at >= self.rings.len() {
+            return false;
+        }
+        let one = &mut self.rings[at];
+        match one.push(Message::Serve(item)) {
+            Ok(()) => true,
+            Err(_) => false,
+        }
+    }
+}
+
+impl Inputs {
+    /// Puts a closing mark into each ring.
+    pub fn close<R: Wait>(&mut self, rt: &R) {
+        for at in 0..self.rings.len() {
+            let one = &mut self.rings[at];
+            push_waiting(rt, one, Message::Close);
+        }
+    }
+}

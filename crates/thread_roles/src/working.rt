@@ -1,0 +1,212 @@
+//! What a worker's thread does.
+ghost use Rattle.std.specs.Prelude.{◌≡◌, ◌<◌, ◌++◌, ◌∷◌, [], ℕ, IfOk, OnOk};
+ghost use Rattle.thread_records.specs.Works.{WorkView};
+ghost use Rattle.thread_roles.specs.Counts.{IsWork};
+
+use crate::fault::RunFault;
+use crate::gate::Gate;
+use crate::plan::NodePlan;
+use crate::post::Post;
+use crate::promise::WorkerRun;
+use crate::ring::{Idle, Message, Output, push_waiting};
+use crate::tally::{Part, ThreadShares};
+use cluster_node::{Item, Outcome};
+use connection_table::ConnTable;
+use forwarder::{Choice, Served};
+use hash_laws::FlowHash;
+use rtrb::{Consumer, Producer};
+use selection::Scheme;
+use stats_book::Names;
+use std::alloc::{AllocError, Global};
+use std::sync::Wait;
+use thread_records::{Step, WorkerRecord};
+
+/// What a worker's thread owns.
+#[derive(Drop)]
+pub struct Outfit<'a, S: Scheme, B: Names> {
+    /// Its seat at the board, and where it reads versions.
+    pub post: Post<'a, S>,
+    /// Its end of the driver's ring.
+    pub ring: Consumer<Message>,
+    /// Its end of the mux's ring.
+    pub out: Producer<Output>,
+    /// Its part of the counts.
+    pub part: Part<B>,
+    /// Its number among the node's workers.
+    pub number: u16,
+}
+
+// A worker's ends of what it shares with other threads.
+#[derive(Drop)]
+struct Ends<'a, S: Scheme> {
+    post: Post<'a, S>,
+    ring: Consumer<Message>,
+    out: Producer<Output>,
+    number: u16,
+}
+
+// Looks and steps until the packet was served.
+fn serve_one<S: Scheme, T: ConnTable, R: Wait>(
+    rt: &R,
+    post: &mut Post<'_, S>,
+    worker: &mut WorkerRecord<S, T>,
+    item: &Item,
+) -> Result<Served, RunFault>
+    ensures { IfOk result (λ s. (version : ℕ) × (worker.new.handled ≡ worker.old.handled ++ record { item = item.now; version = version; choice = s.choice; unstored = s.unstored } ∷ [])) }
+{
+    let mut idle = Idle::new();
+    for _ in rt.forever() {
+        match post.handle(worker, item)? {
+            Step::Done(served) => return Ok(served),
+            Step::Behind => idle.wait(),
+        }
+    }
+    unreachable!()
+}
+
+// Sends the packet on, if it goes anywhere.
+fn send_on<R: Wait>(
+    rt: &R,
+    out: &mut Producer<Output>,
+    node: u16,
+    worker: u16,
+    item: &Item,
+    served: &Served,
+) {
+    if let Choice::Forward { backend, origin } = served.choice {
+        let sent = Outcome::Forward {
+            node,
+            worker,
+            packet: item.packet,
+            flow: item.flow,
+            backend,
+            origin,
+        };
+        push_waiting(rt, out, Output::Send(sent));
+    }
+}
+
+// Serves one packet between the calls of the gate, sends it on, and counts it. Nothing is counted where memory was refused.
+fn serve_gated<S: Scheme, H: FlowHash, T: ConnTable, G: Gate, B: Names, R: Wait>(
+    rt: &R,
+    plan: NodePlan<'_, S, H, G, B>,
+    ends: &mut Ends<'_, S>,
+    run: &mut WorkerRun<S, T, B>,
+    item: &Item,
+    nth: u64,
+) -> Result<(), RunFault>
+    requires { 0 < run.old.tally.shares.parts }
+    ensures { IsWork run.old.record run.old.tally.lost run.old.tally.shares → OnOk result (IsWork run.new.record run.new.tally.lost run.new.tally.shares) }
+{
+    plan.gate.before(plan.node, ends.number, nth);
+    let WorkerRun { record, tally } = run;
+    match serve_one(rt, &mut ends.post, record, item) {
+        Ok(served) => {
+            send_on(rt, &mut ends.out, plan.node, ends.number, item, &served);
+            let stats = tally.serve_one(rt, plan.book, served.choice);
+            plan.gate.counted(plan.node, ends.number, stats);
+            plan.gate.after(plan.node, ends.number, nth);
+            Ok(())
+        }
+        Err(fault) => {
+            plan.gate.after(plan.node, ends.number, nth);
+            Err(fault)
+        }
+    }
+}
+
+// A worker that has handled and counted nothing.
+fn begin<S: Scheme, H: FlowHash, T: ConnTable, G, B: Names>(
+    alloc: Global,
+    plan: NodePlan<'_, S, H, G, B>,
+    part: Part<B>,
+) -> Result<WorkerRun<S, T, B>, AllocError>
+    ensures { IfOk result (λ w. IsWork w.record w.tally.lost w.tally.shares) }
+{
+    let record = WorkerRecord::make(alloc, plan.setup)?;
+    Ok(WorkerRun {
+        record,
+        tally: ThreadShares::of_part(part),
+    })
+}
+
+// The next packet. None where the life ends: with the closing mark, or since the workers were told to halt. That is asked
+// before each turn at the ring.
+fn next<S: Scheme, R: Wait>(rt: &R, ends: &mut Ends<'_, S>) -> Option<Item> {
+    let mut idle = Idle::new();
+    for _ in rt.forever() {
+        if ends.post.heeds() {
+            return None;
+        }
+        match ends.ring.pop() {
+            Ok(Message::Serve(item)) => return Some(item),
+            Ok(Message::Close) => return None,
+            Err(_) => idle.wait(),
+        }
+    }
+    unreachable!()
+}
+
+// Serves what comes, up to the life's end or until memory is refused.
+fn serve_all<S: Scheme, H: FlowHash, T: ConnTable, G: Gate, B: Names, R: Wait>(
+    rt: &R,
+    alloc: Global,
+    plan: NodePlan<'_, S, H, G, B>,
+    ends: &mut Ends<'_, S>,
+    part: Part<B>,
+) -> Result<WorkerRun<S, T, B>, RunFault>
+    ensures { IfOk result (λ w. IsWork w.record w.tally.lost w.tally.shares) }
+{
+    let mut run: WorkerRun<S, T, B> = begin(alloc, plan, part)?;
+    let mut nth = 0u64;
+    for _ in rt.forever() {
+        let Some(item) = next(rt, ends) else {
+            return Ok(run);
+        };
+        serve_gated(rt, plan, ends, &mut run, &item, nth)?;
+        nth = nth.wrapping_add(1);
+    }
+    unreachable!()
+}
+
+// Takes what comes, up to the life's end.
+fn drain<S: Scheme, R: Wait>(rt: &R, ends: &mut Ends<'_, S>) {
+    for _ in rt.forever() {
+        if next(rt, ends).is_none() {
+            return;
+        }
+    }
+    unreachable!()
+}
+
+/// Serves what comes through the ring, up to its closing mark or until the workers are told to halt, and sends a closing
+/// mark. A worker that was refused memory (Memory), or that can't read the version that is shown (ThreadLost), takes the rest
+/// without serving it.
+pub fn work<S: Scheme, H: FlowHash, T: ConnTable, G: Gate, B: Names, R: Wait>(
+    rt: &R,
+    alloc: Global,
+    plan: NodePlan<'_, S, H, G, B>,
+    outfit: Outfit<'_, S, B>,
+) -> Result<WorkerRun<S, T, B>, RunFault>
+    ensures { IfOk result (λ w. IsWork w.record w.tally.lost w.tally.shares) }
+{
+    let Outfit {
+        post,
+        ring,
+        out,
+        part,
+        number,
+    } = outfit;
+    let mut ends = Ends {
+        post,
+        ring,
+        out,
+        number,
+    };
+    let run = serve_all(rt, alloc, plan, &mut ends, part);
+    if run.is_err() {
+        drain(rt, &mut ends);
+    }
+    push_waiting(rt, &mut ends.out, Output::Close);
+    run
+}
