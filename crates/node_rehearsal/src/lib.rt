@@ -1,6 +1,6 @@
 //! A node's run on one thread, in one of the orders that its threads might take. Its records are those that threads make; at
 //! a stop they are those of workers that served nothing in that life. What it promises is what a run on threads promises.
-//! The tests of `journal_rows` compare it with the replay of its history.
+//! The tests of `journal_tests` compare it with the replay of its history.
 #![tactic(auto)]
 
 ghost use Rattle.std.specs.Prelude.{◌≡◌, ◌<◌, ◌++◌, ◌∷◌, [], ℕ, List, true, length, IfOk, OnOk, IsTrue, is_some};
