@@ -1,5 +1,6 @@
 // The standard library's readers and writers as devices.
-ghost use Rattle.std.specs.Prelude.{◌≡◌};
+ghost use Rattle.std.specs.Prelude.{◌≡◌, ◌<◌, ◌^◌, false, Ok, Err};
+ghost use Rattle.pcap_file.specs.Device.{fault_for, failures_after, interruptions_after};
 
 use crate::counts::CallCounts;
 use crate::device::{DeviceFault, Sink, Source};
@@ -77,6 +78,24 @@ impl<W: Write> ToWrite<W> {
     }
 }
 
+// What a write is answered with that took so many of the bytes that were wanted: none of some is a failure.
+#[inline(always)]
+fn taken(counts: &mut CallCounts, count: usize, wanted: usize) -> Result<usize, DeviceFault>
+    ensures none { count ≡ 0 → 0 < wanted → result ≡ Err (fault_for false counts.old.failures) }
+    ensures some { 0 < count → result ≡ Ok count }
+    ensures nothing { wanted ≡ 0 → result ≡ Ok count }
+    ensures failures { counts.new.failures ≡ failures_after counts.old.failures result }
+    ensures few { counts.new.failures < 2 ^ 64 }
+    ensures interruptions { counts.new.interruptions ≡ interruptions_after counts.old.interruptions result }
+    ensures calls { counts.new.calls ≡ counts.old.calls }
+{
+    if count == 0 && wanted > 0 {
+        return Err(counts.fault(false));
+    }
+    let _failures = counts.failures;
+    Ok(count)
+}
+
 impl<W: Write> Sink for ToWrite<W> {
     ghost use Rattle.pcap_file.specs.Host.{taped};
 
@@ -86,8 +105,7 @@ impl<W: Write> Sink for ToWrite<W> {
     fn write(&mut self, buf: &[u8]) -> Result<usize, DeviceFault> {
         self.counts.call();
         match self.writer.write(buf) {
-            Ok(0) if !buf.is_empty() => Err(self.counts.fault(false)),
-            Ok(n) => Ok(n),
+            Ok(count) => taken(&mut self.counts, count, buf.len()),
             Err(e) => Err(self.counts.fault(e.kind() == ErrorKind::Interrupted)),
         }
     }

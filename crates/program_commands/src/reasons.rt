@@ -2,15 +2,12 @@
 use crate::files::Paths;
 use command_faults::CliFault;
 use lazy_files::{FirstBytes, Refusal};
-use pcap_file::PcapFault;
+use pcap_file::{MAX_RECORDS, PcapFault};
 use scenario::ScenarioFault;
 use scenario_diagnostics::words_of;
 use shown_text::shown;
 use std::alloc::Global;
 use std::io;
-
-/// The most records of INPUT.
-const MOST_RECORDS: u32 = 1_000_000_000;
 
 /// A fault of a command, what the system said where it refused a file, and the first bytes of INPUT.
 #[derive(Clone, Copy)]
@@ -133,7 +130,7 @@ fn capture(
     files: &Files<'_, '_>,
 ) -> Option<String> {
     match fault {
-        PcapFault::TooLong if files.records == Some(MOST_RECORDS) => {
+        PcapFault::TooLong if files.records == Some(MAX_RECORDS) => {
             record(alloc, files, "expected at most 1000000000 records")
         }
         PcapFault::TooLong => record(alloc, files, "expected a record of at most 262144 bytes"),
