@@ -1,5 +1,5 @@
 -- What is left of the steps.
-use Rattle.std.proofs.Common.{◌≡◌, ℕ, suc, ◌+◌, ◌<◌, Bool, List, [], ◌∷◌, ◌++◌, length, drop, get_or, drop-cons, add-one, append_assoc, refl, ap, sym, ◌∙◌}
+use Rattle.std.proofs.Common.{◌≡◌, ℕ, suc, ◌+◌, ◌<◌, List, ◌∷◌, ◌++◌, length, drop, get_or, drop-cons, add-one, append_assoc, ap, sym, ◌∙◌}
 use Rattle.pool_versions.specs.declared.catalogue.Catalogue.{Catalogue}
 use Rattle.event_trace.specs.declared.steps.ScenarioStep.{ScenarioStep}
 use Rattle.scenario_warnings.specs.declared.Warning.{Warning}

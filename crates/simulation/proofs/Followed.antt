@@ -1,5 +1,5 @@
 -- What is sent as events come.
-use Rattle.std.proofs.Common.{◌≡◌, ℕ, ◌+◌, ◌<◌, Bool, true, false, List, [], ◌∷◌, ◌++◌, length, drop, get_or, Option, Some, None, Result, Ok, Err, refl, sym, ap, ◌∙◌, subst, arith, append_assoc, drop-cons, add-one, suc, slice_get, append-nil}
+use Rattle.std.proofs.Common.{◌≡◌, ℕ, ◌+◌, Bool, true, false, List, [], ◌∷◌, ◌++◌, length, Option, Some, None, Result, Ok, Err, refl, sym, ap, ◌∙◌, subst, arith, slice_get, append-nil}
 use Rattle.std.specs.Prelude.{OnOk, if◌then◌else◌}
 use Rattle.five_tuple.specs.declared.Flow.{Flow}
 use Rattle.pool_versions.specs.declared.backend.Backend.{Backend}
@@ -17,16 +17,15 @@ use Rattle.cluster_node.specs.declared.packets.Packet.{Packet}
 use Rattle.cluster_core.specs.Cluster.{Cluster, TakesFirst, Orderly}
 use Rattle.event_trace.specs.declared.delivery.Delivery.{Delivery}
 use Rattle.event_trace.specs.Deliveries.{came_to, arrival_of, serving_passed, serving_of, if_there, events_of}
-use Rattle.simulation.specs.PrivateMirrors.{Mirrors, CanFollow, ComesAs, IsNoArrival}
-use Rattle.simulation.specs.PrivateQueues.{passes}
+use Rattle.waiting_frames.specs.Mirrors.{Mirrors, CanFollow, ComesAs, IsNoArrival}
+use Rattle.waiting_frames.specs.Queues.{passes}
 use Rattle.simulation.specs.declared.sending.Wire.{Wire}
-use Rattle.simulation.specs.Sent.{Traffic, Sending, sent, sent_by, sent_at, Wrote, WroteUntil}
+use Rattle.simulation.specs.Sent.{Traffic, Sending, sent, sent_by, sent_at, Wrote}
 use Rattle.simulation.specs.Wires.{traffic}
-use Rattle.simulation.specs.Following.{sent_with, NoArrivals, ArrivesFirst, CanSettle}
+use Rattle.simulation.specs.Following.{sent_with, ArrivesFirst, CanSettle}
 use Rattle.simulation.specs.PrivateGoing.{onto}
-use Rattle.simulation.specs.declared.fault.SimulationFault.{SimulationFault}
-use Rattle.simulation.proofs.Passes.{pass_mirrors, pass_sent}
-use Rattle.simulation.proofs.Sends.{wrote_none, wrote_both, until_more, until_behind}
+use Rattle.waiting_frames.proofs.Passes.{pass_mirrors, pass_sent}
+use Rattle.simulation.proofs.Sends.{wrote_none}
 
 pub nothing_sent : (t : Traffic) (o : Outcome) → ((n w i : ℕ) (x : Flow) (b : Backend) (v : ℕ) → o ≡ Forward n w i x b v → ⊥) → sent_by t o ≡ []
 unfolding sent_by

@@ -4,9 +4,6 @@ pub mod Sends
 pub mod Joined
 pub mod Intakes
 pub mod Going
-pub mod Places
-pub mod Follows
-pub mod Passes
 pub mod Followed
 pub mod Staged
 pub mod Named

@@ -14,7 +14,7 @@ use Rattle.event_trace.specs.declared.steps.ScenarioStep.{ScenarioStep}
 use Rattle.cluster_node.specs.declared.packets.Packet.{Packet}
 use Rattle.cluster_node.specs.declared.events.LogEntry.{LogEntry}
 use Rattle.cluster_node.specs.Records.{Judged}
-use Rattle.simulation.specs.PrivateMirrors.{Mirrors}
+use Rattle.waiting_frames.specs.Mirrors.{Mirrors}
 use Rattle.cluster_core.specs.Cluster.{Cluster, Orderly}
 use Rattle.event_trace.specs.Trace.{Trace, Playing}
 use Rattle.event_trace.specs.Steps.{World, world_of, run, deliver, repeat, after, names_records, start}

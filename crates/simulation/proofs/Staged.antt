@@ -1,5 +1,5 @@
 -- How a run moves as events come behind it.
-use Rattle.std.proofs.Common.{◌≡◌, ◌⊎◌, ℕ, Bool, true, false, List, [], ◌∷◌, ◌++◌, length, drop, reverse, Some, Result, Ok, Err, refl, sym, ap, ◌∙◌, subst, arith, append_assoc, append-nil, drop_at, slice_get, inl, inr, OnOk, IfErr}
+use Rattle.std.proofs.Common.{◌≡◌, ◌⊎◌, ℕ, Bool, true, false, List, [], ◌∷◌, ◌++◌, length, drop, reverse, Some, Result, Ok, Err, refl, sym, ap, ◌∙◌, subst, arith, append_assoc, drop_at, slice_get, inl, inr, OnOk, IfErr}
 use Rattle.std.proofs.lemmas.List.{reverse-append, reverse-reverse}
 use Rattle.ip_headers.specs.declared.Link.{Link}
 use Rattle.pcap_file.specs.Device.{Tape}
@@ -17,7 +17,7 @@ use Rattle.event_trace.specs.Steps.{World, deliver, serve, drain_from, release, 
 use Rattle.event_trace.proofs.Quiet.{is_arrival, Quiet, Calm, Arrived, deliver_arrives, serve_calm, apart_calm}
 use Rattle.event_trace.proofs.Coming.{Grows, drain_is}
 use Rattle.event_trace.proofs.Judging.{deliver_told, serve_told, after_told}
-use Rattle.simulation.specs.PrivateMirrors.{Mirrors, ComesAs, IsNoArrival}
+use Rattle.waiting_frames.specs.Mirrors.{Mirrors, ComesAs, IsNoArrival}
 use Rattle.simulation.specs.declared.fault.SimulationFault.{SimulationFault}
 use Rattle.simulation.specs.declared.fault.SimulationFault.TheVariants.{Memory}
 use Rattle.simulation.specs.Plans.{Planned}

@@ -6,7 +6,7 @@ use Rattle.cluster_node.specs.declared.outcomes.Outcome.TheVariants.{Installed, 
 use Rattle.cluster_node.specs.declared.events.LogEntry.{LogEntry}
 use Rattle.cluster_node.specs.Records.{Judged}
 use Rattle.cluster_core.specs.Cluster.{Cluster, Orderly}
-use Rattle.simulation.specs.PrivateMirrors.{Mirrors, IsNoArrival, ComesAs}
+use Rattle.waiting_frames.specs.Mirrors.{Mirrors, IsNoArrival, ComesAs}
 use Rattle.simulation.specs.Sent.{Traffic, Sending, sent_at}
 use Rattle.simulation.specs.PrivateGoing.{onto}
 

@@ -5,7 +5,5 @@ pub mod Plans
 pub mod Wires
 pub mod Simulated
 pub mod PrivateGoing
-pub mod PrivateQueues
-pub mod PrivateMirrors
 pub mod Following
 pub mod PrivateStages

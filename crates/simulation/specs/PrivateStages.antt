@@ -12,7 +12,7 @@ use Rattle.cluster_node.specs.Records.{Judged}
 use Rattle.cluster_core.specs.Cluster.{Cluster, Orderly}
 use Rattle.event_trace.specs.Trace.{Trace}
 use Rattle.event_trace.specs.PrivateStreams.{take_of, lose_of}
-use Rattle.simulation.specs.PrivateMirrors.{Mirrors}
+use Rattle.waiting_frames.specs.Mirrors.{Mirrors}
 use Rattle.simulation.specs.Plans.{Planned}
 use Rattle.simulation.specs.Sent.{Wrote}
 use Rattle.simulation.specs.Simulated.{trace_of, sendings}

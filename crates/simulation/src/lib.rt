@@ -6,11 +6,9 @@ mod intake;
 mod keeping;
 mod plan;
 mod playing;
-mod queue;
 mod relaying;
 mod sending;
 mod staging;
-mod waiting;
 
 pub use fault::SimulationFault;
 pub use plan::{Plan, RunContext};

@@ -4,7 +4,7 @@ ghost use Rattle.pcap_file.specs.Format.{Record, packet};
 ghost use Rattle.cluster_node.specs.declared.events.LogEntry.{LogEntry};
 ghost use Rattle.cluster_core.specs.Cluster.{Cluster};
 ghost use Rattle.event_trace.specs.Deliveries.{if_there, events_of};
-ghost use Rattle.simulation.specs.PrivateMirrors.{Mirrors, CanFollow, ComesAs, IsNoArrival};
+ghost use Rattle.waiting_frames.specs.Mirrors.{Mirrors, CanFollow, ComesAs, IsNoArrival};
 ghost use Rattle.simulation.specs.Sent.{packet_in, sent, sent_by, Wrote, WroteUntil};
 ghost use Rattle.simulation.specs.Simulated.{IsOfRun};
 ghost use Rattle.simulation.specs.Wires.{traffic};
@@ -14,11 +14,11 @@ ghost use Rattle.simulation.specs.Following.{sent_with, NoArrivals, ArrivesFirst
 use crate::fault::SimulationFault;
 use crate::intake::Intake;
 use crate::sending::Wire;
-use crate::waiting::Waiting;
 use cluster_node::{LogEntry, Outcome, Packet, Passed};
 use event_trace::Delivery;
 use pcap_file::{Frame, Sink};
 use std::alloc::{AllocError, Global};
+use waiting_frames::Waiting;
 
 /// The frames that wait, and room that is used again.
 #[derive(Drop)]

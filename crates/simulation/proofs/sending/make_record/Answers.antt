@@ -1,4 +1,4 @@
-use Rattle.std.proofs.Common.{◌≡◌, ℕ, ◌+◌, List, ◌++◌, length, sym, ap, ◌∙◌, arith}
+use Rattle.std.proofs.Common.{◌≡◌, ℕ, ◌+◌, List, ◌++◌, length, ap, ◌∙◌, arith}
 use Rattle.gre_tunnel.specs.Gre.{wrapped}
 use Rattle.gre_tunnel.proofs.RoundTrip.{length-wrapped}
 use Rattle.pcap_file.specs.Format.{written_record_head}

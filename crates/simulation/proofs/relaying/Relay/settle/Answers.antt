@@ -1,7 +1,7 @@
-use Rattle.std.proofs.Common.{[], ◌∷◌, Option, Some, List, sym, subst, append-nil, OnOk, IfErr}
+use Rattle.std.proofs.Common.{[], Option, List, sym, subst, append-nil, OnOk, IfErr}
 use Rattle.cluster_node.specs.declared.events.LogEntry.{LogEntry}
 use Rattle.event_trace.specs.Deliveries.{if_there}
-use Rattle.simulation.specs.PrivateMirrors.{Mirrors}
+use Rattle.waiting_frames.specs.Mirrors.{Mirrors}
 use Rattle.simulation.specs.PrivateGoing.{onto}
 use Rattle.simulation.specs.Following.{NoArrivals, CanSettle}
 use Rattle.simulation.specs.Sent.{Sending, sent, sent_by, Wrote, WroteUntil}

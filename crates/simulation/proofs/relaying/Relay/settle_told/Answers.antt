@@ -2,7 +2,7 @@ use Rattle.std.proofs.Common.{◌≡◌, [], ◌∷◌, List, ◌∙◌, sym, su
 use Rattle.std.specs.Prelude.{OnOk, IfErr}
 use Rattle.cluster_node.specs.declared.events.LogEntry.{LogEntry}
 use Rattle.event_trace.specs.Deliveries.{events_of}
-use Rattle.simulation.specs.PrivateMirrors.{Mirrors}
+use Rattle.waiting_frames.specs.Mirrors.{Mirrors}
 use Rattle.simulation.specs.Sent.{Sending, sent, Wrote, WroteUntil}
 use Rattle.simulation.specs.Wires.{traffic}
 use Rattle.simulation.specs.PrivateGoing.{onto}

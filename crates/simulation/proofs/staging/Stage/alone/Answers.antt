@@ -1,8 +1,8 @@
-use Rattle.std.proofs.Common.{◌∙◌, refl, sym, subst, ap, OnOk, IfErr, [], ◌∷◌, reverse}
+use Rattle.std.proofs.Common.{refl, sym, subst, OnOk, IfErr, [], reverse}
 use Rattle.event_trace.specs.Trace.{Trace}
 use Rattle.event_trace.specs.Deliveries.{if_there}
 use Rattle.event_trace.specs.Steps.{world_of, after}
-use Rattle.simulation.specs.PrivateMirrors.{Mirrors}
+use Rattle.waiting_frames.specs.Mirrors.{Mirrors}
 use Rattle.simulation.specs.declared.sending.Wire.{Wire}
 use Rattle.simulation.specs.Plans.{planned}
 use Rattle.simulation.specs.Sent.{sent, Wrote, WroteUntil}

@@ -7,7 +7,7 @@ use Rattle.cluster_core.proofs.Frames.{was_read}
 use Rattle.event_trace.specs.Trace.{Trace}
 use Rattle.event_trace.specs.Steps.{world_of, deliver}
 use Rattle.event_trace.specs.Deliveries.{events_of}
-use Rattle.simulation.specs.PrivateMirrors.{Mirrors}
+use Rattle.waiting_frames.specs.Mirrors.{Mirrors}
 use Rattle.simulation.specs.declared.sending.Wire.{Wire}
 use Rattle.simulation.specs.Plans.{planned}
 use Rattle.simulation.specs.Sent.{packet_in, sent, Wrote, WroteUntil}

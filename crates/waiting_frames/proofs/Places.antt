@@ -4,7 +4,7 @@ use Rattle.std.specs.Prelude.{slice_get, slice_set, slice_index_or, ◌==◌, �
 use Rattle.std.proofs.lemmas.Bool.{eqb-true, lt-ltb, true≢false, eq-eqb, ltb-true, ltb-false, eqb-false}
 use Rattle.std.proofs.lemmas.List.{get_or-set_same, get_or-set_other, get_or_past, length-set}
 use Rattle.pcap_file.specs.Format.{Record}
-use Rattle.simulation.specs.PrivateQueues.{queue_at, HasQueue, place_of, Moves, only_at, changed_at, first_at, emptied}
+use Rattle.waiting_frames.specs.Queues.{queue_at, HasQueue, place_of, Moves, only_at, changed_at, first_at, emptied}
 
 -- a queue that there is, by its place
 pub at_place : (qs : List (List Record)) (n w : ℕ) → w < 16 → queue_at qs n w ≡ slice_index_or qs (n * 16 + w) []

@@ -18,8 +18,8 @@ use Rattle.cluster_node.specs.Record.{accepted, lines_of, line_by}
 use Rattle.cluster_node.specs.Records.{node_of, of_node, lines_at}
 use Rattle.cluster_node.proofs.Books.{drop_at}
 use Rattle.cluster_core.specs.Cluster.{Cluster, TakesFirst, queue_by}
-use Rattle.simulation.specs.PrivateQueues.{queue_at, HasQueue, Moves, placed_by, put_by, arrived, settled_by, settled, taken_by, taken_out}
-use Rattle.simulation.specs.PrivateMirrors.{Mirrors, CanFollow, ComesAs, IsNoArrival}
+use Rattle.waiting_frames.specs.Queues.{queue_at, HasQueue, Moves, placed_by, put_by, arrived, settled_by, settled, taken_by, taken_out}
+use Rattle.waiting_frames.specs.Mirrors.{Mirrors, CanFollow, ComesAs, IsNoArrival}
 
 -- one worker's records are those of its packets, by its lines
 abbrev pub Beside : List Record → List Record → List Line → Type 0

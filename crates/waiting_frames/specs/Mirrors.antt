@@ -6,7 +6,7 @@ use Rattle.cluster_node.specs.declared.events.Event.TheVariants.{Install, Arrive
 use Rattle.cluster_node.specs.declared.events.LogEntry.{LogEntry}
 use Rattle.cluster_node.specs.Records.{Judged, lines_at}
 use Rattle.cluster_core.specs.Cluster.{Cluster, Orderly, queue_by}
-use Rattle.simulation.specs.PrivateQueues.{queue_at}
+use Rattle.waiting_frames.specs.Queues.{queue_at}
 
 -- at each worker of the cluster the records of the capture that wait are those of the packets that wait, in their order
 abbrev pub Mirrors : List Record → Cluster → List LogEntry → List (List Record) → Type 0

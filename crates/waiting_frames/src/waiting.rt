@@ -9,8 +9,8 @@ ghost use Rattle.cluster_node.specs.declared.events.Event.TheVariants.{Arrive, S
 ghost use Rattle.cluster_node.specs.declared.outcomes.Outcome.TheVariants.{Placed, Forward};
 ghost use Rattle.cluster_node.specs.Record.{accepted};
 ghost use Rattle.cluster_core.specs.Cluster.{Cluster};
-ghost use Rattle.simulation.specs.PrivateQueues.{place_of, Moves, only_at, placed_by, arrived, settled_by, settled, taken_by, taken_out, changed_at, first_at, emptied, is_free, passes};
-ghost use Rattle.simulation.specs.PrivateMirrors.{Mirrors, CanFollow, ComesAs, IsNoArrival};
+ghost use Rattle.waiting_frames.specs.Queues.{place_of, Moves, only_at, placed_by, arrived, settled_by, settled, taken_by, taken_out, changed_at, first_at, emptied, is_free, passes};
+ghost use Rattle.waiting_frames.specs.Mirrors.{Mirrors, CanFollow, ComesAs, IsNoArrival};
 
 use crate::queue::Queue;
 use cluster_node::{Event, LogEntry, Outcome, Packet};
@@ -23,7 +23,7 @@ const MOST_WORKERS: usize = 16;
 
 /// The frames of the packets that wait, in a queue for each worker of each node.
 #[derive(Drop)]
-pub(crate) struct Waiting {
+pub struct Waiting {
     queues: Vec<Queue>,
 }
 
@@ -90,7 +90,7 @@ fn clear_from(queues: &mut Vec<Queue>, node: u16)
 
 impl Waiting {
     /// Empty queues for so many nodes, of up to 16 workers each.
-    pub(crate) fn new(alloc: Global, nodes: u16) -> Result<Self, AllocError>
+    pub fn new(alloc: Global, nodes: u16) -> Result<Self, AllocError>
         ensures empty { IfOk result (λ w. w ≡ replicate (nodes * 16) []) }
         ensures mirrors { IfOk result (λ w. (all : List Record) (k : Cluster) → Mirrors all k [] w) }
     {
@@ -145,7 +145,7 @@ impl Waiting {
     /// again. Then both events are followed with the queues as they are, and what is sent is that packet: its frame need not
     /// be kept.
     #[inline(always)]
-    pub(crate) fn passes(&self, read: &Packet, node: u16, worker: u16, outcome: &Outcome) -> bool
+    pub fn passes(&self, read: &Packet, node: u16, worker: u16, outcome: &Outcome) -> bool
         ensures { (place floor version : ℕ) (marks : List Bool) → result ≡ passes (record { event = Arrive node place marks; packet = Some read.now; outcome = Placed worker floor }) (record { event = Serve node worker version false; packet = None; outcome = outcome.now }) self.now }
     {
         let is_good = matches!(read, Packet::Good { .. });
@@ -172,7 +172,7 @@ impl Waiting {
     /// Whether the packet of an arrival waits from now on. Where it doesn't, the arrival is followed with the queues as they
     /// are.
     #[inline(always)]
-    pub(crate) fn waits(&self, said: &LogEntry) -> bool
+    pub fn waits(&self, said: &LogEntry) -> bool
         ensures mirrors { (all : List Record) (k : Cluster) (past : List LogEntry) (r : Record) → result ≡ false → CanFollow all k past said.now self.now → ComesAs all r said.now.event →
             Mirrors all k (said.now ∷ past) self.now }
     {
@@ -182,7 +182,7 @@ impl Waiting {
     /// Follows an arrival, whose packet has this frame. Where the packet waits now, the frame is kept after those that wait
     /// at its worker.
     #[inline(always)]
-    pub(crate) fn arrive(&mut self, said: &LogEntry, frame: Rc<Frame>) -> Result<(), AllocError>
+    pub fn arrive(&mut self, said: &LogEntry, frame: Rc<Frame>) -> Result<(), AllocError>
         ensures queues { OnOk result (Moves self.old self.new (arrived said.now (packet frame.value))) }
         ensures err { OnErr result (self.new ≡ self.old) }
         ensures mirrors { (all : List Record) (k : Cluster) (past : List LogEntry) → CanFollow all k past said.now self.old → ComesAs all (packet frame.value) said.now.event →
@@ -198,7 +198,7 @@ impl Waiting {
     ///
     /// By the clause `sent` this is, where a packet was sent, that packet's frame.
     #[inline(always)]
-    pub(crate) fn settle(&mut self, said: &LogEntry) -> Option<Rc<Frame>>
+    pub fn settle(&mut self, said: &LogEntry) -> Option<Rc<Frame>>
         ensures queues { Moves self.old self.new (settled said.now) }
         ensures taken { option_map (λ f. packet f.value) result ≡ taken_out said.now self.old }
         ensures mirrors { (all : List Record) (k : Cluster) (past : List LogEntry) → CanFollow all k past said.now self.old → IsNoArrival said.now.event →

@@ -12,10 +12,10 @@ use Rattle.cluster_node.specs.declared.outcomes.Outcome.TheVariants.{Forward}
 use Rattle.cluster_node.specs.Record.{accepted}
 use Rattle.cluster_node.specs.Records.{Judged}
 use Rattle.cluster_core.specs.Cluster.{Cluster}
-use Rattle.simulation.specs.PrivateQueues.{queue_at, HasQueue, place_of, Moves, only_at, placed_by, put_by, arrived, settled_by, taken_by, taken_out, changed_at, is_free, serving_on, alone_on, passes}
-use Rattle.simulation.specs.PrivateMirrors.{Mirrors, CanFollow, ComesAs, IsNoArrival}
-use Rattle.simulation.proofs.Places.{at_place, and_parts, moves_changed}
-use Rattle.simulation.proofs.Follows.{follow_arrived, follow_settled, first_sent, moves_accepted, taken_accepted}
+use Rattle.waiting_frames.specs.Queues.{queue_at, HasQueue, place_of, Moves, only_at, placed_by, put_by, arrived, settled_by, taken_by, taken_out, changed_at, is_free, serving_on, alone_on, passes}
+use Rattle.waiting_frames.specs.Mirrors.{Mirrors, CanFollow, ComesAs, IsNoArrival}
+use Rattle.waiting_frames.proofs.Places.{at_place, and_parts, moves_changed}
+use Rattle.waiting_frames.proofs.Follows.{follow_arrived, follow_settled, first_sent, moves_accepted, taken_accepted}
 
 -- where an arrival's packet waits alone, and what takes it out
 record Passing (s t : LogEntry) (qs : List (List Record)) : Type 0 where

@@ -1,7 +1,7 @@
 use Rattle.std.proofs.Common.{sym, ◌∙◌}
 use Rattle.pcap_file.specs.Format.{packet}
-use Rattle.simulation.proofs.Follows.{follow_settled, follow_sent, moves_accepted, taken_accepted}
-use Rattle.simulation.proofs.waiting.Waiting.settle.Goals as goal
+use Rattle.waiting_frames.proofs.Follows.{follow_settled, follow_sent, moves_accepted, taken_accepted}
+use Rattle.waiting_frames.proofs.waiting.Waiting.settle.Goals as goal
 
 pub returns-then-is_accepted-clause-mirrors : goal.returns-then-is_accepted-clause-mirrors
 returns-then-is_accepted-clause-mirrors c = λ all k past f away. follow_settled all k past c.args.said.now c.args.self.now c.settle_by.new.self f away
