@@ -185,7 +185,7 @@ fn verbose<'a>(alloc: Global) -> Arg<'a> {
     Arg::new(alloc, "verbose")
         .short('v')
         .long("verbose")
-        .help("with a fault, say where it is and what was expected, on standard error")
+        .help("say where a fault is and what was expected, or warn of what may not be meant")
         .action(ArgAction::SetTrue)
 }
 

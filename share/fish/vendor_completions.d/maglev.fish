@@ -22,12 +22,12 @@ complete -c maglev -n '__fish_seen_subcommand_from compare' -l help -d 'Print he
 complete -c maglev -n '__fish_seen_subcommand_from simulate' -F
 complete -c maglev -n '__fish_seen_subcommand_from simulate' -l list -d 'print each event and its outcome before the report'
 complete -c maglev -n '__fish_seen_subcommand_from simulate' -l splits -d 'print each flow that was split, and why, before the report'
-complete -c maglev -n '__fish_seen_subcommand_from simulate' -l verbose -d 'with a fault, say where it is and what was expected, on standard error'
+complete -c maglev -n '__fish_seen_subcommand_from simulate' -l verbose -d 'say where a fault is and what was expected, or warn of what may not be meant'
 complete -c maglev -n '__fish_seen_subcommand_from simulate' -l help -d 'Print help'
 complete -c maglev -n '__fish_seen_subcommand_from explain' -F
-complete -c maglev -n '__fish_seen_subcommand_from explain' -l verbose -d 'with a fault, say where it is and what was expected, on standard error'
+complete -c maglev -n '__fish_seen_subcommand_from explain' -l verbose -d 'say where a fault is and what was expected, or warn of what may not be meant'
 complete -c maglev -n '__fish_seen_subcommand_from explain' -l help -d 'Print help'
 complete -c maglev -n '__fish_seen_subcommand_from run' -F
 complete -c maglev -n '__fish_seen_subcommand_from run' -l splits -d 'print each flow that was split, and why, before the report'
-complete -c maglev -n '__fish_seen_subcommand_from run' -l verbose -d 'with a fault, say where it is and what was expected, on standard error'
+complete -c maglev -n '__fish_seen_subcommand_from run' -l verbose -d 'say where a fault is and what was expected, or warn of what may not be meant'
 complete -c maglev -n '__fish_seen_subcommand_from run' -l help -d 'Print help'
