@@ -138,22 +138,9 @@ fn is_regular(rt: &HostRuntime, path: &str) -> bool {
     }
 }
 
-// The path of what is read, where a standard stream has one too.
-fn path_read(path: &str) -> &str {
-    if is_standard(path) {
-        "/dev/stdin"
-    } else {
-        path
-    }
-}
-
-// The path of what is written, where a standard stream has one too.
-fn path_written(path: &str) -> &str {
-    if is_standard(path) {
-        "/dev/stdout"
-    } else {
-        path
-    }
+// The path of a file, or of the standard stream that is meant in its place.
+fn path_or<'a>(path: &'a str, stream: &'a str) -> &'a str {
+    if is_standard(path) { stream } else { path }
 }
 
 // Whether two paths name one file.
@@ -299,12 +286,12 @@ impl<'a> OutputFile<'a> {
 
     // Whether it is a file that is read.
     fn is_what_is_read(&self) -> bool {
-        let path = path_written(self.path);
+        let path = path_or(self.path, "/dev/stdout");
         is_regular(self.rt, path)
             && self
                 .read
                 .iter()
-                .any(|read| are_one(self.rt, path, path_read(read)))
+                .any(|read| are_one(self.rt, path, path_or(read, "/dev/stdin")))
     }
 
     fn open(&self) -> io::Result<Writer<'a>> {
