@@ -155,9 +155,14 @@ def test_manual():
     if has("mandoc"):
         check("the man page", did(["mandoc", "-T", "lint", page]) == (0, b"", b""))
     words = 'source share/bash-completion/completions/maglev; COMP_WORDS=(maglev %s); COMP_CWORD=%d; _maglev; echo "${COMPREPLY[*]}"'
-    for typed, at, expected in [("si", 1, "simulate"), ("table --hash s", 3, "sha256 sum"), ("pick --no", 2, "--no-check")]:
+    for typed, at, expected in [("si", 1, "simulate"), ("table --hash s", 3, "sha256 sum"), ("pick --no", 2, "--no-check"), ("table --size =", 3, "7 13 251 1021 8191 65537"), ("pick --hash = sh", 4, "sha256")]:
         answer = did(["bash", "-c", words % (typed, at)], cwd=TOP)
         check(f"completion of {typed}", answer == (0, expected.encode() + b"\n", b""), repr(answer))
+    with tempfile.TemporaryDirectory() as made:
+        (pathlib.Path(made) / "run").mkdir()
+        script = f"source {TOP}/share/bash-completion/completions/maglev; complete -p maglev"
+        answer = did(["bash", "-c", script], cwd=made)
+        check("a folder that is called as a command is none of its completions", answer == (0, b"complete -F _maglev maglev\n", b""), repr(answer))
 
 
 def test_layers():

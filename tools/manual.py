@@ -1,7 +1,7 @@
 #!/usr/bin/env python3
 """Writes the man page and the completions of bash, zsh and fish from the program's help texts, which are in tests/texts
-and compared with the program's own by the tests. `manual.py --check` says by its status whether share/ is what this
-script writes.
+and compared with the program's own by the tests. What the man page says of scenarios and of exit statuses is taken from the
+tables of docs/FORMATS.md. `manual.py --check` says by its status whether share/ is what this script writes.
 """
 import pathlib
 import re
@@ -11,6 +11,7 @@ import textwrap
 TOP = pathlib.Path(__file__).resolve().parent.parent
 TEXTS = TOP / "tests" / "texts"
 SHARE = TOP / "share"
+FORMATS = TOP / "docs" / "FORMATS.md"
 # The words that an option takes.
 CHOICES = {"--size": ["7", "13", "251", "1021", "8191", "65537"], "--hash": ["fnv", "sha256", "sum"]}
 # When the commands were last changed.
@@ -74,6 +75,27 @@ def after_help(line):
     return [".TP", f".B {roff(word)}"] + ([roff(text.strip())] if text else [])
 
 
+def table(head):
+    """The rows of the first table below a heading of docs/FORMATS.md, as plain words."""
+    text = FORMATS.read_text()
+    lines = text[text.index(f"### {head}\n"):].splitlines()
+    first = next(place for place, line in enumerate(lines) if line.startswith("|---"))
+    rows = []
+    for line in lines[first + 1:]:
+        if not line.startswith("|"):
+            return rows
+        rows.append([cell.strip().replace("`", "") for cell in line.strip("|").split("|")])
+    return rows
+
+
+def section(head, of, before):
+    """A section of the man page that is a table of docs/FORMATS.md."""
+    lines = [f".SH {head}", roff(before)]
+    for word, text in table(of):
+        lines += [".TP", f".B {roff(word)}", roff(text)]
+    return lines
+
+
 def man_page(whole, commands):
     """The man page, in the macros of man(7)."""
     page = [f'.TH MAGLEV 1 "{DATE}" "maglev" "User Commands"', ".SH NAME", f"maglev \\- {roff(whole.about)}", ".SH SYNOPSIS"]
@@ -88,14 +110,19 @@ def man_page(whole, commands):
             page += [".TP", f".B {roff(word)}", roff(text)]
         for line in one.after:
             page += after_help(line)
+    page += section("SCENARIO", "Keys", "A scenario is a TOML document with these keys. Each is required but ring, check and idle.")
+    page += section("STEPS", "Steps", "Each step is a text. N is a node and W a worker, counted from 0; V is the number of a version.")
     page += [".SH EXIT STATUS", ".TP", "0", "Done.", ".TP", "1", "A fault, which a line on standard error names."]
     page += [".TP", "2", "A bad command line."]
+    page += section("FAULTS", "Exit status", "Memory comes where memory was refused, Write where standard output can't be written. The others by command, the first that holds:")
+    page += section("FAULTS OF A SCENARIO", "Faults", "The first that holds in this order:")
     return "\n".join(page) + "\n"
 
 
 def bash_words(whole, commands):
-    """Completions for bash."""
+    """Completions for bash. It takes `--size=7` for three words, so that the sign is left out of what is before."""
     lines = ["# Completions of maglev for bash.", "_maglev() {", '    local word=${COMP_WORDS[COMP_CWORD]} before=${COMP_WORDS[COMP_CWORD-1]}']
+    lines.append('    if [ "$word" = = ]; then word=; elif [ "$before" = = ]; then before=${COMP_WORDS[COMP_CWORD-2]}; fi')
     lines.append('    if [ "$COMP_CWORD" -eq 1 ]; then')
     lines.append(f'        mapfile -t COMPREPLY < <(compgen -W "{" ".join(whole.commands())} help --help" -- "$word")')
     lines += ["        return", "    fi", "    case $before in"]
@@ -104,10 +131,10 @@ def bash_words(whole, commands):
     lines += ["    esac", "    case ${COMP_WORDS[1]} in"]
     for one in commands:
         options = " ".join(long for long, _, _ in one.options())
-        files = " -f" if one.takes_files() else ""
-        lines.append(f'        {one.name}) mapfile -t COMPREPLY < <(compgen{files} -W "{options}" -- "$word") ;;')
+        files, kind = (" -f", " compopt -o filenames 2>/dev/null;") if one.takes_files() else ("", "")
+        lines.append(f'        {one.name}){kind} mapfile -t COMPREPLY < <(compgen{files} -W "{options}" -- "$word") ;;')
     lines.append(f'        help) mapfile -t COMPREPLY < <(compgen -W "{" ".join(whole.commands())}" -- "$word") ;;')
-    lines += ["    esac", "}", "complete -o filenames -F _maglev maglev"]
+    lines += ["    esac", "}", "complete -F _maglev maglev"]
     return "\n".join(lines) + "\n"
 
 
