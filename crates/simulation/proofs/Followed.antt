@@ -1,5 +1,5 @@
 -- What is sent as events come.
-use Rattle.std.proofs.Common.{◌≡◌, ℕ, ◌+◌, Bool, true, false, List, [], ◌∷◌, ◌++◌, length, Option, Some, None, Result, Ok, Err, refl, sym, ap, ◌∙◌, subst, arith, slice_get, append-nil}
+use Rattle.std.proofs.Common.{◌≡◌, ℕ, Bool, true, false, List, [], ◌∷◌, ◌++◌, length, Option, Some, None, Result, Ok, Err, refl, sym, ap, ◌∙◌, subst, arith, slice_get, append-nil}
 use Rattle.std.specs.Prelude.{OnOk, if◌then◌else◌}
 use Rattle.five_tuple.specs.declared.Flow.{Flow}
 use Rattle.pool_versions.specs.declared.backend.Backend.{Backend}
