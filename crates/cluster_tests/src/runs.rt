@@ -21,6 +21,8 @@ use std::thread;
 use std::thread::Threads;
 use thread_records::Command;
 
+mod gates;
+mod held;
 mod stop;
 
 const VIP: u32 = 0xc000_0201;

@@ -27,6 +27,7 @@ mod held;
 mod live;
 mod shown;
 mod stop;
+mod unstored;
 
 type Sums = Maglev<SumHash>;
 

@@ -48,7 +48,7 @@ fn version(rt: &impl Abort, alloc: Global, number: u32, up: bool) -> Version {
 }
 
 // In version 1 all are up, and in version 2 B is down.
-fn catalogue(rt: &impl Abort, alloc: Global) -> Catalogue
+pub(super) fn catalogue(rt: &impl Abort, alloc: Global) -> Catalogue
     ensures { result.size ≡ 7 }
 {
     let size = TableSize::new(7).expect(rt, "a size");
@@ -70,7 +70,7 @@ fn cluster(rt: &impl Abort, alloc: Global) -> Setup<Maglev<SumHash>, SumHash>
 }
 
 // Two flows in turn.
-fn packets() -> [Packet; 8]
+pub(super) fn packets() -> [Packet; 8]
     ensures { (k : ℕ) (p : Packet) → slice_get result k ≡ Some p → WasRead (Some p) }
 {
     [

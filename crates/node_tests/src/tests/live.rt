@@ -13,18 +13,18 @@ const TURNS: u64 = 10_000_000;
 
 /// How often each call came, and what never came.
 #[derive(Drop)]
-struct Held {
+pub(super) struct Held {
     // The last version that the driver was about to prepare.
     prepared: AtomicU64,
     served: AtomicU64,
-    missed: AtomicU64,
+    pub(super) missed: AtomicU64,
     // The version before which the driver waits for the first serving, and the one for which that serving waits.
     waits: u32,
     awaits: u32,
 }
 
 impl Held {
-    fn new(waits: u32, awaits: u32) -> Held {
+    pub(super) fn new(waits: u32, awaits: u32) -> Held {
         Held {
             prepared: AtomicU64::new(0),
             served: AtomicU64::new(0),
