@@ -1,7 +1,8 @@
 /* Loaded in front of a program (LD_PRELOAD), refuses one of its allocations, or all from one on.
  *
- * REFUSED is the allocation's number, counted from 1; a '+' behind it says all from that one on. Each refusal is told by a
- * byte on the descriptor whose number is TOLD. It is compiled with no header, so what it calls is declared here. */
+ * REFUSED is the allocation's number, counted from 1; a '+' behind it says all from that one on, and a 't' that the first
+ * thread's aren't counted. Each refusal is told by a byte on the descriptor whose number is TOLD. It is compiled with no
+ * header, so what it calls is declared here. */
 typedef unsigned long size;
 
 extern void *__libc_malloc(size);
@@ -11,11 +12,14 @@ extern char *getenv(const char *);
 extern int atoi(const char *);
 extern long write(int, const void *, size);
 extern int *__errno_location(void);
+extern int getpid(void);
+extern int gettid(void);
 
 static const int no_memory = 12; /* ENOMEM */
 
 static int refused;
 static int and_later;
+static int but_first;
 static int told;
 static int count;
 
@@ -28,10 +32,11 @@ __attribute__((constructor)) static void begin(void) {
     while (*word >= '0' && *word <= '9')
         refused = refused * 10 + (*word++ - '0');
     and_later = *word == '+';
+    but_first = *word == 't';
 }
 
 static int is_refused(void) {
-    if (!refused)
+    if (!refused || (but_first && gettid() == getpid()))
         return 0;
     count++;
     if (count != refused && !(and_later && count > refused))

@@ -59,6 +59,9 @@ SPLIT = {"s.toml": APART, "in.pcap": CAPTURE + CAPTURE[24:]}
 FLOW = "split tcp 10.0.0.1:1000>192.0.2.1:80 events {} slot 6 version 1 A@10.8.0.1 version 2 B@10.8.0.2 down\nflows 1\nsplit 1\ndown 1\nmoved 0\n"
 TWO = REPORT.replace(" 1\n", " 2\n")
 LOST = (1, b"", b"fault: ThreadLost\n")
+# Two nodes of a worker each, and a packet of one flow at each: what the second sends bears its own address.
+NODES = {"s.toml": SCENARIO.replace(b"workers = 1", b"workers = 1\nring = 16").replace(b'"take 1"', b'"install 1 1", "take 2"'), "in.pcap": CAPTURE + CAPTURE[24:]}
+SENT_BY_TWO = SENT + SENT[24:].replace(bytes.fromhex("267d0a090001"), bytes.fromhex("267c0a090002"))
 # Two nodes of two workers each, of which one restarts.
 RESTARTING, EIGHT = soak_run.restarting("restart")
 RESTARTED = AUDITED.replace(" 1\n", " 8\n").replace("lost 0", "lost 1")
@@ -104,6 +107,7 @@ CASES = [
     Case(["simulate", "--splits", "s.toml", "in.pcap", "out.pcap"], FLOW.format("3 5") + TWO, files=SPLIT),
     Case(["explain", "s.toml", "in.pcap", "2", "2"], "same\n", files=FILES),
     Case(["run", "s.toml", "in.pcap", "out.pcap"], AUDITED, files=FILES, written={"out.pcap": SENT}, faults=[LOST]),
+    Case(["run", "s.toml", "in.pcap", "out.pcap"], TWO + "audit agrees\n", files=NODES, written={"out.pcap": SENT_BY_TWO}, faults=[LOST]),
     Case(["run", "s.toml", "in.pcap", "out.pcap"], RESTARTED, files=CLUSTER, faults=[LOST]),
     Case(["run", "s.toml", "in.pcap", "out.pcap"], "", files=FULL, faults=[LOST], judge=all_came),
     Case(["run", "--splits", "s.toml", "in.pcap", "out.pcap"], FLOW.format("2 5") + TWO + "audit agrees\n", files=SPLIT, faults=[LOST]),

@@ -3,7 +3,7 @@
 
 The program `example_node` runs a node of two workers through two lives, on threads; `maglev run` runs two such nodes, of which
 one has two lives. They print their whole answer, or why there is none, alone: `fault: ThreadLost` where a thread couldn't be
-started, and `fault: Memory` where memory was refused. A thread of the audit may be refused: its node is then audited by the
+started, and `fault: Memory` where memory was refused, which comes first where both were. A thread of the audit may be refused: its node is then audited by the
 caller's thread, and the run says what it always says. `refuse_thread.c` refuses threads, and `refused_growths.py` has how
 growths are refused. A growth that the system refuses while it starts a thread loses the thread.
 
@@ -27,6 +27,10 @@ CLUSTER_THREADS = 11
 # Those of its audit, at most: one for each node.
 AUDIT_THREADS = 2
 LOST = growths.LOST
+# The thread that is refused, and what is said where the first growth of any thread but the first one is refused too. An 'r' in
+# front tells that one was. Where the first driver isn't started no other thread is; where the second one isn't, the first is
+# refused memory.
+AT_ONCE = [("1", b"fault: ThreadLost\n"), ("2", b"rfault: Memory\n")]
 
 
 def refuse_threads(library, words, case, threads, spared=0):
@@ -63,6 +67,23 @@ def explains_why(library, program):
     return int(is_right), int(not is_right)
 
 
+def refuse_both(libraries, program):
+    """Refuses a thread of a cluster's run, and memory to those that were started. Gives how many runs were as they must be, and not."""
+    passed = failed = 0
+    with tempfile.TemporaryDirectory() as folder:
+        for name, content in CLUSTER.files.items():
+            (pathlib.Path(folder) / name).write_bytes(content)
+        for thread, wanted in AT_ONCE:
+            env = {"LD_PRELOAD": ":".join(libraries), "REFUSED": "1t", "TOLD": "2", "REFUSED_THREAD": thread}
+            done = subprocess.run([program, *CLUSTER.arguments], cwd=folder, capture_output=True, env=env, timeout=60)
+            is_right = (done.returncode, done.stdout, done.stderr) == (1, b"", wanted)
+            passed += is_right
+            failed += not is_right
+            if not is_right:
+                print(f"FAILED run, thread {thread} and memory refused: {done}")
+    return passed, failed
+
+
 def main():
     growths.FAULTS.append(LOST)
     program = growths.PROGRAM
@@ -72,6 +93,7 @@ def main():
         counts = [refuse_threads(library, [growths.PROGRAM], NODE, NODE_THREADS)]
         counts.append(refuse_threads(library, [program, *CLUSTER.arguments], CLUSTER, CLUSTER_THREADS, AUDIT_THREADS))
         counts.append(explains_why(library, program))
+        counts.append(refuse_both([library, growths.compiled(folder)], program))
         counts.append(growths.refuse_all(folder, [NODE]))
     return told(sum(passed for passed, _ in counts), sum(failed for _, failed in counts))
 

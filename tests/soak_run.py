@@ -11,11 +11,13 @@ and the rest is LostAtRestart. The last line is 'N passed, N failed'.
 """
 import collections
 import itertools
+import os
 import pathlib
 import random
 import subprocess
 import sys
 import tempfile
+import time
 
 import model
 from harness import PROGRAM, judge_all
@@ -280,15 +282,16 @@ def case(name, text, data):
     return name, text, data, model.Run(text, data)
 
 
-def reported(text, data, expected, folder):
-    """What one run prints, and its faults."""
+def reported(text, data, expected, folder, processors=None):
+    """What one run prints, and its faults. It has all processors, or these."""
     (folder / "s.toml").write_text(text)
     (folder / "in.pcap").write_bytes(data)
     words = [PROGRAM, "run", "s.toml", "in.pcap", "out.pcap"]
+    pinned = processors and (lambda: os.sched_setaffinity(0, processors))
     try:
-        done = subprocess.run(words, cwd=folder, capture_output=True, timeout=120)
+        done = subprocess.run(words, cwd=folder, capture_output=True, timeout=300, preexec_fn=pinned)
     except subprocess.TimeoutExpired:
-        return "", ["it doesn't end in two minutes"]
+        return "", ["it doesn't end in five minutes"]
     if done.returncode or done.stderr:
         return "", [f"status {done.returncode}: {done.stderr!r}"]
     printed = done.stdout.decode()
@@ -298,6 +301,20 @@ def reported(text, data, expected, folder):
 def judged(text, data, expected, folder):
     """The faults of one run."""
     return reported(text, data, expected, folder)[1]
+
+
+def widest_runs(folder):
+    """Gives each of the widest runs with its faults, and prints how long it took: with rings of one place and of four, on all
+    processors, and on one alone."""
+    one = {min(os.sched_getaffinity(0))}
+    for ring, processors in [(1, None), (4, None), (1, one)]:
+        name = f"64 nodes of 16 workers, rings of {ring}, {'one processor' if processors else 'all processors'}"
+        text, data = widest(ring)
+        expected = model.Run(text, data)
+        began = time.monotonic()
+        _, faults = reported(text, data, expected, folder, processors)
+        print(f"{name}: {time.monotonic() - began:.1f} s")
+        yield name, faults
 
 
 def stopped_in_traffic(folder):
@@ -319,9 +336,9 @@ def main():
     runs = [case(f"run {seed}", *thrown(seed)) for seed in range(first, first + count)]
     for word in ["restart", "stop"]:
         runs += [case(f"the run with a {word}", *restarting(word))] * times
-    runs += [case(f"64 nodes of 16 workers, rings of {ring}", *widest(ring)) for ring in [1, 4]]
     with tempfile.TemporaryDirectory() as folder:
         cases = [(name, judged(*run, pathlib.Path(folder))) for name, *run in runs]
+        cases += widest_runs(pathlib.Path(folder))
         cases.append(("a stop of the last of four nodes", list(stopped_in_traffic(pathlib.Path(folder)))))
         return judge_all(cases)
 

@@ -11,4 +11,6 @@ mod failures;
 #[cfg(test)]
 mod refusals;
 #[cfg(test)]
+mod rows;
+#[cfg(test)]
 mod tests;
