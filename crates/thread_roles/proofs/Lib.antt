@@ -1,2 +1,4 @@
 pub mod Counting
 pub mod Goes
+pub mod Showing
+pub mod Taking
