@@ -4,7 +4,7 @@ use Rattle.std.specs.Prelude.{nat_lt, if◌then◌else◌}
 use Rattle.std.proofs.lemmas.Bool.{eqb-true, ltb-true}
 use Rattle.std.proofs.lemmas.List.{same_from_push}
 use Rattle.pool_versions.specs.Pool.{version_at}
-use Rattle.pool_versions.specs.declared.versions.Version.{Version}
+use Rattle.pool_versions.specs.declared.service.Version.{Version}
 use Rattle.cluster_node.specs.declared.events.Event.TheVariants.{Install}
 use Rattle.cluster_node.specs.declared.outcomes.Outcome.{Outcome}
 use Rattle.cluster_node.specs.declared.outcomes.Outcome.TheVariants.{Installed, Refused}
