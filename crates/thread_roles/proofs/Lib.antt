@@ -1,4 +1,2 @@
 pub mod Counting
 pub mod Goes
-pub mod Showing
-pub mod Taking

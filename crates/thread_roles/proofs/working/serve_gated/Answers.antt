@@ -1,5 +1,4 @@
 use Rattle.std.proofs.Common.{◌∙◌}
-use Rattle.version_board.specs.Numbers.{newest}
 use Rattle.thread_records.specs.declared.step.Handled.{Handled}
 use Rattle.thread_roles.proofs.Counting.{counts_choice}
 use Rattle.thread_roles.proofs.working.serve_gated.Goals as goal
@@ -7,8 +6,8 @@ use Rattle.thread_roles.proofs.working.serve_gated.Goals as goal
 pub returns-in-Ok : goal.returns-in-Ok
 returns-in-Ok g c = λ had.
     let told = c.in-Ok.ensures in
-    let h : Handled = record { item = c.args.item.now; version = newest c.serve_one.new.post; choice = c.in-Ok.served.choice; unstored = c.in-Ok.served.unstored } in
+    let h : Handled = record { item = c.args.item.now; version = told.0; choice = c.in-Ok.served.choice; unstored = c.in-Ok.served.unstored } in
     record {
       part = c.serve_one-stats.ensures.parts ∙ had.part;
-      counts = counts_choice c.args.run.now.tally.lost c.serve_one-stats.new.self.lost c.args.run.now.tally.shares c.serve_one-stats.new.self.shares c.args.run.now.record.handled c.serve_one.new.worker.handled h c.serve_one-stats.ensures.lost told had.counts;
+      counts = counts_choice c.args.run.now.tally.lost c.serve_one-stats.new.self.lost c.args.run.now.tally.shares c.serve_one-stats.new.self.shares c.args.run.now.record.handled c.serve_one.new.worker.handled h c.serve_one-stats.ensures.lost told.1 had.counts;
     }
