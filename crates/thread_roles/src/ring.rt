@@ -1,5 +1,5 @@
 //! What goes through the rings, and waiting at them.
-ghost use Rattle.std.specs.Prelude.{◌≡◌, ◌++◌, ◌∷◌, []};
+ghost use Rattle.std.specs.Prelude.{◌≡◌, ◌++◌, ◌∷◌, [], map};
 ghost use Rattle.rtrb.specs.Ring.{sent};
 
 use cluster_node::{Item, Outcome};
@@ -77,7 +77,17 @@ pub struct Inputs {
 }
 
 impl Rings for Inputs {
-    fn offer(&mut self, worker: u16, item: Item) -> bool {
+    ghost use Rattle.std.specs.Prelude.{◌≡◌, map, slice_index, IsFalse, MatchBool};
+    ghost use Rattle.rtrb.specs.Ring.{sent, known_free};
+    ghost use Rattle.thread_roles.specs.Pushed.{put_in};
+    ghost use Rattle.thread_roles.specs.declared.ring.Message.TheVariants.{Serve};
+
+    fn offer(&mut self, worker: u16, item: Item) -> bool
+        ensures sent { MatchBool result
+            (map (λ r. sent r) self.new.rings.items ≡ put_in (map (λ r. sent r) self.old.rings.items) worker (Serve item))
+            (map (λ r. sent r) self.new.rings.items ≡ map (λ r. sent r) self.old.rings.items) }
+        ensures full { IsFalse result → slice_index (map (λ r. known_free r) self.new.rings.items) worker ≡ 0 }
+    {
         let at = worker as usize;
         if at >= self.rings.len() {
             return false;
@@ -91,8 +101,12 @@ impl Rings for Inputs {
 }
 
 impl Inputs {
+    ghost use Rattle.thread_roles.specs.declared.ring.Message.TheVariants.{Close};
+
     /// Puts a closing mark into each ring.
-    pub fn close<R: Wait>(&mut self, rt: &R) {
+    pub fn close<R: Wait>(&mut self, rt: &R)
+        ensures { map (λ r. sent r) self.new.rings.items ≡ map (λ ms. ms ++ Close ∷ []) (map (λ r. sent r) self.old.rings.items) }
+    {
         for at in 0..self.rings.len() {
             let one = &mut self.rings[at];
             push_waiting(rt, one, Message::Close);
