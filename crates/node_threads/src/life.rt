@@ -275,7 +275,10 @@ where
     if let Some(fault) = fault {
         return Err(give_up(rt, alloc, &mut inputs, handles, fault));
     }
-    let Ok(mux) = scope.spawn(move || gather(rt, alloc, outputs)) else {
+    let Ok(mux) = scope.spawn(move || {
+        let mut outputs = outputs;
+        gather(rt, alloc, &mut outputs)
+    }) else {
         return Err(give_up(rt, alloc, &mut inputs, handles, RunFault::ThreadLost));
     };
     let crew = Crew {

@@ -6,7 +6,7 @@ use Rattle.std.proofs.lemmas.List.{map_push, append-nil, append_assoc}
 use Rattle.stats_book.specs.Counts.{Counted, one_more, sums}
 use Rattle.forwarder.specs.declared.Choice.{Choice}
 use Rattle.forwarder.specs.declared.Choice.TheVariants as choices
-use Rattle.cluster_core.specs.OutcomeCounts.{is_arrival, is_forward, at_serving, how_many, drops, drops_all, drop_counts, lost_of, lost_all}
+use Rattle.cluster_core.specs.OutcomeCounts.{is_arrival, is_forward, how_many, drops, drops_all, drop_counts, lost_of, lost_all}
 use Rattle.cluster_node.specs.declared.outcomes.Outcome.{Outcome}
 use Rattle.cluster_node.specs.declared.outcomes.Outcome.TheVariants.{Installed, Placed, Forward, Dropped, Restarted, Refused}
 use Rattle.cluster_node.specs.declared.outcomes.Reason.{Reason}

@@ -1,6 +1,9 @@
 //! What goes through the rings, and waiting at them.
+ghost use Rattle.std.specs.Prelude.{◌≡◌, ◌++◌, ◌∷◌, [], map};
+ghost use Rattle.rtrb.specs.Ring.{sent};
+
 use cluster_node::{Item, Outcome};
-use rtrb::{Consumer, Producer, PushError};
+use rtrb::{Producer, PushError};
 use std::hint::spin_loop;
 use std::sync::Wait;
 use std::thread::yield_now;
@@ -51,25 +54,15 @@ impl Idle {
 }
 
 /// Pushes the item, and tries again while the ring is full.
-pub fn push_waiting<T, R: Wait>(rt: &R, ring: &mut Producer<T>, item: T) {
+pub fn push_waiting<T, R: Wait>(rt: &R, ring: &mut Producer<T>, item: T)
+    ensures { sent ring.new ≡ sent ring.old ++ item ∷ [] }
+{
     let mut item = item;
     let mut idle = Idle::new();
     for _ in rt.forever() {
         match ring.push(item) {
             Ok(()) => return,
             Err(PushError::Full(back)) => item = back,
-        }
-        idle.wait();
-    }
-    unreachable!()
-}
-
-/// Pops the next item, and tries again while the ring is empty.
-pub fn pop_waiting<T, R: Wait>(rt: &R, ring: &mut Consumer<T>) -> T {
-    let mut idle = Idle::new();
-    for _ in rt.forever() {
-        if let Ok(item) = ring.pop() {
-            return item;
         }
         idle.wait();
     }
@@ -84,7 +77,17 @@ pub struct Inputs {
 }
 
 impl Rings for Inputs {
-    fn offer(&mut self, worker: u16, item: Item) -> bool {
+    ghost use Rattle.std.specs.Prelude.{◌≡◌, map, slice_index, IsFalse, MatchBool};
+    ghost use Rattle.rtrb.specs.Ring.{sent, known_free};
+    ghost use Rattle.thread_roles.specs.Pushed.{put_in};
+    ghost use Rattle.thread_roles.specs.declared.ring.Message.TheVariants.{Serve};
+
+    fn offer(&mut self, worker: u16, item: Item) -> bool
+        ensures sent { MatchBool result
+            (map (λ r. sent r) self.new.rings.items ≡ put_in (map (λ r. sent r) self.old.rings.items) worker (Serve item))
+            (map (λ r. sent r) self.new.rings.items ≡ map (λ r. sent r) self.old.rings.items) }
+        ensures full { IsFalse result → slice_index (map (λ r. known_free r) self.new.rings.items) worker ≡ 0 }
+    {
         let at = worker as usize;
         if at >= self.rings.len() {
             return false;
@@ -98,8 +101,12 @@ impl Rings for Inputs {
 }
 
 impl Inputs {
+    ghost use Rattle.thread_roles.specs.declared.ring.Message.TheVariants.{Close};
+
     /// Puts a closing mark into each ring.
-    pub fn close<R: Wait>(&mut self, rt: &R) {
+    pub fn close<R: Wait>(&mut self, rt: &R)
+        ensures { map (λ r. sent r) self.new.rings.items ≡ map (λ ms. ms ++ Close ∷ []) (map (λ r. sent r) self.old.rings.items) }
+    {
         for at in 0..self.rings.len() {
             let one = &mut self.rings[at];
             push_waiting(rt, one, Message::Close);

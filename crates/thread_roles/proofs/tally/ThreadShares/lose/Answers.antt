@@ -1,4 +1,4 @@
-use Rattle.std.proofs.Common.{◌≡◌, ℕ, ◌+◌, suc, refl, ap, sym, ◌∙◌, arith}
+use Rattle.std.proofs.Common.{◌≡◌, ℕ, ◌+◌, suc, refl, ap, ◌∙◌, arith}
 use Rattle.stats_book.specs.Counts.{Counted, one_more}
 use Rattle.cluster_node.specs.declared.outcomes.Cause.TheVariants.{LostAtRestart}
 use Rattle.thread_roles.specs.Counts.{with_lost}
