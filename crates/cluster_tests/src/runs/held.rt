@@ -127,7 +127,7 @@ fn sent(rt: &impl Abort, node: u16, name: u8, origin: u32) -> Outcome {
 
 // Three packets are placed under version 1, and version 2 is published before the first of them looks at the board. Of them
 // one is sent and two are lost; the next life knows the newest version.
-fn stopped(rt: &impl Abort, node: u16) -> [Outcome; 9] {
+fn outcomes_of_a_stop(rt: &impl Abort, node: u16) -> [Outcome; 9] {
     [
         Outcome::Installed,
         placed(1),
@@ -151,7 +151,11 @@ fn is_stopped(rt: &impl Abort, run: &ClusterRun, node: u16) {
     assert!(rt; run.nodes.len() == 2);
     for (at, record) in run.nodes.iter().enumerate() {
         if at == usize::from(node) {
-            same_outcomes(rt, record.outcomes.as_slice(), &stopped(rt, node));
+            same_outcomes(
+                rt,
+                record.outcomes.as_slice(),
+                &outcomes_of_a_stop(rt, node),
+            );
         } else {
             same_outcomes(
                 rt,
