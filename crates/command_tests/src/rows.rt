@@ -102,24 +102,24 @@ fn other_datagram() -> [u8; 40] {
 
 /// A command's outcome, and what it wrote.
 #[derive(Drop)]
-struct Done {
+struct Printed {
     outcome: Result<(), CliFault>,
     output: Vec<u8>,
     report: Vec<u8>,
 }
 
-fn done(outcome: Result<(), CliFault>, output: FailingSink, report: FailingSink) -> Done {
+fn done(outcome: Result<(), CliFault>, output: FailingSink, report: FailingSink) -> Printed {
     let FailingSink { bytes, .. } = output;
     let output = bytes;
     let FailingSink { bytes, .. } = report;
-    Done {
+    Printed {
         outcome,
         output,
         report: bytes,
     }
 }
 
-fn simulated(alloc: Global, text: &str, capture: &[u8], list: bool) -> Done {
+fn simulated(alloc: Global, text: &str, capture: &[u8], list: bool) -> Printed {
     let mut input = source(capture, NEVER);
     let (mut output, mut report) = (sink(alloc, NEVER), sink(alloc, NEVER));
     let text = text.as_bytes();
@@ -131,7 +131,7 @@ fn simulated(alloc: Global, text: &str, capture: &[u8], list: bool) -> Done {
     done(outcome, output, report)
 }
 
-fn ran<T: Threads + Wait + Sync>(rt: &T, alloc: Global, text: &str, capture: &[u8]) -> Done {
+fn ran<T: Threads + Wait + Sync>(rt: &T, alloc: Global, text: &str, capture: &[u8]) -> Printed {
     let mut input = source(capture, NEVER);
     let (mut output, mut report) = (sink(alloc, NEVER), sink(alloc, NEVER));
     let text = text.as_bytes();
@@ -140,7 +140,7 @@ fn ran<T: Threads + Wait + Sync>(rt: &T, alloc: Global, text: &str, capture: &[u
 }
 
 // What is written and reported, and then this line.
-fn is_done(rt: &impl Abort, found: &Done, wanted: (&[u8], &[&str]), at: usize) {
+fn is_done(rt: &impl Abort, found: &Printed, wanted: (&[u8], &[&str]), at: usize) {
     same_outcome(rt, found.outcome, Ok(()), at);
     same_bytes(rt, found.output.as_slice(), wanted.0, at);
     is_reported(rt, found.report.as_slice(), wanted.1, at);
@@ -184,7 +184,7 @@ fn of_cut(sent: &[u8], length: usize) -> Option<(&[u8], &'static str)> {
     }
 }
 
-fn is_of_cut(rt: &impl Abort, found: &Done, sent: &[u8], last: &str, length: usize) {
+fn is_of_cut(rt: &impl Abort, found: &Printed, sent: &[u8], last: &str, length: usize) {
     match of_cut(sent, length) {
         Some((output, report)) => is_done(rt, found, (output, &[report, last]), length),
         None => {
