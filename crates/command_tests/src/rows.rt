@@ -186,7 +186,16 @@ fn of_cut(sent: &[u8], length: usize) -> Option<(&[u8], &'static str)> {
 
 fn is_of_cut(rt: &impl Abort, found: &Printed, sent: &[u8], last: &str, length: usize) {
     match of_cut(sent, length) {
-        Some((output, report)) => is_done(rt, found, (output, &[report, last]), length),
+        Some((output, report)) => {
+            same_outcome(rt, found.outcome, Ok(()), length);
+            same_bytes(rt, found.output.as_slice(), output, length);
+            let (front, rest) = found
+                .report
+                .as_slice()
+                .split_at(report.len().min(found.report.len()));
+            same_bytes(rt, front, report.as_bytes(), length);
+            same_bytes(rt, rest, last.as_bytes(), length);
+        }
         None => {
             let fault = CliFault::Capture(PcapFault::ShortHeader);
             same_outcome(rt, found.outcome, Err(fault), length);

@@ -142,8 +142,13 @@ fn outcomes_of_a_stop(rt: &impl Abort, node: u16) -> [Outcome; 9] {
 }
 
 fn went_on(rt: &impl Abort, node: u16) -> [Outcome; 5] {
-    let sent = sent(rt, node, b'A', 1);
-    [Outcome::Installed, placed(1), placed(1), sent, sent]
+    [
+        Outcome::Installed,
+        placed(1),
+        placed(1),
+        sent(rt, node, b'A', 1),
+        sent(rt, node, b'A', 1),
+    ]
 }
 
 // What each node came to, by its record.
