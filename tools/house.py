@@ -11,6 +11,9 @@ import sys
 import textwrap
 
 TOP = pathlib.Path(__file__).resolve().parent.parent
+sys.path.append(str(TOP / "bin"))
+import build
+
 PICTURE = TOP / "docs" / "house.svg"
 NAMED = ("examples", "tests", "benchmarks")
 LETTER, ROW, HEIGHT, GAP, LEFT, EDGE = 7.25, 54, 24, 12, 190, 14
@@ -26,16 +29,13 @@ class House:
     """The layers with their words and crates, and from each crate to those of the repository that it uses."""
 
     def __init__(self, text):
-        self.layers, self.uses, self.loose = [], {}, []
+        self.layers, self.loose, self.uses = [], [], build.stands_on()
         for line in text.splitlines():
-            head, colon, names = line.partition(":")
+            head, colon, words = line.partition(":")
             if line.startswith("#"):
-                self.layers.append((head.strip("# "), names.strip(), []))
+                self.layers.append((head.strip("# "), words.strip(), []))
             elif colon:
-                name = head.split()[0]
-                self.uses[name] = names.split()
-                (self.layers[-1][2] if self.layers else self.loose).append(name)
-        self.uses = {name: [other for other in names if other in self.uses] for name, names in self.uses.items()}
+                (self.layers[-1][2] if self.layers else self.loose).append(head.split()[0])
         self.layer = {name: at for at, (_, _, names) in enumerate(self.layers) for name in names}
 
     def faults(self):
@@ -47,16 +47,12 @@ class House:
             for other in others:
                 yield f"{name} uses {other}, which comes after it in crates.txt: the arrow points up" if places[other] > places[name] else None
 
-    def reached(self, name):
-        """All that a crate stands on."""
-        return set(self.uses[name]).union(*(self.reached(other) for other in self.uses[name]))
-
     def drawn(self):
         """The arrows that no other way replaces."""
         found = {}
         for head, _, names in self.layers:
             for name in names if head not in NAMED else []:
-                longer = set().union(*(self.reached(other) for other in self.uses[name]))
+                longer = {far for other in self.uses[name] for far in build.needed(other, self.uses) if far != other}
                 found[name] = [other for other in self.uses[name] if other not in longer]
         return found
 
