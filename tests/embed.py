@@ -74,17 +74,17 @@ def test_calls():
     plain = compiled(source, *WRAPPED)
     if plain:
         answer = did([plain])
-        check("calls in C", answer == (0, b"calls 73 wrong 0\n", b""), answer)
+        check("calls in C", answer == (0, b"calls 44 wrong 0\n", b""), answer)
     if plain and shutil.which("valgrind"):
         answer = did(["valgrind", "-q", "--leak-check=full", "--error-exitcode=9", plain])
-        check("calls under valgrind", answer == (0, b"calls 73 wrong 0\n", b""), answer)
+        check("calls under valgrind", answer == (0, b"calls 44 wrong 0\n", b""), answer)
     hollow = ["-fsanitize=address,undefined", "-fno-sanitize-recover=all"]
     if did([COMPILER, *hollow, "-x", "c", "-", "-o", MADE / "hollow"], input=b"int main(void) { return 0; }")[0]:
         print("sanitizers aren't installed: what they show is skipped")
         return
     watched = compiled(source, *hollow, *WRAPPED, name="watched")
     answer = did([watched]) if watched else None
-    check("calls under sanitizers", answer == (0, b"calls 73 wrong 0\n", b""), answer)
+    check("calls under sanitizers", answer == (0, b"calls 44 wrong 0\n", b""), answer)
 
 
 def random_case(rng):
@@ -198,7 +198,7 @@ def from_c(folder, target):
     if not all(made):
         return
     answer = did([*by, made[0]])
-    check(f"calls in C for {target}", answer == (0, b"calls 73 wrong 0\n", b""), answer)
+    check(f"calls in C for {target}", answer == (0, b"calls 44 wrong 0\n", b""), answer)
     compare_cases(COUNT // 20, [[*by, caller] for caller in made[1:]], f" for {target}")
 
 

@@ -955,6 +955,47 @@ def test_verbose_of_a_scenario():
     simulates("verbose: no fault", quiet, HEAD + record(P), report(1, 1), WRITTEN_HEAD + SENT_RECORD, ["-v"])
 
 
+def says_of_words(name, words, fault, line):
+    """With `--verbose` a command that needs no scenario says in a second line which word is wrong; without it there is none."""
+    plain = f"fault: {fault}\n"
+    for more, expected in [(["-v"], plain + line + "\n"), ([], plain)]:
+        status, out, err = run([words[0], *more, *words[1:]], stdin=b"0x\n")
+        check(f"verbose: {name} {more}", (status, out, err.decode()) == (1, b"", expected), f"{status} {out!r} {err!r}")
+
+
+def test_verbose_of_words():
+    """Which word of a list is wrong, counted from 1, what was found there and what was expected."""
+    weight = "then *W from *1 to *16 or nothing"
+    named = f"1 to 32 letters, digits, '-' and '.', the first a letter or digit, {weight}"
+    member = f"NAME@ADDRESS, {weight}, then /down or nothing"
+    sizes = "7, 13, 251, 1021, 8191 or 65537"
+    seven = ["--size", "7", "--hash", "sum"]
+    for command in ["table", "pick"]:
+        for name, words, fault, line in [
+            ("a size", ["--size", "8", "--hash", "sum", "A"], "BadSize", f"--size: found 8, expected {sizes}"),
+            ("a hash", ["--size", "7", "--hash", "md5\x1b", "A"], "BadHash", '--hash: found "md5\\u001b", expected fnv, sha256 or sum'),
+            ("a name", [*seven, "A", "B_", "C*17"], "BadName", f'name 2 of 3: found "B_", expected {named}'),
+            ("a weight", [*seven, "A", "A", "C*17"], "BadName", f'name 3 of 3: found "C*17", expected {named}'),
+            ("an empty name", [*seven, ""], "BadName", f'name 1 of 1: found "", expected {named}'),
+            ("a name that a terminal doesn't show", [*seven, "A\x9b2J"], "BadName", f'name 1 of 1: found "A\\u009b2J", expected {named}'),
+            ("a double name", [*seven, "A", "B*2", "B", "A"], "DoubleName", 'name 3 of 4: found "B", expected a name that no earlier word gives'),
+            ("too many names", [*seven, *"ABCDEFGH"], "TooMany", 'name 8 of 8: found "H", expected no more words than slots'),
+        ]:
+            says_of_words(f"{command}: {name}", [command, *words], fault, line)
+    digits = "standard input: expected hexadecimal digits, two a byte, and at most one newline after them"
+    says_of_words("no digits", ["pick", *seven, "A"], "BadHex", digits)
+    for name, old, new, fault, line in [
+        ("a member before", "A@10.8.0.1 B", "C", "BadMember", f'--old, word 2 of 2: found "B", expected {member}'),
+        ("a member after", "A@10.8.0.1", "B@10.8.0.2 B@10.8.0.02", "BadMember", f'--new, word 2 of 2: found "B@10.8.0.02", expected {member}'),
+        ("two spaces", "A@10.8.0.1  B@10.8.0.2", "A@10.8.0.1", "BadMember", f'--old, word 2 of 3: found "", expected {member}'),
+        ("a double name after", "A@10.8.0.1", "A@10.8.0.1 A@10.8.0.2", "DoubleName", '--new, word 2 of 2: found "A@10.8.0.2", expected a name that no earlier word gives'),
+        ("too many", "A@10.8.0.1", " ".join(f"{letter}@10.8.0.1" for letter in "ABCDEFGH"), "TooMany", '--new, word 8 of 8: found "H@10.8.0.1", expected no more words than slots, and at most 4096'),
+    ]:
+        says_of_words(f"compare: {name}", ["compare", *seven, "--old", old, "--new", new], fault, line)
+    says_of_words("compare: a size", ["compare", "--size", "0", "--hash", "sum", "--old", "", "--new", ""], "BadSize", f"--size: found 0, expected {sizes}")
+    prints("verbose: a table", ["table", "-v", *seven, "A"], run(["table", *seven, "A"])[1].decode())
+
+
 def warns(name, steps, expected, words=("simulate", "-v", "s.toml", "in.pcap", "out.pcap")):
     """The command's report is as without `--verbose`, and these lines stand behind it on standard error."""
     text = scenario(steps)

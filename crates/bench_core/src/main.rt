@@ -11,11 +11,11 @@
 ghost use Rattle.std.specs.Prelude.{◌≡◌, IfOk, Some};
 ghost use Rattle.cluster_node.specs.Records.{WasRead};
 
+use backend_names::{Name, TableSize, Weight};
 use cluster_core::{Event, Outcome, Packet, Run, Setup};
 use connection_table::LruTable;
 use five_tuple::Flow;
 use hash_laws::Fnv;
-use maglev_table::{Name, TableSize, Weight};
 use pool_versions::{Backend, Catalogue, Member, Service, Version};
 use selection::Maglev;
 use std::alloc::{AllocError, Global};

@@ -6,8 +6,9 @@
 
 ghost use Rattle.std.specs.Prelude.{◌≡◌, ◌≤◌, ◌<◌, All, IfOk, length};
 
+use backend_names::{Name, TableSize, Weight};
 use hash_laws::{FlowHash, Fnv};
-use maglev_table::{Name, Permutation, Table, TableSize, Weight, populate};
+use maglev_table::{Permutation, Table, populate};
 use std::alloc::{AllocError, Global};
 use std::env;
 

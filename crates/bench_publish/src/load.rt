@@ -2,9 +2,9 @@
 ghost use Rattle.std.specs.Prelude.{◌≡◌, IfOk, Some};
 ghost use Rattle.cluster_node.specs.Records.{WasRead};
 
+use backend_names::{Name, TableSize, Weight};
 use cluster_node::Packet;
 use five_tuple::Flow;
-use maglev_table::{Name, TableSize, Weight};
 use pool_versions::{Backend, Catalogue, Member, Service, Version};
 use std::alloc::{AllocError, Global};
 use thread_records::Command;

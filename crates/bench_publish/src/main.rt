@@ -10,10 +10,10 @@
 
 ghost use Rattle.std.specs.Prelude.{◌≡◌, ◌<◌, IfOk, length};
 
+use backend_names::TableSize;
 use cluster_core::Setup;
 use connection_table::LruTable;
 use hash_laws::Fnv;
-use maglev_table::TableSize;
 use node_threads::run_node;
 use selection::Maglev;
 use std::alloc::{AllocError, Global};

@@ -8,12 +8,12 @@
 ghost use Rattle.std.specs.Prelude.{◌≡◌, ◌<◌, IfOk, length, Some};
 ghost use Rattle.cluster_node.specs.Records.{WasRead};
 
+use backend_names::{Name, TableSize, Weight};
 use cluster_core::{Run, Setup};
 use cluster_node::{Event, Outcome, Packet};
 use connection_table::LruTable;
 use five_tuple::Flow;
 use hash_laws::Fnv;
-use maglev_table::{Name, TableSize, Weight};
 use node_threads::{NodeRun, OpenGate, run_node};
 use pool_versions::{Backend, Catalogue, Member, Service, Version};
 use selection::Maglev;

@@ -29,7 +29,7 @@ use Rattle.cluster_core.specs.Runs.{waiting_in}
 use Rattle.cluster_core.specs.Totals.{came, went, came_all, went_all}
 use Rattle.cluster_node.specs.Records.{WasRead, of_reading}
 
-reading_not_serving : (k : ℕ) (c : Cause) → of_reading c ≡ true → went (Dropped k c) ≡ 0
+pub reading_not_serving : (k : ℕ) (c : Cause) → of_reading c ≡ true → went (Dropped k c) ≡ 0
 reading_not_serving k NotIpv4 h = refl
 reading_not_serving k Truncated h = refl
 reading_not_serving k BadHeader h = refl
@@ -66,7 +66,7 @@ queue_one : (rules : Rules) (installed : List ℕ) (ls : List Line) (o : Option 
 queue_one rules installed ls None n w v r = (refl, refl)
 queue_one rules installed ls (Some i) n w v r = if_one (list_any (λ u. u == v) installed) (of_taken n w (taken rules ls v r)) (Refused UnknownVersion) (taken_one n w (taken rules ls v r)) (refl, refl)
 
-serve_one : (rules : Rules) (past : List LogEntry) (n w v : ℕ) (r : Bool) → TakesOne (serve_verdict rules past n w v r)
+pub serve_one : (rules : Rules) (past : List LogEntry) (n w v : ℕ) (r : Bool) → TakesOne (serve_verdict rules past n w v r)
 serve_one rules past n w v r = if_one (nat_lt w rules.workers) (by_queue rules (installed_of past) (lines_of w past) (next_item (lines_of w past)) n w v r) (Refused NoWorker) (queue_one rules (installed_of past) (lines_of w past) (next_item (lines_of w past)) n w v r) (refl, refl)
 
 -- the queues of a node before and after

@@ -12,7 +12,7 @@ use Rattle.cluster_node.specs.declared.events.LogEntry.{LogEntry}
 use Rattle.cluster_core.specs.Histories.{outcomes_of}
 use Rattle.cluster_core.specs.PrivateCounting.{kind, bumped, bumped_all, zeros, Leads, Fits}
 use Rattle.std.specs.List.{sum}
-use Rattle.cluster_core.proofs.Law.{Counts, counts, last_fits, drops_add_up}
+use Rattle.cluster_core.proofs.Law.{Counts, counts, last_fits, drops_add_up, many_le}
 
 number_le : (c : Cause) → number c ≤ 13
 number_le NotIpv4 = omega arith
@@ -75,14 +75,6 @@ told (o ∷ os) ns k h =
     let b : kind o < 18 = kind_below o in
     one_more (kind o == k) (get_or (bumped (kind o) ns) k 0) (get_or ns k 0) (how_many (λ q. kind q == k) os) (get_or (bumped_all os (bumped (kind o) ns)) k 0)
     (bump_adds ns (kind o) k (omega arith) (kind o == k) refl) (told os (bumped (kind o) ns) k size)
-
-many_le : (p : Outcome → Bool) (os : List Outcome) → how_many p os ≤ length os
-many_le p [] = omega arith
-many_le p (o ∷ os) = go (p o) (many_le p os)
-  where
-    go : (b : Bool) → how_many p os ≤ length os → (if b then 1 + how_many p os else how_many p os) ≤ suc (length os)
-    go true h = omega arith
-    go false h = omega arith
 
 -- at the start
 pub leads_all : (all : List Outcome) (ns : List ℕ) (r l : ℕ) → ns ≡ zeros → r ≡ 0 → l ≡ 0 → Leads all all ns r l

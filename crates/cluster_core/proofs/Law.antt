@@ -76,7 +76,7 @@ went_is (Dropped k c ∷ os) = went_drop k c os (went_is os)
 went_is (Restarted l ∷ os) = let h : Went os = went_is os in omega arith
 went_is (Refused r ∷ os) = let h : Went os = went_is os in omega arith
 
-many_le : (p : Outcome → Bool) (os : List Outcome) → how_many p os ≤ length os
+pub many_le : (p : Outcome → Bool) (os : List Outcome) → how_many p os ≤ length os
 many_le p [] = omega arith
 many_le p (o ∷ os) = go (p o) (many_le p os)
   where

@@ -13,7 +13,7 @@ use Rattle.cluster_node.specs.declared.outcomes.Reason.TheVariants.{NoNode}
 use Rattle.cluster_node.specs.Rules.{Rules}
 use Rattle.cluster_node.specs.declared.events.LogEntry.{LogEntry}
 use Rattle.cluster_node.specs.Record.{node_verdict, node_say, fresh, NodeStands, NodeGoes, ArePrepared, installed_of, newest_of}
-use Rattle.cluster_node.proofs.Records.{stands_none}
+use Rattle.cluster_node.proofs.Records.{stands_none, fresh_waits}
 use Rattle.cluster_node.specs.Record.{waits}
 use Rattle.cluster_core.specs.Totals.{came, went, came_of, went_of, came_all, went_all}
 use Rattle.cluster_node.specs.Records.{WasRead, node_of, of_node}
@@ -135,10 +135,6 @@ length_replicate zero f = refl
 length_replicate (suc n) f = ap suc (length_replicate n f)
 
 -- a new run stands for the empty record
-fresh_waits : (n capacity : ℕ) (idle : Option ℕ) → waits (replicate n (fresh capacity idle)) ≡ 0
-fresh_waits zero capacity idle = refl
-fresh_waits (suc n) capacity idle = ap (λ (k : ℕ). 0 + k) (fresh_waits n capacity idle)
-
 fresh_all : (n : ℕ) (m : NodeView) → waits m.workers ≡ 0 → waiting_in (replicate n m) ≡ 0
 fresh_all zero m h = refl
 fresh_all (suc n) m h = let i : waiting_in (replicate n m) ≡ 0 = fresh_all n m h in omega arith

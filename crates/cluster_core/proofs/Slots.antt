@@ -3,7 +3,7 @@ use Rattle.std.proofs.Common.{◌≡◌, ℕ, List, Option, Some, None, true, re
 use Rattle.std.specs.List.{All}
 use Rattle.five_tuple.specs.declared.Flow.{Flow}
 use Rattle.pool_versions.specs.Pool.{Pools, AreSound, IsWithinLimits, AreWeighed}
-use Rattle.maglev_table.specs.Sizes.{is_table_size}
+use Rattle.backend_names.specs.Sizes.{is_table_size}
 use Rattle.selection.specs.Picks.{table_pick, slot_of_flow}
 use Rattle.selection.proofs.Tables.{members_table_is_even}
 use Rattle.selection.specs.Candidates.{Candidates, candidates_of}

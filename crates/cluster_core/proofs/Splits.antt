@@ -18,7 +18,7 @@ use Rattle.cluster_core.specs.Explain.{Send, explained, PickedSend, Explains}
 same_backend-refl : (a : Backend) → same_backend a a ≡ true
 same_backend-refl a = ap (λ (b : Bool). b && (a.addr == a.addr)) (nat_list_eq_equiv.refl a.name) ∙ eq-eqb a.addr a.addr refl
 
-differ : (a b : Backend) → same_backend a b ≡ false → a ≡ b → ⊥
+pub differ : (a b : Backend) → same_backend a b ≡ false → a ≡ b → ⊥
 differ a b h e = false≢true (sym h ∙ ap (λ (x : Backend). same_backend a x) (sym e) ∙ same_backend-refl a)
 
 pub explains : (rules : Rules) (slot : Flow → ℕ) (a b : Option Send) → PickedSend rules a → PickedSend rules b → Explains rules slot a (explained slot a b)

@@ -15,4 +15,3 @@ pub mod Histories
 pub mod PrivateCounting
 pub mod Promises
 pub mod Deployed
-pub mod Noting

@@ -7,6 +7,7 @@ use crate::fixed::Setup;
 use hash_laws::FlowHash;
 use pool_versions::Catalogue;
 use selection::Scheme;
+use std::fmt;
 use std::marker::Model;
 
 /// A cluster's setup, and the catalogue of its versions, which has tables of the setup's size.
@@ -25,6 +26,15 @@ impl<S: Scheme, H: FlowHash> Model for Deployment<S, H> {
     ghost view = { λ r. record { setup = r.setup; catalogue = r.catalogue } };
 
     ghost invariant = { λ r. r.catalogue.size ≡ r.setup.size };
+}
+
+impl<S: Scheme, H: FlowHash> fmt::Debug for Deployment<S, H> {
+    fn fmt<W: fmt::Write>(&self, f: &mut fmt::Formatter<W>) -> fmt::Result {
+        f.debug_struct("Deployment")
+            .field("setup", &self.setup)
+            .field("catalogue", &self.catalogue)
+            .finish()
+    }
 }
 
 impl<S: Scheme, H: FlowHash> Deployment<S, H> {

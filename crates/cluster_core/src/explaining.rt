@@ -12,7 +12,7 @@ use pool_versions::{Backend, Catalogue};
 use selection::Scheme;
 
 /// How two outcomes differ.
-#[derive(Clone, Copy, PartialEq, Eq)]
+#[derive(Clone, Copy, Debug, PartialEq, Eq)]
 pub enum Verdict {
     /// One of them isn't a packet that was sent.
     NotSent,

@@ -2,20 +2,25 @@
 ghost use Rattle.std.specs.Prelude.{◌≡◌, ◌≤◌, ◌<◌, ◌||◌, ◌==◌, length, Some, None, MatchResult};
 ghost use Rattle.cluster_core.specs.Setups.{Fixed, setup_fault};
 
+use backend_names::TableSize;
 use connection_table::TableKey;
 use hash_laws::FlowHash;
-use maglev_table::TableSize;
 use selection::Scheme;
+use std::fmt;
 use std::marker::Model;
+use thiserror::Error;
 
 /// Why a setup was refused. They are tested in this order.
-#[derive(Clone, Copy, Debug, PartialEq, Eq)]
+#[derive(Clone, Copy, Debug, PartialEq, Eq, Drop, Error)]
 pub enum SetupFault {
     /// There are not 1 to 64 nodes.
+    #[error("a cluster has 1 to 64 nodes")]
     BadNodes,
     /// There are not 1 to 16 workers.
+    #[error("a node has 1 to 16 workers")]
     BadWorkers,
     /// A table doesn't keep 1 to 1,000,000 entries.
+    #[error("a connection table keeps 1 to 1,000,000 entries")]
     BadCapacity,
 }
 
@@ -43,6 +48,18 @@ impl<S: Scheme, H: FlowHash> Model for Setup<S, H> {
     ghost view = { λ s. record { hash = s.hash; scheme = s.scheme; size = s.size; nodes = s.nodes.items; workers = s.workers; capacity = s.capacity; idle = s.idle } };
 
     ghost invariant = { λ s. (0 < length s.nodes.items) × (length s.nodes.items ≤ 64) × (0 < s.workers) × (s.workers ≤ 16) × (0 < s.capacity) × (s.capacity ≤ 1000000) };
+}
+
+impl<S: Scheme, H: FlowHash> fmt::Debug for Setup<S, H> {
+    fn fmt<W: fmt::Write>(&self, f: &mut fmt::Formatter<W>) -> fmt::Result {
+        f.debug_struct("Setup")
+            .field("size", &self.size)
+            .field("nodes", &self.nodes)
+            .field("workers", &self.workers)
+            .field("capacity", &self.capacity)
+            .field("idle", &self.idle)
+            .finish_non_exhaustive()
+    }
 }
 
 // The first fault.

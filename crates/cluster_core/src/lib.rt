@@ -7,12 +7,8 @@
 //! There are two promises for every list. Two packets of one flow that were sent to different backends were chosen under
 //! versions that differ for that flow. A forwarder keeps a flow's backend while the flow's entry stands and the backend is
 //! up (Maglev, NSDI 2016, section 3.4).
-//!
-//! `Core` is what the steps of a scenario ask of a core, and `Balancers` is a run as one, under `Rules`: a setup beside a
-//! catalogue of the same table size. Of its events it keeps what `Notes` are taken of them, for what is asked of the run.
 #![tactic(auto)]
 
-mod balancers;
 mod counting;
 mod counts;
 mod deployment;
@@ -20,14 +16,10 @@ mod explaining;
 mod fixed;
 mod headline;
 mod laws;
-mod machine;
-mod notes;
 mod reading;
 mod replaying;
 mod running;
-mod task;
 
-pub use balancers::Balancers;
 pub use cluster_node::{Cause, Event, Item, LogEntry, Outcome, Packet, Passed, Reason};
 pub use counting::totals;
 pub use counts::{Totals, at_serving, number};
@@ -39,9 +31,6 @@ pub use laws::{
     histories_are_told, promises_are_kept, queues_are_balanced, queues_are_in_order,
     servings_follow_packets, servings_stand_apart,
 };
-pub use machine::Core;
-pub use notes::Notes;
 pub use reading::read_packet;
 pub use replaying::replay;
 pub use running::{Run, prepare_newer};
-pub use task::Task;

@@ -13,13 +13,14 @@ ghost use Rattle.cluster_node.specs.declared.events.Event.TheVariants.{Arrive, S
 ghost use Rattle.cluster_node.specs.Records.{WasRead, node_of, of_node};
 
 use crate::fixed::Setup;
+use backend_names::TableSize;
 use cluster_node::{Event, Node, Outcome, Packet, Passed, Reason};
 use connection_table::ConnTable;
 use hash_laws::FlowHash;
-use maglev_table::TableSize;
 use pool_versions::{Catalogue, Version};
 use selection::{PreparedVersion, PreparedVersions, Scheme};
 use std::alloc::{AllocError, Global};
+use std::fmt;
 use std::marker::Model;
 
 /// A cluster under events that are learnt one by one. A version of the catalogue is prepared once, when it is first
@@ -38,6 +39,16 @@ impl<S: Scheme, T: ConnTable> Model for Run<S, T> {
     ghost Value = { RunView S };
 
     ghost view = { λ r. record { failed = r.failed; nodes = r.nodes.items; versions = r.versions } };
+}
+
+impl<S: Scheme, T: ConnTable> fmt::Debug for Run<S, T> {
+    fn fmt<W: fmt::Write>(&self, f: &mut fmt::Formatter<W>) -> fmt::Result {
+        f.debug_struct("Run")
+            .field("failed", &self.failed)
+            .field("nodes", &self.nodes)
+            .field("versions", &self.versions)
+            .finish_non_exhaustive()
+    }
 }
 
 // The node that an event names.

@@ -1,5 +1,5 @@
 -- Serving at once is placing and then serving.
-use Rattle.std.proofs.Common.{◌≡◌, ℕ, ◌<◌, Bool, true, false, List, [], ◌∷◌, length, zero, suc, Option, Some, None, refl, sym, ap, ◌∙◌, subst, arith, Result, Ok, Err, get_or, find}
+use Rattle.std.proofs.Common.{◌≡◌, ℕ, ◌<◌, Bool, true, false, List, [], ◌∷◌, length, zero, suc, Option, Some, None, refl, sym, ap, ◌∙◌, subst, Result, Ok, Err, get_or, find}
 use Rattle.std.specs.Prelude.{slice_get, slice_set, ◌==◌, if◌then◌else◌, OnOk}
 use Rattle.std.specs.List.{list_any}
 use Rattle.std.specs.declared.alloc.AllocError.{AllocError}
@@ -27,6 +27,7 @@ use Rattle.cluster_node.specs.Record.{ArePrepared, installed_of, node_say, NodeS
 use Rattle.cluster_node.specs.Records.{NodePasses}
 use Rattle.cluster_node.specs.PrivateSteps.{NodeStep, OneStep, PassStep, one_if, one_step, serve_at, serve_step, arrive_step, place_step, put_at, refuse, with_item, served_at, pass_then, pass_after, pass_on, pass_step}
 use Rattle.cluster_node.proofs.Records.{arrive_goes, serve_goes, as_said}
+use Rattle.cluster_node.proofs.Clearing.{get_of_or}
 
 -- what was found has the number that was asked for
 pub number_found : {S : Type 0} (v : ℕ) (ps : List (Readied S)) (p : Readied S) → find (λ q. q.number == v) ps ≡ Some p → p.number ≡ v
@@ -36,11 +37,6 @@ number_found {S} v (q ∷ ps) p h = go (q.number == v) refl h (number_found v ps
     go : (b : Bool) → (q.number == v) ≡ b → (if b then Some q else find (λ r. r.number == v) ps) ≡ Some p → (find (λ r. r.number == v) ps ≡ Some p → p.number ≡ v) → p.number ≡ v
     go true e f k = let same : q ≡ p = cc in ap (λ (r : Readied S). r.number) (sym same) ∙ eqb-true _ _ e
     go false e f k = k f
-
-pub get_of_or : (us : List WorkerView) (k : ℕ) (d : WorkerView) → k < length us → slice_get us k ≡ Some (get_or us k d)
-get_of_or [] k d h = absurd (omega arith)
-get_of_or (u ∷ us) zero d h = refl
-get_of_or (u ∷ us) (suc k) d h = get_of_or us k d (omega arith)
 
 pub get_same : {A : Type 0} (ws : List A) (w : ℕ) (u x : A) → slice_get ws w ≡ Some u → slice_get (slice_set ws w x) w ≡ Some x
 get_same [] w u x h = absurd (cc)

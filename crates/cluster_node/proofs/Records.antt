@@ -131,7 +131,7 @@ waits_set (v ∷ ws) (suc w) u y h = let i : waits (slice_set ws w y) + length u
 fewer : Bool → ℕ → ℕ
 fewer b k = if b then k + 1 else k
 
-choice_accepted : (n w : ℕ) (i : Item) (c : Choice) → accepted (of_choice n w i c) ≡ true
+pub choice_accepted : (n w : ℕ) (i : Item) (c : Choice) → accepted (of_choice n w i c) ≡ true
 choice_accepted n w i (choices.Forward b o) = refl
 choice_accepted n w i choices.NoService = refl
 choice_accepted n w i choices.NoBackend = refl
@@ -411,7 +411,7 @@ length_replicate : (n : ℕ) (f : WorkerView) → length (replicate n f) ≡ n
 length_replicate zero f = refl
 length_replicate (suc n) f = ap suc (length_replicate n f)
 
-fresh_waits : (n capacity : ℕ) (idle : Option ℕ) → waits (replicate n (fresh capacity idle)) ≡ 0
+pub fresh_waits : (n capacity : ℕ) (idle : Option ℕ) → waits (replicate n (fresh capacity idle)) ≡ 0
 fresh_waits zero capacity idle = refl
 fresh_waits (suc n) capacity idle = ap (λ (k : ℕ). 0 + k) (fresh_waits n capacity idle)
 

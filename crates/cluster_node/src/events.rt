@@ -31,7 +31,7 @@ pub enum Event {
 }
 
 /// An event, the packet that it names where it is an arrival, and its outcome.
-#[derive(Clone, Copy, PartialEq, Eq)]
+#[derive(Clone, Copy, Debug, PartialEq, Eq)]
 pub struct LogEntry {
     pub event: Event,
     pub packet: Option<Packet>,

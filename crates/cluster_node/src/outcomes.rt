@@ -46,7 +46,7 @@ pub enum Reason {
 }
 
 /// What became of a packet that arrived at a node and was served at once where it was placed.
-#[derive(Clone, Copy, PartialEq, Eq)]
+#[derive(Clone, Copy, Debug, PartialEq, Eq)]
 pub enum Passed {
     /// It wasn't placed: the outcome of its arrival.
     Unplaced(Outcome),
@@ -60,7 +60,7 @@ pub enum Passed {
 }
 
 /// The outcome of an event.
-#[derive(Clone, Copy, PartialEq, Eq)]
+#[derive(Clone, Copy, Debug, PartialEq, Eq)]
 pub enum Outcome {
     /// The version is the node's newest.
     Installed,

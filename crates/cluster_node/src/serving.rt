@@ -13,6 +13,7 @@ use forwarder::{Choice, Forwarder};
 use selection::{PreparedVersion, Scheme};
 use std::alloc::{AllocError, Global};
 use std::collections::VecDeque;
+use std::fmt;
 use std::marker::Model;
 
 /// A packet that waits at a worker, to be served under a version that is not below its floor.
@@ -26,7 +27,7 @@ pub struct Item {
 }
 
 /// What came of a worker's turn.
-#[derive(Clone, Copy, PartialEq, Eq)]
+#[derive(Clone, Copy, Debug, PartialEq, Eq)]
 pub enum Taken {
     /// No packet waits.
     Idle,
@@ -50,6 +51,16 @@ impl<S: Scheme, T: ConnTable> Model for Worker<S, T> {
     ghost Value = { WorkerView };
 
     ghost view = { λ w. record { queue = w.queue.items; used = w.used; forwarding = w.forwarder } };
+}
+
+impl<S: Scheme, T: ConnTable> fmt::Debug for Worker<S, T> {
+    fn fmt<W: fmt::Write>(&self, f: &mut fmt::Formatter<W>) -> fmt::Result {
+        f.debug_struct("Worker")
+            .field("queue", &self.queue)
+            .field("used", &self.used)
+            .field("forwarder", &self.forwarder)
+            .finish()
+    }
 }
 
 impl<S: Scheme, T: ConnTable> Worker<S, T> {

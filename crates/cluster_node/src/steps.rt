@@ -21,6 +21,7 @@ use hash_laws::FlowHash;
 use selection::{PreparedVersions, Scheme};
 use std::alloc::{AllocError, Global};
 use std::collections::HashSet;
+use std::fmt;
 use std::marker::Model;
 use steering::{Placed, Steerer};
 
@@ -46,6 +47,16 @@ impl<S: Scheme, T: ConnTable> Model for Node<S, T> {
     ghost view = { λ n. record { newest = n.newest; installed = n.installed.items; cursor = n.steerer.cursor; workers = n.workers.items } };
 
     ghost invariant = { λ n. (length n.workers.items ≡ n.steerer.workers) × AreThose (contains nat_eq n.known) n.installed.items };
+}
+
+impl<S: Scheme, T: ConnTable> fmt::Debug for Node<S, T> {
+    fn fmt<W: fmt::Write>(&self, f: &mut fmt::Formatter<W>) -> fmt::Result {
+        f.debug_struct("Node")
+            .field("newest", &self.newest)
+            .field("installed", &self.installed)
+            .field("workers", &self.workers)
+            .finish_non_exhaustive()
+    }
 }
 
 fn sent(node: u16, worker: u16, item: &Item, choice: Choice) -> Outcome

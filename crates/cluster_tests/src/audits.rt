@@ -4,12 +4,12 @@ ghost use Rattle.cluster_node.specs.declared.packets.Packet.{Packet};
 ghost use Rattle.cluster_node.specs.Records.{WasRead};
 
 use crate::checks::holds;
+use backend_names::TableSize;
 use cluster_core::Setup;
 use cluster_node::{Cause, Event, Outcome, Packet, Reason};
 use connection_table::PlainTable;
 use five_tuple::Flow;
 use hash_laws::SumHash;
-use maglev_table::TableSize;
 use pool_versions::Catalogue;
 use selection::RoundRobin;
 use std::alloc::Global;

@@ -4,12 +4,12 @@ ghost use Rattle.cluster_node.specs.declared.packets.Packet.{Packet};
 ghost use Rattle.cluster_node.specs.Records.{WasRead};
 
 use crate::checks::{holds, same_outcomes};
+use backend_names::{Name, TableSize, Weight};
 use cluster_core::Setup;
 use cluster_node::{Outcome, Packet};
 use connection_table::PlainTable;
 use five_tuple::Flow;
 use hash_laws::SumHash;
-use maglev_table::{Name, TableSize, Weight};
 use node_threads::{ClusterRun, Gate, run_cluster};
 use pool_versions::{Backend, Catalogue, Member, Service, Version};
 use selection::Maglev;

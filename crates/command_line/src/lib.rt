@@ -96,29 +96,32 @@ fn no_check<'a>(alloc: Global) -> Arg<'a> {
         .action(ArgAction::SetTrue)
 }
 
-// What each command over a table takes first.
-fn over_table<'a>(alloc: Global, command: Command<'a>) -> Result<Command<'a>, AllocError> {
-    command.arg(size(alloc))?.arg(hash(alloc))
-}
-
 fn table<'a>(alloc: Global) -> Result<Command<'a>, AllocError> {
-    let table = Command::new(alloc, "table")
+    let args = [size(alloc), hash(alloc), of_words(alloc), names(alloc)];
+    let args = Vec::from_array(alloc, args)?;
+    Command::new(alloc, "table")
         .about(
             "Prints which backend each slot of a table names, and how many slots each backend has",
         )
-        .after_help("Example: maglev table --size 7 --hash sum A B C");
-    over_table(alloc, table)?.arg(names(alloc))
+        .after_help("Example: maglev table --size 7 --hash sum A B C")
+        .args(args)
 }
 
 fn pick<'a>(alloc: Global) -> Result<Command<'a>, AllocError> {
-    let pick = Command::new(alloc, "pick")
+    let args = [
+        size(alloc),
+        hash(alloc),
+        no_check(alloc),
+        of_words(alloc),
+        names(alloc),
+    ];
+    let args = Vec::from_array(alloc, args)?;
+    Command::new(alloc, "pick")
         .about(
             "Reads one IPv4 datagram as hexadecimal text, and prints its flow, slot and backend, or why it is dropped",
         )
-        .after_help(PICK_HELP);
-    over_table(alloc, pick)?
-        .arg(no_check(alloc))?
-        .arg(names(alloc))
+        .after_help(PICK_HELP)
+        .args(args)
 }
 
 fn members<'a>(alloc: Global, id: &'a str, help: &'a str) -> Arg<'a> {
@@ -131,22 +134,30 @@ fn members<'a>(alloc: Global, id: &'a str, help: &'a str) -> Arg<'a> {
 }
 
 fn old<'a>(alloc: Global) -> Arg<'a> {
-    members(
-        alloc,
-        "old",
-        "members before: NAME@ADDRESS, then *W for a weight from 1 to 16, then /down where it is down, joined by single spaces",
-    )
+    let help =
+        "members before: NAME@ADDRESS, then *W for a weight from 1 to 16, then /down where it is down, joined by single spaces";
+    members(alloc, "old", help)
+}
+
+fn new<'a>(alloc: Global) -> Arg<'a> {
+    members(alloc, "new", "members after")
 }
 
 fn compare<'a>(alloc: Global) -> Result<Command<'a>, AllocError> {
-    let compare = Command::new(alloc, "compare")
+    let args = [
+        size(alloc),
+        hash(alloc),
+        old(alloc),
+        new(alloc),
+        of_words(alloc),
+    ];
+    let args = Vec::from_array(alloc, args)?;
+    Command::new(alloc, "compare")
         .about("Prints the slots that name another backend after a change of members")
         .after_help(
             "Example: maglev compare --size 7 --hash sum --old 'A@10.8.0.1 B@10.8.0.2' --new 'A@10.8.0.1 B@10.8.0.2/down'",
-        );
-    over_table(alloc, compare)?
-        .arg(old(alloc))?
-        .arg(members(alloc, "new", "members after"))
+        )
+        .args(args)
 }
 
 fn file<'a>(alloc: Global, id: &'a str, name: &'a str, help: &'a str) -> Arg<'a> {
@@ -181,12 +192,23 @@ fn event<'a>(alloc: Global, id: &'a str, name: &'a str) -> Arg<'a> {
         .value_parser(value_parser!(u64))
 }
 
-fn verbose<'a>(alloc: Global) -> Arg<'a> {
+fn verbose<'a>(alloc: Global, help: &'a str) -> Arg<'a> {
     Arg::new(alloc, "verbose")
         .short('v')
         .long("verbose")
-        .help("say where a fault is and what was expected, or warn of what may not be meant")
+        .help(help)
         .action(ArgAction::SetTrue)
+}
+
+// What a command without a scenario says more.
+fn of_words<'a>(alloc: Global) -> Arg<'a> {
+    verbose(alloc, "say which word is wrong and what was expected")
+}
+
+// What a command with a scenario says more.
+fn of_places<'a>(alloc: Global) -> Arg<'a> {
+    let help = "say where a fault is and what was expected, or warn of what may not be meant";
+    verbose(alloc, help)
 }
 
 fn splits<'a>(alloc: Global) -> Arg<'a> {
@@ -203,75 +225,81 @@ fn list<'a>(alloc: Global) -> Arg<'a> {
         .action(ArgAction::SetTrue)
 }
 
-// What each command over a capture takes.
-fn over_capture<'a>(alloc: Global, command: Command<'a>) -> Result<Command<'a>, AllocError> {
-    command
-        .arg(verbose(alloc))?
-        .arg(scenario(alloc))?
-        .arg(input(alloc))
-}
-
-// What a command takes that reads a capture and writes another.
-fn between_captures<'a>(alloc: Global, command: Command<'a>) -> Result<Command<'a>, AllocError> {
-    over_capture(alloc, command)?.arg(output(alloc))
-}
-
 fn simulate<'a>(alloc: Global) -> Result<Command<'a>, AllocError> {
-    let simulate = Command::new(alloc, "simulate")
+    let args = [
+        list(alloc),
+        splits(alloc),
+        of_places(alloc),
+        scenario(alloc),
+        input(alloc),
+        output(alloc),
+    ];
+    let args = Vec::from_array(alloc, args)?;
+    Command::new(alloc, "simulate")
         .about(
             "Plays a scenario over a capture, writes what the cluster sends, and prints a report",
         )
-        .after_help(SIMULATE_HELP);
-    between_captures(alloc, simulate.arg(list(alloc))?.arg(splits(alloc))?)
+        .after_help(SIMULATE_HELP)
+        .args(args)
 }
 
 fn explain<'a>(alloc: Global) -> Result<Command<'a>, AllocError> {
-    let explain = Command::new(alloc, "explain")
+    let args = [
+        of_places(alloc),
+        scenario(alloc),
+        input(alloc),
+        event(alloc, "one", "I"),
+        event(alloc, "other", "J"),
+    ];
+    let args = Vec::from_array(alloc, args)?;
+    Command::new(alloc, "explain")
         .about(
             "Plays a scenario over a capture, and prints why the packets of two events went where they went",
         )
-        .after_help(EXPLAIN_HELP);
-    over_capture(alloc, explain)?
-        .arg(event(alloc, "one", "I"))?
-        .arg(event(alloc, "other", "J"))
+        .after_help(EXPLAIN_HELP)
+        .args(args)
 }
 
 fn run<'a>(alloc: Global) -> Result<Command<'a>, AllocError> {
-    let run = Command::new(alloc, "run")
+    let args = [
+        splits(alloc),
+        of_places(alloc),
+        scenario(alloc),
+        input(alloc),
+        output(alloc),
+    ];
+    let args = Vec::from_array(alloc, args)?;
+    Command::new(alloc, "run")
         .about(
             "Runs a scenario's cluster on threads over a capture, writes what the nodes send, node by node, and prints a report with an audit",
         )
-        .after_help(RUN_HELP);
-    between_captures(alloc, run.arg(splits(alloc))?)
+        .after_help(RUN_HELP)
+        .args(args)
 }
 
-// The command with one more that it has.
-fn with<'a>(
-    command: Command<'a>,
-    other: Result<Command<'a>, AllocError>,
-) -> Result<Command<'a>, AllocError> {
-    command.subcommand(other?)
-}
+/// How many commands there are.
+const COMMANDS: usize = 6;
 
-// The commands that need no scenario.
-fn with_tables<'a>(alloc: Global, command: Command<'a>) -> Result<Command<'a>, AllocError> {
-    let command = with(command, table(alloc))?;
-    let command = with(command, pick(alloc))?;
-    with(command, compare(alloc))
-}
-
-// The commands that play a scenario.
-fn with_scenarios<'a>(alloc: Global, command: Command<'a>) -> Result<Command<'a>, AllocError> {
-    let command = with(command, simulate(alloc))?;
-    let command = with(command, explain(alloc))?;
-    with(command, run(alloc))
+// The command at a place of the help.
+fn command_at<'a>(alloc: Global, place: usize) -> Result<Command<'a>, AllocError> {
+    match place {
+        0 => table(alloc),
+        1 => pick(alloc),
+        2 => compare(alloc),
+        3 => simulate(alloc),
+        4 => explain(alloc),
+        _ => run(alloc),
+    }
 }
 
 /// The command line of the program.
 pub fn command<'a>(alloc: Global) -> Result<Command<'a>, Error> {
-    let whole = Command::new(alloc, "maglev")
+    let mut whole = Command::new(alloc, "maglev")
         .about("A cluster of layer 4 load balancers after Maglev (NSDI 2016), proved")
         .version("0.1.0")
         .subcommand_required(true);
-    Ok(with_scenarios(alloc, with_tables(alloc, whole)?)?)
+    for place in 0..COMMANDS {
+        whole = whole.subcommand(command_at(alloc, place)?)?;
+    }
+    Ok(whole)
 }

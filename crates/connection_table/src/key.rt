@@ -1,7 +1,7 @@
 //! What the hash of a table's map begins with.
 use std::hash::{BuildHasher, FoldHasher, Hasher};
-use std::io;
 use std::random::RandomSource;
+use std::{fmt, io};
 
 /// What the hash of a table's map begins with. The hash is std's fast one with the key in it. Flows that were chosen before
 /// the key was drawn fall into the groups of the map as others do, and don't make each search as long as the table. It is no
@@ -26,6 +26,13 @@ impl TableKey {
         let mut seed = FoldHasher::default();
         seed.write(&bytes);
         Ok(TableKey { seed })
+    }
+}
+
+// The key itself isn't shown.
+impl fmt::Debug for TableKey {
+    fn fmt<W: fmt::Write>(&self, f: &mut fmt::Formatter<W>) -> fmt::Result {
+        f.write_str("TableKey(..)")
     }
 }
 

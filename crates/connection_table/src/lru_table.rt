@@ -4,11 +4,12 @@ ghost use Rattle.std.specs.Prelude.{◌≡◌, ◌<◌, true};
 use crate::key::TableKey;
 use crate::slot::{Slot, before, entry_in, slot_of};
 use crate::table::{ConnTable, Entry, Renewed};
+use backend_names::Name;
 use five_tuple::Flow;
 use lru::LruCache;
-use maglev_table::Name;
 use pool_versions::Backend;
 use std::alloc::{AllocError, Global};
+use std::fmt;
 use std::marker::Model;
 use std::num::NonZeroUsize;
 
@@ -31,6 +32,14 @@ impl Model for LruTable {
     ghost view = { λ t. record { limit = t.cache.cap; pairs = shown entry_of t.cache.entries } };
 
     ghost invariant = { λ t. (0 < t.cache.cap) × AreFull t.cache.entries };
+}
+
+impl fmt::Debug for LruTable {
+    fn fmt<W: fmt::Write>(&self, f: &mut fmt::Formatter<W>) -> fmt::Result {
+        f.debug_struct("LruTable")
+            .field("len", &self.cache.len())
+            .finish_non_exhaustive()
+    }
 }
 
 impl ConnTable for LruTable {

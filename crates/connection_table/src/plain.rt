@@ -9,7 +9,7 @@ use std::alloc::{AllocError, Global};
 use std::marker::Model;
 
 /// A table that keeps its entries in a vector, the most recently used first, and searches it from the front.
-#[derive(Drop)]
+#[derive(Debug, Drop)]
 pub struct PlainTable {
     limit: u32,
     pairs: Vec<(Flow, Entry)>,

@@ -11,7 +11,7 @@ use pool_versions::Backend;
 use std::alloc::{AllocError, Global};
 
 /// Where a flow goes, the number of the version under which that was chosen, and the clock when the flow was last touched.
-#[derive(Clone, Copy, PartialEq, Eq)]
+#[derive(Clone, Copy, Debug, PartialEq, Eq)]
 pub struct Entry {
     pub backend: Backend,
     pub version: u32,
@@ -19,7 +19,7 @@ pub struct Entry {
 }
 
 /// What became of a flow's entry.
-#[derive(Clone, Copy)]
+#[derive(Clone, Copy, Debug)]
 pub enum Renewed {
     /// It remains, touched. This is the entry before that.
     Kept(Entry),

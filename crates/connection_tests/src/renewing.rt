@@ -1,7 +1,7 @@
 //! A flow's entry is renewed with one look-up: where the caller keeps it, it is touched, otherwise a new one is stored.
+use backend_names::Name;
 use connection_table::{ConnTable, Entry, LruTable, PlainTable, Renewed};
 use five_tuple::Flow;
-use maglev_table::Name;
 use pool_versions::Backend;
 use std::alloc::Global;
 use std::process::Abort;

@@ -2,13 +2,13 @@
 ghost use Rattle.std.specs.Prelude.{◌≡◌, ◌<◌, ◌^◌, [], length};
 
 use crate::checks::{OutcomeRow, holds, same_count, same_told};
-use cluster_core::{Balancers, Core, Deployment, Notes, Setup, Task, Totals};
+use backend_names::{Name, TableSize, Weight};
+use cluster_core::{Deployment, Setup, Totals};
 use cluster_node::{Event, LogEntry, Outcome, Packet};
 use connection_table::{ConnTable, LruTable, PlainTable};
-use event_trace::{Counts, Play, ScenarioStep, all_live};
+use event_trace::{Balancers, Core, Counts, Notes, Play, ScenarioStep, Task, all_live};
 use five_tuple::Flow;
 use hash_laws::SumHash;
-use maglev_table::{Name, TableSize, Weight};
 use pool_versions::{Backend, Catalogue, Member, Service, Version};
 use selection::Maglev;
 use spreader::TurnSpread;

@@ -7,4 +7,6 @@ mod balancers;
 #[cfg(test)]
 mod checks;
 #[cfg(test)]
+mod shown;
+#[cfg(test)]
 mod tests;

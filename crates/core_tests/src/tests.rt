@@ -7,13 +7,13 @@ ghost use Rattle.std.specs.Prelude.{◌≡◌, ℕ, Some, option_copied, slice_g
 ghost use Rattle.cluster_node.specs.Records.{WasRead};
 
 use crate::checks::{OutcomeRow, holds, same_count, same_told};
+use backend_names::{Name, TableSize, Weight};
 use cluster_core::{
     Cause, Event, Outcome, Packet, Reason, Run, Setup, replay, replay_maglev, totals,
 };
 use connection_table::{ConnTable, LruTable, PlainTable};
 use five_tuple::Flow;
 use hash_laws::SumHash;
-use maglev_table::{Name, TableSize, Weight};
 use pool_versions::{Backend, Catalogue, Member, Service, Version};
 use selection::{Maglev, Scheme};
 use std::alloc::Global;

@@ -2,8 +2,8 @@
 ghost use Rattle.std.specs.Prelude.{◌≡◌};
 ghost use Rattle.driver_commands.specs.Noting.{answer, noting};
 
-use cluster_core::Core;
 use cluster_node::{Cause, Event, Outcome, Packet, Passed};
+use event_trace::Core;
 use std::alloc::AllocError;
 
 /// Places no packet, so that nothing is served.

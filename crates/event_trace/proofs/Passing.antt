@@ -1,5 +1,5 @@
 -- A packet that comes to a node that isn't held is served at once where it is placed; at one that is held it waits.
-use Rattle.std.proofs.Common.{◌≡◌, ℕ, Bool, true, false, List, ◌∷◌, Option, Some, None, refl, sym, ap, ◌∙◌, subst}
+use Rattle.std.proofs.Common.{◌≡◌, ℕ, ◌+◌, Bool, true, false, List, ◌∷◌, Option, Some, None, refl, sym, ap, ◌∙◌, subst}
 use Rattle.std.specs.Prelude.{◌==◌, if◌then◌else◌, nat_lt}
 use Rattle.cluster_node.specs.declared.packets.Packet.{Packet}
 use Rattle.cluster_node.specs.declared.events.Event.{Event}
@@ -10,9 +10,9 @@ use Rattle.cluster_node.specs.declared.outcomes.Passed.{Passed}
 use Rattle.cluster_node.specs.declared.outcomes.Passed.TheVariants.{Unplaced, Through}
 use Rattle.cluster_node.specs.Record.{newest_of}
 use Rattle.cluster_node.specs.Records.{Judge, of_node, said, placed_on, AreTold}
-use Rattle.cluster_core.specs.Cluster.{Cluster, newest_on}
-use Rattle.event_trace.specs.Trace.{Trace}
-use Rattle.event_trace.specs.Steps.{World, marks_at, is_held, noted, say, serve, follow, arrival, arrive, with_passed}
+use Rattle.cluster_core.specs.Cluster.{Cluster, newest_on, flow_of}
+use Rattle.event_trace.specs.Trace.{Trace, Playing}
+use Rattle.event_trace.specs.Steps.{World, marks_at, is_held, noted, say, serve, follow, arrival, arrive, route, deliver, with_passed}
 
 -- an arrival leaves each node's newest version
 newest_stays : (k : Cluster) (n i : ℕ) (marks : List Bool) (p : Packet) (past : List LogEntry) → newest_on k n (said k.judge past (Arrive n i marks) (Some p) ∷ past) ≡ newest_on k n past
@@ -70,3 +70,17 @@ held_is w k n i p c marks o same held there told =
     ap (λ (x : Outcome). noted (record { event = Arrive n i marks; packet = Some p; outcome = x }) c) (told ∙ ap (λ (j : Cluster). j.judge c.past (Arrive n i marks) (Some p)) (sym same))
     ∙ ap (λ (ms : List Bool). say w (Arrive n i ms) (Some p) c) there
     ∙ held_stays w n i p c held
+
+-- a packet for which no node is live is counted
+pub unrouted_is : (w : World) (i : ℕ) (p : Packet) (c d : Trace) (o : Option ℕ) → w.choice c.live (flow_of p) c.nth ≡ o → o ≡ None → d ≡ record c { nth = c.nth + 1; unrouted = c.unrouted + 1 } → d ≡ deliver w i p c
+unfolding deliver route
+unrouted_is w i p c d o chosen none is = is ∙ ap (λ (x : Option ℕ). route w i p x (record c { nth = c.nth + 1 })) (sym (chosen ∙ none))
+
+-- else it arrives at the node that is chosen
+pub routed_is : (w : World) (n i : ℕ) (p : Packet) (c d e : Trace) (o : Option ℕ) → w.choice c.live (flow_of p) c.nth ≡ o → o ≡ Some n → d ≡ record c { nth = c.nth + 1 } → e ≡ arrive w n i p d → e ≡ deliver w i p c
+unfolding deliver route
+routed_is w n i p c d e o chosen some is arrives = arrives ∙ ap (λ (x : Trace). arrive w n i p x) is ∙ ap (λ (x : Option ℕ). route w i p x (record c { nth = c.nth + 1 })) (sym (chosen ∙ some))
+
+-- the trace of a run by which one packet more was handed to the spreader
+abbrev pub counted_on : {P : Type 0} → Playing P → Trace
+counted_on p = record p.trace { nth = p.trace.nth + 1 }

@@ -1,8 +1,10 @@
 pub mod Trace
 pub mod Steps
+pub mod Going
 pub mod Room
 pub mod Tally
 pub mod PrivateStreams
 pub mod Sums
 pub mod Counting
 pub mod Deliveries
+pub mod Noting

@@ -4,14 +4,16 @@ ghost use Rattle.cluster_node.specs.declared.events.Event.{Event};
 ghost use Rattle.cluster_core.specs.Cluster.{Cluster, WereRead, flow_of, newest_on, waiting_on, Behind};
 ghost use Rattle.cluster_node.specs.Records.{WasRead, said, placed_on};
 ghost use Rattle.event_trace.specs.Trace.{Trace};
-ghost use Rattle.event_trace.specs.Steps.{World, SameChoice, world_of, marks_at, is_held, noted, say, serve, arrival, arrive, route, deliver, take_all, repeat, serve_times, drain_from, release, next_ones, names_records, says_many, after, run, start, below};
+ghost use Rattle.event_trace.specs.Steps.{SameChoice, world_of, marks_at, is_held, noted, say, serve, arrive, deliver, take_all, repeat};
+ghost use Rattle.event_trace.specs.Steps.{serve_times, drain_from, release, names_records, says_many, after, run, start, below};
+ghost use Rattle.event_trace.specs.Going.{Goes, GoesBy, GoesWhere, GoesOver, ToldAfter};
 ghost use Rattle.event_trace.specs.Deliveries.{events_of, if_there, with_delivery};
 ghost use Rattle.event_trace.specs.Tally.{tally_of};
 ghost use Rattle.event_trace.specs.Room.{Room, Counted};
 
 use crate::delivery::{Delivery, push, push_if};
+use crate::machine::Core;
 use crate::steps::ScenarioStep;
-use cluster_core::Core;
 use cluster_node::{Event, LogEntry, Outcome, Packet, Passed};
 use ghost_log::Log;
 use spreader::Spread;
@@ -155,7 +157,7 @@ impl<P: Spread> Play<P> {
         requires read { WasRead packet }
         ensures stands { OnOk result (C.stands setup.now self.new.trace.past core.new) }
         ensures spread { self.new.spread ≡ self.old.spread }
-        ensures after { OnOk result ((w : World) → w.cluster ≡ C.cluster setup.now → self.new.trace ≡ say w event packet self.old.trace) }
+        ensures after { OnOk result (Goes (C.cluster setup.now) (λ w. say w event packet) self.old.trace self.new.trace) }
         ensures told { IfOk result (λ s. Behind (reverse self.old.trace.past) self.new.trace.past (s ∷ [])) }
     {
         let _count = self.said_count();
@@ -182,7 +184,7 @@ impl<P: Spread> Play<P> {
         requires { C.stands setup.now self.old.trace.past core.old }
         ensures stands { OnOk result (C.stands setup.now self.new.trace.past core.new) }
         ensures spread { self.new.spread ≡ self.old.spread }
-        ensures after { OnOk result ((w : World) → w.cluster ≡ C.cluster setup.now → self.new.trace ≡ serve w node worker self.old.trace) }
+        ensures after { OnOk result (Goes (C.cluster setup.now) (λ w. serve w node worker) self.old.trace self.new.trace) }
         ensures told { IfOk result (λ s. Behind (reverse self.old.trace.past) self.new.trace.past (s ∷ [])) }
     {
         let version = core.newest(setup, node);
@@ -208,8 +210,8 @@ impl<P: Spread> Play<P> {
         requires { C.stands setup.now self.old.trace.past core.old }
         ensures stands { OnOk result (C.stands setup.now self.new.trace.past core.new) }
         ensures spread { self.new.spread ≡ self.old.spread }
-        ensures after { OnOk result ((w : World) → w.cluster ≡ C.cluster setup.now → self.new.trace ≡ serve w node worker self.old.trace) }
-        ensures told { (before : List LogEntry) → Behind before self.old.trace.past events.old.items → OnOk result (Behind before self.new.trace.past events.new.items) }
+        ensures after { OnOk result (Goes (C.cluster setup.now) (λ w. serve w node worker) self.old.trace self.new.trace) }
+        ensures told { ToldAfter result self.old.trace.past events.old.items self.new.trace.past events.new.items }
     {
         let said = self.serve(core, setup, node, worker)?;
         push(said, events)?;
@@ -244,7 +246,7 @@ impl<P: Spread> Play<P> {
         requires held { is_held node self.old.trace ≡ true }
         ensures stands { OnOk result (C.stands setup.now self.new.trace.past core.new) }
         ensures spread { self.new.spread ≡ self.old.spread }
-        ensures after { OnOk result ((w : World) → w.cluster ≡ C.cluster setup.now → self.new.trace ≡ arrive w node place packet.now self.old.trace) }
+        ensures after { OnOk result (Goes (C.cluster setup.now) (λ w. arrive w node place packet.now) self.old.trace self.new.trace) }
         ensures told { OnOk result (Behind (reverse self.old.trace.past) self.new.trace.past (events_of packet.now delivery.new)) }
     {
         let _count = self.said_count();
@@ -261,90 +263,8 @@ impl<P: Spread> Play<P> {
         Ok(())
     }
 
-    /// An arrival at a node that isn't held, and the serving that follows it where it is placed.
-    #[inline(always)]
-    fn pass<C: Core>(
-        &mut self,
-        core: &mut C,
-        setup: &C::Setup,
-        node: u16,
-        place: u32,
-        packet: &Packet,
-        delivery: &mut Delivery,
-    ) -> Result<(), AllocError>
-        requires stands { C.stands setup.now self.old.trace.past core.old }
-        requires read { WasRead (Some packet.now) }
-        requires free { is_held node self.old.trace ≡ false }
-        ensures stands { OnOk result (C.stands setup.now self.new.trace.past core.new) }
-        ensures spread { self.new.spread ≡ self.old.spread }
-        ensures after { OnOk result ((w : World) → w.cluster ≡ C.cluster setup.now → self.new.trace ≡ arrive w node place packet.now self.old.trace) }
-        ensures told { OnOk result (Behind (reverse self.old.trace.past) self.new.trace.past (events_of packet.now delivery.new)) }
-    {
-        let _count = self.said_count();
-        let refused = self.marks_at(node);
-        let version = core.newest(setup, node);
-        core.pass(setup, node, place, &refused, packet, &mut delivery.passed)?;
-        delivery.arrive(node, place, refused, version);
-        self.note_delivery(packet, delivery)?;
-        Ok(())
-    }
-
-    /// An arrival, and the serving that may follow it.
-    #[inline(always)]
-    fn arrive<C: Core>(
-        &mut self,
-        core: &mut C,
-        setup: &C::Setup,
-        node: u16,
-        place: u32,
-        packet: &Packet,
-        delivery: &mut Delivery,
-    ) -> Result<(), AllocError>
-        requires stands { C.stands setup.now self.old.trace.past core.old }
-        requires read { WasRead (Some packet.now) }
-        ensures stands { OnOk result (C.stands setup.now self.new.trace.past core.new) }
-        ensures spread { self.new.spread ≡ self.old.spread }
-        ensures after { OnOk result ((w : World) → w.cluster ≡ C.cluster setup.now → self.new.trace ≡ arrive w node place packet.now self.old.trace) }
-        ensures told { OnOk result (Behind (reverse self.old.trace.past) self.new.trace.past (events_of packet.now delivery.new)) }
-    {
-        if self.is_held(node) {
-            return self.hold(core, setup, node, place, packet, delivery);
-        }
-        self.pass(core, setup, node, place, packet, delivery)
-    }
-
-    #[tactic(auto, unfolding(crate::specs::Steps::route))]
-    #[inline(always)]
-    fn route<C: Core>(
-        &mut self,
-        core: &mut C,
-        setup: &C::Setup,
-        chosen: Option<u16>,
-        place: u32,
-        packet: &Packet,
-        delivery: &mut Delivery,
-    ) -> Result<(), AllocError>
-        requires stands { C.stands setup.now self.old.trace.past core.old }
-        requires read { WasRead (Some packet.now) }
-        requires room { self.old.trace.unrouted + 1 < 2 ^ 64 }
-        ensures stands { OnOk result (C.stands setup.now self.new.trace.past core.new) }
-        ensures spread { self.new.spread ≡ self.old.spread }
-        ensures after { OnOk result ((w : World) → w.cluster ≡ C.cluster setup.now → self.new.trace ≡ route w place packet.now chosen self.old.trace) }
-        ensures told { OnOk result (Behind (reverse self.old.trace.past) self.new.trace.past (events_of packet.now delivery.new)) }
-    {
-        match chosen {
-            Some(node) => self.arrive(core, setup, node, place, packet, delivery),
-            None => {
-                self.unrouted += 1;
-                delivery.arrived = false;
-                Ok(())
-            }
-        }
-    }
-
-    /// A packet is handed to the spreader. What is reported of it is in `delivery` then, in place of what was there of
-    /// another one.
-    #[tactic(auto, unfolding(crate::specs::Steps::deliver))]
+    /// A packet is handed to the spreader. Where the node that is chosen isn't held, the worker on which the packet is placed
+    /// serves at once. What is reported of it is in `delivery` then, in place of what was there of another one.
     #[inline(always)]
     pub fn deliver<C: Core>(
         &mut self,
@@ -360,12 +280,26 @@ impl<P: Spread> Play<P> {
         requires many { self.old.trace.nth + 1 < 2 ^ 64 }
         ensures stands { OnOk result (C.stands setup.now self.new.trace.past core.new) }
         ensures spread { self.new.spread ≡ self.old.spread }
-        ensures after { OnOk result ((w : World) → w.cluster ≡ C.cluster setup.now → SameChoice w.choice (P.choice self.old.spread) → self.new.trace ≡ deliver w place packet.now self.old.trace) }
+        ensures after { OnOk result (GoesBy (C.cluster setup.now) (P.choice self.old.spread) (λ w. deliver w place packet.now) self.old.trace self.new.trace) }
         ensures told { OnOk result (Behind (reverse self.old.trace.past) self.new.trace.past (events_of packet.now delivery.new)) }
     {
+        let _count = self.said_count();
         let chosen = self.choose(packet);
         self.nth += 1;
-        self.route(core, setup, chosen, place, packet, delivery)
+        let Some(node) = chosen else {
+            self.unrouted += 1;
+            delivery.arrived = false;
+            return Ok(());
+        };
+        if self.is_held(node) {
+            return self.hold(core, setup, node, place, packet, delivery);
+        }
+        let refused = self.marks_at(node);
+        let version = core.newest(setup, node);
+        core.pass(setup, node, place, &refused, packet, &mut delivery.passed)?;
+        delivery.arrive(node, place, refused, version);
+        self.note_delivery(packet, delivery)?;
+        Ok(())
     }
 
     /// A packet is handed to the spreader, and what is reported of it is put after the events that are reported so far.
@@ -383,8 +317,8 @@ impl<P: Spread> Play<P> {
         requires many { self.old.trace.nth + 1 < 2 ^ 64 }
         ensures stands { OnOk result (C.stands setup.now self.new.trace.past core.new) }
         ensures spread { self.new.spread ≡ self.old.spread }
-        ensures after { OnOk result ((w : World) → w.cluster ≡ C.cluster setup.now → SameChoice w.choice (P.choice self.old.spread) → self.new.trace ≡ deliver w place packet.now self.old.trace) }
-        ensures told { (before : List LogEntry) → Behind before self.old.trace.past events.old.items → OnOk result (Behind before self.new.trace.past events.new.items) }
+        ensures after { OnOk result (GoesBy (C.cluster setup.now) (P.choice self.old.spread) (λ w. deliver w place packet.now) self.old.trace self.new.trace) }
+        ensures told { ToldAfter result self.old.trace.past events.old.items self.new.trace.past events.new.items }
     {
         let mut delivery = Delivery::new();
         self.deliver(core, setup, place, packet, &mut delivery)?;
@@ -418,8 +352,8 @@ impl<P: Spread> Play<P> {
         requires skips { self.old.trace.skipped + 1 < 2 ^ 64 }
         ensures stands { OnOk result (C.stands setup.now self.new.trace.past core.new) }
         ensures spread { self.new.spread ≡ self.old.spread }
-        ensures after { OnOk result ((w : World) → w.cluster ≡ C.cluster setup.now → SameChoice w.choice (P.choice self.old.spread) → self.new.trace ≡ repeat w place packet self.old.trace) }
-        ensures told { (before : List LogEntry) → Behind before self.old.trace.past events.old.items → OnOk result (Behind before self.new.trace.past events.new.items) }
+        ensures after { OnOk result (GoesBy (C.cluster setup.now) (P.choice self.old.spread) (λ w. repeat w place packet) self.old.trace self.new.trace) }
+        ensures told { ToldAfter result self.old.trace.past events.old.items self.new.trace.past events.new.items }
     {
         match packet {
             Some(packet) => self.deliver_onto(core, setup, place, &packet, events),
@@ -444,8 +378,8 @@ impl<P: Spread> Play<P> {
         requires { C.stands setup.now self.old.trace.past core.old }
         ensures stands { OnOk result (C.stands setup.now self.new.trace.past core.new) }
         ensures spread { self.new.spread ≡ self.old.spread }
-        ensures after { OnOk result ((w : World) → w.cluster ≡ C.cluster setup.now → self.new.trace ≡ serve_times w node worker times self.old.trace) }
-        ensures told { (before : List LogEntry) → Behind before self.old.trace.past events.old.items → OnOk result (Behind before self.new.trace.past events.new.items) }
+        ensures after { OnOk result (Goes (C.cluster setup.now) (λ w. serve_times w node worker times) self.old.trace self.new.trace) }
+        ensures told { ToldAfter result self.old.trace.past events.old.items self.new.trace.past events.new.items }
     {
         for _ in 0..times {
             self.serve_onto(core, setup, node, worker, events)?;
@@ -465,8 +399,8 @@ impl<P: Spread> Play<P> {
         requires { C.stands setup.now self.old.trace.past core.old }
         ensures stands { OnOk result (C.stands setup.now self.new.trace.past core.new) }
         ensures spread { self.new.spread ≡ self.old.spread }
-        ensures after { OnOk result ((w : World) → w.cluster ≡ C.cluster setup.now → self.new.trace ≡ drain_from w node 0 workers self.old.trace) }
-        ensures told { (before : List LogEntry) → Behind before self.old.trace.past events.old.items → OnOk result (Behind before self.new.trace.past events.new.items) }
+        ensures after { OnOk result (Goes (C.cluster setup.now) (λ w. drain_from w node 0 workers) self.old.trace self.new.trace) }
+        ensures told { ToldAfter result self.old.trace.past events.old.items self.new.trace.past events.new.items }
     {
         for worker in 0..workers {
             let times = core.waiting(setup, node, worker);
@@ -524,8 +458,8 @@ impl<P: Spread> Play<P> {
         requires many { self.old.trace.nth + length packets.now < 2 ^ 64 }
         ensures stands { OnOk result (C.stands setup.now self.new.trace.past core.new) }
         ensures spread { self.new.spread ≡ self.old.spread }
-        ensures after { OnOk result ((w : World) → w.cluster ≡ C.cluster setup.now → SameChoice w.choice (P.choice self.old.spread) → self.new.trace ≡ take_all w packets.now self.old.trace) }
-        ensures told { (before : List LogEntry) → Behind before self.old.trace.past events.old.items → OnOk result (Behind before self.new.trace.past events.new.items) }
+        ensures after { OnOk result (GoesBy (C.cluster setup.now) (P.choice self.old.spread) (λ w. take_all w packets.now) self.old.trace self.new.trace) }
+        ensures told { ToldAfter result self.old.trace.past events.old.items self.new.trace.past events.new.items }
     {
         for packet in packets {
             let place = self.next_place();
@@ -557,7 +491,7 @@ impl<P: Spread> Play<P> {
         requires stands { C.stands setup.now self.old.trace.past core.old }
         ensures choice { SameChoice (P.choice self.old.spread) (P.choice self.new.spread) }
         ensures stands { OnOk result (C.stands setup.now self.new.trace.past core.new) }
-        ensures after { OnOk result ((w : World) → w.cluster ≡ C.cluster setup.now → says_many step.now ≡ false → self.new.trace ≡ after w step.now self.old.trace) }
+        ensures after { OnOk result (GoesWhere (says_many step.now ≡ false) (C.cluster setup.now) (λ w. after w step.now) self.old.trace self.new.trace) }
         ensures told { IfOk result (λ s. Behind (reverse self.old.trace.past) self.new.trace.past (if_there s)) }
     {
         match step {
@@ -605,8 +539,8 @@ impl<P: Spread> Play<P> {
         requires stands { C.stands setup.now self.old.trace.past core.old }
         ensures choice { SameChoice (P.choice self.old.spread) (P.choice self.new.spread) }
         ensures stands { OnOk result (C.stands setup.now self.new.trace.past core.new) }
-        ensures after { OnOk result ((w : World) → w.cluster ≡ C.cluster setup.now → names_records step.now ≡ false → self.new.trace ≡ after w step.now self.old.trace) }
-        ensures told { (before : List LogEntry) → Behind before self.old.trace.past events.old.items → OnOk result (Behind before self.new.trace.past events.new.items) }
+        ensures after { OnOk result (GoesWhere (names_records step.now ≡ false) (C.cluster setup.now) (λ w. after w step.now) self.old.trace self.new.trace) }
+        ensures told { ToldAfter result self.old.trace.past events.old.items self.new.trace.past events.new.items }
     {
         match step {
             ScenarioStep::Drain(node) => {
@@ -638,8 +572,9 @@ impl<P: Spread> Play<P> {
         requires room { Room (length packets.now) self.old.trace }
         ensures choice { SameChoice (P.choice self.old.spread) (P.choice self.new.spread) }
         ensures stands { OnOk result (C.stands setup.now self.new.trace.past core.new) }
-        ensures after { OnOk result ((w : World) → w.cluster ≡ C.cluster setup.now → SameChoice w.choice (P.choice self.old.spread) → w.packets ≡ packets.now → self.new.trace ≡ after w step.now self.old.trace) }
-        ensures told { (before : List LogEntry) → Behind before self.old.trace.past events.old.items → OnOk result (Behind before self.new.trace.past events.new.items) }
+        ensures after { let k = C.cluster setup.now in
+            OnOk result (GoesOver packets.now k (P.choice self.old.spread) (λ w. after w step.now) self.old.trace self.new.trace) }
+        ensures told { ToldAfter result self.old.trace.past events.old.items self.new.trace.past events.new.items }
     {
         match step {
             ScenarioStep::Take(count) => {
@@ -704,7 +639,7 @@ impl<P: Spread> Play<P> {
         ensures run { OnOk result (self.new.trace ≡ run (world_of (C.cluster setup.now) (P.choice self.old.spread) packets.now) steps.now self.old.trace) }
         ensures counted { OnOk result (Counted (length packets.now) (length steps.now) self.new.trace) }
         ensures stands { OnOk result (C.stands setup.now self.new.trace.past core.new) }
-        ensures told { (before : List LogEntry) → Behind before self.old.trace.past events.old.items → OnOk result (Behind before self.new.trace.past events.new.items) }
+        ensures told { ToldAfter result self.old.trace.past events.old.items self.new.trace.past events.new.items }
     {
         for step in steps {
             self.step(alloc, core, setup, packets, step, events)?;

@@ -2,10 +2,10 @@
 ghost use Rattle.std.specs.Prelude.{◌≡◌};
 
 use super::*;
+use backend_names::{Name, TableSize, Weight};
 use connection_table::{Entry, LruTable, PlainTable};
 use five_tuple::Flow;
 use hash_laws::SumHash;
-use maglev_table::{Name, TableSize, Weight};
 use pool_versions::{Backend, Member, Service, Version};
 use std::process::Abort;
 

@@ -5,12 +5,12 @@
 
 ghost use Rattle.std.specs.Prelude.{◌≡◌, ◌<◌, IfOk, length};
 
+use backend_names::{Name, TableSize, Weight};
 use cluster_core::Setup;
 use cluster_node::{Outcome, Packet};
 use connection_table::LruTable;
 use five_tuple::Flow;
 use hash_laws::SumHash;
-use maglev_table::{Name, TableSize, Weight};
 use node_threads::{NodeRun, OpenGate, RunFault, run_node};
 use pool_versions::{Backend, Catalogue, Member, Service, Version};
 use selection::Maglev;

@@ -4,8 +4,8 @@
 ghost use Rattle.std.specs.Prelude.{◌≡◌, true, slice_get, refl};
 ghost use Rattle.example_scheme.specs.FirstLaws.{first_is_up, first_is_none};
 
+use backend_names::{TableSize, Weight};
 use five_tuple::Flow;
-use maglev_table::{TableSize, Weight};
 use pool_versions::Backend;
 use selection::{PrepareFault, Scheme};
 use std::alloc::Global;

@@ -1,6 +1,6 @@
 use super::First;
+use backend_names::{Name, TableSize, Weight};
 use five_tuple::Flow;
-use maglev_table::{Name, TableSize, Weight};
 use pool_versions::{Backend, Member, Service, Version};
 use selection::{PreparedVersion, Scheme};
 use std::alloc::Global;

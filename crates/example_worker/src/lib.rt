@@ -4,8 +4,8 @@
 ghost use Rattle.std.specs.Prelude.{◌≡◌};
 ghost use Rattle.example_worker.specs.FirstWorker.{answer, placing};
 
-use cluster_core::Core;
 use cluster_node::{Cause, Event, Outcome, Packet, Passed};
+use event_trace::Core;
 use std::alloc::AllocError;
 
 /// Places every packet on the first worker. It keeps nothing, so that nothing is ever installed or waits.

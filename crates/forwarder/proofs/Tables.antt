@@ -6,6 +6,7 @@ use Rattle.connection_table.specs.declared.table.Entry.{Entry}
 use Rattle.connection_table.specs.Touches.{Touch, in_time, last_touch, newest_each, same_flow, without}
 use Rattle.connection_table.proofs.Standing.{same_flow-refl, touched-table}
 use Rattle.connection_table.specs.Recency.{at_clock, moved, put_over, stored}
+use Rattle.connection_table.proofs.Places.{take_all}
 
 -- a pair in front is found
 pub last_touch-front : (x : Flow) (e : Entry) (ts : List Touch) → last_touch x ((x, e) ∷ ts) ≡ Some e
@@ -58,12 +59,6 @@ length-without x (t ∷ ts) e h = go (same_flow t.0 x) h (length-without x ts e)
     go : (b : Bool) → (if b then Some t.1 else last_touch x ts) ≡ Some e → (last_touch x ts ≡ Some e → suc (length (without x ts)) ≡ length ts) → suc (length (if b then ts else t ∷ without x ts)) ≡ length (t ∷ ts)
     go true h ih = refl
     go false h ih = ap suc (ih h)
-
-take_all : (n : ℕ) (ts : List Touch) → length ts ≤ n → take n ts ≡ ts
-take_all zero [] h = refl
-take_all (suc n) [] h = refl
-take_all zero (t ∷ ts) h = absurd (omega arith)
-take_all (suc n) (t ∷ ts) h = ap (λ (l : List Touch). t ∷ l) (take_all n ts (omega arith))
 
 length_take : (n : ℕ) (ts : List Touch) → length (take n ts) ≤ n
 length_take zero ts = omega arith

@@ -17,10 +17,11 @@ use five_tuple::Flow;
 use pool_versions::Backend;
 use selection::{PreparedVersion, Ready, Scheme};
 use std::alloc::{AllocError, Global};
+use std::fmt;
 use std::marker::{Model, PhantomData};
 
 /// Where a packet goes.
-#[derive(Clone, Copy, PartialEq, Eq)]
+#[derive(Clone, Copy, Debug, PartialEq, Eq)]
 pub enum Choice {
     /// To a backend, which was chosen under the version of this number.
     Forward { backend: Backend, origin: u32 },
@@ -31,7 +32,7 @@ pub enum Choice {
 }
 
 /// What came of a packet.
-#[derive(Clone, Copy, PartialEq, Eq)]
+#[derive(Clone, Copy, Debug, PartialEq, Eq)]
 pub struct Served {
     pub choice: Choice,
     /// A new entry was due and none was made.
@@ -56,6 +57,17 @@ impl<S: Scheme, T: ConnTable> Model for Forwarder<S, T> {
     ghost Value = { Forwarding };
 
     ghost view = { λ f. record { capacity = T.capacity f.table; idle = f.idle; entries = T.entries f.table; turn = f.turn; clock = f.clock } };
+}
+
+impl<S: Scheme, T: ConnTable> fmt::Debug for Forwarder<S, T> {
+    fn fmt<W: fmt::Write>(&self, f: &mut fmt::Formatter<W>) -> fmt::Result {
+        f.debug_struct("Forwarder")
+            .field("len", &self.table.len())
+            .field("idle", &self.idle)
+            .field("turn", &self.turn)
+            .field("clock", &self.clock)
+            .finish_non_exhaustive()
+    }
 }
 
 // The entry where its backend is up.
@@ -86,6 +98,17 @@ fn sent(entry: &Entry) -> Choice
     }
 }
 
+// Whether an entry stands: no more than the limit has passed since its last touch.
+#[inline(always)]
+fn stands(entry: &Entry, idle: Option<u64>, clock: u64) -> bool
+    ensures { MatchBool result (in_time idle clock (Some entry.now) ≡ Some entry.now) (in_time idle clock (Some entry.now) ≡ None) }
+{
+    match idle {
+        None => true,
+        Some(limit) => clock.saturating_sub(entry.last) <= limit,
+    }
+}
+
 // The flow's entry as it was, which is touched. Where it is past the limit it is as none, and keeps its place.
 #[inline(always)]
 fn stand<T: ConnTable>(table: &mut T, idle: Option<u64>, flow: &Flow, clock: u64) -> Option<Entry>
@@ -93,11 +116,8 @@ fn stand<T: ConnTable>(table: &mut T, idle: Option<u64>, flow: &Flow, clock: u64
     ensures touched { T.entries table.new ≡ moved clock flow.now (in_time idle clock (last_touch flow.now (T.entries table.old))) (T.entries table.old) }
     ensures capacity { T.capacity table.new ≡ T.capacity table.old }
 {
-    let Some(limit) = idle else {
-        return table.touch(flow, clock);
-    };
     let held = table.peek(flow)?;
-    if limit < clock.saturating_sub(held.last) {
+    if !stands(&held, idle, clock) {
         return None;
     }
     table.touch(flow, clock)
@@ -127,12 +147,7 @@ fn keep<T: ConnTable>(table: &mut T, stood: bool, flow: Flow, entry: Entry, refu
 fn stays<S: Scheme>(entry: &Entry, idle: Option<u64>, clock: u64, ready: &Ready<S>) -> bool
     ensures { MatchBool result (kept (in_time idle clock (Some entry.now)) ready.now.ups ≡ Some entry.now) (kept (in_time idle clock (Some entry.now)) ready.now.ups ≡ None) }
 {
-    if let Some(limit) = idle {
-        if limit < clock.saturating_sub(entry.last) {
-            return false;
-        }
-    }
-    ready.is_up(&entry.backend)
+    stands(entry, idle, clock) && ready.is_up(&entry.backend)
 }
 
 // A flow's new entry, where somebody is up.
@@ -236,26 +251,6 @@ impl<S: Scheme, T: ConnTable> Forwarder<S, T> {
             (past : List Serving) → self.old ≡ forwarding_of pick self.old.capacity self.old.idle past →
             (result.choice ≡ (told_after pick self.old.capacity self.old.idle (told pick self.old.capacity self.old.idle past) (serving_of version.now flow.now at refused)).choice)
             × (self.new ≡ forwarding_of pick self.old.capacity self.old.idle (serving_of version.now flow.now at result.unstored ∷ past)) }
-    {
-        self.serve_once(version, flow, at, refused)
-    }
-
-    // Serves one packet.
-    #[inline(always)]
-    fn serve_once(
-        &mut self,
-        version: &PreparedVersion<S>,
-        flow: &Flow,
-        at: u64,
-        refused: bool,
-    ) -> Served
-        ensures choice { let s = serving_of version.now flow.now at refused in
-            result.choice ≡ (told_in (S.pick version.now.scheme version.now.size) self.old s).choice }
-        ensures after { let s = serving_of version.now flow.now at result.unstored in
-            self.new ≡ after_told (told_in (S.pick version.now.scheme version.now.size) self.old s) self.old }
-        ensures due { IsTrue result.unstored → IsNone (stands_in self.old flow.now at) × IsForward result.choice }
-        ensures refused { IsTrue refused → IsNone (stands_in self.old flow.now at) → IsForward result.choice → IsTrue result.unstored }
-        ensures there { IsTrue result.unstored → IsFalse refused → IsNone (last_touch flow.now self.old.entries) }
     {
         let Some(ready) = version.ready(flow) else {
             self.tick(at);

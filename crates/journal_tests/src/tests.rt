@@ -3,10 +3,10 @@ ghost use Rattle.std.specs.Prelude.{◌≡◌, ◌<◌, ℕ, Some, slice_get};
 ghost use Rattle.cluster_node.specs.declared.packets.Packet.{Packet};
 ghost use Rattle.cluster_node.specs.Records.{WasRead};
 
+use backend_names::{Name, TableSize, Weight};
 use cluster_node::{Cause, Outcome, Packet};
 use five_tuple::Flow;
 use hash_laws::SumHash;
-use maglev_table::{Name, TableSize, Weight};
 use pool_versions::{Backend, Catalogue, Member, Service, Version};
 use selection::Maglev;
 use std::alloc::Global;

@@ -3,8 +3,8 @@ use Rattle.std.proofs.Common.{◌≡◌, ◌≢◌, ℕ, ◌<◌, ◌≤◌, ◌
 use Rattle.std.specs.Prelude.{if◌then◌else◌, is_some}
 use Rattle.std.specs.List.{list_all}
 use Rattle.std.proofs.lemmas.Bool.Decides.{nat_tests, eqb_tells}
-use Rattle.maglev_table.specs.NameText.{is_name}
-use Rattle.maglev_table.specs.Sizes.{is_table_size}
+use Rattle.backend_names.specs.NameText.{is_name}
+use Rattle.backend_names.specs.Sizes.{is_table_size}
 use Rattle.maglev_ffi.specs.Slots.{hash_of_number}
 use Rattle.maglev_ffi.specs.Tables.{names_in, are_weights, names_fault, first_fault, AreListed, NamesRefuse, Refuses}
 use Rattle.maglev_ffi.specs.declared.fault.Fault.{Fault}

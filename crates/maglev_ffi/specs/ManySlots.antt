@@ -1,7 +1,7 @@
 -- The slots of many flows, and when they aren't written.
 use Rattle.std.specs.Prelude.{ℕ, ◌==◌, not, if◌then◌else◌, List, map, is_some}
 use Rattle.five_tuple.specs.declared.Flow.{Flow}
-use Rattle.maglev_table.specs.Sizes.{is_table_size}
+use Rattle.backend_names.specs.Sizes.{is_table_size}
 use Rattle.maglev_ffi.specs.Slots.{hash_of_number, slot_answer}
 use Rattle.maglev_ffi.specs.Tables.{number_of}
 use Rattle.maglev_ffi.specs.declared.fault.Fault.TheVariants.{BadSize, BadHash, BadRoom}

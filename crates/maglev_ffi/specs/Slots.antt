@@ -5,7 +5,7 @@ use Rattle.hash_laws.specs.declared.any.AnyHash.TheVariants.{Fnv, Sha256, Sum}
 use Rattle.hash_laws.specs.Any.{plain_of}
 use Rattle.five_tuple.specs.Flow.{flow_bytes}
 use Rattle.five_tuple.specs.declared.Flow.{Flow}
-use Rattle.maglev_table.specs.Sizes.{is_table_size}
+use Rattle.backend_names.specs.Sizes.{is_table_size}
 use Rattle.maglev_table.specs.Turns.{differing_slots}
 
 -- the hash that a number names

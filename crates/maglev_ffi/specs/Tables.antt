@@ -1,12 +1,12 @@
 -- What a table is filled with, and when that is refused.
 use Rattle.std.specs.Prelude.{◌≡◌, ℕ, ◌==◌, ◌&&◌, ◌||◌, nat_le, nat_lt, Bool, true, not, if◌then◌else◌, List, [], map, length, slice_index, slice_index_or, Option, Some, None, is_some, ◌⊎◌}
-use Rattle.std.specs.List.{list_all, range_with_len}
+use Rattle.std.specs.List.{list_all}
 use Rattle.hash_laws.specs.declared.any.AnyHash.{AnyHash}
 use Rattle.hash_laws.specs.Any.{plain_of}
-use Rattle.maglev_table.specs.Sizes.{is_table_size}
-use Rattle.maglev_table.specs.NameText.{is_name}
+use Rattle.backend_names.specs.Sizes.{is_table_size}
+use Rattle.backend_names.specs.NameText.{is_name}
 use Rattle.maglev_texts.specs.Parsing.{pieces}
-use Rattle.table_entrants.specs.Ranking.{IsRanked, AreDistinct, places_of, owners_of}
+use Rattle.table_entrants.specs.Ranking.{IsRanked, AreDistinct, places_of, owners_of, entrants_by}
 use Rattle.table_entrants.specs.declared.entrant.Entrant.{Entrant}
 use Rattle.maglev_ffi.specs.Slots.{hash_of_number}
 use Rattle.maglev_ffi.specs.declared.fault.Fault.{Fault}
@@ -27,12 +27,8 @@ are_weights n weights = (length weights == 0) || ((length weights == n) && list_
 abbrev pub weight_at : List ℕ → ℕ → ℕ
 weight_at weights i = if length weights == 0 then 1 else slice_index weights i
 
--- the name at a place, with its weight and its place
-abbrev pub entrant_at : List (List ℕ) → List ℕ → ℕ → Entrant
-entrant_at names weights i = record { name = slice_index_or names i []; weight = weight_at weights i; place = i }
-
 abbrev pub entrants_of : List (List ℕ) → List ℕ → List Entrant
-entrants_of names weights = map (entrant_at names weights) (range_with_len 0 (length names))
+entrants_of names weights = entrants_by (λ i. slice_index_or names i []) (weight_at weights) (length names)
 
 -- for each slot the place of the name that takes it, where the names take their turns in ascending order
 pub record IsTable (plain : List ℕ → ℕ) (size : ℕ) (names : List (List ℕ)) (weights slots : List ℕ) : Type 0 where

@@ -1,14 +1,14 @@
 //! Reads names and weights as those who share a table.
 ghost use Rattle.std.specs.Prelude.{◌≡◌, ◌<◌, [], map, length, slice_index_or, IfOk, IfErr, OnOk, true};
 ghost use Rattle.std.specs.List.{list_all};
-ghost use Rattle.maglev_table.specs.NameText.{is_name};
-ghost use Rattle.maglev_ffi.specs.Tables.{is_weight, are_weights, weight_at, entrant_at, entrants_of, RankFails};
-ghost use Rattle.table_entrants.specs.Ranking.{AreDistinct, IsRanked};
+ghost use Rattle.backend_names.specs.NameText.{is_name};
+ghost use Rattle.maglev_ffi.specs.Tables.{is_weight, are_weights, weight_at, entrants_of, RankFails};
+ghost use Rattle.table_entrants.specs.Ranking.{AreDistinct, IsRanked, places_of};
 
 use crate::fault::Fault;
-use maglev_table::{Name, Weight};
+use backend_names::{Name, Weight};
 use std::alloc::{AllocError, Global};
-use table_entrants::{Entrant, OrderFault, in_order};
+use table_entrants::{Entrant, OrderFault, enter, in_order};
 
 fn is_name(word: &[u8]) -> bool
     ensures { result ≡ is_name word.now }
@@ -68,19 +68,6 @@ fn name_at(words: &[&[u8]], place: usize) -> Name
     Name::new(words[place]).unwrap()
 }
 
-fn entrant_at(words: &[&[u8]], weights: &[u8], place: usize) -> Entrant
-    requires names { list_all is_name (map (λ w. w.now) words.now) ≡ true }
-    requires weights { are_weights (length words.now) weights.now ≡ true }
-    requires place { place < length words.now }
-    ensures { result ≡ entrant_at (map (λ w. w.now) words.now) weights.now place }
-{
-    Entrant {
-        name: name_at(words, place),
-        weight: weight_at(words.len(), weights, place),
-        place,
-    }
-}
-
 fn entrants_of(alloc: Global, words: &[&[u8]], weights: &[u8]) -> Result<Vec<Entrant>, AllocError>
     requires names { list_all is_name (map (λ w. w.now) words.now) ≡ true }
     requires weights { are_weights (length words.now) weights.now ≡ true }
@@ -88,7 +75,8 @@ fn entrants_of(alloc: Global, words: &[&[u8]], weights: &[u8]) -> Result<Vec<Ent
 {
     let mut entrants = Vec::with_capacity(alloc, words.len())?;
     for place in 0..words.len() {
-        entrants.push(entrant_at(words, weights, place))?;
+        let weight = weight_at(words.len(), weights, place);
+        enter(&mut entrants, name_at(words, place), weight)?;
     }
     Ok(entrants)
 }
@@ -107,4 +95,15 @@ pub(crate) fn ranked(alloc: Global, words: &[&[u8]], weights: &[u8]) -> Result<V
         Err(OrderFault::DoubleName) => Err(Fault::DoubleName),
         Err(OrderFault::Memory) => Err(Fault::Memory),
     }
+}
+
+/// The places that some names had as they were given.
+pub(crate) fn places_of(alloc: Global, entrants: &[Entrant]) -> Result<Vec<u32>, AllocError>
+    ensures { IfOk result (λ v. v.items ≡ places_of entrants.now) }
+{
+    let mut places = Vec::with_capacity(alloc, entrants.len())?;
+    for entrant in entrants {
+        places.push(entrant.place)?;
+    }
+    Ok(places)
 }

@@ -1,20 +1,21 @@
 //! Fills the slots of a table.
-ghost use Rattle.std.specs.Prelude.{◌≡◌, ◌≤◌, ◌<◌, ◌^◌, true, [], length, map, slice_index, All, IfOk, IfErr, OnOk, OnErr, None};
+ghost use Rattle.std.specs.Prelude.{◌≡◌, ◌≤◌, ◌<◌, ◌^◌, true, [], length, map, slice_index, IfOk, IfErr, OnOk, OnErr, None};
 ghost use Rattle.std.specs.List.{list_all};
 ghost use Rattle.hash_laws.specs.Any.{plain_of};
-ghost use Rattle.maglev_table.specs.NameText.{is_name};
+ghost use Rattle.backend_names.specs.NameText.{is_name};
 ghost use Rattle.maglev_table.specs.Turns.{Owners};
-ghost use Rattle.table_entrants.specs.Ranking.{AreDistinct, places_of};
+ghost use Rattle.table_entrants.specs.Ranking.{AreDistinct};
 ghost use Rattle.maglev_ffi.specs.Tables.{names_in, are_weights, first_fault, names_fault, IsTable, IsTableOf, Refuses, NamesRefuse};
 
-use crate::entrants::{are_names, are_weights, ranked};
+use crate::entrants::{are_names, are_weights, places_of, ranked};
 use crate::fault::Fault;
 use crate::hashes::hash_of;
+use backend_names::TableSize;
 use hash_laws::AnyHash;
-use maglev_table::{Table, TableSize};
+use maglev_table::Table;
 use maglev_texts::pieces;
 use std::alloc::Global;
-use table_entrants::{Entrant, table_of};
+use table_entrants::table_of;
 
 // The first fault of some names and weights, but that a name is there twice.
 fn names_fault(size: TableSize, words: &[&[u8]], weights: &[u8]) -> Option<Fault>
@@ -33,15 +34,14 @@ fn names_fault(size: TableSize, words: &[&[u8]], weights: &[u8]) -> Option<Fault
 }
 
 // Writes for each slot the place of the name that took it.
-fn write(table: &Table, entrants: &[Entrant], slots: &mut [u32])
+fn write(table: &Table, places: &[u32], slots: &mut [u32])
     requires room { length slots.old ≡ length table.now.owners }
     requires small { length table.now.owners < 2 ^ 32 }
-    requires lists { table.now.lists ≡ length entrants.now }
-    requires places { All (λ e. e.place < 2 ^ 32) entrants.now }
-    ensures { slots.new ≡ map (λ who. slice_index (places_of entrants.now) who) table.now.owners }
+    requires lists { table.now.lists ≡ length places.now }
+    ensures { slots.new ≡ map (λ who. slice_index places.now who) table.now.owners }
 {
     for slot in 0..slots.len() {
-        slots[slot] = entrants[table.slot(slot as u32) as usize].place as u32;
+        slots[slot] = places[table.slot(slot as u32) as usize];
     }
 }
 
@@ -65,11 +65,12 @@ fn fill_of(
         return Err(fault);
     }
     let entrants = ranked(alloc, words, weights)?;
+    let places = places_of(alloc, entrants.as_slice())?;
     let table = match table_of(alloc, size, hash, entrants.as_slice()) {
         Ok(table) => table,
         Err(_) => return Err(Fault::Memory),
     };
-    write(&table, entrants.as_slice(), slots);
+    write(&table, places.as_slice(), slots);
     Ok(())
 }
 

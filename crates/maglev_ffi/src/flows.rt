@@ -4,9 +4,9 @@ ghost use Rattle.five_tuple.specs.Flow.{flow_bytes};
 ghost use Rattle.hash_laws.specs.Any.{plain_of};
 ghost use Rattle.maglev_ffi.specs.ManySlots.{flow_of};
 
+use backend_names::TableSize;
 use five_tuple::Flow;
 use hash_laws::{AnyHash, FlowHash, Fnv, Sha256Head, SumHash};
-use maglev_table::TableSize;
 
 /// A flow as C has it, the `struct maglev_flow` of `maglev.h`.
 #[repr(C)]

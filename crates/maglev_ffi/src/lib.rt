@@ -12,10 +12,10 @@ mod filling;
 mod flows;
 mod hashes;
 
+use backend_names::TableSize;
 use fault::Fault;
 use five_tuple::Flow;
 pub use flows::MaglevFlow;
-use maglev_table::TableSize;
 use std::alloc::Global;
 
 /// Fills `slots` with the table of some names: for each slot the place of the name that took it, among the names as they were

@@ -3,8 +3,8 @@ ghost use Rattle.std.specs.List.{find};
 ghost use Rattle.maglev_table.specs.Turns.{maglev, takers, claims, one_turn_each, AreFull, IsFullList, preference_list};
 
 use super::permutation::Permutation;
-use super::size::TableSize;
 use super::table::TableFault;
+use backend_names::TableSize;
 use std::alloc::{AllocError, Global};
 
 fn first_free_of(list: &[u32], slots: &[Option<u32>]) -> Option<u32>

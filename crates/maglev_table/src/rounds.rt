@@ -2,7 +2,7 @@
 ghost use Rattle.std.specs.Prelude.{◌≡◌, ◌<◌, ◌≤◌, ◌+◌, ℕ, All, IfSome, None, [], false, true, length};
 ghost use Rattle.maglev_table.specs.Weights.{has_turn, turns_from, or_next_round, IsTurn};
 
-use super::weight::Weight;
+use backend_names::Weight;
 
 /// A place in a round: a pass, from 1 on, and a list.
 #[derive(Clone, Copy)]

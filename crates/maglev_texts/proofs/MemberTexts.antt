@@ -7,7 +7,7 @@ use Rattle.std.specs.Fmt.{decimal}
 use Rattle.std.specs.Str.{bytes_eq}
 use Rattle.std.proofs.lemmas.Bool.{and_parts, ne_eqb}
 use Rattle.std.proofs.lemmas.Slice.Eq.{bytes_eq-Decides}
-use Rattle.maglev_table.specs.NameText.{is_name, is_name_byte}
+use Rattle.backend_names.specs.NameText.{is_name, is_name_byte}
 use Rattle.pool_versions.specs.declared.backend.Member.{Member}
 use Rattle.maglev_texts.specs.Parsing.{pieces, address_of, weighing, member_with, member_at_address, member_at, member_named, member_of_pieces, member_of}
 use Rattle.maglev_texts.specs.Printing.{address_text, backend_text}

@@ -1,7 +1,7 @@
 -- What numbers, addresses and members are, as text.
 use Rattle.std.specs.Prelude.{ℕ, ◌+◌, ◌-◌, ◌*◌, ◌&&◌, ◌==◌, nat_le, nat_lt, Bool, true, false, if◌then◌else◌, List, [], ◌∷◌, ◌++◌, length, Option, Some, None, option_and_then, option_map, codes}
 use Rattle.std.specs.Str.{bytes_eq}
-use Rattle.maglev_table.specs.NameText.{is_name}
+use Rattle.backend_names.specs.NameText.{is_name}
 use Rattle.pool_versions.specs.declared.backend.Member.{Member}
 use Rattle.maglev_texts.specs.declared.weights.WeighedName.{WeighedName}
 

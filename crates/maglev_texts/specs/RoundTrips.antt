@@ -2,7 +2,7 @@
 use Rattle.std.specs.Prelude.{◌≡◌, ◌<◌, ◌≤◌, ◌^◌, ℕ, Bool, true, List, [], ◌++◌, Some, if◌then◌else◌, codes}
 use Rattle.std.specs.Fmt.{decimal}
 use Rattle.pool_versions.specs.declared.backend.Member.{Member}
-use Rattle.maglev_table.specs.NameText.{is_name}
+use Rattle.backend_names.specs.NameText.{is_name}
 use Rattle.maglev_texts.specs.Parsing.{decimal_of, address_of, member_of, weighed_member_of}
 use Rattle.maglev_texts.specs.Printing.{address_text, backend_text}
 

@@ -3,7 +3,7 @@ ghost use Rattle.maglev_texts.specs.Parsing.{member_at_address, member_at, membe
 
 use crate::parsing::{address, pieces};
 use crate::weights::{at_star, weight};
-use maglev_table::{Name, Weight};
+use backend_names::{Name, Weight};
 use pool_versions::{Backend, Member};
 use std::alloc::{AllocError, Global};
 

@@ -2,7 +2,7 @@ ghost use Rattle.std.specs.Prelude.{◌≡◌, option_copied};
 ghost use Rattle.maglev_texts.specs.Parsing.{before_star, behind_star, weight_of, weighed_name_of};
 
 use crate::parsing::decimal;
-use maglev_table::{Name, Weight};
+use backend_names::{Name, Weight};
 
 /// The weight that a text is: a number from 1 to 16, without sign or leading zeros.
 pub fn weight(text: &[u8]) -> Option<Weight>

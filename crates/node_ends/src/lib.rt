@@ -2,7 +2,7 @@
 //! written after the driver's steps.
 #![tactic(auto)]
 
-ghost use Rattle.std.specs.Prelude.{◌≡◌, ◌<◌, ◌+◌, ◌++◌, ◌∷◌, [], ℕ, Bool, List, length, IfOk, OnOk, All};
+ghost use Rattle.std.specs.Prelude.{◌≡◌, ◌<◌, ◌+◌, ◌++◌, ◌∷◌, [], ℕ, Bool, true, List, length, map, IfOk, IfErr, OnOk, All};
 ghost use Rattle.cluster_core.specs.Setups.{rules_for};
 ghost use Rattle.cluster_node.specs.declared.outcomes.Outcome.{Outcome};
 ghost use Rattle.cluster_node.specs.declared.packets.Packet.{Packet};
@@ -15,6 +15,8 @@ ghost use Rattle.thread_records.specs.Journals.{Tells, Drives, IsServed};
 ghost use Rattle.stats_book.specs.Counts.{Counted};
 ghost use Rattle.thread_roles.specs.Counts.{AreRead, Counts, IsWork, served_from, with_lost};
 ghost use Rattle.thread_roles.specs.Going.{Going, IsDriven, IsEnded};
+ghost use Rattle.thread_roles.specs.declared.fault.RunFault.TheVariants.{Foreign};
+ghost use Rattle.node_ends.specs.Judged.{AreOfCluster, JudgesEnd, drained_at};
 
 use cluster_core::Setup;
 use connection_table::ConnTable;
@@ -34,6 +36,7 @@ fn muster<S: Scheme, T: ConnTable, B: Names>(
     runs: Vec<WorkerRun<S, T, B>>,
 ) -> Result<Vec<WorkerRecord<S, T>>, AllocError>
     requires { All (λ w. IsWork w.record w.tally.lost w.tally.shares) runs.items }
+    ensures records { IfOk result (λ v. v.items ≡ map (λ w. w.record) runs.items) }
     ensures parts { OnOk result (tally.new.shares.parts ≡ tally.old.shares.parts + length runs.items) }
     ensures counts { (os : List Outcome) (n : ℕ) → Counts tally.old.lost tally.old.shares os → IfOk result (λ v. Counts tally.new.lost tally.new.shares (os ++ served_from n 0 (all_handled v.items))) }
 {
@@ -55,7 +58,9 @@ fn compare<S: Scheme, H: FlowHash, T: ConnTable>(
     catalogue: &Catalogue,
     workers: &[WorkerRecord<S, T>],
 ) -> Result<(), RunFault>
-    ensures { OnOk result (All (λ w. IsOf (λ s z. S.pick s z) (rules_for (λ s z. S.pick s z) (λ h. H.plain h) setup.now catalogue.now) w) workers.now) }
+    ensures of { OnOk result (All (λ w. IsOf (λ s z. S.pick s z) (rules_for (λ s z. S.pick s z) (λ h. H.plain h) setup.now catalogue.now) w) workers.now) }
+    ensures own { OnOk result (AreOfCluster (λ a b. S.eq a b) setup.now catalogue.now workers.now) }
+    ensures foreign { IfErr result (λ fault. (fault ≡ Foreign) × (AreOfCluster (λ a b. S.eq a b) setup.now catalogue.now workers.now → ⊥)) }
 {
     if !are_of(setup, catalogue, workers) {
         return Err(RunFault::Foreign);
@@ -74,6 +79,8 @@ fn end_life<S: Scheme, H: FlowHash, T: ConnTable>(
 ) -> Result<u64, RunFault>
     ensures going { let rules = rules_for (λ s z. S.pick s z) (λ h. H.plain h) setup.now catalogue.now in
         (packets : List Packet) (cs : List Command) (n : ℕ) (places : ℕ) → Going rules packets cs n places journal.old → OnOk result (Going rules packets (cs ++ ending drained ∷ []) n places journal.new) }
+    ensures judged { JudgesEnd (λ a b. S.eq a b) setup.now catalogue.now drained journal.old workers.now result }
+    ensures newest { OnOk result (journal.new.newest ≡ journal.old.newest) }
     ensures counts { (lost : Bool) (shares : Counted) → Counts lost shares (journal.old.outcomes ++ served_from journal.old.node 0 (all_handled workers.now)) → IfOk result (λ left. Counts lost (with_lost left shares) journal.new.outcomes) }
 {
     compare(setup, catalogue, workers)?;
@@ -93,6 +100,7 @@ fn end<S: Scheme, H: FlowHash, T: ConnTable>(
     ensures ended { let rules = rules_for (λ s z. S.pick s z) (λ h. H.plain h) setup.now catalogue.now in
         (packets : List Packet) → Drives rules packets journal.old → OnOk result (Tells rules packets journal.new × NoneWaits (past_of rules packets journal.new.node journal.new.events)) }
     ensures served { OnOk result (IsServed journal.old journal.new) }
+    ensures judged { JudgesEnd (λ a b. S.eq a b) setup.now catalogue.now true journal.old workers.now result }
     ensures counts { (lost : Bool) (shares : Counted) → Counts lost shares (journal.old.outcomes ++ served_from journal.old.node 0 (all_handled workers.now)) → OnOk result (Counts lost shares journal.new.outcomes) }
 {
     compare(setup, catalogue, workers)?;
@@ -104,6 +112,7 @@ fn end<S: Scheme, H: FlowHash, T: ConnTable>(
 
 /// A life that was driven ends as its commands say. The workers' records are compared with what was placed on them, and
 /// written after the driver's steps. What was lost at a stop is counted. Memory is reported first, then Foreign, then RingLost.
+/// What the records say decides between Ok, Foreign and RingLost (`judged`).
 pub fn end_driven<S: Scheme, H: FlowHash, T: ConnTable, G, B: Names, R: Wait>(
     rt: &R,
     alloc: Global,
@@ -117,6 +126,8 @@ pub fn end_driven<S: Scheme, H: FlowHash, T: ConnTable, G, B: Names, R: Wait>(
     requires some { 0 < driven.tally.shares.parts }
     requires counts { AreRead plan.packets.now → Counts driven.tally.lost driven.tally.shares driven.journal.outcomes }
     ensures ended { let rules = rules_for (λ s z. S.pick s z) (λ h. H.plain h) plan.entry.setup.now plan.entry.catalogue.now in IfOk result (λ d. IsEnded rules plan.entry.packets.now plan.entry.commands.now plan.entry.node plan.entry.ring from d.at d.journal) }
+    ensures judged { let drained = drained_at plan.entry.commands.now driven.at in
+        JudgesEnd (λ a b. S.eq a b) plan.entry.setup.now plan.entry.catalogue.now drained driven.journal (map (λ w. w.record) runs.items) result }
     ensures parts { IfOk result (λ d. d.tally.shares.parts ≡ driven.tally.shares.parts + length runs.items) }
     ensures counts { AreRead plan.entry.packets.now → IfOk result (λ d. Counts d.tally.lost d.tally.shares d.journal.outcomes) }
 {

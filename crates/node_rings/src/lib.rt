@@ -3,6 +3,7 @@
 #![tactic(auto)]
 
 ghost use Rattle.std.specs.Prelude.{◌≡◌, ◌<◌, ◌+◌, length, IfOk, IfErr, OnOk, All};
+ghost use Rattle.thread_roles.specs.Faults.{IsRefusal};
 ghost use Rattle.thread_roles.specs.declared.fault.RunFault.TheVariants.{ThreadLost};
 ghost use Rattle.version_board.specs.Seats.{IsWatcherOf};
 
@@ -46,7 +47,8 @@ fn post_all<'a, S: Scheme, R: Wait + Drop>(
     seats: Vec<Watcher>,
 ) -> Result<Vec<Post<'a, S>>, RunFault>
     requires { All (λ w. IsWatcherOf board.now w) seats.items }
-    ensures { IfOk result (λ v. length v.items ≡ length seats.items) }
+    ensures posts { IfOk result (λ v. length v.items ≡ length seats.items) }
+    ensures fault { IfErr result (λ fault. IsRefusal fault) }
 {
     let mut posts = Vec::new(alloc);
     for seat in seats {
@@ -120,7 +122,8 @@ fn lay<'a, S: Scheme, B: Names>(
     Ok(laid)
 }
 
-/// For each seat of the board a place to read versions, its rings, each of so many places, and a part of the counts.
+/// For each seat of the board a place to read versions, its rings, each of so many places, and a part of the counts. The only
+/// faults are Memory, and ThreadLost where a worker has no place to read.
 pub fn lay_all<'a, S: Scheme, R: Wait + Drop, B: Names>(
     alloc: Global,
     board: &'a WordBoard,
@@ -134,6 +137,7 @@ pub fn lay_all<'a, S: Scheme, R: Wait + Drop, B: Names>(
     ensures outfits { IfOk result (λ l. length l.outfits.items ≡ length seats.items) }
     ensures parts { OnOk result (tally.new.shares.parts + length seats.items ≡ tally.old.shares.parts) }
     ensures same { OnOk result ((tally.new.shares ≡ record tally.old.shares { parts = tally.new.shares.parts }) × (tally.new.lost ≡ tally.old.lost)) }
+    ensures fault { IfErr result (λ fault. IsRefusal fault) }
 {
     let posts = post_all(alloc, board, stage, seats)?;
     match lay(alloc, posts, places, tally) {

@@ -3,12 +3,12 @@ ghost use Rattle.std.specs.Prelude.{◌≡◌, ◌<◌, ◌≤◌, ℕ, Some, le
 ghost use Rattle.cluster_node.specs.declared.packets.Packet.{Packet};
 ghost use Rattle.cluster_node.specs.Records.{WasRead};
 
+use backend_names::{Name, TableSize, Weight};
 use cluster_core::Setup;
 use cluster_node::{Cause, Outcome, Packet, Reason};
 use connection_table::{ConnTable, LruTable, PlainTable};
 use five_tuple::Flow;
 use hash_laws::{FlowHash, SumHash};
-use maglev_table::{Name, TableSize, Weight};
 use node_threads::{Gate, NodeRun, OpenGate, run_node};
 use pool_versions::{Backend, Catalogue, Member, Service, Version};
 use selection::Maglev;

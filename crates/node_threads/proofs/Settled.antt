@@ -1,17 +1,10 @@
 -- What came to a node's queues in its run is what went out of them.
 use Rattle.std.proofs.Common.{◌≡◌, ℕ, ◌+◌, ◌-◌, ◌<◌, length, ◌≤◌, ◌%◌, Bool, true, false, List, [], ◌∷◌, ◌++◌, Option, Some, None, refl, sym, ap, ◌∙◌, subst, arith}
-use Rattle.std.specs.Prelude.{◌==◌, nat_lt, if◌then◌else◌, slice_get, sum}
-use Rattle.std.specs.List.{list_any}
-use Rattle.std.proofs.lemmas.Bool.{false≢true, eq-eqb, lt-ltb}
-use Rattle.forwarder.specs.declared.Choice.{Choice}
-use Rattle.forwarder.specs.declared.Choice.TheVariants as choices
-use Rattle.cluster_node.specs.declared.serving.Item.{Item}
-use Rattle.cluster_node.specs.declared.serving.Taken.{Taken}
-use Rattle.cluster_node.specs.declared.serving.Taken.TheVariants as takings
+use Rattle.std.specs.Prelude.{◌==◌, nat_lt, if◌then◌else◌, sum}
+use Rattle.std.proofs.lemmas.Bool.{eq-eqb, lt-ltb}
 use Rattle.steering.specs.declared.Placed.{Placed as Placing}
 use Rattle.steering.specs.declared.Placed.TheVariants as placings
 use Rattle.steering.specs.Steering.{home_of, place_for}
-use Rattle.cluster_node.specs.Book.{Line, next_item, taken}
 use Rattle.cluster_node.specs.declared.packets.Packet.{Packet}
 use Rattle.cluster_node.specs.declared.packets.Packet.TheVariants.{Good, Bad}
 use Rattle.cluster_node.specs.declared.events.Event.{Event}
@@ -19,12 +12,11 @@ use Rattle.cluster_node.specs.declared.events.Event.TheVariants.{Install, Arrive
 use Rattle.cluster_node.specs.declared.events.LogEntry.{LogEntry}
 use Rattle.cluster_node.specs.declared.outcomes.Outcome.{Outcome}
 use Rattle.cluster_node.specs.declared.outcomes.Outcome.TheVariants.{Installed, Placed, Forward, Dropped, Restarted, Refused}
-use Rattle.cluster_node.specs.declared.outcomes.Reason.TheVariants.{NoNode, NoWorker, UnknownVersion, NotNewer}
-use Rattle.cluster_node.specs.declared.outcomes.Cause.{Cause}
-use Rattle.cluster_node.specs.declared.outcomes.Cause.TheVariants.{NotIpv4, Truncated, BadHeader, BadChecksum, Fragment, NotTcpUdp, BadTransport, TooLarge, NoService, NoBackend, NoVersion, RingsFull, LostAtRestart}
+use Rattle.cluster_node.specs.declared.outcomes.Reason.TheVariants.{NoNode, NotNewer}
+use Rattle.cluster_node.specs.declared.outcomes.Cause.TheVariants.{NoVersion, RingsFull}
 use Rattle.cluster_node.specs.Rules.{Rules}
-use Rattle.cluster_node.specs.Record.{accepted, lines_of, of_taken, of_choice, install_verdict, arrive_verdict, steered, serve_verdict, node_verdict, newest_of, refusals_of, installed_of, more_placed, placed_count, served_count, by_queue}
-use Rattle.cluster_node.specs.Records.{Judged, WasRead, of_reading, node_of, of_node}
+use Rattle.cluster_node.specs.Record.{accepted, install_verdict, arrive_verdict, steered, serve_verdict, node_verdict, newest_of, refusals_of, more_placed, placed_count, served_count}
+use Rattle.cluster_node.specs.Records.{Judged, WasRead, node_of, of_node}
 use Rattle.cluster_core.specs.Runs.{verdict, verdicts, say, packet_of}
 use Rattle.cluster_core.specs.Histories.{AllRead}
 use Rattle.cluster_core.specs.OutcomeCounts.{is_arrival, is_forward, how_many, drop_counts}
@@ -32,52 +24,13 @@ use Rattle.cluster_core.specs.Totals.{came, went, came_all, went_all, came_of, w
 use Rattle.cluster_core.proofs.Balanced.{records_balance}
 use Rattle.cluster_core.proofs.Nodes.{named_read}
 use Rattle.cluster_core.proofs.Bumps.{lawful}
-use Rattle.thread_records.specs.Histories.{said_on, record_of, past_of, AreOf, NoneWaits}
+use Rattle.thread_records.specs.Histories.{said_on, record_of, AreOf, NoneWaits}
 use Rattle.thread_records.specs.declared.command.Command.{Command}
 use Rattle.thread_records.specs.declared.nodes.NodeRecord.{NodeRecord}
 use Rattle.thread_records.specs.Runs.{IsRunOf, AreRuns}
 use Rattle.thread_records.specs.Joins.{all_outcomes}
 use Rattle.thread_roles.specs.Counts.{AreRead}
-
-reading_not_serving : (k : ℕ) (c : Cause) → of_reading c ≡ true → went (Dropped k c) ≡ 0
-reading_not_serving k NotIpv4 h = refl
-reading_not_serving k Truncated h = refl
-reading_not_serving k BadHeader h = refl
-reading_not_serving k BadChecksum h = refl
-reading_not_serving k Fragment h = refl
-reading_not_serving k NotTcpUdp h = refl
-reading_not_serving k BadTransport h = refl
-reading_not_serving k TooLarge h = refl
-reading_not_serving k NoService h = absurd (false≢true h)
-reading_not_serving k NoBackend h = absurd (false≢true h)
-reading_not_serving k NoVersion h = refl
-reading_not_serving k RingsFull h = refl
-reading_not_serving k LostAtRestart h = refl
-
--- a serving takes one packet out exactly where it is accepted
-abbrev TakesOne : Outcome → Type 0
-TakesOne o = (went o ≡ (if accepted o then 1 else 0)) × (came o ≡ 0)
-
-choice_one : (n w : ℕ) (i : Item) (c : Choice) → TakesOne (of_choice n w i c)
-choice_one n w i (choices.Forward b o) = (refl, refl)
-choice_one n w i choices.NoService = (refl, refl)
-choice_one n w i choices.NoBackend = (refl, refl)
-
-taken_one : (n w : ℕ) (t : Taken) → TakesOne (of_taken n w t)
-taken_one n w takings.Idle = (refl, refl)
-taken_one n w takings.Behind = (refl, refl)
-taken_one n w (takings.Done i c) = choice_one n w i c
-
-if_one : (b : Bool) (o q : Outcome) → TakesOne o → TakesOne q → TakesOne (if b then o else q)
-if_one true o q h k = h
-if_one false o q h k = k
-
-queue_one : (rules : Rules) (installed : List ℕ) (ls : List Line) (o : Option Item) (n w v : ℕ) (r : Bool) → TakesOne (by_queue rules installed ls o n w v r)
-queue_one rules installed ls None n w v r = (refl, refl)
-queue_one rules installed ls (Some i) n w v r = if_one (list_any (λ u. u == v) installed) (of_taken n w (taken rules ls v r)) (Refused UnknownVersion) (taken_one n w (taken rules ls v r)) (refl, refl)
-
-serve_one : (rules : Rules) (past : List LogEntry) (n w v : ℕ) (r : Bool) → TakesOne (serve_verdict rules past n w v r)
-serve_one rules past n w v r = if_one (nat_lt w rules.workers) (by_queue rules (installed_of past) (lines_of w past) (next_item (lines_of w past)) n w v r) (Refused NoWorker) (queue_one rules (installed_of past) (lines_of w past) (next_item (lines_of w past)) n w v r) (refl, refl)
+use Rattle.cluster_core.proofs.Balance.{reading_not_serving, TakesOne, serve_one}
 
 -- what comes is placed, and an arrival takes nothing out
 more_is : (o : Outcome) (p : ℕ) → more_placed o p ≡ p + came o

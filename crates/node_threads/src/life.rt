@@ -1,9 +1,11 @@
 //! One life of a node: its threads are started, fed and joined.
-ghost use Rattle.std.specs.Prelude.{◌≡◌, ◌≢◌, ◌+◌, List, length, Some, None, IfOk, IsErrOf, All};
+ghost use Rattle.std.specs.Prelude.{◌≡◌, ◌≢◌, ◌+◌, List, length, Some, None, IfOk, IfErr, IfSome, IsErrOf, MatchResult, All};
 ghost use Rattle.cluster_core.specs.Setups.{rules_for};
 ghost use Rattle.thread_roles.specs.Counts.{IsWork};
-ghost use Rattle.thread_roles.specs.Going.{Begins, IsLived};
+ghost use Rattle.thread_roles.specs.Faults.{IsRefusal};
+ghost use Rattle.thread_roles.specs.Going.{IsLived};
 ghost use Rattle.thread_roles.specs.declared.fault.RunFault.TheVariants.{Memory};
+ghost use Rattle.node_threads.specs.Told.{LifeTells};
 
 use crate::begun::Begun;
 use cluster_node::Outcome;
@@ -18,8 +20,8 @@ use std::sync::Wait;
 use std::thread;
 use std::thread::{JoinHandle, PromisedHandle, Scope, Threads};
 use thread_roles::{
-    CountsOwn, Desk, Gate, Inputs, NodePlan, Outfit, Progress, RunFault, WorkerRun, drive, gather,
-    stops_at, work,
+    CountsOwn, Desk, Gate, Inputs, NodePlan, Outfit, Progress, RunFault, Stage, WorkerRun, drive,
+    gather, stops_at, work,
 };
 
 // What a worker's thread answers: what it did, or why it did not do all.
@@ -60,7 +62,8 @@ fn start<
 ) -> Started<S, T, B>
 where
     S::Prepared: Send + Sync,
-    ensures { result.fault ≡ None → length result.handles.items ≡ length outfits.entry.items }
+    ensures all { result.fault ≡ None → length result.handles.items ≡ length outfits.entry.items }
+    ensures fault { IfSome result.fault (λ fault. IsRefusal fault) }
 {
     let mut handles = Vec::new(alloc);
     for outfit in outfits {
@@ -71,7 +74,7 @@ where
         match scope.spawn_with(
             CountsOwn,
             move || -> Result<WorkerRun<S, T, B>, RunFault>
-                ensures { IfOk result (λ w. IsWork w.record w.tally.lost w.tally.shares) }
+                ensures { MatchResult result (λ w. IsWork w.record w.tally.lost w.tally.shares) (λ fault. IsRefusal fault) }
             { work(rt, alloc, plan, outfit) },
         ) {
             Ok(handle) => handles.push_reserved(handle),
@@ -98,6 +101,7 @@ struct Joined<S: Scheme, T: ConnTable, B: Names> {
 fn first_of(fault: Option<RunFault>, other: RunFault) -> RunFault
     ensures memory { fault ≡ Some Memory → result ≡ Memory }
     ensures other { fault ≢ Some Memory → result ≡ other }
+    ensures refusal { IsRefusal other → IsRefusal result }
 {
     match fault {
         Some(RunFault::Memory) => RunFault::Memory,
@@ -113,6 +117,7 @@ fn join_one<S: Scheme, T: ConnTable, B: Names, R: Threads>(
 )
     ensures of { All (λ w. IsWork w.record w.tally.lost w.tally.shares) joined.old.runs.items → All (λ w. IsWork w.record w.tally.lost w.tally.shares) joined.new.runs.items }
     ensures all { joined.new.fault ≡ None → (joined.old.fault ≡ None) × (length joined.new.runs.items ≡ length joined.old.runs.items + 1) }
+    ensures fault { IfSome joined.old.fault (λ fault. IsRefusal fault) → IfSome joined.new.fault (λ fault. IsRefusal fault) }
 {
     match handle.join(rt) {
         Err(fault) => joined.fault = Some(first_of(joined.fault, fault)),
@@ -131,6 +136,7 @@ fn join_all<S: Scheme, T: ConnTable, B: Names, R: Threads>(
 ) -> Result<Vec<WorkerRun<S, T, B>>, RunFault>
     ensures of { IfOk result (λ v. All (λ w. IsWork w.record w.tally.lost w.tally.shares) v.items) }
     ensures all { IfOk result (λ v. length v.items ≡ length handles.items) }
+    ensures fault { IfErr result (λ fault. IsRefusal fault) }
 {
     let mut joined = Joined {
         runs: Vec::new(alloc),
@@ -153,7 +159,9 @@ fn give_up<S: Scheme, T: ConnTable, B: Names, R: Threads + Wait>(
     inputs: &mut Inputs,
     handles: Vec<PromisedHandle<Answer<S, T, B>, CountsOwn>>,
     fault: RunFault,
-) -> RunFault {
+) -> RunFault
+    ensures { IsRefusal fault → IsRefusal result }
+{
     inputs.close(rt);
     match join_all(rt, alloc, handles) {
         Err(RunFault::Memory) => RunFault::Memory,
@@ -183,6 +191,7 @@ fn end_feed<S: Scheme, H: FlowHash, G: Gate, B: Names, R: Wait, W: Wait + Drop>(
 fn told_first<P: Drop>(driven: Result<P, RunFault>, fault: RunFault) -> RunFault
     ensures memory { IsErrOf driven Memory → result ≡ Memory }
     ensures fault { (IsErrOf driven Memory → ⊥) → result ≡ fault }
+    ensures refusal { IsRefusal fault → IsRefusal result }
 {
     match driven {
         Err(RunFault::Memory) => RunFault::Memory,
@@ -210,13 +219,15 @@ fn drive_crew<
 >(
     rt: &R,
     alloc: Global,
-    plan: NodePlan<'_, S, H, G, B>,
-    progress: Progress<S, B>,
-    desk: &mut Desk<'_, S, W>,
+    life: Begun<'_, S, H, G, B>,
+    stage: Stage<S, W>,
     crew: Crew<S, T, B>,
 ) -> Result<LifeRun<S, B>, RunFault>
-    requires { Begins (rules_for (λ s z. S.pick s z) (λ h. H.plain h) plan.setup.now plan.catalogue.now) plan.packets.now plan.commands.now plan.node plan.ring progress.at progress.journal progress.tally.lost progress.tally.shares }
-    ensures { IfOk result (λ r. IsLived (rules_for (λ s z. S.pick s z) (λ h. H.plain h) plan.entry.setup.now plan.entry.catalogue.now) plan.entry.packets.now plan.entry.commands.now plan.entry.node plan.entry.ring progress.at (progress.tally.shares.parts + length crew.handles.items) r.progress.at r.progress.journal r.progress.tally.lost r.progress.tally.shares) }
+    ensures { let rules = rules_for (λ s z. S.pick s z) (λ h. H.plain h) life.entry.asked.setup life.entry.asked.catalogue in
+        let parts = life.entry.parts + length crew.handles.items in
+        MatchResult result
+        (λ r. IsLived rules life.entry.asked life.entry.start parts r.progress.at r.progress.journal r.progress.tally.lost r.progress.tally.shares)
+        (λ fault. LifeTells (λ a b. S.eq a b) rules life.entry.asked life.entry.start fault) }
 {
     let Crew {
         handles,
@@ -224,9 +235,11 @@ fn drive_crew<
         inputs,
     } = crew;
     let mut inputs = inputs;
+    let (plan, progress, desk) = life.open(stage);
+    let mut desk = desk;
     let from = progress.at;
-    let driven = drive(rt, alloc, plan, progress, desk, &mut inputs);
-    end_feed(rt, plan, &driven, desk, &mut inputs);
+    let driven = drive(rt, alloc, plan, progress, &mut desk, &mut inputs);
+    end_feed(rt, plan, &driven, &mut desk, &mut inputs);
     let runs = join_all(rt, alloc, handles);
     let sent = mux.join(rt);
     let sent = sent?;
@@ -237,6 +250,52 @@ fn drive_crew<
             Ok(LifeRun { progress, sent })
         }
     }
+}
+
+// Starts the threads of a life. Where one can't be started those that were are joined.
+fn start_crew<
+    's,
+    'e: 's,
+    S: Scheme + Send + Sync + 'e,
+    H: FlowHash + Send + Sync + 'e,
+    T: ConnTable + Send + 'e,
+    G: Gate + Sync + 'e,
+    B: Names + Send + Sync + 'e,
+    R: Threads + Wait + Sync + 'e,
+>(
+    scope: &Scope<'s, &'e ()>,
+    rt: &'e R,
+    alloc: Global,
+    plan: NodePlan<'e, S, H, G, B>,
+    laid: Laid<'e, S, B>,
+) -> Result<Crew<S, T, B>, RunFault>
+where
+    S::Prepared: Send + Sync,
+    ensures all { IfOk result (λ crew. length crew.handles.items ≡ length laid.entry.outfits.items) }
+    ensures fault { IfErr result (λ fault. IsRefusal fault) }
+{
+    let Laid {
+        outfits,
+        inputs,
+        outputs,
+    } = laid;
+    let mut inputs = inputs;
+    let started: Started<S, T, B> = start(scope, rt, alloc, plan, outfits);
+    let Started { handles, fault } = started;
+    if let Some(fault) = fault {
+        return Err(give_up(rt, alloc, &mut inputs, handles, fault));
+    }
+    let Ok(mux) = scope.spawn(move || {
+        let mut outputs = outputs;
+        gather(rt, alloc, &mut outputs)
+    }) else {
+        return Err(give_up(rt, alloc, &mut inputs, handles, RunFault::ThreadLost));
+    };
+    Ok(Crew {
+        handles,
+        mux,
+        inputs,
+    })
 }
 
 // Starts the threads of a life, drives it, and joins them all.
@@ -253,69 +312,27 @@ fn run_threads<
     scope: &Scope<'s, &'e ()>,
     rt: &'e R,
     alloc: Global,
-    plan: NodePlan<'e, S, H, G, B>,
-    laid: Laid<'e, S, B>,
-    desk: Desk<'e, S, &'e R>,
-    progress: Progress<S, B>,
-) -> Result<LifeRun<S, B>, RunFault>
-where
-    S::Prepared: Send + Sync,
-    requires { Begins (rules_for (λ s z. S.pick s z) (λ h. H.plain h) plan.setup.now plan.catalogue.now) plan.packets.now plan.commands.now plan.node plan.ring progress.at progress.journal progress.tally.lost progress.tally.shares }
-    ensures { IfOk result (λ r. IsLived (rules_for (λ s z. S.pick s z) (λ h. H.plain h) plan.entry.setup.now plan.entry.catalogue.now) plan.entry.packets.now plan.entry.commands.now plan.entry.node plan.entry.ring progress.at (progress.tally.shares.parts + length laid.entry.outfits.items) r.progress.at r.progress.journal r.progress.tally.lost r.progress.tally.shares) }
-{
-    let Laid {
-        outfits,
-        inputs,
-        outputs,
-    } = laid;
-    let mut inputs = inputs;
-    let mut desk = desk;
-    let started: Started<S, T, B> = start(scope, rt, alloc, plan, outfits);
-    let Started { handles, fault } = started;
-    if let Some(fault) = fault {
-        return Err(give_up(rt, alloc, &mut inputs, handles, fault));
-    }
-    let Ok(mux) = scope.spawn(move || {
-        let mut outputs = outputs;
-        gather(rt, alloc, &mut outputs)
-    }) else {
-        return Err(give_up(rt, alloc, &mut inputs, handles, RunFault::ThreadLost));
-    };
-    let crew = Crew {
-        handles,
-        mux,
-        inputs,
-    };
-    drive_crew(rt, alloc, plan, progress, &mut desk, crew)
-}
-
-// Takes apart what a life begins with.
-fn run_begun<
-    's,
-    'e: 's,
-    S: Scheme + Send + Sync + 'e,
-    H: FlowHash + Send + Sync + 'e,
-    T: ConnTable + Send + 'e,
-    G: Gate + Sync + 'e,
-    B: Names + Send + Sync + 'e,
-    R: Threads + Wait + Sync + 'e,
->(
-    scope: &Scope<'s, &'e ()>,
-    rt: &'e R,
-    alloc: Global,
     life: Begun<'e, S, H, G, B>,
     laid: Laid<'e, S, B>,
-    desk: Desk<'e, S, &'e R>,
+    stage: Stage<S, &'e R>,
 ) -> Result<LifeRun<S, B>, RunFault>
 where
     S::Prepared: Send + Sync,
-    ensures { IfOk result (λ r. IsLived (rules_for (λ s z. S.pick s z) (λ h. H.plain h) life.entry.setup life.entry.catalogue) life.entry.packets life.entry.commands life.entry.node life.entry.ring life.entry.start (life.entry.parts + length laid.entry.outfits.items) r.progress.at r.progress.journal r.progress.tally.lost r.progress.tally.shares) }
+    ensures { let life = life.entry in
+        let rules = rules_for (λ s z. S.pick s z) (λ h. H.plain h) life.asked.setup life.asked.catalogue in
+        let parts = life.parts + length laid.entry.outfits.items in
+        MatchResult result
+        (λ r. IsLived rules life.asked life.start parts r.progress.at r.progress.journal r.progress.tally.lost r.progress.tally.shares)
+        (λ fault. LifeTells (λ a b. S.eq a b) rules life.asked life.start fault) }
 {
-    let (plan, progress) = life.parts();
-    run_threads::<S, H, T, G, B, R>(scope, rt, alloc, plan, laid, desk, progress)
+    let crew: Result<Crew<S, T, B>, RunFault> = start_crew(scope, rt, alloc, life.plan(), laid);
+    match crew {
+        Ok(crew) => drive_crew(rt, alloc, life, stage, crew),
+        Err(fault) => Err(fault),
+    }
 }
 
-/// One life, on a board that holds the newest version: rings, threads, and the commands from one place on.
+/// One life, on a board that holds the newest version: threads, and the commands from one place on.
 ///
 /// Nothing is answered before all threads are joined. Memory comes before ThreadLost, and both before what the records
 /// are compared for.
@@ -332,17 +349,27 @@ pub fn run_life<
     alloc: Global,
     life: Begun<'e, S, H, G, B>,
     laid: Laid<'e, S, B>,
-    desk: Desk<'e, S, &'e R>,
+    stage: Stage<S, &'e R>,
 ) -> Result<LifeRun<S, B>, RunFault>
 where
     S::Prepared: Send + Sync,
-    ensures { IfOk result (λ r. IsLived (rules_for (λ s z. S.pick s z) (λ h. H.plain h) life.entry.setup life.entry.catalogue) life.entry.packets life.entry.commands life.entry.node life.entry.ring life.entry.start (life.entry.parts + length laid.entry.outfits.items) r.progress.at r.progress.journal r.progress.tally.lost r.progress.tally.shares) }
+    ensures { let life = life.entry in
+        let rules = rules_for (λ s z. S.pick s z) (λ h. H.plain h) life.asked.setup life.asked.catalogue in
+        let parts = life.parts + length laid.entry.outfits.items in
+        MatchResult result
+        (λ r. IsLived rules life.asked life.start parts r.progress.at r.progress.journal r.progress.tally.lost r.progress.tally.shares)
+        (λ fault. LifeTells (λ a b. S.eq a b) rules life.asked life.start fault) }
 {
     thread::scope(
         thread::scope_env(),
         rt,
         move |scope| -> Result<LifeRun<S, B>, RunFault>
-            ensures { IfOk result (λ r. IsLived (rules_for (λ s z. S.pick s z) (λ h. H.plain h) life.entry.setup life.entry.catalogue) life.entry.packets life.entry.commands life.entry.node life.entry.ring life.entry.start (life.entry.parts + length laid.entry.outfits.items) r.progress.at r.progress.journal r.progress.tally.lost r.progress.tally.shares) }
-        { run_begun::<S, H, T, G, B, R>(scope, rt, alloc, life, laid, desk) },
+            ensures { let life = life.entry in
+                let rules = rules_for (λ s z. S.pick s z) (λ h. H.plain h) life.asked.setup life.asked.catalogue in
+                let parts = life.parts + length laid.entry.outfits.items in
+                MatchResult result
+                (λ r. IsLived rules life.asked life.start parts r.progress.at r.progress.journal r.progress.tally.lost r.progress.tally.shares)
+                (λ fault. LifeTells (λ a b. S.eq a b) rules life.asked life.start fault) }
+        { run_threads::<S, H, T, G, B, R>(scope, rt, alloc, life, laid, stage) },
     )
 }

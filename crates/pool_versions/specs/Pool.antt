@@ -9,7 +9,7 @@ use Rattle.pool_versions.specs.declared.backend.Backend.{Backend}
 use Rattle.pool_versions.specs.declared.backend.Member.{Member}
 use Rattle.pool_versions.specs.declared.service.Service.{Service}
 use Rattle.pool_versions.specs.declared.service.Version.{Version}
-use Rattle.pool_versions.specs.declared.doubles.ServiceKey.{ServiceKey}
+use Rattle.pool_versions.specs.declared.key.ServiceKey.{ServiceKey}
 use Rattle.pool_versions.specs.declared.catalogue.PoolFault.{PoolFault}
 use Rattle.pool_versions.specs.declared.catalogue.PoolFault.TheVariants as fault
 
@@ -29,6 +29,14 @@ same_service a b = (a.vip == b.vip) && ((a.proto == b.proto) && (a.port == b.por
 -- what distinguishes services
 abbrev pub key_of : Service → ServiceKey
 key_of s = record { vip = s.vip; proto = s.proto; port = s.port }
+
+-- that of the services that a flow is of
+abbrev pub key_of_flow : Flow → ServiceKey
+key_of_flow x = record { vip = x.dst; proto = x.proto; port = x.dport }
+
+-- two keys are equal
+abbrev pub same_key : ServiceKey → ServiceKey → Bool
+same_key a b = (a.vip == b.vip) && ((a.proto == b.proto) && (a.port == b.port))
 
 abbrev pub service_keys : List Service → List ServiceKey
 service_keys = map key_of

@@ -6,10 +6,11 @@ ghost use Rattle.pool_versions.specs.Pool.{Pools, services_fault, fault_of, Refu
 use crate::backend::Backend;
 use crate::doubles::{has_double_name, has_double_service};
 use crate::service::{Service, Version, weigh_all};
+use backend_names::{TableSize, Weight};
 use five_tuple::Flow;
-use maglev_table::{TableSize, Weight};
 use std::alloc::{AllocError, Global};
 use std::marker::Model;
+use thiserror::Error;
 
 /// The most versions of a catalogue.
 pub const MOST_VERSIONS: usize = 1024;
@@ -18,24 +19,30 @@ pub const MOST_VERSIONS: usize = 1024;
 pub const MOST_SERVICES: usize = 256;
 
 /// Why a version was not taken. They are tested in this order.
-#[derive(Clone, Copy, Debug, PartialEq, Eq)]
+#[derive(Clone, Copy, Debug, PartialEq, Eq, Drop, Error)]
 pub enum PoolFault {
     /// The number is 0.
+    #[error("a version's number is 0")]
     BadNumber,
     /// The catalogue has a version of this number.
+    #[error("a version of this number is there already")]
     NumberTaken,
     /// Two services have one address, protocol and port.
+    #[error("two services have one address, protocol and port")]
     DoubleService,
     /// Two members of one service have one name.
+    #[error("two members of a service have one name")]
     DoubleName,
     /// More than 1,024 versions, 256 services in a version, 4,096 members in a service, or members than slots.
+    #[error("too many versions, services or members")]
     TooMany,
     /// Memory was refused.
+    #[error("out of memory")]
     Memory,
 }
 
 /// The versions that a cluster may run, each under its number.
-#[derive(Drop)]
+#[derive(Debug, Drop)]
 pub struct Catalogue {
     alloc: Global,
     size: TableSize,

@@ -1,20 +1,13 @@
 //! Whether a list holds two of a kind.
 ghost use Rattle.std.specs.Prelude.{◌≡◌, not, map, IfOk, length};
 ghost use Rattle.std.specs.List.{list_any};
-ghost use Rattle.pool_versions.specs.Pool.{has_double, same_name, same_service, service_keys, member_names, key_of};
+ghost use Rattle.pool_versions.specs.Pool.{has_double, same_name, same_service, service_keys, member_names};
 
 use crate::backend::Member;
+use crate::key::ServiceKey;
 use crate::service::Service;
-use maglev_table::Name;
+use backend_names::Name;
 use std::alloc::{AllocError, Global};
-
-/// What distinguishes services: address, protocol and port.
-#[derive(Clone, Copy, PartialEq, Eq, PartialOrd, Ord)]
-struct ServiceKey {
-    vip: u32,
-    proto: u8,
-    port: u16,
-}
 
 // Whether two keys are equal. A sort brings equal keys together, so that long lists need no quadratic walk.
 fn has_double_key<K: Ord + Copy>(mut keys: Vec<K>) -> bool
@@ -43,11 +36,7 @@ fn keys_of(alloc: Global, services: &[Service]) -> Result<Vec<ServiceKey>, Alloc
 {
     let mut keys = Vec::with_capacity(alloc, services.len())?;
     for service in services {
-        keys.push(ServiceKey {
-            vip: service.vip,
-            proto: service.proto,
-            port: service.port,
-        })?;
+        keys.push(service.key())?;
     }
     Ok(keys)
 }

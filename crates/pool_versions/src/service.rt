@@ -1,18 +1,19 @@
 //! Services and versions.
 ghost use Rattle.std.specs.Prelude.{◌≡◌, ◌≤◌, map, length, All, IfOk, option_copied};
 ghost use Rattle.std.specs.List.Sorted.{IsPermutation};
-ghost use Rattle.pool_versions.specs.Pool.{same_service, has_too_many, up_members, up_backends, ranked, ups, weights, AscendsByName, AreWeighed, serves, find_service};
+ghost use Rattle.pool_versions.specs.Pool.{same_service, has_too_many, key_of, up_members, up_backends, ranked, ups, weights, AscendsByName, AreWeighed, serves, find_service};
 
 use crate::backend::{Backend, Member};
+use crate::key::ServiceKey;
+use backend_names::{TableSize, Weight};
 use five_tuple::Flow;
-use maglev_table::{TableSize, Weight};
 use std::alloc::{AllocError, Global};
 
 /// The most members of a service. There may be no more of them than slots either.
 pub const MOST_MEMBERS: usize = 4096;
 
 /// A service: an IPv4 address, a protocol number, a destination port, and its members.
-#[derive(Drop)]
+#[derive(Debug, Drop)]
 pub struct Service {
     pub vip: u32,
     pub proto: u8,
@@ -21,7 +22,7 @@ pub struct Service {
 }
 
 /// The services of one version of the pools, and the version's number.
-#[derive(Drop)]
+#[derive(Debug, Drop)]
 pub struct Version {
     pub number: u32,
     pub services: Vec<Service>,
@@ -81,6 +82,17 @@ pub(crate) fn weigh_all(services: &[Service])
 }
 
 impl Service {
+    /// What distinguishes it from others.
+    pub fn key(&self) -> ServiceKey
+        ensures { result ≡ key_of self.now }
+    {
+        ServiceKey {
+            vip: self.vip,
+            proto: self.proto,
+            port: self.port,
+        }
+    }
+
     /// Whether a flow is this service's: its destination, protocol and destination port are the service's.
     pub fn serves(&self, flow: &Flow) -> bool
         ensures { result ≡ serves flow.now self.now }

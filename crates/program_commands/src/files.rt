@@ -9,8 +9,7 @@ use lazy_files::{
     FileFault, InputFile, KeptText, OutputFile, Refusal, is_standard, is_standard_output,
 };
 use pcap_file::{Frame, FromRead, PcapFault, ToWrite, read_record_into, read_start};
-use scenario_commands::{explain_keyed, simulate_keyed};
-use simulate_scenario::Wanted;
+use scenario_commands::explain_keyed;
 use std::fs::File;
 use std::io;
 use std::io::{BufReader, ErrorKind, Read, Write};
@@ -18,10 +17,10 @@ use std::random::RandomSource;
 
 /// The paths of a command's files. `explain` has no output.
 #[derive(Clone, Copy)]
-pub struct Paths<'a> {
-    pub scenario: &'a str,
-    pub input: &'a str,
-    pub output: &'a str,
+pub(crate) struct Paths<'a> {
+    pub(crate) scenario: &'a str,
+    pub(crate) input: &'a str,
+    pub(crate) output: &'a str,
 }
 
 impl<'a> Paths<'a> {
@@ -36,7 +35,7 @@ const MOST: u64 = 1_048_577;
 
 /// The text of a scenario's file, up to the bytes that show that it is too long, and what became of reading it. Where it was
 /// refused the text is what came before.
-pub fn read_scenario(rt: &HostRuntime, path: &str) -> (Vec<u8>, Result<(), Trouble>) {
+pub(crate) fn read_scenario(rt: &HostRuntime, path: &str) -> (Vec<u8>, Result<(), Trouble>) {
     let mut text = Vec::new(rt.alloc());
     let outcome = scenario_into(rt, path, &mut text);
     (text, outcome)
@@ -62,7 +61,7 @@ fn text_into<R: Read + Drop>(file: R, text: &mut Vec<u8>) -> Result<(), Trouble>
 
 /// A key that nobody else knows. No answer depends on it. Where the system gives no random bytes there is none, since flows
 /// can be chosen for a key that is known.
-pub fn table_key(rt: &impl RandomSource) -> Result<TableKey, CliFault>
+pub(crate) fn table_key(rt: &impl RandomSource) -> Result<TableKey, CliFault>
     ensures { IfErr result (λ fault. fault ≡ NoRandom) }
 {
     match TableKey::drawn(rt) {
@@ -130,87 +129,61 @@ fn printed(rt: &HostRuntime, text: &[u8], to_error: bool) -> Result<(), Trouble>
     done.map_err(|error| Trouble::of_report(&error))
 }
 
-/// The devices of a command over files, each opened at its first call. The report is kept until the output is written out.
-#[derive(Drop)]
-pub struct Devices<'x> {
-    /// The capture that is read.
-    pub input: FromRead<InputFile<'x>>,
-    /// The capture that is written.
-    pub output: ToWrite<OutputFile<'x>>,
-    /// The report.
-    pub report: ToWrite<KeptText>,
-    /// Whether the report goes to standard error, since what is sent goes to standard output.
-    pub to_error: bool,
-}
-
-impl<'x> Devices<'x> {
-    /// Those of some files. Nothing is opened yet.
-    pub fn of(rt: &'x HostRuntime, files: &Paths<'x>) -> Devices<'x> {
-        Devices {
-            input: FromRead::new(InputFile::new(rt, files.input)),
-            output: ToWrite::new(OutputFile::new(rt, files.output, files.read())),
-            report: ToWrite::new(KeptText::new(rt.alloc())),
-            to_error: is_standard_output(rt, files.output),
+// The end of a command: the output is written out, and then the report is printed, or the fault is answered.
+fn finished(
+    rt: &HostRuntime,
+    files: &Paths<'_>,
+    input: InputFile<'_>,
+    mut output: OutputFile<'_>,
+    report: KeptText,
+    outcome: Result<(), CliFault>,
+) -> Result<(), Trouble> {
+    let fault = match (flushed(&mut output), outcome) {
+        (Err(fault), _) => fault,
+        (Ok(()), Ok(())) => {
+            return printed(rt, report.text(), is_standard_output(rt, files.output));
         }
-    }
-
-    /// The end of a command: the output is written out, and then the report is printed, or the fault is answered.
-    pub fn ended(self, rt: &HostRuntime, outcome: Result<(), CliFault>) -> Result<(), Trouble> {
-        let Devices {
-            input,
-            output,
-            report,
-            to_error,
-        } = self;
-        let input = input.into_inner();
-        let mut output = output.into_inner();
-        let report = report.into_inner();
-        let outcome = match (flushed(&mut output), outcome) {
-            (Err(fault), _) => Err(fault),
-            (Ok(()), Ok(())) => return printed(rt, report.text(), to_error),
-            (Ok(()), Err(fault)) => Err(of_output(of_input(fault, &input), &output, &report)),
-        };
-        outcome.map_err(|fault| trouble_of(fault, &input, output.refusal()))
-    }
+        (Ok(()), Err(fault)) => of_output(of_input(fault, &input), &output, &report),
+    };
+    Err(trouble_of(fault, &input, output.refusal()))
 }
 
-/// The command `simulate` over files. The report is printed once the output is written out.
-pub fn simulate_files<'x>(
+/// A command that reads a capture and writes another: `play` gets the tables' key, the scenario's text, and the devices, each
+/// of which is opened at its first call. The report is kept until the output is written out.
+pub(crate) fn between_files<'x, F>(
     rt: &'x HostRuntime,
     files: &Paths<'x>,
     text: &[u8],
-    wanted: Wanted,
-) -> Result<(), Trouble> {
+    play: F,
+) -> Result<(), Trouble>
+where
+    F: FnOnce(
+        TableKey,
+        &[u8],
+        &mut FromRead<InputFile<'x>>,
+        &mut ToWrite<OutputFile<'x>>,
+        &mut ToWrite<KeptText>,
+    ) -> Result<(), CliFault>,
+    F: Drop,
+    requires { F.IsAlwaysCallable play }
+{
     let key = table_key(rt)?;
-    let Devices {
-        input,
-        output,
-        report,
-        to_error,
-    } = Devices::of(rt, files);
-    let mut input = input;
-    let mut output = output;
-    let mut report = report;
-    let outcome = simulate_keyed(
-        rt.alloc(),
-        key,
-        text,
-        &mut input,
-        &mut output,
-        &mut report,
-        wanted,
-    );
-    let devices = Devices {
-        input,
-        output,
-        report,
-        to_error,
-    };
-    devices.ended(rt, outcome)
+    let mut input = FromRead::new(InputFile::new(rt, files.input));
+    let mut output = ToWrite::new(OutputFile::new(rt, files.output, files.read()));
+    let mut report = ToWrite::new(KeptText::new(rt.alloc()));
+    let outcome = play(key, text, &mut input, &mut output, &mut report);
+    finished(
+        rt,
+        files,
+        input.into_inner(),
+        output.into_inner(),
+        report.into_inner(),
+        outcome,
+    )
 }
 
 /// The command `explain` over files.
-pub fn explain_files(
+pub(crate) fn explain_files(
     rt: &HostRuntime,
     files: &Paths<'_>,
     text: &[u8],
@@ -230,7 +203,7 @@ pub fn explain_files(
 }
 
 /// How many whole records are before the one at which reading a capture stops. Standard input can't be read again.
-pub fn records_before(rt: &HostRuntime, path: &str) -> Option<u32> {
+pub(crate) fn records_before(rt: &HostRuntime, path: &str) -> Option<u32> {
     if is_standard(path) {
         return None;
     }

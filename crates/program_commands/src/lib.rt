@@ -6,23 +6,47 @@ mod files;
 mod reasons;
 mod scenarios;
 mod tables;
+mod word_reasons;
+mod words;
 
+use clap::ArgMatches;
 use command_faults::{CliFault, finish};
-pub use files::{Devices, Paths, read_scenario, table_key};
 use pcap_file::ToWrite;
-pub use reasons::Trouble;
-pub use scenarios::{ended, paths_of, run_explain, run_simulate};
-pub use tables::{run_compare, run_pick, run_table};
+pub use scenario::Played;
+pub use scenarios::between_captures;
+use scenarios::{run_explain, run_simulate};
+use std::io::Write;
+use tables::{run_compare, run_pick, run_table};
+pub use words::{matches_of, refused, unread, words_of};
 
 /// The status of a command line that isn't one.
-pub const USAGE: u8 = 2;
+const USAGE: u8 = 2;
 
-/// Reports what became of a command on standard error, and answers its status.
-pub fn told_outcome(rt: &HostRuntime, outcome: &Result<(), CliFault>) -> u8 {
+// Reports what became of a command on standard error, and answers its status.
+fn told_outcome(rt: &HostRuntime, outcome: &Result<(), CliFault>) -> u8 {
     finish(outcome, &mut ToWrite::new(rt.stderr()))
 }
 
-/// Reports a fault on standard error, and answers its status.
-pub fn told(rt: &HostRuntime, fault: CliFault) -> u8 {
+// Reports a fault on standard error, and answers its status.
+fn told(rt: &HostRuntime, fault: CliFault) -> u8 {
     told_outcome(rt, &Err(fault))
+}
+
+// Says what more is known of a fault.
+fn say(rt: &HostRuntime, line: Option<String>) {
+    if let Some(line) = line {
+        let _ = writeln!(rt.stderr(), "{line}");
+    }
+}
+
+/// The command that the command line names, unless it is `run`.
+pub fn run_without_threads(rt: &HostRuntime, matches: &ArgMatches<'_>) -> u8 {
+    match matches.subcommand() {
+        Some(("table", inner)) => run_table(rt, inner),
+        Some(("pick", inner)) => run_pick(rt, inner),
+        Some(("compare", inner)) => run_compare(rt, inner),
+        Some(("simulate", inner)) => run_simulate(rt, inner),
+        Some(("explain", inner)) => run_explain(rt, inner),
+        _ => USAGE,
+    }
 }

@@ -11,17 +11,17 @@ use std::io;
 
 /// A fault of a command, what the system said where it refused a file, and the first bytes of INPUT.
 #[derive(Clone, Copy)]
-pub struct Trouble {
-    pub fault: CliFault,
-    pub system: Option<Refusal>,
-    pub head: FirstBytes,
+pub(crate) struct Trouble {
+    pub(crate) fault: CliFault,
+    pub(crate) system: Option<Refusal>,
+    pub(crate) head: FirstBytes,
     /// Whether it is the report that couldn't be written.
-    pub of_report: bool,
+    pub(crate) of_report: bool,
 }
 
 impl Trouble {
     /// That of a file which the system refused.
-    pub fn of_system(fault: CliFault, error: &io::Error) -> Trouble {
+    pub(crate) fn of_system(fault: CliFault, error: &io::Error) -> Trouble {
         Trouble {
             fault,
             system: Some(Refusal::of(error)),
@@ -31,7 +31,7 @@ impl Trouble {
     }
 
     /// That of a report which couldn't be written.
-    pub fn of_report(error: &io::Error) -> Trouble {
+    pub(crate) fn of_report(error: &io::Error) -> Trouble {
         Trouble {
             of_report: true,
             ..Trouble::of_system(CliFault::Write, error)
@@ -52,17 +52,17 @@ impl From<CliFault> for Trouble {
 
 /// What is known of a command's files.
 #[derive(Clone, Copy)]
-pub struct Files<'a, 'b> {
-    pub paths: Paths<'a>,
+pub(crate) struct Files<'a, 'b> {
+    pub(crate) paths: Paths<'a>,
     /// The scenario's text, as far as it could be read.
-    pub text: &'b [u8],
+    pub(crate) text: &'b [u8],
     /// The records of INPUT in front of the fault, where it could be read again.
-    pub records: Option<u32>,
+    pub(crate) records: Option<u32>,
 }
 
 /// What is said of a fault, None where nothing more is known or memory was refused. A terminal can show it, whatever the files
 /// are called and whatever the scenario says.
-pub fn reason(alloc: Global, trouble: &Trouble, files: &Files<'_, '_>) -> Option<String> {
+pub(crate) fn reason(alloc: Global, trouble: &Trouble, files: &Files<'_, '_>) -> Option<String> {
     let scenario = shown(alloc, files.paths.scenario).ok()?;
     let input = shown(alloc, files.paths.input).ok()?;
     let output = shown(alloc, files.paths.output).ok()?;

@@ -1,22 +1,22 @@
 //! The commands that play a scenario on one thread, from what the command line says, and the end of each command over files.
-ghost use Rattle.std.specs.Prelude.{IfSome};
-ghost use Rattle.scenario.specs.Meaning.{HasLimits};
-
-use crate::files::{Paths, explain_files, read_scenario, records_before, simulate_files};
+use crate::files::{Paths, between_files, explain_files, read_scenario, records_before};
 use crate::reasons::{Files, Trouble, reason};
-use crate::{USAGE, told};
+use crate::{USAGE, say, told};
 use clap::ArgMatches;
 use command_faults::CliFault;
-use pcap_file::PcapFault;
-use scenario::{Played, Scenario, read};
+use connection_table::TableKey;
+use lazy_files::{InputFile, KeptText, OutputFile};
+use pcap_file::{FromRead, PcapFault, ToWrite};
+use scenario::{Played, read};
+use scenario_commands::simulate_keyed;
 use scenario_warnings::{warning_text, warnings};
 use shown_text::shown;
 use simulate_scenario::Wanted;
-use std::alloc::{AllocError, Global};
+use std::alloc::AllocError;
 use std::io::Write;
 
 /// The paths that the command line names. What a command sends goes to `output`.
-pub fn paths_of<'a>(matches: &'a ArgMatches<'_>, output: &'a str) -> Option<Paths<'a>> {
+pub(crate) fn paths_of<'a>(matches: &'a ArgMatches<'_>, output: &'a str) -> Option<Paths<'a>> {
     Some(Paths {
         scenario: matches.get_str("scenario")?,
         input: matches.get_str("input")?,
@@ -27,19 +27,9 @@ pub fn paths_of<'a>(matches: &'a ArgMatches<'_>, output: &'a str) -> Option<Path
 /// The most warnings that are told of one scenario.
 const MOST_WARNINGS: usize = 20;
 
-// The scenario that a text means, played in turn or on threads.
-fn scenario_in(alloc: Global, text: &[u8]) -> Option<Scenario>
-    ensures { IfSome result HasLimits }
-{
-    match read(alloc, Played::InTurn, text) {
-        Ok(scenario) => Some(scenario),
-        Err(_) => read(alloc, Played::OnThreads, text).ok(),
-    }
-}
-
-// Tells what a scenario that was played may not mean as it was meant.
-fn warn(rt: &HostRuntime, text: &[u8]) -> Result<(), AllocError> {
-    let Some(scenario) = scenario_in(rt.alloc(), text) else {
+// Tells what a scenario that was played so may not mean as it was meant.
+fn warn(rt: &HostRuntime, played: Played, text: &[u8]) -> Result<(), AllocError> {
+    let Ok(scenario) = read(rt.alloc(), played, text) else {
         return Ok(());
     };
     let warnings = warnings(rt.alloc(), &scenario)?;
@@ -55,64 +45,96 @@ fn warn(rt: &HostRuntime, text: &[u8]) -> Result<(), AllocError> {
     Ok(())
 }
 
-/// The end of a command over files. A fault is reported, and with `--verbose` where it is and what was expected. Without a
-/// fault `--verbose` warns of a scenario that may not mean what was meant.
-pub fn ended(
+// Tells where a fault is, and what was expected there.
+fn explain(rt: &HostRuntime, paths: Paths<'_>, text: &[u8], trouble: &Trouble) {
+    let records = match trouble.fault {
+        CliFault::Capture(PcapFault::TooLong | PcapFault::Read) => records_before(rt, paths.input),
+        _ => None,
+    };
+    let files = Files {
+        paths,
+        text,
+        records,
+    };
+    say(rt, reason(rt.alloc(), trouble, &files));
+}
+
+// The end of a command over files. A fault is reported, and with `--verbose` where it is and what was expected. Without a
+// fault `--verbose` warns of a scenario that may not mean what was meant.
+fn ended(
     rt: &HostRuntime,
-    matches: &ArgMatches<'_>,
+    verbose: bool,
     paths: Paths<'_>,
+    played: Played,
     text: &[u8],
     outcome: Result<(), Trouble>,
 ) -> u8 {
     let Err(trouble) = outcome else {
-        if matches.get_flag("verbose") {
-            let _ = warn(rt, text);
+        if verbose {
+            let _ = warn(rt, played, text);
         }
         return 0;
     };
     let status = told(rt, trouble.fault);
-    if matches.get_flag("verbose") {
-        let records = match trouble.fault {
-            CliFault::Capture(PcapFault::TooLong | PcapFault::Read) => {
-                records_before(rt, paths.input)
-            }
-            _ => None,
-        };
-        let files = Files {
-            paths,
-            text,
-            records,
-        };
-        if let Some(line) = reason(rt.alloc(), &trouble, &files) {
-            let _ = writeln!(rt.stderr(), "{line}");
-        }
+    if verbose {
+        explain(rt, paths, text, &trouble);
     }
     status
 }
 
-/// The command `simulate`.
-pub fn run_simulate(rt: &HostRuntime, matches: &ArgMatches<'_>) -> u8 {
+/// A command that plays a scenario from one capture to another, as the command line says. `play` plays it, with the tables'
+/// key, the scenario's text, the input, the output, and what keeps the report.
+pub fn between_captures<'x, F>(
+    rt: &'x HostRuntime,
+    matches: &'x ArgMatches<'_>,
+    played: Played,
+    play: F,
+) -> u8
+where
+    F: FnOnce(
+        TableKey,
+        &[u8],
+        &mut FromRead<InputFile<'x>>,
+        &mut ToWrite<OutputFile<'x>>,
+        &mut ToWrite<KeptText>,
+    ) -> Result<(), CliFault>,
+    F: Drop,
+    requires { F.IsAlwaysCallable play }
+{
     let Some(output) = matches.get_str("output") else {
         return USAGE;
     };
     let Some(paths) = paths_of(matches, output) else {
         return USAGE;
     };
+    let (text, read) = read_scenario(rt, paths.scenario);
+    let text = text.as_slice();
+    let outcome = match read {
+        Ok(()) => between_files(rt, &paths, text, play),
+        Err(trouble) => Err(trouble),
+    };
+    let verbose = matches.get_flag("verbose");
+    ended(rt, verbose, paths, played, text, outcome)
+}
+
+/// The command `simulate`.
+pub(crate) fn run_simulate(rt: &HostRuntime, matches: &ArgMatches<'_>) -> u8 {
     let wanted = Wanted {
         list: matches.get_flag("list"),
         splits: matches.get_flag("splits"),
     };
-    let (text, read) = read_scenario(rt, paths.scenario);
-    let text = text.as_slice();
-    let outcome = match read {
-        Ok(()) => simulate_files(rt, &paths, text, wanted),
-        Err(trouble) => Err(trouble),
-    };
-    ended(rt, matches, paths, text, outcome)
+    between_captures(
+        rt,
+        matches,
+        Played::InTurn,
+        |key, text, input, output, report| {
+            simulate_keyed(rt.alloc(), key, text, input, output, report, wanted)
+        },
+    )
 }
 
 /// The command `explain`.
-pub fn run_explain(rt: &HostRuntime, matches: &ArgMatches<'_>) -> u8 {
+pub(crate) fn run_explain(rt: &HostRuntime, matches: &ArgMatches<'_>) -> u8 {
     let (Some(one), Some(other)) = (
         matches.get_one::<u64>("one"),
         matches.get_one::<u64>("other"),
@@ -128,5 +150,6 @@ pub fn run_explain(rt: &HostRuntime, matches: &ArgMatches<'_>) -> u8 {
         Ok(()) => explain_files(rt, &paths, text, one, other),
         Err(trouble) => Err(trouble),
     };
-    ended(rt, matches, paths, text, outcome)
+    let verbose = matches.get_flag("verbose");
+    ended(rt, verbose, paths, Played::InTurn, text, outcome)
 }

@@ -1,12 +1,31 @@
 //! The commands that need no scenario, from what the command line says.
-use crate::{USAGE, told_outcome};
+use crate::word_reasons::{of_members, of_names};
+use crate::{USAGE, say, told_outcome};
 use clap::ArgMatches;
+use command_faults::CliFault;
 use pcap_file::{FromRead, ToWrite};
 use std::io;
 use table_commands::{compare, pick, table};
 
+// The end of a command. A fault is reported, and with `--verbose` what `reason` knows of it.
+fn ended<F: FnOnce(CliFault) -> Option<String> + Drop>(
+    rt: &HostRuntime,
+    matches: &ArgMatches<'_>,
+    outcome: Result<(), CliFault>,
+    reason: F,
+) -> u8
+    requires { F.IsAlwaysCallable reason }
+{
+    let status = told_outcome(rt, &outcome);
+    match outcome {
+        Err(fault) if matches.get_flag("verbose") => say(rt, reason(fault)),
+        _ => {}
+    }
+    status
+}
+
 /// The command `table`.
-pub fn run_table(rt: &HostRuntime, matches: &ArgMatches<'_>) -> u8 {
+pub(crate) fn run_table(rt: &HostRuntime, matches: &ArgMatches<'_>) -> u8 {
     let (Some(size), Some(hash), Some(names)) = (
         matches.get_one::<u32>("size"),
         matches.get_str("hash"),
@@ -24,11 +43,16 @@ pub fn run_table(rt: &HostRuntime, matches: &ArgMatches<'_>) -> u8 {
         names,
         &mut ToWrite::new(io::writer(rt)),
     );
-    told_outcome(rt, &outcome)
+    ended(
+        rt,
+        matches,
+        outcome,
+        |fault| of_names(rt.alloc(), fault, size, hash, names),
+    )
 }
 
 /// The command `pick`, over standard input.
-pub fn run_pick(rt: &HostRuntime, matches: &ArgMatches<'_>) -> u8 {
+pub(crate) fn run_pick(rt: &HostRuntime, matches: &ArgMatches<'_>) -> u8 {
     let (Some(size), Some(hash), Some(names)) = (
         matches.get_one::<u32>("size"),
         matches.get_str("hash"),
@@ -49,11 +73,16 @@ pub fn run_pick(rt: &HostRuntime, matches: &ArgMatches<'_>) -> u8 {
         &mut FromRead::new(rt.stdin()),
         &mut ToWrite::new(io::writer(rt)),
     );
-    told_outcome(rt, &outcome)
+    ended(
+        rt,
+        matches,
+        outcome,
+        |fault| of_names(rt.alloc(), fault, size, hash, names),
+    )
 }
 
 /// The command `compare`.
-pub fn run_compare(rt: &HostRuntime, matches: &ArgMatches<'_>) -> u8 {
+pub(crate) fn run_compare(rt: &HostRuntime, matches: &ArgMatches<'_>) -> u8 {
     let (Some(size), Some(hash), Some(old), Some(new)) = (
         matches.get_one::<u32>("size"),
         matches.get_str("hash"),
@@ -70,5 +99,10 @@ pub fn run_compare(rt: &HostRuntime, matches: &ArgMatches<'_>) -> u8 {
         new,
         &mut ToWrite::new(io::writer(rt)),
     );
-    told_outcome(rt, &outcome)
+    ended(
+        rt,
+        matches,
+        outcome,
+        |fault| of_members(rt.alloc(), fault, size, hash, old, new),
+    )
 }

@@ -1,10 +1,10 @@
 //! Lines of histories, reports and verdicts, as they are printed.
 use crate::checks::shows;
+use backend_names::Name;
 use cluster_core::{Totals, Verdict};
 use cluster_node::{Cause, Event, LogEntry, Outcome, Reason};
 use event_trace::Tally;
 use five_tuple::Flow;
-use maglev_table::Name;
 use pool_versions::Backend;
 use run_report::{push_line, report_text, verdict_text};
 use std::alloc::{AllocError, Global};

@@ -1,10 +1,10 @@
 //! Splits of short histories, worked out by hand.
 use crate::checks::{holds, same_text};
+use backend_names::{Name, TableSize, Weight};
 use cluster_node::{Cause, Event, Outcome};
 use connection_table::TableKey;
 use five_tuple::Flow;
 use hash_laws::SumHash;
-use maglev_table::{Name, TableSize, Weight};
 use pool_versions::{Backend, Catalogue, Member, Service, Version};
 use run_report::{SplitBook, SplitCause, cause_of, push_splits};
 use std::alloc::Global;

@@ -1,7 +1,7 @@
 //! Numbers, addresses, member words, backends and flows, as they are read and printed.
 use crate::checks::{holds, same_text, shows};
+use backend_names::Name;
 use five_tuple::Flow;
-use maglev_table::Name;
 use maglev_texts::{
     AddressText, BackendText, FlowText, address, decimal, member, pieces, weighed_member,
     weighed_name, weight,

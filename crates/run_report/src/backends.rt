@@ -3,7 +3,7 @@ ghost use Rattle.std.specs.Prelude.{◌≡◌, ℕ, [], true, Some, IfOk, IfSome
 ghost use Rattle.pool_versions.specs.declared.backend.Backend.{Backend};
 ghost use Rattle.run_report.specs.Books.{Keeps};
 
-use maglev_table::Name;
+use backend_names::Name;
 use pool_versions::Backend;
 use std::alloc::{AllocError, Global};
 use std::collections::BTreeMap;

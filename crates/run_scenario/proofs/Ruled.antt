@@ -3,7 +3,7 @@ use Rattle.std.proofs.Common.{◌≡◌, ℕ, true, List, [], refl, sym, ap, ◌
 use Rattle.std.specs.Prelude.{is_some}
 use Rattle.hash_laws.specs.declared.any.AnyHash.{AnyHash}
 use Rattle.hash_laws.specs.Any.{plain_of}
-use Rattle.maglev_table.specs.Sizes.{is_table_size}
+use Rattle.backend_names.specs.Sizes.{is_table_size}
 use Rattle.forwarder.specs.Serving.{Pick}
 use Rattle.ip_headers.specs.declared.Link.{Link}
 use Rattle.pcap_file.specs.Format.{Record}

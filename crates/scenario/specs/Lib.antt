@@ -1,5 +1,6 @@
 pub mod Lookups
 pub mod Words
+pub mod Keys
 pub mod Steps
 pub mod Plain
 pub mod Drafts

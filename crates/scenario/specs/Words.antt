@@ -2,7 +2,7 @@
 use Rattle.std.specs.Prelude.{ℕ, true, if◌then◌else◌, List, codes, Option, Some, None, option_and_then, option_map}
 use Rattle.std.specs.Str.{bytes_eq}
 use Rattle.hash_laws.specs.Any.{hash_of_word}
-use Rattle.maglev_table.specs.Sizes.{is_table_size}
+use Rattle.backend_names.specs.Sizes.{is_table_size}
 use Rattle.toml.specs.Data.{Members}
 use Rattle.scenario.specs.Lookups.{number_at, number_or, number_if, flag_or, text_at}
 use Rattle.scenario.specs.declared.words.SchemeKind.{SchemeKind}

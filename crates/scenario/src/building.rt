@@ -6,7 +6,7 @@ ghost use Rattle.scenario.specs.Drafts.{plain_service_draft, plain_version_draft
 ghost use Rattle.scenario.specs.Meaning.{service_of, version_of, IsCatalogueOf, IsPoolRefused};
 
 use crate::versions::{ServiceDraft, VersionDraft};
-use maglev_table::TableSize;
+use backend_names::TableSize;
 use pool_versions::{Catalogue, Member, PoolFault, Service, Version};
 use std::alloc::{AllocError, Global};
 

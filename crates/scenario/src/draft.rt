@@ -1,18 +1,16 @@
 //! A scenario as its document holds it. All keys are as they should be, but a word may be no member and a text no step.
-ghost use Rattle.std.specs.Prelude.{◌≡◌, ◌≤◌, map, length, nat_eq, option_map, option_and_then, string_bytes, codes, IfOk, IfSome};
-ghost use Rattle.std.specs.List.{list_any, list_all};
-ghost use Rattle.std.specs.BTreeMap.{keys};
-ghost use Rattle.std.specs.Cmp.Lexicographic.{pointwise};
+ghost use Rattle.std.specs.Prelude.{◌≡◌, ◌≤◌, map, length, option_map, option_and_then, string_bytes, codes, IfOk, IfSome};
 ghost use Rattle.toml.specs.Data.{as_str};
 ghost use Rattle.toml.specs.View.{table_view, items_view};
-ghost use Rattle.scenario.specs.Lookups.{items_at, all_items, has_only};
+ghost use Rattle.scenario.specs.Lookups.{items_at, all_items};
 ghost use Rattle.scenario.specs.Drafts.{version_in, plain_version_draft};
-ghost use Rattle.scenario.specs.Meaning.{address_in, few_nodes, few_steps, nodes_of, versions_in, steps_in, draft_of, draft_in, root_keys, plain_draft, IsLimited};
+ghost use Rattle.scenario.specs.Meaning.{address_in, few_nodes, few_steps, nodes_of, versions_in, steps_in, draft_of, draft_in, plain_draft, IsLimited};
 
 use crate::formats::Format;
-use crate::keys::is_one_of;
+use crate::keys::has_root_keys;
 use crate::lookup::items_at;
 use crate::setup::{Choices, Limits, choices_at, limits_at};
+use crate::values::{MOST_NODES, MOST_STEPS};
 use crate::versions::{VersionDraft, read_versions};
 use maglev_texts::address;
 use std::alloc::{AllocError, Global};
@@ -72,7 +70,7 @@ fn nodes_at(alloc: Global, table: &Table) -> Result<Option<Vec<u32>>, AllocError
     let Some(nodes) = addresses(alloc, values)? else {
         return Ok(None);
     };
-    if nodes.is_empty() || nodes.len() > 64 {
+    if nodes.is_empty() || nodes.len() > MOST_NODES {
         return Ok(None);
     }
     Ok(Some(nodes))
@@ -91,9 +89,6 @@ fn versions_at(
     }
 }
 
-/// The most steps of a scenario.
-pub const MOST_STEPS: usize = 100_000;
-
 fn steps_at(alloc: Global, table: &Table) -> Result<Option<Vec<String>>, AllocError>
     ensures value { IfOk result (λ o. option_map (λ v. map string_bytes v.items) o ≡ steps_in (table_view table.now)) }
     ensures few { IfOk result (λ o. IfSome o (λ v. length v.items ≤ 100000)) }
@@ -108,35 +103,6 @@ fn steps_at(alloc: Global, table: &Table) -> Result<Option<Vec<String>>, AllocEr
         return Ok(None);
     }
     Ok(Some(steps))
-}
-
-/// The keys that a document may have, in the order in which a fault's words name them. In format 1 `idle` is none of them.
-pub const ROOT_KEYS: [&str; 13] = [
-    "format", "size", "hash", "scheme", "spread", "workers", "capacity", "ring", "check", "idle",
-    "nodes", "steps", "versions",
-];
-
-/// Whether a document of a format may have this key.
-pub fn is_root_key(format: Format, key: &str) -> bool
-    ensures { result ≡ list_any (pointwise nat_eq key.now) (root_keys format) }
-{
-    match format {
-        Format::One => key != "idle" && is_one_of(key, &ROOT_KEYS),
-        Format::Two => is_one_of(key, &ROOT_KEYS),
-    }
-}
-
-fn all_are_root_keys(format: Format, table: &Table) -> bool
-    ensures { result ≡ list_all (λ k. list_any (pointwise nat_eq (string_bytes k)) (root_keys format)) (keys table.now) }
-{
-    table.keys().all(|key| is_root_key(format, key.as_str()))
-}
-
-/// Whether each key of a document is one that a scenario of the format may have.
-pub fn has_root_keys(format: Format, table: &Table) -> bool
-    ensures { result ≡ has_only (root_keys format) (table_view table.now) }
-{
-    all_are_root_keys(format, table)
 }
 
 #[tactic(auto, unfolding(crate::specs::Meaning::draft_of))]

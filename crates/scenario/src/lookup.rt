@@ -1,15 +1,12 @@
 //! What a document holds at a key.
 ghost use Rattle.std.specs.Prelude.{◌≡◌, ◌≤◌, Bool, string_bytes, option_map, option_copied, IfSome, List, nat_eq, ℕ};
-ghost use Rattle.std.specs.List.{list_any, list_all};
-ghost use Rattle.std.specs.BTreeMap.{keys};
-ghost use Rattle.std.specs.Cmp.Lexicographic.{pointwise};
 ghost use Rattle.toml.specs.Data.{get_member};
 ghost use Rattle.toml.specs.View.{table_view, view, items_view};
 ghost use Rattle.scenario.specs.Lookups.{natural_of, number_at, number_or, number_if, flag_or, text_at, items_at};
 
 use toml::{Table, Value};
 
-pub(crate) fn value_at<'a>(table: &'a Table, key: &str) -> Option<&'a Value>
+fn value_at<'a>(table: &'a Table, key: &str) -> Option<&'a Value>
     ensures { option_map (λ v. view v.now) result ≡ get_member key.now (table_view table.entry.now) }
 {
     table.get(key)
@@ -81,7 +78,7 @@ pub(crate) fn text_at<'a>(table: &'a Table, key: &str) -> Option<&'a str>
 }
 
 /// The array at a key.
-pub(crate) fn items_at<'a>(table: &'a Table, key: &str) -> Option<&'a [Value]>
+pub fn items_at<'a>(table: &'a Table, key: &str) -> Option<&'a [Value]>
     ensures { option_map (λ v. items_view v.now) result ≡ items_at key.now (table_view table.entry.now) }
 {
     let values = value_at(table, key)?.as_array()?;

@@ -1,13 +1,14 @@
 //! The scalars of a scenario's setup.
-ghost use Rattle.std.specs.Prelude.{◌≡◌, ◌≤◌, option_and_then, codes, IfSome};
+ghost use Rattle.std.specs.Prelude.{◌≡◌, ◌≤◌, IfSome};
 ghost use Rattle.toml.specs.View.{table_view};
-ghost use Rattle.scenario.specs.Lookups.{number_at, text_at};
-ghost use Rattle.scenario.specs.Words.{size_of, choices_of, limits_of};
+ghost use Rattle.scenario.specs.Words.{choices_of, limits_of};
 
-use crate::lookup::{flag_or, number_at, number_if, number_or, text_at};
+use crate::values::{
+    capacity_at, check_at, hash_at, idle_at, ring_at, scheme_at, size_at, spread_at, workers_at,
+};
 use crate::words::{SchemeKind, SpreadKind};
+use backend_names::TableSize;
 use hash_laws::AnyHash;
-use maglev_table::TableSize;
 use toml::Table;
 
 /// What a cluster chooses by.
@@ -29,24 +30,14 @@ pub(crate) struct Limits {
     pub(crate) idle: Option<u64>,
 }
 
-/// The longest idle limit, in microseconds: as many as there are in the seconds of a record's time.
-pub const LONGEST_IDLE: u64 = 4_294_967_295_000_000;
-
-fn size_at(table: &Table) -> Option<TableSize>
-    ensures { result ≡ option_and_then size_of (number_at 0 65537 (codes "size") (table_view table.now)) }
-{
-    let slots = number_at(table, "size", 0, 65537)?;
-    TableSize::new(slots as u32)
-}
-
 #[tactic(auto, unfolding(crate::specs::Words::choices_of))]
 pub(crate) fn choices_at(table: &Table) -> Option<Choices>
     ensures { result ≡ choices_of (table_view table.now) }
 {
     let size = size_at(table)?;
-    let hash = AnyHash::of_word(text_at(table, "hash")?)?;
-    let scheme = SchemeKind::of_word(text_at(table, "scheme")?)?;
-    let spread = SpreadKind::of_word(text_at(table, "spread")?)?;
+    let hash = hash_at(table)?;
+    let scheme = scheme_at(table)?;
+    let spread = spread_at(table)?;
     Some(Choices {
         size,
         hash,
@@ -62,15 +53,15 @@ pub(crate) fn limits_at(table: &Table) -> Option<Limits>
     ensures capacity { IfSome result (λ l. (1 ≤ l.capacity) × (l.capacity ≤ 1000000)) }
     ensures ring { IfSome result (λ l. (1 ≤ l.ring) × (l.ring ≤ 65536)) }
 {
-    let workers = number_at(table, "workers", 1, 16)?;
-    let capacity = number_at(table, "capacity", 1, 1_000_000)?;
-    let ring = number_or(table, "ring", 1024, 1, 65536)?;
-    let check = flag_or(table, "check", true)?;
-    let idle = number_if(table, "idle", 0, LONGEST_IDLE)?;
+    let workers = workers_at(table)?;
+    let capacity = capacity_at(table)?;
+    let ring = ring_at(table)?;
+    let check = check_at(table)?;
+    let idle = idle_at(table)?;
     Some(Limits {
-        workers: workers as u16,
-        capacity: capacity as u32,
-        ring: ring as u32,
+        workers,
+        capacity,
+        ring,
         check,
         idle,
     })

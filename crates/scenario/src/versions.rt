@@ -1,16 +1,13 @@
 //! Versions as a document holds them: member words are read at once, and those that are none are kept as such.
 ghost use Rattle.std.specs.Prelude.{◌≡◌, map, length, option_map, option_and_then, IfOk, codes, if◌then◌else◌, None};
 ghost use Rattle.toml.specs.View.{table_view, view, items_view};
-ghost use Rattle.maglev_texts.specs.Parsing.{address_of};
-ghost use Rattle.scenario.specs.Lookups.{text_at, items_at, all_items, has_only};
-ghost use Rattle.scenario.specs.Words.{protocol_of_word};
-ghost use Rattle.scenario.specs.Drafts.{service_keys, version_keys, word_of, service_draft, service_in, version_draft, version_in, plain_service_draft, plain_version_draft};
+ghost use Rattle.scenario.specs.Lookups.{items_at, all_items};
+ghost use Rattle.scenario.specs.Drafts.{word_of, service_draft, service_in, version_draft, version_in, plain_service_draft, plain_version_draft};
 
 use crate::formats::{Format, member_in};
-use crate::keys::has_only;
-use crate::lookup::{items_at, number_at, text_at};
-use crate::words::protocol_of_word;
-use maglev_texts::address;
+use crate::keys::{has_service_keys, has_version_keys};
+use crate::lookup::items_at;
+use crate::values::{port_at, protocol_at, version_number_at, vip_at};
 use pool_versions::Member;
 use std::alloc::{AllocError, Global};
 use toml::{Table, Value};
@@ -63,21 +60,6 @@ fn words_at(
     }
 }
 
-fn vip_at(alloc: Global, table: &Table) -> Result<Option<u32>, AllocError>
-    ensures { IfOk result (λ o. o ≡ option_and_then address_of (text_at (codes "vip") (table_view table.now))) }
-{
-    match text_at(table, "vip") {
-        Some(text) => address(alloc, text.as_bytes()),
-        None => Ok(None),
-    }
-}
-
-fn protocol_at(table: &Table) -> Option<u8>
-    ensures { result ≡ option_and_then protocol_of_word (text_at (codes "proto") (table_view table.now)) }
-{
-    protocol_of_word(text_at(table, "proto")?)
-}
-
 #[tactic(auto, unfolding(crate::specs::Drafts::service_draft))]
 fn service_draft_of(
     alloc: Global,
@@ -92,7 +74,7 @@ fn service_draft_of(
     let Some(proto) = protocol_at(table) else {
         return Ok(None);
     };
-    let Some(port) = number_at(table, "port", 0, 65535) else {
+    let Some(port) = port_at(table) else {
         return Ok(None);
     };
     let Some(members) = words_at(alloc, format, table)? else {
@@ -101,15 +83,9 @@ fn service_draft_of(
     Ok(Some(ServiceDraft {
         vip,
         proto,
-        port: port as u16,
+        port,
         members,
     }))
-}
-
-fn has_service_keys(table: &Table) -> bool
-    ensures { result ≡ has_only service_keys (table_view table.now) }
-{
-    has_only(table, &["vip", "proto", "port", "members"])
 }
 
 fn service_in(
@@ -170,22 +146,13 @@ fn version_draft_of(
 ) -> Result<Option<VersionDraft>, AllocError>
     ensures { IfOk result (λ o. option_map plain_version_draft o ≡ version_draft format (table_view table.now)) }
 {
-    let Some(number) = number_at(table, "number", 0, 4_294_967_295) else {
+    let Some(number) = version_number_at(table) else {
         return Ok(None);
     };
     let Some(services) = services_at(alloc, format, table)? else {
         return Ok(None);
     };
-    Ok(Some(VersionDraft {
-        number: number as u32,
-        services,
-    }))
-}
-
-fn has_version_keys(table: &Table) -> bool
-    ensures { result ≡ has_only version_keys (table_view table.now) }
-{
-    has_only(table, &["number", "services"])
+    Ok(Some(VersionDraft { number, services }))
 }
 
 fn version_in(

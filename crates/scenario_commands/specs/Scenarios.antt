@@ -1,5 +1,5 @@
 -- The commands that play a scenario over a capture.
-use Rattle.std.specs.Prelude.{◌≡◌, ◌≢◌, ◌⊎◌, ℕ, List, None}
+use Rattle.std.specs.Prelude.{◌≡◌, ◌≢◌, ◌⊎◌, ℕ, List}
 use Rattle.std.specs.Io.KnownBytes.{Appends}
 use Rattle.pool_versions.specs.declared.catalogue.PoolFault.{PoolFault}
 use Rattle.pool_versions.specs.declared.catalogue.PoolFault.TheVariants as pool
@@ -14,10 +14,10 @@ use Rattle.scenario.specs.declared.reading.Scenario.{Scenario}
 use Rattle.scenario.specs.Meaning.{Means, IsRefused}
 use Rattle.simulation.specs.declared.fault.SimulationFault.{SimulationFault}
 use Rattle.simulation.specs.declared.fault.SimulationFault.TheVariants as run
-use Rattle.simulation.specs.Simulated.{Stopped}
+use Rattle.simulation.specs.Wires.{unkept}
 use Rattle.simulate_scenario.specs.declared.asking.Query.{Query}
-use Rattle.simulate_scenario.specs.Described.{cluster_in, choice_in, plan_in, lookups_in}
-use Rattle.simulate_scenario.specs.Answers.{Answers}
+use Rattle.simulate_scenario.specs.Described.{StoppedIn}
+use Rattle.simulate_scenario.specs.Answers.{AnswersIn}
 use Rattle.simulate_scenario.specs.Kept.{KeepsPromises}
 use Rattle.command_faults.specs.declared.fault.CliFault.{CliFault}
 use Rattle.command_faults.specs.declared.fault.CliFault.TheVariants.{Write, TooLong, BadMember, BadToml, BadFormat, BadKey, Pool, BadStep, Capture, Memory}
@@ -54,7 +54,7 @@ pub record Plays (asked : Query) (text : List ℕ) (input input' output output' 
   pub scenario : Scenario
   pub means : Means InTurn text scenario
   pub answer : List ℕ
-  pub answers : Answers (cluster_in scenario) (choice_in scenario) (plan_in scenario) (lookups_in scenario) asked input input' output output' answer
+  pub answers : AnswersIn scenario asked input input' output output' answer
   pub kept : KeepsPromises scenario answers.trace
   pub written : Appends report.bytes report'.bytes answer
   pub unfailed : Unfailed report report'
@@ -71,20 +71,16 @@ pub record RunFails (fault : CliFault) (text : List ℕ) (input input' output ou
   pub means : Means InTurn text scenario
   pub why : SimulationFault
   pub named : fault ≡ run_fault why
-  pub stopped : Stopped (cluster_in scenario) (choice_in scenario) (plan_in scenario) input input' output output' why
+  pub stopped : StoppedIn scenario input input' output output' why
 
 -- the same as when the scenario was played, but the report was given up
 pub record ReportFails (fault : CliFault) (asked : Query) (text : List ℕ) (input input' output output' report report' : Tape) : Type 0 where
   pub scenario : Scenario
   pub means : Means InTurn text scenario
   pub answer : List ℕ
-  pub answers : Answers (cluster_in scenario) (choice_in scenario) (plan_in scenario) (lookups_in scenario) asked input input' output output' answer
+  pub answers : AnswersIn scenario asked input input' output output' answer
   pub named : fault ≡ Write
   pub refused : PutRefused answer report report'
-
--- the output of a command that keeps none, after so many calls: it tells no bytes, and never fails
-abbrev pub unkept : ℕ → Tape
-unkept calls = record { bytes = None; failures = 0; interruptions = 0; calls = calls }
 
 -- a command over a scenario stopped by this fault: the text is no scenario that is played in turn, and nothing was called; or
 -- the run stopped, and nothing was reported; or the report was given up
@@ -94,9 +90,9 @@ PlayFails fault asked text input input' output output' report report' Uncalled U
     ⊎ ((RunFails fault text input input' output output' × Unreported)
     ⊎ ReportFails fault asked text input input' output output' report report')
 
--- the same of a command that keeps no output, and so never fails in writing it
+-- the same of a command that has no output, and so never fails in writing it
 abbrev pub ExplainFails : CliFault → ℕ → ℕ → List ℕ → Tape → Tape → Tape → Tape → Type 0 → Type 0 → Type 0
 ExplainFails fault one other text input input' report report' Uncalled Unreported =
     (ScenarioFails InTurn fault text × Uncalled)
-    ⊎ (((calls : ℕ) × RunFails fault text input input' (unkept 0) (unkept calls) × (fault ≢ Write) × Unreported)
-    ⊎ ((calls : ℕ) × ReportFails fault (Query.Events one other) text input input' (unkept 0) (unkept calls) report report'))
+    ⊎ ((RunFails fault text input input' unkept unkept × (fault ≢ Write) × Unreported)
+    ⊎ ReportFails fault (Query.Events one other) text input input' unkept unkept report report')

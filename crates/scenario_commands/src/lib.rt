@@ -1,7 +1,6 @@
 //! The commands that play a scenario over a capture on one thread: `simulate` and `explain`, over any devices.
 #![tactic(auto)]
 
-mod nowhere;
 mod playing;
 
 pub use playing::{

@@ -1,15 +1,15 @@
 //! The commands that play a scenario over a capture.
-ghost use Rattle.std.specs.Prelude.{◌≡◌, ℕ, IfErr, OnOk};
-ghost use Rattle.scenario_commands.specs.Scenarios.{Plays, PlayFails, ExplainFails, unkept, pool_fault, capture_fault, scenario_fault, run_fault};
+ghost use Rattle.std.specs.Prelude.{◌≡◌, IfErr, OnOk};
+ghost use Rattle.simulation.specs.Wires.{unkept};
+ghost use Rattle.scenario_commands.specs.Scenarios.{Plays, PlayFails, ExplainFails, pool_fault, capture_fault, scenario_fault, run_fault};
 
-use super::nowhere::Nowhere;
 use command_faults::{CliFault, put_text};
 use connection_table::TableKey;
 use pcap_file::{PcapFault, Sink, Source};
 use pool_versions::PoolFault;
 use scenario::{Played, ScenarioFault, read};
 use simulate_scenario::{Query, Wanted, play_scenario};
-use simulation::SimulationFault;
+use simulation::{Nowhere, Outlet, SimulationFault};
 use std::alloc::Global;
 
 fn pool_fault(fault: PoolFault) -> CliFault
@@ -58,7 +58,7 @@ pub fn run_fault(fault: SimulationFault) -> CliFault
 }
 
 // Plays the scenario that a text means, and writes what was asked of it.
-fn play<I: Source, O: Sink, R: Sink>(
+fn play<I: Source, O: Outlet, R: Sink>(
     alloc: Global,
     key: TableKey,
     scenario: &[u8],
@@ -67,8 +67,10 @@ fn play<I: Source, O: Sink, R: Sink>(
     output: &mut O,
     report: &mut R,
 ) -> Result<(), CliFault>
-    ensures played { OnOk result (Plays asked scenario.now (I.tape input.old) (I.tape input.new) (O.tape output.old) (O.tape output.new) (R.tape report.old) (R.tape report.new)) }
-    ensures stopped { IfErr result (λ fault. PlayFails fault asked scenario.now (I.tape input.old) (I.tape input.new) (O.tape output.old) (O.tape output.new) (R.tape report.old) (R.tape report.new)
+    ensures played { OnOk result (Plays asked scenario.now
+        (I.tape input.old) (I.tape input.new) (O.tape output.old) (O.tape output.new) (R.tape report.old) (R.tape report.new)) }
+    ensures stopped { IfErr result (λ fault. PlayFails fault asked scenario.now
+        (I.tape input.old) (I.tape input.new) (O.tape output.old) (O.tape output.new) (R.tape report.old) (R.tape report.new)
         ((input.new ≡ input.old) × (output.new ≡ output.old) × (report.new ≡ report.old)) (report.new ≡ report.old)) }
 {
     let scenario = match read(alloc, Played::InTurn, scenario) {
@@ -95,8 +97,10 @@ pub fn simulate<I: Source, O: Sink, R: Sink>(
     report: &mut R,
     wanted: Wanted,
 ) -> Result<(), CliFault>
-    ensures played { OnOk result (Plays (Query.Report wanted) scenario.now (I.tape input.old) (I.tape input.new) (O.tape output.old) (O.tape output.new) (R.tape report.old) (R.tape report.new)) }
-    ensures stopped { IfErr result (λ fault. PlayFails fault (Query.Report wanted) scenario.now (I.tape input.old) (I.tape input.new) (O.tape output.old) (O.tape output.new) (R.tape report.old) (R.tape report.new)
+    ensures played { OnOk result (Plays (Query.Report wanted) scenario.now
+        (I.tape input.old) (I.tape input.new) (O.tape output.old) (O.tape output.new) (R.tape report.old) (R.tape report.new)) }
+    ensures stopped { IfErr result (λ fault. PlayFails fault (Query.Report wanted) scenario.now
+        (I.tape input.old) (I.tape input.new) (O.tape output.old) (O.tape output.new) (R.tape report.old) (R.tape report.new)
         ((input.new ≡ input.old) × (output.new ≡ output.old) × (report.new ≡ report.old)) (report.new ≡ report.old)) }
 {
     let key = TableKey::fixed();
@@ -116,8 +120,10 @@ pub fn simulate_keyed<I: Source, O: Sink, R: Sink>(
     report: &mut R,
     wanted: Wanted,
 ) -> Result<(), CliFault>
-    ensures played { OnOk result (Plays (Query.Report wanted) scenario.now (I.tape input.old) (I.tape input.new) (O.tape output.old) (O.tape output.new) (R.tape report.old) (R.tape report.new)) }
-    ensures stopped { IfErr result (λ fault. PlayFails fault (Query.Report wanted) scenario.now (I.tape input.old) (I.tape input.new) (O.tape output.old) (O.tape output.new) (R.tape report.old) (R.tape report.new)
+    ensures played { OnOk result (Plays (Query.Report wanted) scenario.now
+        (I.tape input.old) (I.tape input.new) (O.tape output.old) (O.tape output.new) (R.tape report.old) (R.tape report.new)) }
+    ensures stopped { IfErr result (λ fault. PlayFails fault (Query.Report wanted) scenario.now
+        (I.tape input.old) (I.tape input.new) (O.tape output.old) (O.tape output.new) (R.tape report.old) (R.tape report.new)
         ((input.new ≡ input.old) × (output.new ≡ output.old) × (report.new ≡ report.old)) (report.new ≡ report.old)) }
 {
     let asked = Query::Report(wanted);
@@ -128,7 +134,7 @@ pub fn simulate_keyed<I: Source, O: Sink, R: Sink>(
 }
 
 /// The command `explain`: plays a scenario over a capture, and writes why the packets of two of its events went where they
-/// went. Events are counted from 0. What the cluster sends is kept nowhere. A step `stop` is none, as in [`simulate`].
+/// went. Events are counted from 0. What the cluster sends is neither wrapped nor kept. A step `stop` is none, as in [`simulate`].
 pub fn explain_run<I: Source, R: Sink>(
     alloc: Global,
     scenario: &[u8],
@@ -137,8 +143,10 @@ pub fn explain_run<I: Source, R: Sink>(
     other: u64,
     report: &mut R,
 ) -> Result<(), CliFault>
-    ensures played { OnOk result ((calls : ℕ) × Plays (Query.Events one other) scenario.now (I.tape input.old) (I.tape input.new) (unkept 0) (unkept calls) (R.tape report.old) (R.tape report.new)) }
-    ensures stopped { IfErr result (λ fault. ExplainFails fault one other scenario.now (I.tape input.old) (I.tape input.new) (R.tape report.old) (R.tape report.new)
+    ensures played { OnOk result (Plays (Query.Events one other) scenario.now
+        (I.tape input.old) (I.tape input.new) unkept unkept (R.tape report.old) (R.tape report.new)) }
+    ensures stopped { IfErr result (λ fault. ExplainFails fault one other scenario.now
+        (I.tape input.old) (I.tape input.new) (R.tape report.old) (R.tape report.new)
         ((input.new ≡ input.old) × (report.new ≡ report.old)) (report.new ≡ report.old)) }
 {
     let key = TableKey::fixed();
@@ -158,12 +166,14 @@ pub fn explain_keyed<I: Source, R: Sink>(
     other: u64,
     report: &mut R,
 ) -> Result<(), CliFault>
-    ensures played { OnOk result ((calls : ℕ) × Plays (Query.Events one other) scenario.now (I.tape input.old) (I.tape input.new) (unkept 0) (unkept calls) (R.tape report.old) (R.tape report.new)) }
-    ensures stopped { IfErr result (λ fault. ExplainFails fault one other scenario.now (I.tape input.old) (I.tape input.new) (R.tape report.old) (R.tape report.new)
+    ensures played { OnOk result (Plays (Query.Events one other) scenario.now
+        (I.tape input.old) (I.tape input.new) unkept unkept (R.tape report.old) (R.tape report.new)) }
+    ensures stopped { IfErr result (λ fault. ExplainFails fault one other scenario.now
+        (I.tape input.old) (I.tape input.new) (R.tape report.old) (R.tape report.new)
         ((input.new ≡ input.old) × (report.new ≡ report.old)) (report.new ≡ report.old)) }
 {
     let asked = Query::Events { one, other };
-    let mut output = Nowhere::new();
+    let mut output = Nowhere;
     match play(alloc, key, scenario, asked, input, &mut output, report) {
         Ok(()) => Ok(()),
         Err(fault) => Err(fault),

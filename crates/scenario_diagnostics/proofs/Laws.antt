@@ -13,9 +13,10 @@ use Rattle.scenario.specs.Plain.{PlainService, PlainVersion}
 use Rattle.scenario.specs.Drafts.{service_keys, version_keys, member_in, word_of, service_draft, service_in, version_draft, version_in}
 use Rattle.scenario.specs.declared.formats.Format.{Format}
 use Rattle.scenario.specs.Meaning.{root_keys, address_in, few_nodes, few_steps, nodes_of, versions_in, steps_in, draft_of}
-use Rattle.scenario_diagnostics.specs.Places.{holds, first_bad, setup, item_from, is_text, is_address, count, members_flaw, service_table_flaw, service_flaw, services_from, services_flaw, version_table_flaw, version_flaw, versions_from, versions_flaw, sized, nodes_in, nodes_flaw, steps_of, steps_flaw, arrays_flaw, OnePlaceOrADraft}
-use Rattle.scenario_diagnostics.specs.declared.key.Key.{Key}
-use Rattle.scenario_diagnostics.specs.declared.key.Key.TheVariants as key
+use Rattle.scenario.specs.Keys.{holds}
+use Rattle.scenario_diagnostics.specs.Places.{first_bad, setup, item_from, is_text, is_address, count, members_flaw, service_table_flaw, service_flaw, services_from, services_flaw, version_table_flaw, version_flaw, versions_from, versions_flaw, sized, nodes_in, nodes_flaw, steps_of, steps_flaw, arrays_flaw, OnePlaceOrADraft}
+use Rattle.scenario.specs.declared.key.Key.{Key}
+use Rattle.scenario.specs.declared.key.Key.TheVariants as key
 use Rattle.scenario_diagnostics.specs.declared.place.Flaw.TheVariants as flaw
 use Rattle.scenario_diagnostics.specs.declared.place.Place.TheVariants as place
 

@@ -12,7 +12,7 @@ use Rattle.scenario.specs.declared.formats.Format.{Format}
 use Rattle.scenario.specs.Meaning.{root_keys, nodes_of, versions_in, steps_in, draft_of, service_of, version_of}
 use Rattle.scenario_diagnostics.specs.Places.{item_from}
 use Rattle.scenario_diagnostics.specs.MemberPlaces.{is_member, service_word, word_in_services, version_word, word_in_versions, member_place_in, OneWordOrAllMembers}
-use Rattle.scenario_diagnostics.specs.declared.key.Key.TheVariants as key
+use Rattle.scenario.specs.declared.key.Key.TheVariants as key
 use Rattle.scenario_diagnostics.specs.declared.place.Flaw.TheVariants as flaw
 use Rattle.scenario_diagnostics.specs.declared.place.Place.{Place}
 use Rattle.scenario_diagnostics.specs.declared.place.Place.TheVariants as place

@@ -1,19 +1,18 @@
 -- Versions have a place exactly where a catalogue refuses them.
-use Rattle.std.proofs.Common.{arith, ◌≡◌, ℕ, suc, ◌+◌, ◌==◌, nat_lt, nat_eq, Bool, true, false, cond, ◌&&◌, ◌||◌, List, [], ◌∷◌, ◌++◌, length, map, Option, Some, None, is_some, option_map, refl, sym, ap, ◌∙◌}
+use Rattle.std.proofs.Common.{arith, ◌≡◌, ℕ, ◌+◌, ◌==◌, nat_lt, nat_eq, Bool, true, false, cond, ◌||◌, List, [], ◌∷◌, ◌++◌, length, map, Option, Some, None, is_some, option_map, refl, sym, ap, ◌∙◌}
 use Rattle.std.specs.List.{list_any}
 use Rattle.std.specs.Option.{option_or}
 use Rattle.std.specs.Cmp.Lexicographic.{pointwise}
-use Rattle.pool_versions.specs.Pool.{has_double, same_name}
+use Rattle.pool_versions.specs.Pool.{has_double}
 use Rattle.pool_versions.specs.declared.backend.Member.{Member}
 use Rattle.pool_versions.specs.declared.catalogue.PoolFault.{PoolFault}
 use Rattle.pool_versions.specs.declared.catalogue.PoolFault.TheVariants as fault
 use Rattle.scenario.specs.Plain.{PlainService, PlainVersion, same_flows, names_double, is_long, passes_limit, services_refused, version_refused, first_refused}
-use Rattle.scenario_diagnostics.specs.declared.doubles.ServiceKey.{ServiceKey}
-use Rattle.scenario_diagnostics.specs.declared.key.Key.TheVariants as key
+use Rattle.scenario.specs.declared.key.Key.TheVariants as key
 use Rattle.scenario_diagnostics.specs.declared.place.Flaw.TheVariants as flaw
 use Rattle.scenario_diagnostics.specs.declared.place.Place.{Place}
 use Rattle.scenario_diagnostics.specs.declared.place.Place.TheVariants as place
-use Rattle.scenario_diagnostics.specs.PoolPlaces.{double_from, first_double, key_of, same_key, double_service, double_member, double_name_from, most_members, long_from, over_place, services_place, version_place, pool_from, pool_place_of, OnePlaceOrACatalogue}
+use Rattle.scenario_diagnostics.specs.PoolPlaces.{double_from, first_double, key_of, same_key, double_service, double_member, double_name_from, most_members, long_from, over_place, services_place, version_place, pool_from, OnePlaceOrACatalogue}
 use Rattle.scenario_diagnostics.proofs.Laws.{some_map}
 
 -- a set has the keys of a list, by their equality

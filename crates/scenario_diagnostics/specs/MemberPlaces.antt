@@ -7,7 +7,7 @@ use Rattle.scenario.specs.declared.formats.Format.{Format}
 use Rattle.scenario.specs.Drafts.{member_in}
 use Rattle.scenario.specs.Meaning.{draft_in, version_of}
 use Rattle.scenario_diagnostics.specs.Places.{item_from}
-use Rattle.scenario_diagnostics.specs.declared.key.Key.TheVariants as key
+use Rattle.scenario.specs.declared.key.Key.TheVariants as key
 use Rattle.scenario_diagnostics.specs.declared.place.Flaw.TheVariants as flaw
 use Rattle.scenario_diagnostics.specs.declared.place.Place.{Place}
 use Rattle.scenario_diagnostics.specs.declared.place.Place.TheVariants as place

@@ -1,12 +1,12 @@
 -- Where the versions of a document can't be the versions of a catalogue.
-use Rattle.std.specs.Prelude.{◌≡◌, ℕ, suc, ◌+◌, Bool, ◌&&◌, ◌||◌, ◌==◌, nat_lt, nat_eq, if◌then◌else◌, List, [], ◌∷◌, ◌++◌, length, map, Option, Some, None, is_some, option_map}
+use Rattle.std.specs.Prelude.{◌≡◌, ℕ, ◌+◌, Bool, ◌&&◌, ◌||◌, ◌==◌, nat_lt, nat_eq, if◌then◌else◌, List, [], ◌∷◌, ◌++◌, length, map, Option, Some, None, is_some, option_map}
 use Rattle.std.specs.List.{list_any}
 use Rattle.std.specs.Option.{option_or}
 use Rattle.std.specs.Cmp.Lexicographic.{pointwise}
 use Rattle.pool_versions.specs.declared.backend.Member.{Member}
 use Rattle.scenario.specs.Plain.{PlainService, PlainVersion, is_long, first_refused}
 use Rattle.scenario_diagnostics.specs.declared.doubles.ServiceKey.{ServiceKey}
-use Rattle.scenario_diagnostics.specs.declared.key.Key.TheVariants as key
+use Rattle.scenario.specs.declared.key.Key.TheVariants as key
 use Rattle.scenario_diagnostics.specs.declared.place.Flaw.TheVariants as flaw
 use Rattle.scenario_diagnostics.specs.declared.place.Place.{Place}
 use Rattle.scenario_diagnostics.specs.declared.place.Place.TheVariants as place

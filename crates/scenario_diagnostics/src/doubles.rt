@@ -4,7 +4,7 @@ ghost use Rattle.std.specs.Cmp.Lexicographic.{pointwise};
 ghost use Rattle.scenario.specs.Plain.{plain_service};
 ghost use Rattle.scenario_diagnostics.specs.PoolPlaces.{first_double, same_key, key_of};
 
-use maglev_table::Name;
+use backend_names::Name;
 use pool_versions::{Member, Service};
 use std::alloc::{AllocError, Global};
 use std::collections::BTreeSet;

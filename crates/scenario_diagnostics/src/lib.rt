@@ -11,17 +11,14 @@
 #![tactic(auto)]
 
 mod doubles;
-mod holding;
-mod key;
-mod lookup;
 mod member_words;
 mod place;
 mod pools;
 mod spots;
 mod words;
 
-pub use key::Key;
 pub use member_words::{member_place, one_word_or_all_members};
 pub use place::{Flaw, Place, key_place, one_place_or_a_draft};
 pub use pools::{one_place_or_a_catalogue, pool_place};
+pub use scenario::Key;
 pub use words::words_of;

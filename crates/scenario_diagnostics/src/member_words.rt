@@ -4,10 +4,8 @@ ghost use Rattle.toml.specs.View.{table_view, view, items_view};
 ghost use Rattle.scenario_diagnostics.specs.Places.{item_from};
 ghost use Rattle.scenario_diagnostics.specs.MemberPlaces.{is_member, service_word, word_in_services, version_word, word_in_versions, member_place_in, OneWordOrAllMembers};
 
-use crate::key::Key;
-use crate::lookup::items_at;
 use crate::place::{Flaw, Place};
-use scenario::{Format, member_in};
+use scenario::{Format, Key, items_at, member_in};
 use std::alloc::{AllocError, Global};
 use toml::{Table, Value};
 

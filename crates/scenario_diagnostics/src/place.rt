@@ -1,14 +1,13 @@
 //! Where a document isn't a scenario's.
 ghost use Rattle.std.specs.Prelude.{◌≡◌, ◌&&◌, nat_le, IfOk};
 ghost use Rattle.toml.specs.View.{table_view, view, items_view};
-ghost use Rattle.scenario.specs.Lookups.{has_only};
 ghost use Rattle.scenario_diagnostics.specs.Places.{first_bad, setup, count, item_from, is_text, is_address, service_flaw, service_table_flaw, members_flaw, services_from, services_flaw, version_flaw, version_table_flaw, versions_from, versions_flaw, nodes_flaw, steps_flaw, arrays_flaw, place_of, OnePlaceOrADraft};
 
-use crate::holding::holds;
-use crate::key::Key;
-use crate::lookup::{has_only, items_at};
 use maglev_texts::address;
-use scenario::{Format, MOST_STEPS, has_root_keys};
+use scenario::{
+    Format, Key, MOST_NODES, MOST_STEPS, has_root_keys, has_service_keys, has_version_keys,
+    items_at,
+};
 use std::alloc::{AllocError, Global};
 use toml::{Table, Value};
 
@@ -40,7 +39,7 @@ fn first_bad(alloc: Global, table: &Table, keys: &[Key]) -> Result<Option<Key>, 
     ensures { IfOk result (λ o. o ≡ first_bad keys.now (table_view table.now)) }
 {
     for key in keys {
-        if !holds(alloc, table, *key)? {
+        if !key.holds(alloc, table)? {
             return Ok(Some(*key));
         }
     }
@@ -94,7 +93,7 @@ fn members_flaw(table: &Table) -> Option<Flaw>
 fn service_table_flaw(alloc: Global, table: &Table) -> Result<Option<Flaw>, AllocError>
     ensures { IfOk result (λ o. o ≡ service_table_flaw (table_view table.now)) }
 {
-    if !has_only(table, &["vip", "proto", "port", "members"]) {
+    if !has_service_keys(table) {
         return Ok(Some(Flaw::Unknown));
     }
     match first_bad(alloc, table, &[Key::Vip, Key::Proto, Key::Port])? {
@@ -145,7 +144,7 @@ fn version_table_flaw(
 ) -> Result<Option<Place>, AllocError>
     ensures { IfOk result (λ o. o ≡ version_table_flaw version (table_view table.now)) }
 {
-    if !has_only(table, &["number", "services"]) {
+    if !has_version_keys(table) {
         return Ok(Some(Place::Version(version, Flaw::Unknown)));
     }
     match first_bad(alloc, table, &[Key::Number])? {
@@ -212,7 +211,7 @@ fn nodes_flaw(alloc: Global, table: &Table) -> Result<Option<Flaw>, AllocError>
     if let Some(n) = first_no_address(alloc, values)? {
         return Ok(Some(Flaw::Item(Key::Nodes, n)));
     }
-    if is_between(count(values), 1, 64) {
+    if is_between(count(values), 1, MOST_NODES) {
         Ok(None)
     } else {
         Ok(Some(Flaw::Value(Key::Nodes)))

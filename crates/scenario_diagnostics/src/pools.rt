@@ -5,10 +5,10 @@ ghost use Rattle.scenario.specs.Plain.{plain_service, plain_version, is_long};
 ghost use Rattle.scenario_diagnostics.specs.PoolPlaces.{double_service, double_name_from, most_members, long_from, over_place, services_place, version_place, pool_place_of, OnePlaceOrACatalogue};
 
 use crate::doubles::{double_name, double_service};
-use crate::key::Key;
 use crate::place::{Flaw, Place};
-use maglev_table::TableSize;
+use backend_names::TableSize;
 use pool_versions::{MOST_MEMBERS, MOST_SERVICES, MOST_VERSIONS, Service, Version};
+use scenario::Key;
 use std::alloc::{AllocError, Global};
 
 // The first service of a version that is for the flows of an earlier one.

@@ -1,11 +1,14 @@
 //! The words.
-use crate::key::Key;
 use crate::member_words::member_place;
 use crate::place::{Flaw, Place, key_place};
 use crate::pools::pool_place;
 use crate::spots::{below, line_of, spot_of};
 use pool_versions::PoolFault;
-use scenario::{Format, LONGEST_IDLE, ROOT_KEYS, ScenarioFault, format_of, is_root_key, pools_in};
+use scenario::{
+    Format, Key, LONGEST_IDLE, MOST_ENTRIES, MOST_NODES, MOST_PLACES, MOST_PORT, MOST_STEPS,
+    MOST_VERSION, MOST_WORKERS, ROOT_KEYS, SERVICE_KEYS, ScenarioFault, VERSION_KEYS, format_of,
+    is_root_key, pools_in,
+};
 use shown_text::shown;
 use std::alloc::Global;
 use toml::{Table, Value};
@@ -116,15 +119,29 @@ fn unknown_key(alloc: Global, text: &str, path: &str, table: &Table, keys: &str)
     None
 }
 
+// Puts a key after others, with a comma between them.
+fn push_key(keys: &mut String, key: &str) -> Option<()> {
+    let comma = if keys.is_empty() { "" } else { ", " };
+    keys.push_str(comma).ok()?;
+    keys.push_str(key).ok()
+}
+
 // The keys of a document of a format, with commas between them.
 fn root_keys(alloc: Global, format: Format) -> Option<String> {
     let mut keys = String::new(alloc);
     for key in ROOT_KEYS {
         if is_root_key(format, key) {
-            let comma = if keys.is_empty() { "" } else { ", " };
-            keys.push_str(comma).ok()?;
-            keys.push_str(key).ok()?;
+            push_key(&mut keys, key)?;
         }
+    }
+    Some(keys)
+}
+
+// Keys with commas between them.
+fn joined(alloc: Global, all: &[&str]) -> Option<String> {
+    let mut keys = String::new(alloc);
+    for key in all {
+        push_key(&mut keys, key)?;
     }
     Some(keys)
 }
@@ -134,12 +151,12 @@ fn keys_at(alloc: Global, table: &Table, place: Place) -> Option<(&Table, String
     match place {
         Place::Root(_) => Some((table, root_keys(alloc, format_of(table)?)?)),
         Place::Version(version, _) => {
-            let keys = String::from_str(alloc, "number, services").ok()?;
+            let keys = joined(alloc, &VERSION_KEYS)?;
             Some((nth(table, "versions", version)?, keys))
         }
         Place::Service(version, service, _) => {
             let version = nth(table, "versions", version)?;
-            let keys = String::from_str(alloc, "vip, proto, port, members").ok()?;
+            let keys = joined(alloc, &SERVICE_KEYS)?;
             Some((nth(version, "services", service)?, keys))
         }
     }
@@ -165,21 +182,25 @@ fn expected(alloc: Global, key: Key) -> Option<String> {
         Key::Hash => "\"fnv\", \"sha256\" or \"sum\"",
         Key::Scheme => "\"maglev\", \"plain\" or \"round\"",
         Key::Spread => "\"hash\" or \"turn\"",
-        Key::Workers => "a number from 1 to 16",
-        Key::Capacity => "a number from 1 to 1000000",
-        Key::Ring => "a number from 1 to 65536",
+        Key::Workers => return number(alloc, 1, MOST_WORKERS),
+        Key::Capacity => return number(alloc, 1, MOST_ENTRIES),
+        Key::Ring => return number(alloc, 1, MOST_PLACES),
         Key::Check => "true or false",
-        Key::Idle => return format!(in alloc; "a number from 0 to {LONGEST_IDLE}").ok(),
-        Key::Nodes => "an array of 1 to 64 addresses",
+        Key::Idle => return number(alloc, 0, LONGEST_IDLE),
+        Key::Nodes => return format!(in alloc; "an array of 1 to {MOST_NODES} addresses").ok(),
         Key::Versions | Key::Services => "an array of tables",
-        Key::Steps => "an array of at most 100000 texts",
-        Key::Number => "a number from 0 to 4294967295",
+        Key::Steps => return format!(in alloc; "an array of at most {MOST_STEPS} texts").ok(),
+        Key::Number => return number(alloc, 0, MOST_VERSION),
         Key::Vip => "an address, as \"192.0.2.1\"",
         Key::Proto => "\"tcp\" or \"udp\"",
-        Key::Port => "a number from 0 to 65535",
+        Key::Port => return number(alloc, 0, MOST_PORT),
         Key::Members => "an array of texts",
     };
     String::from_str(alloc, words).ok()
+}
+
+fn number(alloc: Global, low: u64, high: u64) -> Option<String> {
+    format!(in alloc; "a number from {low} to {high}").ok()
 }
 
 // What is expected of an item of the array at a key.

@@ -1,13 +1,15 @@
 -- What is told of a list's first element from the list's end.
-use Rattle.std.proofs.Common.{Bor, option_copied, ◌≡◌, ℕ, suc, ◌-◌, ◌<◌, Bool, cond, List, [], ◌∷◌, length, find, slice_get, Option, Some, None, refl, ap, sym, ◌∙◌, arith, inl, inr}
+use Rattle.std.proofs.Common.{Bor, option_copied, ◌≡◌, ℕ, suc, ◌-◌, ◌<◌, Bool, cond, List, [], ◌∷◌, ◌++◌, length, reverse, get_or, subst, find, slice_get, Option, Some, None, refl, ap, sym, ◌∙◌, arith, inl, inr}
 use Rattle.std.proofs.lemmas.Bool.{cases_Bool, false≢true}
 use Rattle.std.proofs.lemmas.Option.{slice_get_past, slice_get-get_or}
+use Rattle.std.proofs.lemmas.List.{length-reverse, get_or-reverse, reverse-append}
 use Rattle.std.specs.Slice.{IsItemAt}
 use Rattle.std.specs.Prelude.{nat_eq, if◌then◌else◌, Result, Ok, Err, IsOk, is_ok}
 use Rattle.five_tuple.specs.declared.Flow.{Flow}
-use Rattle.selection.specs.declared.ready.ServiceKey.{ServiceKey}
+use Rattle.pool_versions.specs.declared.key.ServiceKey.{ServiceKey}
 use Rattle.selection.specs.Readied.{Readied, ReadiedService, serves_readied}
-use Rattle.selection.specs.Places.{behind_first, same_key, key_of_readied, key_of_flow, ArePlaced, AreNumbered}
+use Rattle.pool_versions.specs.Pool.{same_key, key_of_flow}
+use Rattle.selection.specs.Places.{behind_first, key_of_readied, ArePlaced, AreNumbered}
 
 -- where nobody is told there is none
 pub none_first : {X : Type 0} (test : X → Bool) (xs : List X) → behind_first test xs ≡ None → find test xs ≡ None
@@ -43,6 +45,33 @@ first_is_there test (x ∷ xs) k e = elim (cases_Bool (test x)) [
       let at : length (x ∷ xs) - 1 - k ≡ suc (length xs - 1 - k) = omega (arith, low) in
       rw (at, other) (first_is_there test xs k h)
 ]
+
+-- a place from a list's end
+mirrored : {X : Type 0} (xs : List X) (k : ℕ) → k < length xs → slice_get (reverse xs) (length xs - 1 - k) ≡ slice_get xs k
+mirrored [] k low = absurd (omega (arith, low))
+mirrored (x ∷ xs) k low =
+    let n : ℕ = length (x ∷ xs) in
+    let behind : n - 1 - k < n = omega (arith, low) in
+    slice_get-get_or (reverse (x ∷ xs)) (n - 1 - k) x (subst (λ (m : ℕ). n - 1 - k < m) (sym (length-reverse (x ∷ xs))) behind)
+    ∙ ap Some (get_or-reverse (x ∷ xs) (n - 1 - k) x behind ∙ ap (λ (i : ℕ). get_or (x ∷ xs) i x) (omega (arith, low)))
+    ∙ sym (slice_get-get_or (x ∷ xs) k x low)
+
+-- the last is the first from the end
+pub last_mirrored : {X : Type 0} (xs : List X) → slice_get xs (length xs - 1) ≡ slice_get (reverse xs) 0
+last_mirrored [] = refl
+last_mirrored (x ∷ xs) =
+    let n : ℕ = length (x ∷ xs) in
+    sym (mirrored (x ∷ xs) (n - 1) (omega arith)) ∙ ap (λ (i : ℕ). slice_get (reverse (x ∷ xs)) i) (omega arith)
+
+-- the first from the end is at the place that is told
+pub mirrored_first : {X : Type 0} (test : X → Bool) (xs : List X) (k : ℕ) → behind_first test (reverse xs) ≡ Some k → slice_get xs k ≡ find test (reverse xs)
+mirrored_first test xs k e =
+    let low : k < length xs = subst (λ (n : ℕ). k < n) (length-reverse xs) (behind_below test (reverse xs) k e) in
+    sym (mirrored xs k low) ∙ ap (λ (n : ℕ). slice_get (reverse xs) (n - 1 - k)) (sym (length-reverse xs)) ∙ first_is_there test (reverse xs) k e
+
+-- one more at the end is one more in front
+pub mirrored_put : {X : Type 0} (xs : List X) (x : X) → reverse (xs ++ x ∷ []) ≡ x ∷ reverse xs
+mirrored_put xs x = reverse-append xs (x ∷ [])
 
 -- one more version stands in front
 pub numbered_put : {S : Type 0} (at after : ℕ → Option ℕ) (p : Readied S) (ps qs : List (Readied S)) (key behind : ℕ) → AreNumbered at ps → key ≡ p.number → behind ≡ length ps → ((n : ℕ) → after n ≡ cond (nat_eq key n) (Some behind) (at n)) → qs ≡ p ∷ ps → AreNumbered after qs

@@ -1,12 +1,10 @@
 -- A prepared version stands for each version that is the same as the one that it was made from.
 use Rattle.std.proofs.Common.{◌≡◌, ℕ, List, [], ◌∷◌, map, refl, sym, ap, ◌∙◌}
 use Rattle.five_tuple.specs.declared.Flow.{Flow}
-use Rattle.pool_versions.specs.declared.backend.Backend.{Backend}
 use Rattle.pool_versions.specs.declared.service.Service.{Service}
 use Rattle.pool_versions.specs.declared.service.Version.{Version}
 use Rattle.selection.specs.Candidates.{candidates_in, candidates_under}
 use Rattle.pool_versions.specs.Same.{Parts, parts_of, AreSame}
-use Rattle.std.specs.Prelude.{Option}
 use Rattle.selection.specs.Readied.{Readied, ReadiedService, readied_of, readied_version, ups_for}
 use Rattle.selection.proofs.Versions.{ups_for_readied}
 

@@ -1,5 +1,5 @@
 -- The table of some backends: every slot names one of them, and their slot counts stand as their weights.
-use Rattle.std.proofs.Common.{true, ◌==◌, ◌-◌, ◌%◌, inl, inr, ◌≡◌, ℕ, ◌+◌, ◌<◌, ◌≤◌, List, [], ◌∷◌, length, slice_index, get_or, Option, Some, None, IfSome, refl, sym, subst, ◌∙◌, ap, arith}
+use Rattle.std.proofs.Common.{true, ◌==◌, ◌-◌, ◌%◌, inl, inr, ◌≡◌, ℕ, ◌<◌, ◌≤◌, List, [], ◌∷◌, length, slice_index, get_or, Option, Some, None, IfSome, refl, sym, subst, ◌∙◌, ap, arith}
 use Rattle.std.specs.List.{All, list_any}
 use Rattle.std.proofs.lemmas.Bool.{or_cases, eqb-true}
 use Rattle.std.proofs.lemmas.Nat.{mod_below}
@@ -7,8 +7,8 @@ use Rattle.std.proofs.lemmas.List.FromFn.{length-map-range_with_len}
 use Rattle.std.proofs.lemmas.List.{length-map}
 use Rattle.std.proofs.lemmas.List.Elements.{All-map, Contains-get_or}
 use Rattle.std.proofs.lemmas.Option.{slice_get-get_or}
-use Rattle.maglev_table.specs.Sizes.{is_table_size, table_sizes}
-use Rattle.maglev_table.specs.Turns.{Preference, Owners, preference_of, slots_of, IsProper, IsBalanced}
+use Rattle.backend_names.specs.Sizes.{is_table_size, table_sizes}
+use Rattle.maglev_table.specs.Turns.{Preference, Owners, preference_of, IsProper, IsBalanced}
 use Rattle.maglev_table.specs.Weights.{AreWeights, weighted_maglev, AreShares, AreEqual}
 use Rattle.maglev_table.proofs.Shares.{weighted_shares, equal_weights_table}
 use Rattle.maglev_table.proofs.Whole.{whole_shared}

@@ -1,22 +1,12 @@
 -- What distinguishes services, and where the first of a list is.
-use Rattle.std.specs.Prelude.{◌≡◌, ℕ, Bool, ◌&&◌, ◌==◌, if◌then◌else◌, List, [], ◌∷◌, length, Option, Some, None}
+use Rattle.std.specs.Prelude.{◌≡◌, ℕ, Bool, ◌==◌, if◌then◌else◌, List, [], ◌∷◌, length, Option, Some, None}
 use Rattle.five_tuple.specs.declared.Flow.{Flow}
-use Rattle.pool_versions.specs.declared.service.Service.{Service}
-use Rattle.selection.specs.declared.ready.ServiceKey.{ServiceKey}
+use Rattle.pool_versions.specs.declared.key.ServiceKey.{ServiceKey}
+use Rattle.pool_versions.specs.Pool.{key_of_flow}
 use Rattle.selection.specs.Readied.{Readied, ReadiedService, serves_readied}
-
-abbrev pub key_of_service : Service → ServiceKey
-key_of_service s = record { vip = s.vip; proto = s.proto; port = s.port }
 
 abbrev pub key_of_readied : {S : Type 0} → ReadiedService S → ServiceKey
 key_of_readied s = record { vip = s.vip; proto = s.proto; port = s.port }
-
-abbrev pub key_of_flow : Flow → ServiceKey
-key_of_flow x = record { vip = x.dst; proto = x.proto; port = x.dport }
-
--- two keys are equal
-abbrev pub same_key : ServiceKey → ServiceKey → Bool
-same_key a b = (a.vip == b.vip) && ((a.proto == b.proto) && (a.port == b.port))
 
 -- how many are after the first that passes a test
 abbrev pub behind_first : {X : Type 0} → (X → Bool) → List X → Option ℕ

@@ -7,7 +7,7 @@ ghost use Rattle.selection.specs.Shared.{Chosen, StandsFor};
 ghost use Rattle.selection.specs.Faults.{IsPrepareFault};
 
 use crate::scheme::{PrepareFault, Scheme};
-use maglev_table::{TableSize, Weight};
+use backend_names::{TableSize, Weight};
 use pool_versions::Backend;
 use std::alloc::{AllocError, Global};
 use std::marker::Model;

@@ -6,15 +6,16 @@ ghost use Rattle.selection.specs.Kept.{owners_of};
 ghost use Rattle.selection.specs.PickLaws.{table_pick_is_up, table_pick_is_none, table_pick_respects, table_respects};
 
 use crate::scheme::{PrepareFault, Scheme};
+use backend_names::{TableSize, Weight};
 use five_tuple::Flow;
 use hash_laws::FlowHash;
-use maglev_table::{Permutation, Table, TableFault, TableSize, Weight, populate};
+use maglev_table::{Permutation, Table, TableFault, populate};
 use pool_versions::Backend;
 use std::alloc::{AllocError, Global};
 use std::marker::Model;
 
 /// The scheme of Maglev's tables (Maglev, section 3.4): a flow's backend is the one that the flow's slot names.
-#[derive(Clone, Copy, PartialEq, Eq)]
+#[derive(Clone, Copy, Debug, PartialEq, Eq)]
 pub struct Maglev<H: FlowHash> {
     pub hash: H,
 }
@@ -24,14 +25,14 @@ const MOST_NARROW: usize = 65_536;
 
 /// For each slot the place of the backend that it names: in two bytes, or in four where two bytes can't distinguish so many
 /// backends.
-#[derive(Drop)]
+#[derive(Debug, Drop)]
 enum Slots {
     Narrow(Vec<u16>),
     Wide(Table),
 }
 
 /// A table of slots, and the backends that they name. Where nobody is up no slot names anybody.
-#[derive(Drop)]
+#[derive(Debug, Drop)]
 pub struct MaglevTable {
     size: TableSize,
     ups: Vec<Backend>,

@@ -6,27 +6,35 @@ use crate::prepared::PreparedVersion;
 use crate::scheme::Scheme;
 use std::alloc::{AllocError, Global};
 use std::collections::HashMap;
+use std::fmt;
 use std::marker::Model;
 
 /// Prepared versions, the one put in last in front. A version is found by its number without a walk.
 #[derive(Drop)]
 pub struct PreparedVersions<S: Scheme> {
+    // The one put in last is the last.
     versions: Vec<PreparedVersion<S>>,
-    // How many versions are after the first one of a number.
+    // Where the last one of a number is.
     places: HashMap<u32, usize>,
 }
 
 impl<S: Scheme> Model for PreparedVersions<S> {
-    ghost use Rattle.std.specs.Prelude.{List, nat_eq};
+    ghost use Rattle.std.specs.Prelude.{List, nat_eq, reverse};
     ghost use Rattle.std.specs.HashMap.{get};
     ghost use Rattle.selection.specs.Places.{AreNumbered};
     ghost use Rattle.selection.specs.Readied.{Readied};
 
     ghost Value = { List (Readied S) };
 
-    ghost view = { λ a. a.versions.items };
+    ghost view = { λ a. reverse a.versions.items };
 
-    ghost invariant = { λ a. AreNumbered (get nat_eq a.places) a.versions.items };
+    ghost invariant = { λ a. AreNumbered (get nat_eq a.places) (reverse a.versions.items) };
+}
+
+impl<S: Scheme> fmt::Debug for PreparedVersions<S> {
+    fn fmt<W: fmt::Write>(&self, f: &mut fmt::Formatter<W>) -> fmt::Result {
+        f.debug_list().entries(self.versions.iter()).finish()
+    }
 }
 
 impl<S: Scheme> PreparedVersions<S> {
@@ -41,13 +49,14 @@ impl<S: Scheme> PreparedVersions<S> {
     }
 
     /// Puts a version in front of the others. Where memory is refused nothing changes.
+    #[tactic(auto, using(crate::proofs::Places::mirrored_put))]
     pub fn put(&mut self, version: PreparedVersion<S>) -> Result<(), AllocError>
         ensures ok { OnOk result (self.new ≡ version ∷ self.old) }
         ensures err { OnErr result (self.new ≡ self.old) }
     {
         self.versions.reserve(1)?;
         self.places.insert(version.number(), self.versions.len())?;
-        match self.versions.insert(0, version) {
+        match self.versions.push(version) {
             Ok(()) => Ok(()),
             Err(_) => Err(AllocError),
         }
@@ -59,7 +68,7 @@ impl<S: Scheme> PreparedVersions<S> {
     {
         match self.places.get(&number) {
             None => None,
-            Some(behind) => self.versions.get(self.versions.len() - 1 - *behind),
+            Some(place) => self.versions.get(*place),
         }
     }
 
@@ -77,6 +86,6 @@ impl<S: Scheme> PreparedVersions<S> {
     pub fn last(&self) -> Option<&PreparedVersion<S>>
         ensures { option_copied result ≡ slice_get self.now 0 }
     {
-        self.versions.first()
+        self.versions.last()
     }
 }

@@ -4,14 +4,14 @@ ghost use Rattle.selection.specs.Picks.{pick_at, flow_hash};
 ghost use Rattle.selection.specs.PickLaws.{pick_at_is_up, pick_at_is_none, plain_pick_respects};
 
 use crate::scheme::{PrepareFault, Scheme};
+use backend_names::{TableSize, Weight};
 use five_tuple::Flow;
 use hash_laws::FlowHash;
-use maglev_table::{TableSize, Weight};
 use pool_versions::Backend;
 use std::alloc::Global;
 
 /// A flow's hash modulo the number of backends. A change of the pool moves most flows.
-#[derive(Clone, Copy, PartialEq, Eq)]
+#[derive(Clone, Copy, Debug, PartialEq, Eq)]
 pub struct PlainHash<H: FlowHash> {
     pub hash: H,
 }

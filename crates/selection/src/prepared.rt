@@ -6,16 +6,18 @@ ghost use Rattle.std.specs.List.{list_any};
 ghost use Rattle.five_tuple.specs.declared.Flow.{Flow};
 ghost use Rattle.pool_versions.specs.Same.{AreSame};
 ghost use Rattle.selection.specs.Candidates.{candidates_under};
-ghost use Rattle.selection.specs.Places.{key_of_flow, same_key, ArePlaced};
+ghost use Rattle.pool_versions.specs.Pool.{key_of_flow, same_key};
+ghost use Rattle.selection.specs.Places.{ArePlaced};
 ghost use Rattle.selection.specs.Readied.{Readied, readied_version, ready_for, ups_for, has_more_ups, IsUpFor};
 
-use crate::ready::{Ready, ServiceKey};
+use crate::ready::Ready;
 use crate::scheme::{PrepareFault, Scheme};
+use backend_names::TableSize;
 use five_tuple::Flow;
-use maglev_table::TableSize;
-use pool_versions::{Backend, Member, Service, Version};
+use pool_versions::{Backend, Member, Service, ServiceKey, Version};
 use std::alloc::{AllocError, Global};
 use std::collections::HashMap;
+use std::fmt;
 use std::marker::Model;
 use std::sync::Arc;
 
@@ -37,7 +39,8 @@ impl<S: Scheme> Model for PreparedVersion<S> {
     ghost use Rattle.std.specs.Prelude.{◌≡◌, map};
     ghost use Rattle.std.specs.Arc.{arc_value};
     ghost use Rattle.pool_versions.specs.Same.{parts_of};
-    ghost use Rattle.selection.specs.Places.{same_key, ArePlaced};
+    ghost use Rattle.pool_versions.specs.Pool.{same_key};
+    ghost use Rattle.selection.specs.Places.{ArePlaced};
     ghost use Rattle.selection.specs.Readied.{Readied, AreFor, readied_version};
 
     ghost Value = { Readied S };
@@ -47,6 +50,16 @@ impl<S: Scheme> Model for PreparedVersion<S> {
     ghost invariant = { λ a. AreFor a.scheme a.size a.services.items × ArePlaced (get same_key a.places) a.services.items
         × (record { scheme = a.scheme; size = a.size; number = a.number; services = a.services.items; source = map parts_of (arc_value a.version).services.items }
         ≡ readied_version a.scheme a.size (arc_value a.version)) };
+}
+
+impl<S: Scheme> fmt::Debug for PreparedVersion<S> {
+    fn fmt<W: fmt::Write>(&self, f: &mut fmt::Formatter<W>) -> fmt::Result {
+        f.debug_struct("PreparedVersion")
+            .field("number", &self.number)
+            .field("size", &self.size)
+            .field("services", &self.services)
+            .finish_non_exhaustive()
+    }
 }
 
 // How many members are up.
@@ -105,7 +118,7 @@ fn like_before<'a, S: Scheme>(
     before: Option<&'a PreparedVersion<S>>,
     service: &Service,
 ) -> Option<&'a Ready<S>> {
-    before?.first_of(ServiceKey::of_service(service))
+    before?.first_of(service.key())
 }
 
 impl<S: Scheme> PreparedVersion<S> {

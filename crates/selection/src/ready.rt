@@ -4,7 +4,7 @@ ghost use Rattle.std.specs.List.{list_any};
 ghost use Rattle.pool_versions.specs.Pool.{ups, AscendsByName};
 ghost use Rattle.std.specs.Arc.{arc_value};
 ghost use Rattle.selection.specs.PrivateHalves.{is_at_head};
-ghost use Rattle.selection.specs.Places.{key_of_readied, key_of_service, key_of_flow};
+ghost use Rattle.selection.specs.Places.{key_of_readied};
 ghost use Rattle.selection.specs.Candidates.{among};
 ghost use Rattle.selection.specs.Shared.{StandsFor};
 ghost use Rattle.selection.specs.Readied.{ReadiedService, readied_of, same_backend};
@@ -12,44 +12,13 @@ ghost use Rattle.selection.specs.Faults.{IsPrepareFault};
 
 use crate::choices::Choices;
 use crate::scheme::{PrepareFault, Scheme};
+use backend_names::{TableSize, Weight};
 use five_tuple::Flow;
-use maglev_table::{TableSize, Weight};
-use pool_versions::{Backend, Service, backends_of, weights_of};
+use pool_versions::{Backend, Service, ServiceKey, backends_of, weights_of};
 use std::alloc::Global;
+use std::fmt;
 use std::marker::Model;
 use std::sync::Arc;
-
-/// What distinguishes services: address, protocol and port.
-#[derive(Clone, Copy, PartialEq, Eq, Hash)]
-pub(crate) struct ServiceKey {
-    vip: u32,
-    proto: u8,
-    port: u16,
-}
-
-impl ServiceKey {
-    // A service's own.
-    pub(crate) fn of_service(service: &Service) -> ServiceKey
-        ensures { result ≡ key_of_service service.now }
-    {
-        ServiceKey {
-            vip: service.vip,
-            proto: service.proto,
-            port: service.port,
-        }
-    }
-
-    // That of the services that a flow is of.
-    pub(crate) fn of_flow(flow: &Flow) -> ServiceKey
-        ensures { result ≡ key_of_flow flow.now }
-    {
-        ServiceKey {
-            vip: flow.dst,
-            proto: flow.proto,
-            port: flow.dport,
-        }
-    }
-}
 
 /// A service's up backends, prepared for a scheme. Services of several versions whose up backends are the same share what
 /// was prepared.
@@ -71,6 +40,15 @@ impl<S: Scheme> Model for Ready<S> {
     ghost view = { λ a. record { scheme = a.scheme; size = a.size; vip = a.key.vip; proto = a.key.proto; port = a.key.port; ups = (arc_value a.choices).ups } };
 
     ghost invariant = { λ a. StandsFor (λ s z b p. S.is_prepared s z b p) a.scheme a.size (arc_value a.choices).ups (arc_value a.choices) };
+}
+
+impl<S: Scheme> fmt::Debug for Ready<S> {
+    fn fmt<W: fmt::Write>(&self, f: &mut fmt::Formatter<W>) -> fmt::Result {
+        f.debug_struct("Ready")
+            .field("key", &self.key)
+            .field("size", &self.size)
+            .finish_non_exhaustive()
+    }
 }
 
 // Whether a backend is among those of its name that a list begins with.
@@ -144,7 +122,7 @@ impl<S: Scheme> Ready<S> {
         Ok(Ready {
             scheme: *scheme,
             size,
-            key: ServiceKey::of_service(service),
+            key: service.key(),
             choices,
         })
     }

@@ -6,13 +6,13 @@ ghost use Rattle.std.proofs.Common.{rules};
 
 use crate::plain::backend_at;
 use crate::scheme::{PrepareFault, Scheme};
+use backend_names::{TableSize, Weight};
 use five_tuple::Flow;
-use maglev_table::{TableSize, Weight};
 use pool_versions::Backend;
 use std::alloc::Global;
 
 /// The backends in turn, whatever the flow. Two balancers send one flow to different backends.
-#[derive(Clone, Copy, PartialEq, Eq)]
+#[derive(Clone, Copy, Debug, PartialEq, Eq)]
 pub struct RoundRobin;
 
 impl Scheme for RoundRobin {

@@ -5,17 +5,20 @@ ghost use Rattle.pool_versions.specs.declared.backend.Backend.{Backend};
 ghost use Rattle.selection.specs.Candidates.{Candidates, among};
 ghost use Rattle.selection.specs.Faults.{IsPrepareFault};
 
+use backend_names::{TableSize, Weight};
 use five_tuple::Flow;
-use maglev_table::{TableSize, Weight};
 use pool_versions::Backend;
 use std::alloc::{AllocError, Global};
+use thiserror::Error;
 
 /// Why nothing was prepared.
-#[derive(Clone, Copy, Debug, PartialEq, Eq)]
+#[derive(Clone, Copy, Debug, PartialEq, Eq, Drop, Error)]
 pub enum PrepareFault {
     /// There are more backends than slots.
+    #[error("more backends than the table has slots")]
     TooMany,
     /// Memory was refused.
+    #[error("out of memory")]
     Memory,
 }
 

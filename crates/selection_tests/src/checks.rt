@@ -1,6 +1,6 @@
 //! Comparisons in functions of their own, so that each is proved once, and what the tests build: flows, backends, versions.
+use backend_names::{Name, TableSize, Weight};
 use five_tuple::Flow;
-use maglev_table::{Name, TableSize, Weight};
 use pool_versions::{Backend, Member, Service, Version};
 use std::alloc::Global;
 use std::process::Abort;

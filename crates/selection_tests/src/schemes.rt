@@ -1,7 +1,7 @@
 use crate::checks::{Row, VIP, backend, flow, flow_to, holds, members_of, seven, version_of};
+use backend_names::{TableSize, Weight};
 use five_tuple::Flow;
 use hash_laws::{AnyHash, Fnv, SumHash};
-use maglev_table::{TableSize, Weight};
 use pool_versions::{Backend, Service, Version};
 use selection::{
     Maglev, MaglevTable, PlainHash, PrepareFault, PreparedVersion, PreparedVersions, RoundRobin,

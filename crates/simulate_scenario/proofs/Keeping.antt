@@ -2,7 +2,7 @@
 use Rattle.std.proofs.Common.{◌≡◌, ℕ, true, List, reverse, sym, ap, subst, refl}
 use Rattle.std.proofs.lemmas.List.{reverse-reverse}
 use Rattle.hash_laws.specs.Any.{plain_of}
-use Rattle.maglev_table.specs.Sizes.{is_table_size}
+use Rattle.backend_names.specs.Sizes.{is_table_size}
 use Rattle.pcap_file.specs.declared.format.InputEnd.{InputEnd}
 use Rattle.pcap_file.specs.Device.{Tape}
 use Rattle.pool_versions.specs.Pool.{AreSound}

@@ -22,6 +22,8 @@ use Rattle.simulation.specs.Plans.{Planned}
 use Rattle.simulation.specs.Simulated.{Simulated}
 use Rattle.run_report.specs.Causes.{Lookups}
 use Rattle.run_report.specs.Texts.{splits_text}
+use Rattle.scenario.specs.declared.reading.Scenario.{Scenario}
+use Rattle.simulate_scenario.specs.Described.{cluster_in, choice_in, plan_in, lookups_in}
 use Rattle.simulate_scenario.specs.declared.asking.Query.{Query}
 use Rattle.simulate_scenario.specs.declared.asking.Wanted.{Wanted}
 use Rattle.simulate_scenario.specs.declared.asking.Query.TheVariants.{Report, Events}
@@ -78,3 +80,7 @@ pub record Answers (cluster : Cluster) (choice : Choice) (plan : Planned) (looku
   pub ending : InputEnd
   pub simulated : Simulated cluster choice plan input input' output output' trace packets ending
   pub answer : text ≡ answer_of lookups asked trace packets ending
+
+-- the same of a scenario's cluster
+abbrev pub AnswersIn : Scenario → Query → Tape → Tape → Tape → Tape → List ℕ → Type 0
+AnswersIn s asked input input' output output' text = Answers (cluster_in s) (choice_in s) (plan_in s) (lookups_in s) asked input input' output output' text

@@ -15,7 +15,10 @@ use Rattle.scenario.specs.declared.words.SchemeKind.TheVariants.{Maglev, Plain, 
 use Rattle.scenario.specs.declared.words.SpreadKind.{SpreadKind}
 use Rattle.scenario.specs.declared.words.SpreadKind.TheVariants as spreads
 use Rattle.scenario.specs.declared.reading.Scenario.{Scenario}
+use Rattle.pcap_file.specs.Device.{Tape}
+use Rattle.simulation.specs.declared.fault.SimulationFault.{SimulationFault}
 use Rattle.simulation.specs.Plans.{Planned}
+use Rattle.simulation.specs.Simulated.{Stopped}
 
 -- how a flow gets its backend among those that are up: by its slot in their table, by its hash, or by turns
 abbrev pub pick_by : SchemeKind → (List ℕ → ℕ) → ℕ → Pick
@@ -53,3 +56,7 @@ plan_in s = record { nodes = s.nodes.items; check = s.check; steps = s.steps.ite
 -- what its splits and explanations are described by
 abbrev pub lookups_in : Scenario → Lookups
 lookups_in s = lookups_of (plain_of s.hash) s.size s.catalogue
+
+-- its run stopped by this fault
+abbrev pub StoppedIn : Scenario → Tape → Tape → Tape → Tape → SimulationFault → Type 0
+StoppedIn s input input' output output' fault = Stopped (cluster_in s) (choice_in s) (plan_in s) input input' output output' fault

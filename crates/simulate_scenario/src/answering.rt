@@ -16,9 +16,9 @@ ghost use Rattle.simulate_scenario.specs.Notebooks.{BookIf, AreOf};
 
 use crate::asking::{Query, Wanted};
 use crate::notes::Notebook;
-use cluster_core::{Deployment, Task, Verdict, explain};
+use cluster_core::{Deployment, Verdict, explain};
 use cluster_node::Outcome;
-use event_trace::Counts;
+use event_trace::{Counts, Task};
 use hash_laws::FlowHash;
 use pcap_file::InputEnd;
 use run_report::{SplitBook, push_splits, report_text, verdict_text};

@@ -4,13 +4,12 @@ ghost use Rattle.cluster_node.specs.declared.events.Event.{Event};
 ghost use Rattle.simulate_scenario.specs.declared.asking.Query.{Query};
 ghost use Rattle.cluster_node.specs.declared.events.LogEntry.{LogEntry};
 ghost use Rattle.cluster_node.specs.declared.packets.Packet.{Packet};
-ghost use Rattle.cluster_core.specs.Noting.{said_by};
+ghost use Rattle.event_trace.specs.Noting.{said_by};
 
 use crate::asking::Query;
-use cluster_core::Notes;
 use cluster_node::{Event, Outcome};
 use connection_table::TableKey;
-use event_trace::Counts;
+use event_trace::{Counts, Notes};
 use run_report::{SplitBook, push_line};
 use std::alloc::{AllocError, Global};
 

@@ -7,26 +7,26 @@ ghost use Rattle.scenario.specs.Meaning.{HasLimits};
 ghost use Rattle.simulation.specs.Plans.{planned};
 ghost use Rattle.simulation.specs.Simulated.{Stopped};
 ghost use Rattle.run_report.specs.Causes.{lookups_of};
-ghost use Rattle.simulate_scenario.specs.Described.{pick_by, cluster_in, choice_in, choice_by, plan_in, lookups_in};
-ghost use Rattle.simulate_scenario.specs.Answers.{Answers};
+ghost use Rattle.simulate_scenario.specs.Described.{pick_by, choice_by, StoppedIn};
+ghost use Rattle.simulate_scenario.specs.Answers.{Answers, AnswersIn};
 ghost use Rattle.simulate_scenario.specs.Kept.{KeepsPromises};
 
 use crate::answering::answer;
 use crate::asking::Query;
 use crate::notes::Notebook;
-use cluster_core::{Balancers, Deployment, Setup, Task};
+use cluster_core::{Deployment, Setup};
 use connection_table::{LruTable, TableKey};
-use event_trace::all_live;
+use event_trace::{Balancers, Task, all_live};
 use hash_laws::AnyHash;
-use pcap_file::{Sink, Source};
+use pcap_file::Source;
 use scenario::{Scenario, SchemeKind, SpreadKind};
 use selection::{Maglev, PlainHash, RoundRobin, Scheme};
-use simulation::{Plan, RunContext, SimulationFault, play_capture};
+use simulation::{Outlet, Plan, RunContext, SimulationFault, play_capture};
 use spreader::{HashSpread, Spread, TurnSpread};
 use std::alloc::Global;
 
 // Plays the steps with this spreader, and answers.
-fn play_with<S: Scheme, P: Spread, I: Source, O: Sink>(
+fn play_with<S: Scheme, P: Spread, I: Source, O: Outlet>(
     alloc: Global,
     task: &Task<S, AnyHash, Query>,
     spread: P,
@@ -39,8 +39,12 @@ fn play_with<S: Scheme, P: Spread, I: Source, O: Sink>(
     requires steps { length plan.steps.now ≤ 100000 }
     requires cluster { length task.now.deployment.setup.nodes ≡ length plan.nodes.now }
     requires workers { task.now.deployment.setup.workers ≤ 16 }
-    ensures ok { IfOk result (λ s. Answers (cluster_of (λ s z. S.pick s z) (λ h. plain_of h) task.now.deployment) (P.choice spread) (planned plan.entry) (lookups_of (plain_of task.now.deployment.setup.hash) task.now.deployment.setup.size task.now.deployment.catalogue) task.now.asked (I.tape input.old) (I.tape input.new) (O.tape output.old) (O.tape output.new) (string_bytes s)) }
-    ensures stopped { IfErr result (Stopped (cluster_of (λ s z. S.pick s z) (λ h. plain_of h) task.now.deployment) (P.choice spread) (planned plan.entry) (I.tape input.old) (I.tape input.new) (O.tape output.old) (O.tape output.new)) }
+    ensures ok { let d = task.now.deployment in let k = cluster_of (λ s z. S.pick s z) (λ h. plain_of h) d in
+        let lookups = lookups_of (plain_of d.setup.hash) d.setup.size d.catalogue in
+        IfOk result (λ s. Answers k (P.choice spread) (planned plan.entry) lookups task.now.asked
+        (I.tape input.old) (I.tape input.new) (O.tape output.old) (O.tape output.new) (string_bytes s)) }
+    ensures stopped { let d = task.now.deployment in let k = cluster_of (λ s z. S.pick s z) (λ h. plain_of h) d in
+        IfErr result (Stopped k (P.choice spread) (planned plan.entry) (I.tape input.old) (I.tape input.new) (O.tape output.old) (O.tape output.new)) }
 {
     let deployment = &task.deployment;
     let notes = Notebook::new(alloc, deployment.setup().key());
@@ -67,7 +71,7 @@ fn play_with<S: Scheme, P: Spread, I: Source, O: Sink>(
 }
 
 // Plays with the spreader that the scenario names.
-fn play_over<S: Scheme, I: Source, O: Sink>(
+fn play_over<S: Scheme, I: Source, O: Outlet>(
     alloc: Global,
     task: &Task<S, AnyHash, Query>,
     spread: SpreadKind,
@@ -79,8 +83,13 @@ fn play_over<S: Scheme, I: Source, O: Sink>(
     requires steps { length plan.steps.now ≤ 100000 }
     requires cluster { length task.now.deployment.setup.nodes ≡ length plan.nodes.now }
     requires workers { task.now.deployment.setup.workers ≤ 16 }
-    ensures ok { IfOk result (λ s. Answers (cluster_of (λ s z. S.pick s z) (λ h. plain_of h) task.now.deployment) (choice_by spread (plain_of task.now.deployment.setup.hash)) (planned plan.entry) (lookups_of (plain_of task.now.deployment.setup.hash) task.now.deployment.setup.size task.now.deployment.catalogue) task.now.asked (I.tape input.old) (I.tape input.new) (O.tape output.old) (O.tape output.new) (string_bytes s)) }
-    ensures stopped { IfErr result (Stopped (cluster_of (λ s z. S.pick s z) (λ h. plain_of h) task.now.deployment) (choice_by spread (plain_of task.now.deployment.setup.hash)) (planned plan.entry) (I.tape input.old) (I.tape input.new) (O.tape output.old) (O.tape output.new)) }
+    ensures ok { let d = task.now.deployment in let k = cluster_of (λ s z. S.pick s z) (λ h. plain_of h) d in
+        let lookups = lookups_of (plain_of d.setup.hash) d.setup.size d.catalogue in
+        IfOk result (λ s. Answers k (choice_by spread (plain_of d.setup.hash)) (planned plan.entry) lookups task.now.asked
+        (I.tape input.old) (I.tape input.new) (O.tape output.old) (O.tape output.new) (string_bytes s)) }
+    ensures stopped { let d = task.now.deployment in let k = cluster_of (λ s z. S.pick s z) (λ h. plain_of h) d in
+        IfErr result (Stopped k (choice_by spread (plain_of d.setup.hash)) (planned plan.entry)
+        (I.tape input.old) (I.tape input.new) (O.tape output.old) (O.tape output.new)) }
 {
     let live = all_live(alloc, plan.nodes.len() as u16)?;
     match spread {
@@ -96,7 +105,7 @@ fn play_over<S: Scheme, I: Source, O: Sink>(
 }
 
 // Plays with this scheme.
-fn play_by<S: Scheme, I: Source, O: Sink>(
+fn play_by<S: Scheme, I: Source, O: Outlet>(
     alloc: Global,
     key: TableKey,
     scheme: S,
@@ -108,8 +117,8 @@ fn play_by<S: Scheme, I: Source, O: Sink>(
     requires limits { HasLimits scenario }
     requires size { scenario.catalogue.size ≡ scenario.size }
     requires picks { S.pick scheme scenario.size ≡ pick_by scenario.scheme (plain_of scenario.hash) scenario.size }
-    ensures ok { IfOk result (λ s. Answers (cluster_in scenario) (choice_in scenario) (plan_in scenario) (lookups_in scenario) asked (I.tape input.old) (I.tape input.new) (O.tape output.old) (O.tape output.new) (string_bytes s)) }
-    ensures stopped { IfErr result (Stopped (cluster_in scenario) (choice_in scenario) (plan_in scenario) (I.tape input.old) (I.tape input.new) (O.tape output.old) (O.tape output.new)) }
+    ensures ok { IfOk result (λ s. AnswersIn scenario asked (I.tape input.old) (I.tape input.new) (O.tape output.old) (O.tape output.new) (string_bytes s)) }
+    ensures stopped { IfErr result (StoppedIn scenario (I.tape input.old) (I.tape input.new) (O.tape output.old) (O.tape output.new)) }
 {
     let Scenario {
         size,
@@ -144,7 +153,7 @@ fn play_by<S: Scheme, I: Source, O: Sink>(
 }
 
 // Plays with the scheme that the scenario names.
-fn play_named<I: Source, O: Sink>(
+fn play_named<I: Source, O: Outlet>(
     alloc: Global,
     key: TableKey,
     scenario: Scenario,
@@ -154,8 +163,8 @@ fn play_named<I: Source, O: Sink>(
 ) -> Result<String, SimulationFault>
     requires limits { HasLimits scenario }
     requires size { scenario.catalogue.size ≡ scenario.size }
-    ensures ok { IfOk result (λ s. Answers (cluster_in scenario) (choice_in scenario) (plan_in scenario) (lookups_in scenario) asked (I.tape input.old) (I.tape input.new) (O.tape output.old) (O.tape output.new) (string_bytes s)) }
-    ensures stopped { IfErr result (Stopped (cluster_in scenario) (choice_in scenario) (plan_in scenario) (I.tape input.old) (I.tape input.new) (O.tape output.old) (O.tape output.new)) }
+    ensures ok { IfOk result (λ s. AnswersIn scenario asked (I.tape input.old) (I.tape input.new) (O.tape output.old) (O.tape output.new) (string_bytes s)) }
+    ensures stopped { IfErr result (StoppedIn scenario (I.tape input.old) (I.tape input.new) (O.tape output.old) (O.tape output.new)) }
 {
     let hash = scenario.hash;
     match scenario.scheme {
@@ -173,8 +182,8 @@ fn play_named<I: Source, O: Sink>(
     }
 }
 
-/// Plays a scenario over a capture, and answers what is asked of the run. What the cluster sends is written as another
-/// capture, which is begun once the input's header was accepted. Whatever goes wrong but a write, the output is cut between
+/// Plays a scenario over a capture, and answers what is asked of the run. What the cluster sends goes to the
+/// outlet, whose capture is begun once the input's header was accepted. Whatever goes wrong but a write, the output is cut between
 /// records. The connection tables and the book of splits hash by the key. The memory of a run is given back before its answer
 /// is made. A step `stop`, which no scenario has that was read as one played in turn, is played as the restart that it is in a
 /// trace.
@@ -185,7 +194,7 @@ fn play_named<I: Source, O: Sink>(
 /// backend is up. Every slot of Maglev's tables names an up backend, and backends' slot counts are in proportion to their
 /// weights. The two versions of each split pick its two backends, for such a scheme, and for Maglev name them at the flow's
 /// slot.
-pub fn play_scenario<I: Source, O: Sink>(
+pub fn play_scenario<I: Source, O: Outlet>(
     alloc: Global,
     key: TableKey,
     scenario: Scenario,
@@ -195,9 +204,11 @@ pub fn play_scenario<I: Source, O: Sink>(
 ) -> Result<String, SimulationFault>
     requires limits { HasLimits scenario }
     requires size { scenario.catalogue.size ≡ scenario.size }
-    ensures ok { IfOk result (λ s. Answers (cluster_in scenario) (choice_in scenario) (plan_in scenario) (lookups_in scenario) asked (I.tape input.old) (I.tape input.new) (O.tape output.old) (O.tape output.new) (string_bytes s)) }
-    ensures kept { IfOk result (λ s. (a : Answers (cluster_in scenario) (choice_in scenario) (plan_in scenario) (lookups_in scenario) asked (I.tape input.old) (I.tape input.new) (O.tape output.old) (O.tape output.new) (string_bytes s)) → KeepsPromises scenario a.trace) }
-    ensures stopped { IfErr result (Stopped (cluster_in scenario) (choice_in scenario) (plan_in scenario) (I.tape input.old) (I.tape input.new) (O.tape output.old) (O.tape output.new)) }
+    ensures ok { IfOk result (λ s. AnswersIn scenario asked (I.tape input.old) (I.tape input.new) (O.tape output.old) (O.tape output.new) (string_bytes s)) }
+    ensures kept { IfOk result (λ s.
+        (a : AnswersIn scenario asked (I.tape input.old) (I.tape input.new) (O.tape output.old) (O.tape output.new) (string_bytes s)) →
+        KeepsPromises scenario a.trace) }
+    ensures stopped { IfErr result (StoppedIn scenario (I.tape input.old) (I.tape input.new) (O.tape output.old) (O.tape output.new)) }
 {
     let _slots = scenario.size.slots();
     scenario.catalogue.keeps_doubles_out();

@@ -32,6 +32,10 @@ pub record Seen (text : Tape) (seen : List Record) (left : Tape) (t : Taking) : 
   pub unfailed : Unfailed text left
   pub calls : t.ended ≡ None → CallsAtMost (calls_for seen) text left
 
+-- as many were read as before, and the input has ended as before
+abbrev pub StandsStill : Taking → Taking → Type 0
+StandsStill old new = (new.given ≡ old.given) × (new.ended ≡ old.ended) × (new.head ≡ old.head)
+
 -- a further record was read, or the input has ended
 abbrev pub SeenMore : Bool → Tape → List Record → Tape → Taking → Type 0
 SeenMore true text seen left t = Seen text (seen ++ t.record_read ∷ []) left t × (t.ended ≡ None)

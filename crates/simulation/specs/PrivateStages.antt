@@ -1,5 +1,5 @@
 -- A run record by record, between two of its moves.
-use Rattle.std.specs.Prelude.{◌≡◌, ◌≤◌, ℕ, ◌*◌, Bool, true, false, List, [], ◌∷◌, ◌++◌, length, is_some}
+use Rattle.std.specs.Prelude.{◌≡◌, ◌≤◌, ℕ, ◌*◌, Bool, true, false, List, [], ◌∷◌, ◌++◌, length, reverse, is_some, Result, OnOk, IfErr}
 use Rattle.ip_headers.specs.declared.Link.{Link}
 use Rattle.pcap_file.specs.declared.format.Head.{Head}
 use Rattle.pcap_file.specs.declared.format.InputEnd.{InputEnd}
@@ -11,14 +11,16 @@ use Rattle.event_trace.specs.declared.steps.ScenarioStep.{ScenarioStep}
 use Rattle.cluster_node.specs.Records.{Judged}
 use Rattle.cluster_core.specs.Cluster.{Cluster, Orderly}
 use Rattle.event_trace.specs.Trace.{Trace}
+use Rattle.event_trace.specs.Steps.{World}
 use Rattle.event_trace.specs.PrivateStreams.{take_of, lose_of}
 use Rattle.waiting_frames.specs.Mirrors.{Mirrors}
 use Rattle.simulation.specs.Plans.{Planned}
-use Rattle.simulation.specs.Sent.{Wrote}
-use Rattle.simulation.specs.Simulated.{trace_of, sendings}
+use Rattle.simulation.specs.Sent.{sent, Wrote, WroteUntil}
+use Rattle.simulation.specs.Simulated.{trace_of, traffic_of, sendings}
 use Rattle.simulation.specs.Intake.{Seen}
 use Rattle.simulation.specs.PrivateKeeping.{KeepsNamed}
 use Rattle.simulation.specs.PrivateGoing.{Left, SentSoFar}
+use Rattle.simulation.specs.declared.fault.SimulationFault.{SimulationFault}
 use Rattle.simulation.specs.declared.staging.Stage.{Stage}
 
 -- where all the records are these: the queues of frames mirror the trace, and after the header the output got what was sent
@@ -30,6 +32,25 @@ pub record Sound (cluster : Cluster) (plan : Planned) (link : Link) (all : List 
   pub judged : Judged cluster.judge trace.past
   pub mirrors : Mirrors all cluster trace.past qs
   pub sent : SentSoFar plan link all trace begun out
+
+-- the same of a stage
+abbrev pub SoundAt : {P : Type 0} → Cluster → Planned → Link → List Record → Stage P → Tape → Tape → Type 0
+SoundAt cluster plan link all stage begun out = Sound cluster plan link all stage.play.trace stage.relay.waiting begun out
+
+-- a stage that is sound, whatever the records are, stays so
+abbrev pub StaysSound : {P T E : Type 0} → Result T E → Cluster → Planned → Stage P → Stage P → Tape → Tape → Type 0
+StaysSound result cluster plan old new out out' = (all : List Record) (begun : Tape)
+    → SoundAt cluster plan old.intake.head.link all old begun out → OnOk result (SoundAt cluster plan old.intake.head.link all new begun out')
+
+-- what the output got where a run stopped by this fault: of what is sent along this trace
+abbrev pub SentUntil : SimulationFault → Planned → Link → List Record → Trace → Tape → Tape → Type 0
+SentUntil fault plan link all trace begun out = WroteUntil fault begun out (sent (traffic_of plan link all) (reverse trace.past))
+
+-- where a move of a stage that is sound fails, the output got what it is to have of that move
+abbrev pub CutIn : {P T : Type 0} → Result T SimulationFault → Cluster → Planned → (World → Trace → Trace) → Stage P → Tape → Tape → Type 0
+CutIn result cluster plan move old out out' = (w : World) (all : List Record) (begun : Tape) → w.cluster ≡ cluster
+    → SoundAt cluster plan old.intake.head.link all old begun out
+    → IfErr result (λ fault. SentUntil fault plan old.intake.head.link all (move w old.play.trace) begun out')
 
 -- where all the records are these: what is left to be done leads to the trace of the whole plan
 pub record Going {P : Type 0} (cluster : Cluster) (choice : Choice) (plan : Planned) (link : Link) (all : List Record) (ss : List ScenarioStep) (stage : Stage P) (begun out : Tape) : Type 0 where

@@ -4,7 +4,7 @@ ghost use Rattle.pcap_file.specs.Device.{Tape};
 ghost use Rattle.pcap_file.specs.Format.{Record, packet, max_records};
 ghost use Rattle.pcap_file.specs.Text.{RefusedBehind};
 ghost use Rattle.simulation.specs.declared.fault.SimulationFault.TheVariants.{Capture};
-ghost use Rattle.simulation.specs.Intake.{Taking, Seen, SeenMore, ReadOn, ReadStops};
+ghost use Rattle.simulation.specs.Intake.{Seen, SeenMore, StandsStill, ReadOn, ReadStops};
 
 use ip_headers::Link;
 use pcap_file::{Ending, Frame, Head, InputEnd, PcapFault, Source, read_record_into};
@@ -83,12 +83,14 @@ impl Intake {
     #[inline(always)]
     pub(crate) fn next<I: Source>(&mut self, input: &mut I) -> Result<bool, PcapFault>
         ensures head { self.new.head ≡ self.old.head }
-        ensures more { (text : Tape) (seen : List Record) → Seen text seen (I.tape input.old) self.old → IfOk result (λ more. SeenMore more text seen (I.tape input.new) self.new) }
+        ensures more { (text : Tape) (seen : List Record) → Seen text seen (I.tape input.old) self.old →
+            IfOk result (λ more. SeenMore more text seen (I.tape input.new) self.new) }
         ensures same { IfOk result (λ more. more ≡ true → (self.new.ended ≡ self.old.ended) × (self.new.given ≡ self.old.given + 1)) }
         ensures none { IfOk result (λ more. more ≡ false → (self.new.given ≡ self.old.given) × (is_some self.new.ended ≡ true)) }
         ensures end { is_some self.old.ended ≡ true → IfOk result (λ more. (more ≡ false) × (self.new ≡ self.old)) }
         ensures few { self.new.given ≤ max_records }
-        ensures fault { (text : Tape) (seen : List Record) → Seen text seen (I.tape input.old) self.old → IfErr result (λ fault. RefusedBehind self.old.head text (I.tape input.new) seen fault) }
+        ensures fault { (text : Tape) (seen : List Record) → Seen text seen (I.tape input.old) self.old →
+            IfErr result (λ fault. RefusedBehind self.old.head text (I.tape input.new) seen fault) }
         ensures closed { is_some self.old.ended ≡ true → IsOk result }
     {
         if self.ended.is_some() {
@@ -115,9 +117,11 @@ impl Intake {
     // Reads what is left of the input, and says how it ends.
     pub(crate) fn read_rest<I: Source>(&mut self, input: &mut I) -> Result<InputEnd, PcapFault>
         ensures head { self.new.head ≡ self.old.head }
-        ensures told { (text : Tape) (seen : List Record) → Seen text seen (I.tape input.old) self.old → IfOk result (λ ending. ReadOn text seen (I.tape input.new) ending self.old self.new) }
+        ensures told { (text : Tape) (seen : List Record) → Seen text seen (I.tape input.old) self.old →
+            IfOk result (λ ending. ReadOn text seen (I.tape input.new) ending self.old self.new) }
         ensures more { OnOk result (self.old.given ≤ self.new.given) }
-        ensures fault { (text : Tape) (seen : List Record) → Seen text seen (I.tape input.old) self.old → IfErr result (λ fault. ReadStops self.old text seen (I.tape input.new) (Capture fault)) }
+        ensures fault { (text : Tape) (seen : List Record) → Seen text seen (I.tape input.old) self.old →
+            IfErr result (λ fault. ReadStops self.old text seen (I.tape input.new) (Capture fault)) }
     {
         while self.next(input)? {}
         match self.ended {
@@ -137,7 +141,7 @@ impl Intake {
     // The record read last, or the one that was lent since, to be kept beside it.
     pub(crate) fn share(&mut self, alloc: Global) -> Result<Rc<Frame>, AllocError>
         ensures record { IfOk result (λ f. packet f.value ≡ self.old.record_read) }
-        ensures rest { (self.new.given ≡ self.old.given) × (self.new.ended ≡ self.old.ended) × (self.new.head ≡ self.old.head) }
+        ensures rest { StandsStill self.old self.new }
     {
         match &self.lent {
             Some(frame) => frame.clone(),

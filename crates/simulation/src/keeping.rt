@@ -100,7 +100,8 @@ impl KeptRecords {
         place: u32,
         frame: &Frame,
     ) -> Result<(), AllocError>
-        ensures { (seen : List Record) (ss : List ScenarioStep) → place ≡ length seen → KeepsNamed seen ss self.old → OnOk result (KeepsNamed (seen ++ packet frame.now ∷ []) ss self.new) }
+        ensures { (seen : List Record) (ss : List ScenarioStep) → place ≡ length seen → KeepsNamed seen ss self.old →
+            OnOk result (KeepsNamed (seen ++ packet frame.now ∷ []) ss self.new) }
     {
         let times = self.times(place);
         if times == 0 {
@@ -112,8 +113,10 @@ impl KeptRecords {
 
     // A step that names a place is done: the record, if it was read. With the last of these steps it is let go.
     pub(crate) fn take(&mut self, place: u32) -> Result<Option<Rc<Frame>>, AllocError>
-        ensures record { (seen : List Record) (ss : List ScenarioStep) → KeepsNamed seen (again_of place ∷ ss) self.old → IfOk result (λ o. option_map (λ f. packet f.value) o ≡ slice_get seen place) }
-        ensures keeps { (seen : List Record) (ss : List ScenarioStep) → KeepsNamed seen (again_of place ∷ ss) self.old → OnOk result (KeepsNamed seen ss self.new) }
+        ensures record { (seen : List Record) (ss : List ScenarioStep) → KeepsNamed seen (again_of place ∷ ss) self.old →
+            IfOk result (λ o. option_map (λ f. packet f.value) o ≡ slice_get seen place) }
+        ensures keeps { (seen : List Record) (ss : List ScenarioStep) → KeepsNamed seen (again_of place ∷ ss) self.old →
+            OnOk result (KeepsNamed seen ss self.new) }
     {
         let Some(Later { times, frame }) = self.let_go(place) else {
             return Ok(None);

@@ -7,16 +7,18 @@ ghost use Rattle.event_trace.specs.Deliveries.{if_there, events_of};
 ghost use Rattle.waiting_frames.specs.Mirrors.{Mirrors, CanFollow, ComesAs, IsNoArrival};
 ghost use Rattle.simulation.specs.Sent.{packet_in, sent, sent_by, Wrote, WroteUntil};
 ghost use Rattle.simulation.specs.Simulated.{IsOfRun};
+ghost use Rattle.simulation.specs.Intake.{StandsStill};
 ghost use Rattle.simulation.specs.Wires.{traffic};
 ghost use Rattle.simulation.specs.PrivateGoing.{onto};
 ghost use Rattle.simulation.specs.Following.{sent_with, NoArrivals, ArrivesFirst, CanSettle};
 
 use crate::fault::SimulationFault;
 use crate::intake::Intake;
+use crate::outlet::Outlet;
 use crate::sending::Wire;
 use cluster_node::{LogEntry, Outcome, Packet, Passed};
 use event_trace::Delivery;
-use pcap_file::{Frame, Sink};
+use pcap_file::Frame;
 use std::alloc::{AllocError, Global};
 use waiting_frames::Waiting;
 
@@ -31,7 +33,7 @@ pub(crate) struct Relay {
 // Sends a record on, which was read as this packet, if the outcome says so.
 #[tactic(auto, unfolding(crate::specs::Following::sent_with))]
 #[inline(always)]
-fn send_taken<O: Sink>(
+fn send_taken<O: Outlet>(
     room: &mut Vec<u8>,
     output: &mut O,
     wire: &Wire<'_>,
@@ -42,11 +44,12 @@ fn send_taken<O: Sink>(
     requires { read.now ≡ packet_in wire.now.link wire.now.check (packet frame.now) }
     ensures ok { OnOk result (Wrote (O.tape output.old) (O.tape output.new) (sent_with (traffic wire.now []) outcome.now (packet frame.now))) }
     ensures named { IfErr result IsOfRun }
-    ensures cut { IfErr result (λ fault. WroteUntil fault (O.tape output.old) (O.tape output.new) (sent_with (traffic wire.now []) outcome.now (packet frame.now))) }
+    ensures cut { let sends = sent_with (traffic wire.now []) outcome.now (packet frame.now) in
+        IfErr result (λ fault. WroteUntil fault (O.tape output.old) (O.tape output.new) sends) }
 {
     match outcome {
         Outcome::Forward { node, backend, .. } => {
-            wire.send_record(room, output, *node, backend, frame, read)
+            output.send(room, wire, *node, backend, frame, read)
         }
         _ => Ok(()),
     }
@@ -55,7 +58,7 @@ fn send_taken<O: Sink>(
 // Reads the record of a packet that waited and sends it on, if the outcome says so.
 #[tactic(auto, unfolding(crate::specs::Following::sent_with))]
 #[inline(always)]
-fn send_waited<O: Sink>(
+fn send_waited<O: Outlet>(
     room: &mut Vec<u8>,
     output: &mut O,
     wire: &Wire<'_>,
@@ -64,12 +67,13 @@ fn send_waited<O: Sink>(
 ) -> Result<(), SimulationFault>
     ensures ok { OnOk result (Wrote (O.tape output.old) (O.tape output.new) (sent_with (traffic wire.now []) outcome.now (packet frame.now))) }
     ensures named { IfErr result IsOfRun }
-    ensures cut { IfErr result (λ fault. WroteUntil fault (O.tape output.old) (O.tape output.new) (sent_with (traffic wire.now []) outcome.now (packet frame.now))) }
+    ensures cut { let sends = sent_with (traffic wire.now []) outcome.now (packet frame.now) in
+        IfErr result (λ fault. WroteUntil fault (O.tape output.old) (O.tape output.new) sends) }
 {
     match outcome {
         Outcome::Forward { node, backend, .. } => {
             let read = wire.packet(frame);
-            wire.send_record(room, output, *node, backend, frame, &read)
+            output.send(room, wire, *node, backend, frame, &read)
         }
         _ => Ok(()),
     }
@@ -90,15 +94,17 @@ impl Relay {
 
     // Follows an event that is no arrival, and sends what it sends.
     #[inline(always)]
-    fn settle_one<O: Sink>(
+    fn settle_one<O: Outlet>(
         &mut self,
         wire: &Wire<'_>,
         said: &LogEntry,
         output: &mut O,
     ) -> Result<(), SimulationFault>
         ensures count { length self.new.waiting ≡ length self.old.waiting }
-        ensures settled { (all : List Record) (k : Cluster) (past : List LogEntry) → CanFollow all k past said.now self.old.waiting → IsNoArrival said.now.event →
-            OnOk result (Mirrors all k (said.now ∷ past) self.new.waiting × Wrote (O.tape output.old) (O.tape output.new) (sent_by (traffic wire.now all) said.now.outcome)) }
+        ensures settled { (all : List Record) (k : Cluster) (past : List LogEntry) → CanFollow all k past said.now self.old.waiting →
+            IsNoArrival said.now.event →
+            let sends = sent_by (traffic wire.now all) said.now.outcome in
+            OnOk result (Mirrors all k (said.now ∷ past) self.new.waiting × Wrote (O.tape output.old) (O.tape output.new) sends) }
         ensures named { IfErr result IsOfRun }
         ensures cut { (all : List Record) (k : Cluster) (past : List LogEntry) → CanFollow all k past said.now self.old.waiting → IsNoArrival said.now.event →
             IfErr result (λ fault. WroteUntil fault (O.tape output.old) (O.tape output.new) (sent_by (traffic wire.now all) said.now.outcome)) }
@@ -111,17 +117,20 @@ impl Relay {
 
     // Follows an event that is no arrival, where there is one.
     #[inline(always)]
-    pub(crate) fn settle<O: Sink>(
+    pub(crate) fn settle<O: Outlet>(
         &mut self,
         wire: &Wire<'_>,
         said: Option<LogEntry>,
         output: &mut O,
     ) -> Result<(), SimulationFault>
         ensures count { length self.new.waiting ≡ length self.old.waiting }
-        ensures settled { (all : List Record) (k : Cluster) (past : List LogEntry) → CanSettle all k past (if_there said) self.old.waiting → NoArrivals (if_there said) →
-            OnOk result (Mirrors all k (onto past (if_there said)) self.new.waiting × Wrote (O.tape output.old) (O.tape output.new) (sent (traffic wire.now all) (if_there said))) }
+        ensures settled { (all : List Record) (k : Cluster) (past : List LogEntry) → CanSettle all k past (if_there said) self.old.waiting →
+            NoArrivals (if_there said) →
+            let sends = sent (traffic wire.now all) (if_there said) in
+            OnOk result (Mirrors all k (onto past (if_there said)) self.new.waiting × Wrote (O.tape output.old) (O.tape output.new) sends) }
         ensures named { IfErr result IsOfRun }
-        ensures cut { (all : List Record) (k : Cluster) (past : List LogEntry) → CanSettle all k past (if_there said) self.old.waiting → NoArrivals (if_there said) →
+        ensures cut { (all : List Record) (k : Cluster) (past : List LogEntry) → CanSettle all k past (if_there said) self.old.waiting →
+            NoArrivals (if_there said) →
             IfErr result (λ fault. WroteUntil fault (O.tape output.old) (O.tape output.new) (sent (traffic wire.now all) (if_there said))) }
     {
         match said {
@@ -134,9 +143,10 @@ impl Relay {
     #[inline(always)]
     fn take_in(&mut self, said: &LogEntry, intake: &mut Intake) -> Result<(), AllocError>
         ensures count { length self.new.waiting ≡ length self.old.waiting }
-        ensures taken { (all : List Record) (k : Cluster) (past : List LogEntry) → CanFollow all k past said.now self.old.waiting → ComesAs all intake.old.record_read said.now.event →
+        ensures taken { (all : List Record) (k : Cluster) (past : List LogEntry) → CanFollow all k past said.now self.old.waiting →
+            ComesAs all intake.old.record_read said.now.event →
             OnOk result (Mirrors all k (said.now ∷ past) self.new.waiting) }
-        ensures intake { (intake.new.given ≡ intake.old.given) × (intake.new.ended ≡ intake.old.ended) × (intake.new.head ≡ intake.old.head) }
+        ensures intake { StandsStill intake.old intake.new }
     {
         if !self.waiting.waits(said) {
             return Ok(());
@@ -147,7 +157,7 @@ impl Relay {
 
     // Follows what is reported of a packet that arrived: its arrival, whose packet has the record that was read last, and
     // the serving after it.
-    fn settle_told<O: Sink>(
+    fn settle_told<O: Outlet>(
         &mut self,
         wire: &Wire<'_>,
         read: &Packet,
@@ -157,13 +167,16 @@ impl Relay {
     ) -> Result<(), SimulationFault>
         requires { delivery.now.arrived ≡ true }
         ensures count { length self.new.waiting ≡ length self.old.waiting }
-        ensures intake { (intake.new.given ≡ intake.old.given) × (intake.new.ended ≡ intake.old.ended) × (intake.new.head ≡ intake.old.head) }
+        ensures intake { StandsStill intake.old intake.new }
         ensures settled { let events = events_of read.now delivery.now in
-            (all : List Record) (k : Cluster) (past : List LogEntry) → CanSettle all k past events self.old.waiting → ArrivesFirst all intake.old.record_read events →
-            OnOk result (Mirrors all k (onto past events) self.new.waiting × Wrote (O.tape output.old) (O.tape output.new) (sent (traffic wire.now all) events)) }
+            (all : List Record) (k : Cluster) (past : List LogEntry) → CanSettle all k past events self.old.waiting →
+            ArrivesFirst all intake.old.record_read events →
+            let sends = sent (traffic wire.now all) events in
+            OnOk result (Mirrors all k (onto past events) self.new.waiting × Wrote (O.tape output.old) (O.tape output.new) sends) }
         ensures named { IfErr result IsOfRun }
         ensures cut { let events = events_of read.now delivery.now in
-            (all : List Record) (k : Cluster) (past : List LogEntry) → CanSettle all k past events self.old.waiting → ArrivesFirst all intake.old.record_read events →
+            (all : List Record) (k : Cluster) (past : List LogEntry) → CanSettle all k past events self.old.waiting →
+            ArrivesFirst all intake.old.record_read events →
             IfErr result (λ fault. WroteUntil fault (O.tape output.old) (O.tape output.new) (sent (traffic wire.now all) events)) }
     {
         let arrival = delivery.arrival(read);
@@ -177,7 +190,7 @@ impl Relay {
     // Follows what is reported of a packet that was delivered, as which the record read last was read. Where it was served
     // at once, and no other waited there, its frame is sent from where it was read.
     #[inline(always)]
-    pub(crate) fn settle_delivered<O: Sink>(
+    pub(crate) fn settle_delivered<O: Outlet>(
         &mut self,
         wire: &Wire<'_>,
         read: &Packet,
@@ -187,13 +200,16 @@ impl Relay {
     ) -> Result<(), SimulationFault>
         requires { read.now ≡ packet_in wire.now.link wire.now.check intake.old.record_read }
         ensures count { length self.new.waiting ≡ length self.old.waiting }
-        ensures intake { (intake.new.given ≡ intake.old.given) × (intake.new.ended ≡ intake.old.ended) × (intake.new.head ≡ intake.old.head) }
+        ensures intake { StandsStill intake.old intake.new }
         ensures settled { let events = events_of read.now delivery.now in
-            (all : List Record) (k : Cluster) (past : List LogEntry) → CanSettle all k past events self.old.waiting → ArrivesFirst all intake.old.record_read events →
-            OnOk result (Mirrors all k (onto past events) self.new.waiting × Wrote (O.tape output.old) (O.tape output.new) (sent (traffic wire.now all) events)) }
+            (all : List Record) (k : Cluster) (past : List LogEntry) → CanSettle all k past events self.old.waiting →
+            ArrivesFirst all intake.old.record_read events →
+            let sends = sent (traffic wire.now all) events in
+            OnOk result (Mirrors all k (onto past events) self.new.waiting × Wrote (O.tape output.old) (O.tape output.new) sends) }
         ensures named { IfErr result IsOfRun }
         ensures cut { let events = events_of read.now delivery.now in
-            (all : List Record) (k : Cluster) (past : List LogEntry) → CanSettle all k past events self.old.waiting → ArrivesFirst all intake.old.record_read events →
+            (all : List Record) (k : Cluster) (past : List LogEntry) → CanSettle all k past events self.old.waiting →
+            ArrivesFirst all intake.old.record_read events →
             IfErr result (λ fault. WroteUntil fault (O.tape output.old) (O.tape output.new) (sent (traffic wire.now all) events)) }
     {
         if !delivery.arrived {

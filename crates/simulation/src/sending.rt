@@ -64,9 +64,11 @@ impl<'a> Wire<'a> {
         read: &Packet,
     ) -> Result<(), SimulationFault>
         requires { read.now ≡ packet_in self.now.link self.now.check (packet frame.now) }
-        ensures ok { OnOk result (Wrote (O.tape output.old) (O.tape output.new) (sent_at (traffic self.now []) node backend.entry.now (Some (packet frame.now)))) }
+        ensures ok { let sends = sent_at (traffic self.now []) node backend.entry.now (Some (packet frame.now)) in
+            OnOk result (Wrote (O.tape output.old) (O.tape output.new) sends) }
         ensures named { IfErr result IsOfRun }
-        ensures cut { IfErr result (λ fault. WroteUntil fault (O.tape output.old) (O.tape output.new) (sent_at (traffic self.now []) node backend.entry.now (Some (packet frame.now)))) }
+        ensures cut { let sends = sent_at (traffic self.now []) node backend.entry.now (Some (packet frame.now)) in
+            IfErr result (λ fault. WroteUntil fault (O.tape output.old) (O.tape output.new) sends) }
     {
         let inner = datagram(self.link, read, frame.bytes.as_slice());
         put_wrapped(room, output, self.address(node), backend.addr, frame, inner)
@@ -133,9 +135,11 @@ fn put_wrapped<O: Sink>(
     inner: Option<&[u8]>,
 ) -> Result<(), SimulationFault>
     requires { IfSome inner (λ d. length d.now ≤ 65511) }
-    ensures ok { OnOk result (Wrote (O.tape output.old) (O.tape output.new) (wrapped_as (packet frame.now) node backend (option_map (λ d. d.now) inner.entry))) }
+    ensures ok { let sends = wrapped_as (packet frame.now) node backend (option_map (λ d. d.now) inner.entry) in
+        OnOk result (Wrote (O.tape output.old) (O.tape output.new) sends) }
     ensures named { IfErr result IsOfRun }
-    ensures cut { IfErr result (λ fault. WroteUntil fault (O.tape output.old) (O.tape output.new) (wrapped_as (packet frame.now) node backend (option_map (λ d. d.now) inner.entry))) }
+    ensures cut { let sends = wrapped_as (packet frame.now) node backend (option_map (λ d. d.now) inner.entry) in
+        IfErr result (λ fault. WroteUntil fault (O.tape output.old) (O.tape output.new) sends) }
 {
     let Some(node) = node else {
         return Ok(());

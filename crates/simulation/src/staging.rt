@@ -1,31 +1,32 @@
 //! A run record by record.
-ghost use Rattle.std.specs.Prelude.{◌≡◌, ◌≢◌, ◌<◌, ◌≤◌, ◌+◌, ◌^◌, ◌∷◌, ◌++◌, [], ℕ, List, Some, true, false, length, slice_get, reverse, IfOk, IfErr, OnOk};
+ghost use Rattle.std.specs.Prelude.{◌≡◌, ◌≢◌, ◌<◌, ◌≤◌, ◌+◌, ◌^◌, ◌∷◌, ◌++◌, [], ℕ, List, Some, true, false, length, slice_get, IfOk, IfErr, OnOk};
 ghost use Rattle.pcap_file.specs.Device.{Tape};
 ghost use Rattle.pcap_file.specs.Format.{Record, packet, max_records};
 ghost use Rattle.event_trace.specs.declared.steps.ScenarioStep.{ScenarioStep};
 ghost use Rattle.event_trace.specs.Steps.{World, SameChoice, deliver, serve, serve_times, drain_from, after, names_records, says_many, start, below};
 ghost use Rattle.event_trace.specs.PrivateStreams.{take_of, lose_of, again_of};
 ghost use Rattle.event_trace.specs.Room.{Counted};
+ghost use Rattle.event_trace.specs.Going.{Goes, GoesBy, GoesWhere};
 ghost use Rattle.simulation.specs.Plans.{Planned, planned};
 ghost use Rattle.spreader.specs.Choices.{Choice};
 ghost use Rattle.cluster_core.specs.Cluster.{Cluster, Orderly};
-ghost use Rattle.simulation.specs.Sent.{packet_in, sent, WroteUntil};
-ghost use Rattle.simulation.specs.Simulated.{traffic_of, IsOfRun};
+ghost use Rattle.simulation.specs.Sent.{packet_in};
+ghost use Rattle.simulation.specs.Simulated.{IsOfRun};
 ghost use Rattle.simulation.specs.PrivateGoing.{Shortened};
-ghost use Rattle.simulation.specs.Intake.{Seen, SeenMore, ReadStops};
+ghost use Rattle.simulation.specs.Intake.{Seen, SeenMore, StandsStill, ReadStops};
 ghost use Rattle.simulation.specs.PrivateKeeping.{KeepsNamed};
-ghost use Rattle.simulation.specs.PrivateStages.{Sound, Going, Reached, IsOver, still_to_take, still_to_lose};
+ghost use Rattle.simulation.specs.PrivateStages.{SoundAt, StaysSound, SentUntil, CutIn, Reached, IsOver, still_to_take, still_to_lose};
 
 use crate::fault::SimulationFault;
 use crate::intake::Intake;
 use crate::keeping::KeptRecords;
+use crate::outlet::Outlet;
 use crate::plan::{Plan, RunContext};
 use crate::playing::Played;
 use crate::relaying::Relay;
 use crate::sending::Wire;
-use cluster_core::Core;
-use event_trace::{Delivery, Play, ScenarioStep};
-use pcap_file::{Head, Sink, Source};
+use event_trace::{Core, Delivery, Play, ScenarioStep};
+use pcap_file::{Head, Source};
 use spreader::Spread;
 use std::alloc::{AllocError, Global};
 
@@ -49,7 +50,8 @@ impl<P: Spread> Stage<P> {
         ensures play { IfOk result (λ s. s.play.trace ≡ start (length plan.entry.nodes.now)) }
         ensures spread { IfOk result (λ s. s.play.spread ≡ spread) }
         ensures head { IfOk result (λ s. s.intake.head ≡ head) }
-        ensures reached { (cluster : Cluster) (choice : Choice) (text out : Tape) → cluster.workers ≤ 16 → cluster.nodes ≡ length plan.entry.nodes.now → Orderly cluster →
+        ensures reached { (cluster : Cluster) (choice : Choice) (text out : Tape) → cluster.workers ≤ 16 → cluster.nodes ≡ length plan.entry.nodes.now →
+            Orderly cluster →
             IfOk result (λ s. Reached cluster choice (planned plan.entry) text out plan.entry.steps.now s text out) }
     {
         let nodes = plan.nodes.len() as u16;
@@ -76,7 +78,7 @@ impl<P: Spread> Stage<P> {
 
     // Delivers the record that was read last, and sends what is sent then.
     #[inline(always)]
-    fn deliver<C: Core, O: Sink>(
+    fn deliver<C: Core, O: Outlet>(
         &mut self,
         run: &RunContext<'_, C::Setup>,
         core: &mut C,
@@ -89,15 +91,19 @@ impl<P: Spread> Stage<P> {
         ensures stands { OnOk result (C.stands run.now.setup.now self.new.play.trace.past core.new) }
         ensures spread { self.new.play.spread ≡ self.old.play.spread }
         ensures kept { self.new.kept ≡ self.old.kept }
-        ensures intake { (self.new.intake.given ≡ self.old.intake.given) × (self.new.intake.ended ≡ self.old.intake.ended) × (self.new.intake.head ≡ self.old.intake.head) }
-        ensures play { OnOk result ((w : World) → w.cluster ≡ C.cluster run.now.setup.now → SameChoice w.choice (P.choice self.old.play.spread) → self.new.play.trace ≡ deliver w place (packet_in self.old.intake.head.link run.now.plan.check self.old.intake.record_read) self.old.play.trace) }
-        ensures sound { (all : List Record) (begun : Tape) →
-            Sound (C.cluster run.now.setup.now) (planned run.now.plan) self.old.intake.head.link all self.old.play.trace self.old.relay.waiting begun (O.tape output.old) → slice_get all place ≡ Some self.old.intake.record_read →
-            OnOk result (Sound (C.cluster run.now.setup.now) (planned run.now.plan) self.old.intake.head.link all self.new.play.trace self.new.relay.waiting begun (O.tape output.new)) }
+        ensures intake { StandsStill self.old.intake self.new.intake }
+        ensures play { let k = C.cluster run.now.setup.now in let p = packet_in self.old.intake.head.link run.now.plan.check self.old.intake.record_read in
+            OnOk result (GoesBy k (P.choice self.old.play.spread) (λ w. deliver w place p) self.old.play.trace self.new.play.trace) }
+        ensures sound { let k = C.cluster run.now.setup.now in let plan = planned run.now.plan in let link = self.old.intake.head.link in
+            (all : List Record) (begun : Tape) → SoundAt k plan link all self.old begun (O.tape output.old) →
+            slice_get all place ≡ Some self.old.intake.record_read →
+            OnOk result (SoundAt k plan link all self.new begun (O.tape output.new)) }
         ensures named { IfErr result IsOfRun }
-        ensures cut { (w : World) (all : List Record) (begun : Tape) → w.cluster ≡ C.cluster run.now.setup.now → SameChoice w.choice (P.choice self.old.play.spread) →
-            Sound (C.cluster run.now.setup.now) (planned run.now.plan) self.old.intake.head.link all self.old.play.trace self.old.relay.waiting begun (O.tape output.old) → slice_get all place ≡ Some self.old.intake.record_read →
-            IfErr result (λ fault. WroteUntil fault begun (O.tape output.new) (sent (traffic_of (planned run.now.plan) self.old.intake.head.link all) (reverse (deliver w place (packet_in self.old.intake.head.link run.now.plan.check self.old.intake.record_read) self.old.play.trace).past))) }
+        ensures cut { let k = C.cluster run.now.setup.now in let plan = planned run.now.plan in let link = self.old.intake.head.link in
+            let p = packet_in link run.now.plan.check self.old.intake.record_read in
+            (w : World) (all : List Record) (begun : Tape) → w.cluster ≡ k → SameChoice w.choice (P.choice self.old.play.spread) →
+            SoundAt k plan link all self.old begun (O.tape output.old) → slice_get all place ≡ Some self.old.intake.record_read →
+            IfErr result (λ fault. SentUntil fault plan link all (deliver w place p self.old.play.trace) begun (O.tape output.new)) }
     {
         let wire = self.wire(run.plan);
         let packet = wire.packet(self.intake.frame());
@@ -109,7 +115,7 @@ impl<P: Spread> Stage<P> {
 
     // A worker serves. The event is followed at once, and what it sends is sent.
     #[inline(always)]
-    fn serve<C: Core, O: Sink>(
+    fn serve<C: Core, O: Outlet>(
         &mut self,
         run: &RunContext<'_, C::Setup>,
         core: &mut C,
@@ -122,14 +128,11 @@ impl<P: Spread> Stage<P> {
         ensures spread { self.new.play.spread ≡ self.old.play.spread }
         ensures kept { self.new.kept ≡ self.old.kept }
         ensures intake { self.new.intake ≡ self.old.intake }
-        ensures play { OnOk result ((w : World) → w.cluster ≡ C.cluster run.now.setup.now → self.new.play.trace ≡ serve w node worker self.old.play.trace) }
-        ensures sound { (all : List Record) (begun : Tape) →
-            Sound (C.cluster run.now.setup.now) (planned run.now.plan) self.old.intake.head.link all self.old.play.trace self.old.relay.waiting begun (O.tape output.old) →
-            OnOk result (Sound (C.cluster run.now.setup.now) (planned run.now.plan) self.old.intake.head.link all self.new.play.trace self.new.relay.waiting begun (O.tape output.new)) }
+        ensures play { OnOk result (Goes (C.cluster run.now.setup.now) (λ w. serve w node worker) self.old.play.trace self.new.play.trace) }
+        ensures sound { StaysSound result (C.cluster run.now.setup.now) (planned run.now.plan) self.old self.new (O.tape output.old) (O.tape output.new) }
         ensures named { IfErr result IsOfRun }
-        ensures cut { (w : World) (all : List Record) (begun : Tape) → w.cluster ≡ C.cluster run.now.setup.now →
-            Sound (C.cluster run.now.setup.now) (planned run.now.plan) self.old.intake.head.link all self.old.play.trace self.old.relay.waiting begun (O.tape output.old) →
-            IfErr result (λ fault. WroteUntil fault begun (O.tape output.new) (sent (traffic_of (planned run.now.plan) self.old.intake.head.link all) (reverse (serve w node worker self.old.play.trace).past))) }
+        ensures cut { let k = C.cluster run.now.setup.now in
+            CutIn result k (planned run.now.plan) (λ w. serve w node worker) self.old (O.tape output.old) (O.tape output.new) }
     {
         let wire = self.wire(run.plan);
         let said = self.play.serve(core, run.setup, node, worker)?;
@@ -137,7 +140,7 @@ impl<P: Spread> Stage<P> {
     }
 
     // A worker serves so many times.
-    fn serve_times<C: Core, O: Sink>(
+    fn serve_times<C: Core, O: Outlet>(
         &mut self,
         run: &RunContext<'_, C::Setup>,
         core: &mut C,
@@ -151,14 +154,11 @@ impl<P: Spread> Stage<P> {
         ensures spread { self.new.play.spread ≡ self.old.play.spread }
         ensures kept { self.new.kept ≡ self.old.kept }
         ensures intake { self.new.intake ≡ self.old.intake }
-        ensures play { OnOk result ((w : World) → w.cluster ≡ C.cluster run.now.setup.now → self.new.play.trace ≡ serve_times w node worker times self.old.play.trace) }
-        ensures sound { (all : List Record) (begun : Tape) →
-            Sound (C.cluster run.now.setup.now) (planned run.now.plan) self.old.intake.head.link all self.old.play.trace self.old.relay.waiting begun (O.tape output.old) →
-            OnOk result (Sound (C.cluster run.now.setup.now) (planned run.now.plan) self.old.intake.head.link all self.new.play.trace self.new.relay.waiting begun (O.tape output.new)) }
+        ensures play { OnOk result (Goes (C.cluster run.now.setup.now) (λ w. serve_times w node worker times) self.old.play.trace self.new.play.trace) }
+        ensures sound { StaysSound result (C.cluster run.now.setup.now) (planned run.now.plan) self.old self.new (O.tape output.old) (O.tape output.new) }
         ensures named { IfErr result IsOfRun }
-        ensures cut { (w : World) (all : List Record) (begun : Tape) → w.cluster ≡ C.cluster run.now.setup.now →
-            Sound (C.cluster run.now.setup.now) (planned run.now.plan) self.old.intake.head.link all self.old.play.trace self.old.relay.waiting begun (O.tape output.old) →
-            IfErr result (λ fault. WroteUntil fault begun (O.tape output.new) (sent (traffic_of (planned run.now.plan) self.old.intake.head.link all) (reverse (serve_times w node worker times self.old.play.trace).past))) }
+        ensures cut { let k = C.cluster run.now.setup.now in
+            CutIn result k (planned run.now.plan) (λ w. serve_times w node worker times) self.old (O.tape output.old) (O.tape output.new) }
     {
         for _ in 0..times {
             self.serve(run, core, node, worker, output)?;
@@ -167,7 +167,7 @@ impl<P: Spread> Stage<P> {
     }
 
     // So many of a node's workers serve all that waits for them.
-    fn drain<C: Core, O: Sink>(
+    fn drain<C: Core, O: Outlet>(
         &mut self,
         run: &RunContext<'_, C::Setup>,
         core: &mut C,
@@ -180,14 +180,11 @@ impl<P: Spread> Stage<P> {
         ensures spread { self.new.play.spread ≡ self.old.play.spread }
         ensures kept { self.new.kept ≡ self.old.kept }
         ensures intake { self.new.intake ≡ self.old.intake }
-        ensures play { OnOk result ((w : World) → w.cluster ≡ C.cluster run.now.setup.now → self.new.play.trace ≡ drain_from w node 0 workers self.old.play.trace) }
-        ensures sound { (all : List Record) (begun : Tape) →
-            Sound (C.cluster run.now.setup.now) (planned run.now.plan) self.old.intake.head.link all self.old.play.trace self.old.relay.waiting begun (O.tape output.old) →
-            OnOk result (Sound (C.cluster run.now.setup.now) (planned run.now.plan) self.old.intake.head.link all self.new.play.trace self.new.relay.waiting begun (O.tape output.new)) }
+        ensures play { OnOk result (Goes (C.cluster run.now.setup.now) (λ w. drain_from w node 0 workers) self.old.play.trace self.new.play.trace) }
+        ensures sound { StaysSound result (C.cluster run.now.setup.now) (planned run.now.plan) self.old self.new (O.tape output.old) (O.tape output.new) }
         ensures named { IfErr result IsOfRun }
-        ensures cut { (w : World) (all : List Record) (begun : Tape) → w.cluster ≡ C.cluster run.now.setup.now →
-            Sound (C.cluster run.now.setup.now) (planned run.now.plan) self.old.intake.head.link all self.old.play.trace self.old.relay.waiting begun (O.tape output.old) →
-            IfErr result (λ fault. WroteUntil fault begun (O.tape output.new) (sent (traffic_of (planned run.now.plan) self.old.intake.head.link all) (reverse (drain_from w node 0 workers self.old.play.trace).past))) }
+        ensures cut { let k = C.cluster run.now.setup.now in
+            CutIn result k (planned run.now.plan) (λ w. drain_from w node 0 workers) self.old (O.tape output.old) (O.tape output.new) }
     {
         for worker in 0..workers {
             let times = core.waiting(run.setup, node, worker);
@@ -197,7 +194,7 @@ impl<P: Spread> Stage<P> {
     }
 
     // A step that says one event at most.
-    fn alone<C: Core, O: Sink>(
+    fn alone<C: Core, O: Outlet>(
         &mut self,
         run: &RunContext<'_, C::Setup>,
         core: &mut C,
@@ -209,14 +206,13 @@ impl<P: Spread> Stage<P> {
         ensures choice { SameChoice (P.choice self.old.play.spread) (P.choice self.new.play.spread) }
         ensures kept { self.new.kept ≡ self.old.kept }
         ensures intake { self.new.intake ≡ self.old.intake }
-        ensures play { OnOk result ((w : World) → w.cluster ≡ C.cluster run.now.setup.now → says_many step.now ≡ false → self.new.play.trace ≡ after w step.now self.old.play.trace) }
-        ensures sound { (all : List Record) (begun : Tape) → says_many step.now ≡ false →
-            Sound (C.cluster run.now.setup.now) (planned run.now.plan) self.old.intake.head.link all self.old.play.trace self.old.relay.waiting begun (O.tape output.old) →
-            OnOk result (Sound (C.cluster run.now.setup.now) (planned run.now.plan) self.old.intake.head.link all self.new.play.trace self.new.relay.waiting begun (O.tape output.new)) }
+        ensures play { let k = C.cluster run.now.setup.now in
+            OnOk result (GoesWhere (says_many step.now ≡ false) k (λ w. after w step.now) self.old.play.trace self.new.play.trace) }
+        ensures sound { let k = C.cluster run.now.setup.now in
+            says_many step.now ≡ false → StaysSound result k (planned run.now.plan) self.old self.new (O.tape output.old) (O.tape output.new) }
         ensures named { IfErr result IsOfRun }
-        ensures cut { (w : World) (all : List Record) (begun : Tape) → w.cluster ≡ C.cluster run.now.setup.now → says_many step.now ≡ false →
-            Sound (C.cluster run.now.setup.now) (planned run.now.plan) self.old.intake.head.link all self.old.play.trace self.old.relay.waiting begun (O.tape output.old) →
-            IfErr result (λ fault. WroteUntil fault begun (O.tape output.new) (sent (traffic_of (planned run.now.plan) self.old.intake.head.link all) (reverse (after w step.now self.old.play.trace).past))) }
+        ensures cut { let k = C.cluster run.now.setup.now in
+            says_many step.now ≡ false → CutIn result k (planned run.now.plan) (λ w. after w step.now) self.old (O.tape output.old) (O.tape output.new) }
     {
         let wire = self.wire(run.plan);
         let said = self.play.step_alone(run.alloc, core, run.setup, step)?;
@@ -224,7 +220,7 @@ impl<P: Spread> Stage<P> {
     }
 
     // A step that names no record.
-    fn settle_without_record<C: Core, O: Sink>(
+    fn settle_without_record<C: Core, O: Outlet>(
         &mut self,
         run: &RunContext<'_, C::Setup>,
         core: &mut C,
@@ -236,14 +232,13 @@ impl<P: Spread> Stage<P> {
         ensures choice { SameChoice (P.choice self.old.play.spread) (P.choice self.new.play.spread) }
         ensures kept { self.new.kept ≡ self.old.kept }
         ensures intake { self.new.intake ≡ self.old.intake }
-        ensures play { OnOk result ((w : World) → w.cluster ≡ C.cluster run.now.setup.now → names_records step.now ≡ false → self.new.play.trace ≡ after w step.now self.old.play.trace) }
-        ensures sound { (all : List Record) (begun : Tape) → names_records step.now ≡ false →
-            Sound (C.cluster run.now.setup.now) (planned run.now.plan) self.old.intake.head.link all self.old.play.trace self.old.relay.waiting begun (O.tape output.old) →
-            OnOk result (Sound (C.cluster run.now.setup.now) (planned run.now.plan) self.old.intake.head.link all self.new.play.trace self.new.relay.waiting begun (O.tape output.new)) }
+        ensures play { let k = C.cluster run.now.setup.now in
+            OnOk result (GoesWhere (names_records step.now ≡ false) k (λ w. after w step.now) self.old.play.trace self.new.play.trace) }
+        ensures sound { let k = C.cluster run.now.setup.now in
+            names_records step.now ≡ false → StaysSound result k (planned run.now.plan) self.old self.new (O.tape output.old) (O.tape output.new) }
         ensures named { IfErr result IsOfRun }
-        ensures cut { (w : World) (all : List Record) (begun : Tape) → w.cluster ≡ C.cluster run.now.setup.now → names_records step.now ≡ false →
-            Sound (C.cluster run.now.setup.now) (planned run.now.plan) self.old.intake.head.link all self.old.play.trace self.old.relay.waiting begun (O.tape output.old) →
-            IfErr result (λ fault. WroteUntil fault begun (O.tape output.new) (sent (traffic_of (planned run.now.plan) self.old.intake.head.link all) (reverse (after w step.now self.old.play.trace).past))) }
+        ensures cut { let k = C.cluster run.now.setup.now in
+            names_records step.now ≡ false → CutIn result k (planned run.now.plan) (λ w. after w step.now) self.old (O.tape output.old) (O.tape output.new) }
     {
         match step {
             ScenarioStep::Drain(node) => {
@@ -260,14 +255,17 @@ impl<P: Spread> Stage<P> {
         ensures play { self.new.play ≡ self.old.play }
         ensures relay { self.new.relay ≡ self.old.relay }
         ensures head { self.new.intake.head ≡ self.old.intake.head }
-        ensures more { (text : Tape) (seen : List Record) → Seen text seen (I.tape input.old) self.old.intake → IfOk result (λ more. SeenMore more text seen (I.tape input.new) self.new.intake) }
-        ensures same { IfOk result (λ more. more ≡ true → (self.new.intake.ended ≡ self.old.intake.ended) × (self.new.intake.given ≡ self.old.intake.given + 1)) }
+        ensures more { (text : Tape) (seen : List Record) → Seen text seen (I.tape input.old) self.old.intake →
+            IfOk result (λ more. SeenMore more text seen (I.tape input.new) self.new.intake) }
+        ensures same { let old = self.old.intake in let new = self.new.intake in
+            IfOk result (λ more. more ≡ true → (new.ended ≡ old.ended) × (new.given ≡ old.given + 1)) }
         ensures none { IfOk result (λ more. more ≡ false → (self.new.intake.given ≡ self.old.intake.given) × (self.new.kept ≡ self.old.kept)) }
         ensures keeps { (seen : List Record) (ss : List ScenarioStep) → self.old.intake.given ≡ length seen → KeepsNamed seen ss self.old.kept →
             IfOk result (λ more. more ≡ true → KeepsNamed (seen ++ self.new.intake.record_read ∷ []) ss self.new.kept) }
         ensures few { self.new.intake.given ≤ max_records }
         ensures unwritten { IfErr result (λ fault. fault ≢ SimulationFault.Write) }
-        ensures stops { (text : Tape) (seen : List Record) → Seen text seen (I.tape input.old) self.old.intake → IfErr result (ReadStops self.old.intake text seen (I.tape input.new)) }
+        ensures stops { (text : Tape) (seen : List Record) → Seen text seen (I.tape input.old) self.old.intake →
+            IfErr result (ReadStops self.old.intake text seen (I.tape input.new)) }
     {
         let place = self.intake.given();
         let more = self.intake.next(input)?;
@@ -280,7 +278,7 @@ impl<P: Spread> Stage<P> {
 
     // Takes the next record: reads it and delivers it. Says whether there was one.
     #[inline(always)]
-    fn take_one<C: Core, I: Source, O: Sink>(
+    fn take_one<C: Core, I: Source, O: Outlet>(
         &mut self,
         run: &RunContext<'_, C::Setup>,
         core: &mut C,
@@ -293,12 +291,14 @@ impl<P: Spread> Stage<P> {
         ensures spread { self.new.play.spread ≡ self.old.play.spread }
         ensures few { (n : ℕ) → Counted self.old.intake.given n self.old.play.trace → OnOk result (Counted self.new.intake.given n self.new.play.trace) }
         ensures head { self.new.intake.head ≡ self.old.intake.head }
-        ensures reached { (choice : Choice) (text begun : Tape) (ss : List ScenarioStep) (k : ℕ) → SameChoice choice (P.choice self.old.play.spread) →
-            Reached (C.cluster run.now.setup.now) choice (planned run.now.plan) text begun (take_of (k + 1) ∷ ss) self.old (I.tape input.old) (O.tape output.old) →
-            IfOk result (λ more. Reached (C.cluster run.now.setup.now) choice (planned run.now.plan) text begun (still_to_take more k ss) self.new (I.tape input.new) (O.tape output.new)) }
-        ensures short { (choice : Choice) (text begun : Tape) (ss : List ScenarioStep) (k : ℕ) → SameChoice choice (P.choice self.old.play.spread) →
-            Reached (C.cluster run.now.setup.now) choice (planned run.now.plan) text begun (take_of (k + 1) ∷ ss) self.old (I.tape input.old) (O.tape output.old) →
-            IfErr result (λ fault. Shortened (C.cluster run.now.setup.now) choice (planned run.now.plan) self.old.intake.head text (I.tape input.new) begun (O.tape output.new) fault) }
+        ensures reached { let cluster = C.cluster run.now.setup.now in let plan = planned run.now.plan in
+            (choice : Choice) (text begun : Tape) (ss : List ScenarioStep) (k : ℕ) → SameChoice choice (P.choice self.old.play.spread) →
+            Reached cluster choice plan text begun (take_of (k + 1) ∷ ss) self.old (I.tape input.old) (O.tape output.old) →
+            IfOk result (λ more. Reached cluster choice plan text begun (still_to_take more k ss) self.new (I.tape input.new) (O.tape output.new)) }
+        ensures short { let cluster = C.cluster run.now.setup.now in let plan = planned run.now.plan in
+            (choice : Choice) (text begun : Tape) (ss : List ScenarioStep) (k : ℕ) → SameChoice choice (P.choice self.old.play.spread) →
+            Reached cluster choice plan text begun (take_of (k + 1) ∷ ss) self.old (I.tape input.old) (O.tape output.old) →
+            IfErr result (λ fault. Shortened cluster choice plan self.old.intake.head text (I.tape input.new) begun (O.tape output.new) fault) }
     {
         let more = self.read_one(run.alloc, input)?;
         if !more {
@@ -310,7 +310,7 @@ impl<P: Spread> Stage<P> {
     }
 
     // Takes so many records, or those that remain.
-    fn take<C: Core, I: Source, O: Sink>(
+    fn take<C: Core, I: Source, O: Outlet>(
         &mut self,
         run: &RunContext<'_, C::Setup>,
         core: &mut C,
@@ -324,12 +324,14 @@ impl<P: Spread> Stage<P> {
         ensures spread { self.new.play.spread ≡ self.old.play.spread }
         ensures few { (n : ℕ) → Counted self.old.intake.given n self.old.play.trace → OnOk result (Counted self.new.intake.given n self.new.play.trace) }
         ensures head { self.new.intake.head ≡ self.old.intake.head }
-        ensures reached { (choice : Choice) (text begun : Tape) (ss : List ScenarioStep) → SameChoice choice (P.choice self.old.play.spread) →
-            Reached (C.cluster run.now.setup.now) choice (planned run.now.plan) text begun (take_of count ∷ ss) self.old (I.tape input.old) (O.tape output.old) →
-            OnOk result (Reached (C.cluster run.now.setup.now) choice (planned run.now.plan) text begun ss self.new (I.tape input.new) (O.tape output.new)) }
-        ensures short { (choice : Choice) (text begun : Tape) (ss : List ScenarioStep) → SameChoice choice (P.choice self.old.play.spread) →
-            Reached (C.cluster run.now.setup.now) choice (planned run.now.plan) text begun (take_of count ∷ ss) self.old (I.tape input.old) (O.tape output.old) →
-            IfErr result (λ fault. Shortened (C.cluster run.now.setup.now) choice (planned run.now.plan) self.old.intake.head text (I.tape input.new) begun (O.tape output.new) fault) }
+        ensures reached { let cluster = C.cluster run.now.setup.now in let plan = planned run.now.plan in
+            (choice : Choice) (text begun : Tape) (ss : List ScenarioStep) → SameChoice choice (P.choice self.old.play.spread) →
+            Reached cluster choice plan text begun (take_of count ∷ ss) self.old (I.tape input.old) (O.tape output.old) →
+            OnOk result (Reached cluster choice plan text begun ss self.new (I.tape input.new) (O.tape output.new)) }
+        ensures short { let cluster = C.cluster run.now.setup.now in let plan = planned run.now.plan in
+            (choice : Choice) (text begun : Tape) (ss : List ScenarioStep) → SameChoice choice (P.choice self.old.play.spread) →
+            Reached cluster choice plan text begun (take_of count ∷ ss) self.old (I.tape input.old) (O.tape output.old) →
+            IfErr result (λ fault. Shortened cluster choice plan self.old.intake.head text (I.tape input.new) begun (O.tape output.new) fault) }
     {
         for _ in 0..count {
             let more = self.take_one(run, core, input, output)?;
@@ -351,7 +353,8 @@ impl<P: Spread> Stage<P> {
             Reached cluster choice plan text begun (lose_of (k + 1) ∷ ss) self.old (I.tape input.old) out →
             IfOk result (λ more. Reached cluster choice plan text begun (still_to_lose more k ss) self.new (I.tape input.new) out) }
         ensures short { (cluster : Cluster) (choice : Choice) (plan : Planned) (text begun out : Tape) (ss : List ScenarioStep) →
-            Reached cluster choice plan text begun ss self.old (I.tape input.old) out → IfErr result (λ fault. Shortened cluster choice plan self.old.intake.head text (I.tape input.new) begun out fault) }
+            Reached cluster choice plan text begun ss self.old (I.tape input.old) out →
+            IfErr result (λ fault. Shortened cluster choice plan self.old.intake.head text (I.tape input.new) begun out fault) }
     {
         let more = self.read_one(alloc, input)?;
         if !more {
@@ -377,7 +380,8 @@ impl<P: Spread> Stage<P> {
             Reached cluster choice plan text begun (lose_of count ∷ ss) self.old (I.tape input.old) out →
             OnOk result (Reached cluster choice plan text begun ss self.new (I.tape input.new) out) }
         ensures short { (cluster : Cluster) (choice : Choice) (plan : Planned) (text begun out : Tape) (ss : List ScenarioStep) →
-            Reached cluster choice plan text begun (lose_of count ∷ ss) self.old (I.tape input.old) out → IfErr result (λ fault. Shortened cluster choice plan self.old.intake.head text (I.tape input.new) begun out fault) }
+            Reached cluster choice plan text begun (lose_of count ∷ ss) self.old (I.tape input.old) out →
+            IfErr result (λ fault. Shortened cluster choice plan self.old.intake.head text (I.tape input.new) begun out fault) }
     {
         for _ in 0..count {
             let more = self.lose_one(alloc, input)?;
@@ -389,7 +393,7 @@ impl<P: Spread> Stage<P> {
     }
 
     // Delivers a record again, or skips it where it wasn't read.
-    fn again<C: Core, O: Sink>(
+    fn again<C: Core, O: Outlet>(
         &mut self,
         run: &RunContext<'_, C::Setup>,
         core: &mut C,
@@ -403,12 +407,14 @@ impl<P: Spread> Stage<P> {
         ensures few { (n : ℕ) → Counted self.old.intake.given n self.old.play.trace → OnOk result (Counted self.new.intake.given (n + 1) self.new.play.trace) }
         ensures head { self.new.intake.head ≡ self.old.intake.head }
         ensures named { IfErr result IsOfRun }
-        ensures reached { (choice : Choice) (text begun left : Tape) (ss : List ScenarioStep) → SameChoice choice (P.choice self.old.play.spread) →
-            Reached (C.cluster run.now.setup.now) choice (planned run.now.plan) text begun (again_of place ∷ ss) self.old left (O.tape output.old) →
-            OnOk result (Reached (C.cluster run.now.setup.now) choice (planned run.now.plan) text begun ss self.new left (O.tape output.new)) }
-        ensures short { (choice : Choice) (text begun left : Tape) (ss : List ScenarioStep) → SameChoice choice (P.choice self.old.play.spread) →
-            Reached (C.cluster run.now.setup.now) choice (planned run.now.plan) text begun (again_of place ∷ ss) self.old left (O.tape output.old) →
-            IfErr result (λ fault. Shortened (C.cluster run.now.setup.now) choice (planned run.now.plan) self.old.intake.head text left begun (O.tape output.new) fault) }
+        ensures reached { let cluster = C.cluster run.now.setup.now in let plan = planned run.now.plan in
+            (choice : Choice) (text begun left : Tape) (ss : List ScenarioStep) → SameChoice choice (P.choice self.old.play.spread) →
+            Reached cluster choice plan text begun (again_of place ∷ ss) self.old left (O.tape output.old) →
+            OnOk result (Reached cluster choice plan text begun ss self.new left (O.tape output.new)) }
+        ensures short { let cluster = C.cluster run.now.setup.now in let plan = planned run.now.plan in
+            (choice : Choice) (text begun left : Tape) (ss : List ScenarioStep) → SameChoice choice (P.choice self.old.play.spread) →
+            Reached cluster choice plan text begun (again_of place ∷ ss) self.old left (O.tape output.old) →
+            IfErr result (λ fault. Shortened cluster choice plan self.old.intake.head text left begun (O.tape output.new) fault) }
     {
         // A capture has few records, so the counts have room.
         let _ = self.intake.given();
@@ -425,7 +431,7 @@ impl<P: Spread> Stage<P> {
     }
 
     // A step that names no record, among the others.
-    fn step_without_record<C: Core, O: Sink>(
+    fn step_without_record<C: Core, O: Outlet>(
         &mut self,
         run: &RunContext<'_, C::Setup>,
         core: &mut C,
@@ -439,18 +445,20 @@ impl<P: Spread> Stage<P> {
         ensures few { (n : ℕ) → Counted self.old.intake.given n self.old.play.trace → OnOk result (Counted self.new.intake.given (n + 1) self.new.play.trace) }
         ensures head { self.new.intake.head ≡ self.old.intake.head }
         ensures named { IfErr result IsOfRun }
-        ensures reached { (choice : Choice) (text begun left : Tape) (ss : List ScenarioStep) →
-            Reached (C.cluster run.now.setup.now) choice (planned run.now.plan) text begun (step.now ∷ ss) self.old left (O.tape output.old) →
-            OnOk result (Reached (C.cluster run.now.setup.now) choice (planned run.now.plan) text begun ss self.new left (O.tape output.new)) }
-        ensures short { (choice : Choice) (text begun left : Tape) (ss : List ScenarioStep) →
-            Reached (C.cluster run.now.setup.now) choice (planned run.now.plan) text begun (step.now ∷ ss) self.old left (O.tape output.old) →
-            IfErr result (λ fault. Shortened (C.cluster run.now.setup.now) choice (planned run.now.plan) self.old.intake.head text left begun (O.tape output.new) fault) }
+        ensures reached { let cluster = C.cluster run.now.setup.now in let plan = planned run.now.plan in
+            (choice : Choice) (text begun left : Tape) (ss : List ScenarioStep) →
+            Reached cluster choice plan text begun (step.now ∷ ss) self.old left (O.tape output.old) →
+            OnOk result (Reached cluster choice plan text begun ss self.new left (O.tape output.new)) }
+        ensures short { let cluster = C.cluster run.now.setup.now in let plan = planned run.now.plan in
+            (choice : Choice) (text begun left : Tape) (ss : List ScenarioStep) →
+            Reached cluster choice plan text begun (step.now ∷ ss) self.old left (O.tape output.old) →
+            IfErr result (λ fault. Shortened cluster choice plan self.old.intake.head text left begun (O.tape output.new) fault) }
     {
         self.settle_without_record(run, core, step, output)
     }
 
     // A step.
-    fn step<C: Core, I: Source, O: Sink>(
+    fn step<C: Core, I: Source, O: Outlet>(
         &mut self,
         run: &RunContext<'_, C::Setup>,
         core: &mut C,
@@ -464,12 +472,14 @@ impl<P: Spread> Stage<P> {
         ensures choice { SameChoice (P.choice self.old.play.spread) (P.choice self.new.play.spread) }
         ensures few { (n : ℕ) → Counted self.old.intake.given n self.old.play.trace → OnOk result (Counted self.new.intake.given (n + 1) self.new.play.trace) }
         ensures head { self.new.intake.head ≡ self.old.intake.head }
-        ensures reached { (choice : Choice) (text begun : Tape) (ss : List ScenarioStep) → SameChoice choice (P.choice self.old.play.spread) →
-            Reached (C.cluster run.now.setup.now) choice (planned run.now.plan) text begun (step.now ∷ ss) self.old (I.tape input.old) (O.tape output.old) →
-            OnOk result (Reached (C.cluster run.now.setup.now) choice (planned run.now.plan) text begun ss self.new (I.tape input.new) (O.tape output.new)) }
-        ensures short { (choice : Choice) (text begun : Tape) (ss : List ScenarioStep) → SameChoice choice (P.choice self.old.play.spread) →
-            Reached (C.cluster run.now.setup.now) choice (planned run.now.plan) text begun (step.now ∷ ss) self.old (I.tape input.old) (O.tape output.old) →
-            IfErr result (λ fault. Shortened (C.cluster run.now.setup.now) choice (planned run.now.plan) self.old.intake.head text (I.tape input.new) begun (O.tape output.new) fault) }
+        ensures reached { let cluster = C.cluster run.now.setup.now in let plan = planned run.now.plan in
+            (choice : Choice) (text begun : Tape) (ss : List ScenarioStep) → SameChoice choice (P.choice self.old.play.spread) →
+            Reached cluster choice plan text begun (step.now ∷ ss) self.old (I.tape input.old) (O.tape output.old) →
+            OnOk result (Reached cluster choice plan text begun ss self.new (I.tape input.new) (O.tape output.new)) }
+        ensures short { let cluster = C.cluster run.now.setup.now in let plan = planned run.now.plan in
+            (choice : Choice) (text begun : Tape) (ss : List ScenarioStep) → SameChoice choice (P.choice self.old.play.spread) →
+            Reached cluster choice plan text begun (step.now ∷ ss) self.old (I.tape input.old) (O.tape output.old) →
+            IfErr result (λ fault. Shortened cluster choice plan self.old.intake.head text (I.tape input.new) begun (O.tape output.new) fault) }
     {
         match step {
             ScenarioStep::Take(count) => self.take(run, core, *count, input, output),
@@ -480,7 +490,7 @@ impl<P: Spread> Stage<P> {
     }
 
     // All steps.
-    fn steps<C: Core, I: Source, O: Sink>(
+    fn steps<C: Core, I: Source, O: Outlet>(
         &mut self,
         run: &RunContext<'_, C::Setup>,
         core: &mut C,
@@ -493,12 +503,14 @@ impl<P: Spread> Stage<P> {
         ensures stands { OnOk result (C.stands run.now.setup.now self.new.play.trace.past core.new) }
         ensures head { self.new.intake.head ≡ self.old.intake.head }
         ensures read { OnOk result (self.new.play.trace.read ≤ self.new.intake.given) }
-        ensures reached { (choice : Choice) (text begun : Tape) → SameChoice choice (P.choice self.old.play.spread) →
-            Reached (C.cluster run.now.setup.now) choice (planned run.now.plan) text begun run.now.plan.steps.now self.old (I.tape input.old) (O.tape output.old) →
-            OnOk result (Reached (C.cluster run.now.setup.now) choice (planned run.now.plan) text begun [] self.new (I.tape input.new) (O.tape output.new)) }
-        ensures short { (choice : Choice) (text begun : Tape) → SameChoice choice (P.choice self.old.play.spread) →
-            Reached (C.cluster run.now.setup.now) choice (planned run.now.plan) text begun run.now.plan.steps.now self.old (I.tape input.old) (O.tape output.old) →
-            IfErr result (λ fault. Shortened (C.cluster run.now.setup.now) choice (planned run.now.plan) self.old.intake.head text (I.tape input.new) begun (O.tape output.new) fault) }
+        ensures reached { let cluster = C.cluster run.now.setup.now in let plan = planned run.now.plan in
+            (choice : Choice) (text begun : Tape) → SameChoice choice (P.choice self.old.play.spread) →
+            Reached cluster choice plan text begun run.now.plan.steps.now self.old (I.tape input.old) (O.tape output.old) →
+            OnOk result (Reached cluster choice plan text begun [] self.new (I.tape input.new) (O.tape output.new)) }
+        ensures short { let cluster = C.cluster run.now.setup.now in let plan = planned run.now.plan in
+            (choice : Choice) (text begun : Tape) → SameChoice choice (P.choice self.old.play.spread) →
+            Reached cluster choice plan text begun run.now.plan.steps.now self.old (I.tape input.old) (O.tape output.old) →
+            IfErr result (λ fault. Shortened cluster choice plan self.old.intake.head text (I.tape input.new) begun (O.tape output.new) fault) }
     {
         for step in run.plan.steps {
             self.step(run, core, step, input, output)?;
@@ -535,7 +547,7 @@ impl<P: Spread> Stage<P> {
 }
 
 /// Runs the steps over the records after a file header, record by record.
-pub(crate) fn play_records<C: Core, P: Spread, I: Source, O: Sink>(
+pub(crate) fn play_records<C: Core, P: Spread, I: Source, O: Outlet>(
     run: &RunContext<'_, C::Setup>,
     core: &mut C,
     spread: P,
@@ -550,10 +562,13 @@ pub(crate) fn play_records<C: Core, P: Spread, I: Source, O: Sink>(
     requires workers { (C.cluster run.now.setup.now).workers ≤ 16 }
     requires cluster { (C.cluster run.now.setup.now).nodes ≡ length run.now.plan.nodes.now }
     requires orderly { Orderly (C.cluster run.now.setup.now) }
-    ensures over { IfOk result (λ p. IsOver (C.cluster run.now.setup.now) (P.choice spread) (planned run.now.plan) head (I.tape input.old) (I.tape input.new) (O.tape output.old) (O.tape output.new) p.play.trace p.packets p.ending) }
+    ensures over { let k = C.cluster run.now.setup.now in let plan = planned run.now.plan in
+        let read = I.tape input.old in let begun = O.tape output.old in
+        IfOk result (λ p. IsOver k (P.choice spread) plan head read (I.tape input.new) begun (O.tape output.new) p.play.trace p.packets p.ending) }
     ensures read { IfOk result (λ p. p.play.trace.read ≤ p.packets) }
     ensures stands { IfOk result (λ p. C.stands run.now.setup.now p.play.trace.past core.new) }
-    ensures short { IfErr result (λ fault. Shortened (C.cluster run.now.setup.now) (P.choice spread) (planned run.now.plan) head (I.tape input.old) (I.tape input.new) (O.tape output.old) (O.tape output.new) fault) }
+    ensures short { let k = C.cluster run.now.setup.now in let plan = planned run.now.plan in
+        IfErr result (λ fault. Shortened k (P.choice spread) plan head (I.tape input.old) (I.tape input.new) (O.tape output.old) (O.tape output.new) fault) }
 {
     let mut stage = Stage::make(run.alloc, run.plan, spread, head)?;
     stage.steps(run, core, input, output)?;

@@ -4,11 +4,11 @@ ghost use Rattle.cluster_node.specs.declared.packets.Packet.{Packet};
 ghost use Rattle.cluster_node.specs.Records.{WasRead};
 
 use crate::dice::Dice;
+use backend_names::{Name, TableSize, Weight};
 use cluster_core::Setup;
 use cluster_node::{Cause, Packet};
 use five_tuple::Flow;
 use hash_laws::Fnv;
-use maglev_table::{Name, TableSize, Weight};
 use pool_versions::{Backend, Catalogue, Member, Service, Version};
 use selection::Scheme;
 use std::alloc::{AllocError, Global};

@@ -52,7 +52,7 @@ fn node_at(live: &[u16], number: u64) -> Option<u16>
 }
 
 /// Spreads packets in turn over the live nodes.
-#[derive(Drop)]
+#[derive(Debug, Drop)]
 pub struct TurnSpread {
     live: Vec<u16>,
 }
@@ -95,7 +95,7 @@ impl Spread for TurnSpread {
 }
 
 /// Spreads flows by their hash over the live nodes. A packet without a flow goes by turn.
-#[derive(Drop)]
+#[derive(Debug, Drop)]
 pub struct HashSpread<H: FlowHash> {
     hash: H,
     live: Vec<u16>,

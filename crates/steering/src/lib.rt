@@ -37,7 +37,7 @@ pub fn home<H: FlowHash>(hash: &H, flow: &Flow, workers: u16) -> u16
 }
 
 /// Chooses a worker for each packet of a node, in one life of the node.
-#[derive(Drop)]
+#[derive(Debug, Drop)]
 pub struct Steerer {
     workers: u16,
     cursor: u16,

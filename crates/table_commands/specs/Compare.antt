@@ -4,7 +4,7 @@ use Rattle.std.specs.List.{flat_map, range_with_len}
 use Rattle.std.specs.Fmt.{decimal}
 use Rattle.hash_laws.specs.declared.any.AnyHash.{AnyHash}
 use Rattle.hash_laws.specs.Any.{hash_of_word, plain_of}
-use Rattle.maglev_table.specs.Sizes.{is_table_size}
+use Rattle.backend_names.specs.Sizes.{is_table_size}
 use Rattle.pool_versions.specs.declared.backend.Backend.{Backend}
 use Rattle.pool_versions.specs.declared.backend.Member.{Member}
 use Rattle.pool_versions.specs.Pool.{has_double, same_name}

@@ -5,7 +5,7 @@ use Rattle.hash_laws.specs.declared.any.AnyHash.{AnyHash}
 use Rattle.hash_laws.specs.Any.{hash_of_word, plain_of}
 use Rattle.hex.specs.Hex.{decode_of}
 use Rattle.hex.specs.declared.FromHexError.{FromHexError}
-use Rattle.maglev_table.specs.Sizes.{is_table_size}
+use Rattle.backend_names.specs.Sizes.{is_table_size}
 use Rattle.ip_headers.specs.declared.Link.TheVariants.{Ipv4}
 use Rattle.five_tuple.specs.declared.Flow.{Flow}
 use Rattle.cluster_node.specs.declared.packets.Packet.{Packet}

@@ -3,7 +3,7 @@ use Rattle.std.specs.Prelude.{◌≡◌, ◌<◌, ◌≤◌, ℕ, Bool, true, fa
 use Rattle.std.specs.List.{list_all, IsDistinct}
 use Rattle.std.specs.Str.{bytes_eq}
 use Rattle.hash_laws.specs.Any.{hash_of_word}
-use Rattle.maglev_table.specs.Sizes.{is_table_size}
+use Rattle.backend_names.specs.Sizes.{is_table_size}
 use Rattle.maglev_texts.specs.Parsing.{before_star, weighed_name_of}
 use Rattle.command_faults.specs.declared.fault.CliFault.{CliFault}
 use Rattle.command_faults.specs.declared.fault.CliFault.TheVariants.{BadSize, BadHash, BadName, DoubleName, TooMany, Write, Memory}

@@ -8,9 +8,9 @@ ghost use Rattle.table_commands.specs.Compare.{IsCompareText, IsCompareTextOf, L
 
 use super::compare_text::compare_text_of;
 use super::members::lists_in;
+use backend_names::TableSize;
 use command_faults::{CliFault, put_text};
 use hash_laws::AnyHash;
-use maglev_table::TableSize;
 use pcap_file::Sink;
 use pool_versions::{Member, Service, backends_of, weights_of};
 use selection::{Maglev, MaglevTable};
@@ -69,6 +69,24 @@ fn text_for(
     }
 }
 
+// The same for the size and the hash that a command line names.
+fn text_of(alloc: Global, size: u32, hash: &str, old: &str, new: &str) -> Result<String, CliFault>
+    ensures text { IfOk result (λ s. IsCompareTextOf hash.now size old.now new.now (string_bytes s)) }
+    ensures fault { IfErr result (λ fault. CompareFails fault size hash.now old.now new.now) }
+    ensures unwritten { IfErr result (λ fault. fault ≢ CliFault.Write) }
+{
+    let Some(size) = TableSize::new(size) else {
+        return Err(CliFault::BadSize);
+    };
+    let Some(hash) = AnyHash::of_word(hash) else {
+        return Err(CliFault::BadHash);
+    };
+    match text_for(alloc, size, &hash, old, new) {
+        Ok(text) => Ok(text),
+        Err(fault) => Err(fault),
+    }
+}
+
 /// The command `compare`: writes the slots whose backend changes where the members `old` are replaced by `new`.
 ///
 /// Each list is one or more member words, joined by single spaces. A word is `NAME@ADDRESS`, then `*W` unless the weight is
@@ -87,13 +105,7 @@ pub fn compare<S: Sink>(
     ensures silent { IfErr result (λ fault. fault ≢ CliFault.Write → out.new ≡ out.old) }
     ensures fault { IfErr result (λ fault. CompareFails fault size hash.now old.now new.now) }
 {
-    let Some(size) = TableSize::new(size) else {
-        return Err(CliFault::BadSize);
-    };
-    let Some(hash) = AnyHash::of_word(hash) else {
-        return Err(CliFault::BadHash);
-    };
-    let text = match text_for(alloc, size, &hash, old, new) {
+    let text = match text_of(alloc, size, hash, old, new) {
         Ok(text) => text,
         Err(fault) => return Err(fault),
     };

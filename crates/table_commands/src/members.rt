@@ -2,8 +2,8 @@ ghost use Rattle.std.specs.Prelude.{◌≢◌, ◌≡◌, map, Some, IfOk, IfErr
 ghost use Rattle.maglev_texts.specs.Parsing.{weighed_member_of};
 ghost use Rattle.table_commands.specs.Compare.{AreMembers, AreLists, AreGood, WordsAreOther, MembersFail, ListsFail, is_long};
 
+use backend_names::TableSize;
 use command_faults::CliFault;
-use maglev_table::TableSize;
 use maglev_texts::{pieces, weighed_member};
 use pool_versions::{MOST_MEMBERS, Member, has_double_name};
 use std::alloc::Global;

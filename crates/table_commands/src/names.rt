@@ -1,14 +1,15 @@
-ghost use Rattle.std.specs.Prelude.{◌≡◌, [], ◌<◌, ◌≢◌, map, length, IfOk, IfErr, OnOk, true};
+ghost use Rattle.std.specs.Prelude.{◌≡◌, [], ◌<◌, ◌≢◌, map, length, slice_index_or, IfOk, IfErr, OnOk, true};
 ghost use Rattle.std.specs.List.{list_all};
 ghost use Rattle.table_entrants.specs.Ranking.{names_of, IsRanked};
-ghost use Rattle.table_commands.specs.Text.{weighed_in, entrant_at, entrants_of, name_at};
+ghost use Rattle.table_commands.specs.Text.{weighed_in, entrants_of, name_at};
 ghost use Rattle.table_commands.specs.Refusals.{is_word, NamesFail, WordsFail, AreNames, AreFew};
 
+use backend_names::{Name, TableSize};
 use command_faults::CliFault;
-use maglev_table::{Name, Table, TableSize};
+use maglev_table::Table;
 use maglev_texts::{WeighedName, weighed_name};
 use std::alloc::{AllocError, Global};
-use table_entrants::{Entrant, OrderFault, in_order};
+use table_entrants::{Entrant, OrderFault, enter, in_order};
 
 fn is_name_word(word: &str) -> bool
     ensures { result ≡ is_word word.now }
@@ -36,17 +37,12 @@ fn name_of(word: &str) -> WeighedName
     weighed_name(word.as_bytes()).unwrap()
 }
 
-fn entrant_at(words: &[&str], place: usize) -> Entrant
+fn weighed_at(words: &[&str], place: usize) -> WeighedName
     requires names { list_all is_word (map (λ w. w.now) words.now) ≡ true }
     requires place { place < length words.now }
-    ensures { result ≡ entrant_at (map (λ w. w.now) words.now) place }
+    ensures { result ≡ weighed_in (slice_index_or (map (λ w. w.now) words.now) place []) }
 {
-    let WeighedName { name, weight } = name_of(words[place]);
-    Entrant {
-        name,
-        weight,
-        place,
-    }
+    name_of(words[place])
 }
 
 fn entrants_of(alloc: Global, words: &[&str]) -> Result<Vec<Entrant>, AllocError>
@@ -55,7 +51,8 @@ fn entrants_of(alloc: Global, words: &[&str]) -> Result<Vec<Entrant>, AllocError
 {
     let mut entrants = Vec::with_capacity(alloc, words.len())?;
     for place in 0..words.len() {
-        entrants.push(entrant_at(words, place))?;
+        let WeighedName { name, weight } = weighed_at(words, place);
+        enter(&mut entrants, name, weight)?;
     }
     Ok(entrants)
 }

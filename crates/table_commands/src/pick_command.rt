@@ -6,13 +6,13 @@ ghost use Rattle.table_commands.specs.Refusals.{AreFew, IsTableWork};
 ghost use Rattle.table_commands.specs.Pick.{longest, without_newline, IsHexOf, found_line, pick_line, HexFails, InputFails, IsPickLine, IsPickLineOf, IsShort, PickFailsWith, PickFails};
 
 use super::names::{name_at, names_for};
+use backend_names::TableSize;
 use cluster_core::{Packet, read_packet};
 use command_faults::{CliFault, put_text};
 use five_tuple::Flow;
 use hash_laws::{AnyHash, FlowHash};
 use hex::FromHexError;
 use ip_headers::Link;
-use maglev_table::TableSize;
 use maglev_texts::FlowText;
 use pcap_file::{Sink, Source, fill};
 use run_report::CauseText;
@@ -161,6 +161,34 @@ fn line_for<R: Source>(
     }
 }
 
+// The same for the size and the hash that a command line names.
+fn line_by<R: Source>(
+    alloc: Global,
+    size: u32,
+    hash: &str,
+    check: bool,
+    words: &[&str],
+    input: &mut R,
+) -> Result<String, CliFault>
+    ensures line { IfOk result (λ s. IsPickLineOf hash.now size (map (λ w. w.now) words.now) check (R.tape input.old).bytes (string_bytes s)) }
+    ensures accepted { OnOk result (IsTableWork size hash.now (map (λ w. w.now) words.now) × IsShort (R.tape input.old).bytes) }
+    ensures unfailed { OnOk result (Unfailed (R.tape input.old) (R.tape input.new)) }
+    ensures read { IfErr result (λ fault. fault ≡ CliFault.Read → ReadRefused (longest + 1) (R.tape input.old) (R.tape input.new)) }
+    ensures fault { IfErr result (λ fault. PickFails fault size hash.now (map (λ w. w.now) words.now) (R.tape input.old).bytes) }
+    ensures unwritten { IfErr result (λ fault. fault ≢ CliFault.Write) }
+{
+    let Some(size) = TableSize::new(size) else {
+        return Err(CliFault::BadSize);
+    };
+    let Some(hash) = AnyHash::of_word(hash) else {
+        return Err(CliFault::BadHash);
+    };
+    match line_for(alloc, size, &hash, check, words, input) {
+        Ok(line) => Ok(line),
+        Err(fault) => Err(fault),
+    }
+}
+
 /// The command `pick`: reads one IPv4 datagram as hexadecimal text. It writes its flow, the flow's slot and the backend that
 /// the slot names, or why the datagram is dropped.
 ///
@@ -184,13 +212,7 @@ pub fn pick<R: Source, S: Sink>(
     ensures silent { IfErr result (λ fault. fault ≢ CliFault.Write → out.new ≡ out.old) }
     ensures fault { IfErr result (λ fault. PickFails fault size hash.now (map (λ w. w.now) words.now) (R.tape input.old).bytes) }
 {
-    let Some(size) = TableSize::new(size) else {
-        return Err(CliFault::BadSize);
-    };
-    let Some(hash) = AnyHash::of_word(hash) else {
-        return Err(CliFault::BadHash);
-    };
-    let line = match line_for(alloc, size, &hash, check, words, input) {
+    let line = match line_by(alloc, size, hash, check, words, input) {
         Ok(line) => line,
         Err(fault) => return Err(fault),
     };

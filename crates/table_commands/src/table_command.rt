@@ -6,9 +6,9 @@ ghost use Rattle.table_commands.specs.Refusals.{AreFew, TableFails, WordsFail, I
 
 use super::names::names_for;
 use super::table_text::table_text_of;
+use backend_names::TableSize;
 use command_faults::{CliFault, put_text};
 use hash_laws::AnyHash;
-use maglev_table::TableSize;
 use pcap_file::Sink;
 use std::alloc::Global;
 use table_entrants::table_of;
@@ -36,6 +36,25 @@ fn text_for(
     }
 }
 
+// The same for the size and the hash that a command line names.
+fn text_of(alloc: Global, size: u32, hash: &str, words: &[&str]) -> Result<String, CliFault>
+    ensures text { IfOk result (λ s. IsTableTextOf hash.now size (map (λ w. w.now) words.now) (string_bytes s)) }
+    ensures accepted { OnOk result (IsTableWork size hash.now (map (λ w. w.now) words.now)) }
+    ensures fault { IfErr result (λ fault. TableFails fault size hash.now (map (λ w. w.now) words.now)) }
+    ensures unwritten { IfErr result (λ fault. fault ≢ CliFault.Write) }
+{
+    let Some(size) = TableSize::new(size) else {
+        return Err(CliFault::BadSize);
+    };
+    let Some(hash) = AnyHash::of_word(hash) else {
+        return Err(CliFault::BadHash);
+    };
+    match text_for(alloc, size, &hash, words) {
+        Ok(text) => Ok(text),
+        Err(fault) => Err(fault),
+    }
+}
+
 /// The command `table`: writes which backend each slot of a table names, and how many slots each backend has.
 ///
 /// The words are the backends' names, in any order, each `NAME`, or `NAME*W` with a weight from 1 to 16. They take their
@@ -58,13 +77,7 @@ pub fn table<S: Sink>(
     ensures accepted { OnOk result (IsTableWork size hash.now (map (λ w. w.now) words.now)) }
     ensures fault { IfErr result (λ fault. TableFails fault size hash.now (map (λ w. w.now) words.now)) }
 {
-    let Some(size) = TableSize::new(size) else {
-        return Err(CliFault::BadSize);
-    };
-    let Some(hash) = AnyHash::of_word(hash) else {
-        return Err(CliFault::BadHash);
-    };
-    let text = match text_for(alloc, size, &hash, words) {
+    let text = match text_of(alloc, size, hash, words) {
         Ok(text) => text,
         Err(fault) => return Err(fault),
     };

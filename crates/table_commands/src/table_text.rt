@@ -4,7 +4,8 @@ ghost use Rattle.table_entrants.specs.Ranking.{names_of};
 ghost use Rattle.table_commands.specs.Text.{slot_line, count_line, head_line, slot_lines, counts_text, table_text};
 
 use super::names::name_at;
-use maglev_table::{Name, Table, TableSize};
+use backend_names::{Name, TableSize};
+use maglev_table::Table;
 use std::alloc::{AllocError, Global};
 use table_entrants::Entrant;
 

@@ -1,5 +1,5 @@
 -- Names in order of bytes.
-use Rattle.std.proofs.Common.{rules, subst, ◌&&◌, IsPermutation, ◌≡◌, ℕ, zero, suc, ◌+◌, ◌-◌, ◌<◌, ◌≤◌, ◌≢◌, ◌==◌, Bool, true, false, not, ⊎_elim, Ordering, Less, Equal, Greater, refl, sym, ◌∙◌, ap, arith, add-one, List, [], ◌∷◌, map, length, get_or}
+use Rattle.std.proofs.Common.{rules, subst, ◌&&◌, IsPermutation, ◌≡◌, ℕ, zero, suc, ◌+◌, ◌-◌, ◌<◌, ◌≤◌, ◌≢◌, ◌==◌, Bool, true, false, not, ⊎_elim, Ordering, Less, Equal, Greater, refl, sym, ◌∙◌, ap, arith, add-one, List, [], ◌∷◌, ◌++◌, map, length, get_or}
 use denote.Param.Members.{Mut}
 use denote.Ref.{Bor}
 use Rattle.std.specs.Cmp.{IsStrictWeakOrder}
@@ -17,8 +17,8 @@ use Rattle.std.proofs.lemmas.List.{get_or-map, length-map, ext_get_or}
 use Rattle.std.proofs.lemmas.List.Sorted.{ranks_by, IsPermutation-map, IsPermutation-sym, length_permutation}
 use Rattle.std.proofs.lemmas.Map.Keys.{IsDistinct-from_sorted, IsDistinct-IsPermutation}
 use Rattle.std.proofs.lemmas.Map.Text.{is_eq-slice_cmp}
-use Rattle.std.proofs.lemmas.List.FromFn.{length-map-range_with_len, get_or-map-range_with_len}
-use Rattle.table_entrants.specs.Ranking.{names_of, IsRanked, AreDistinct}
+use Rattle.std.proofs.lemmas.List.FromFn.{length-map-range_with_len, get_or-map-range_with_len, map-range_with_len_more}
+use Rattle.table_entrants.specs.Ranking.{names_of, entered, entrants_by, IsRanked, AreDistinct}
 use Rattle.table_entrants.specs.declared.entrant.Entrant.{Entrant}
 
 abbrev pub nobody : Entrant
@@ -125,9 +125,27 @@ tie_step x y Greater e a b = let r : slice_cmp nat_cmp y x ≡ Less = nat_list_c
 tie : (x y : List ℕ) → is_lt (slice_cmp nat_cmp y x) ≡ false → slice_cmp nat_cmp x y ≢ Less → x ≡ y
 tie x y a b = tie_step x y (slice_cmp nat_cmp x y) refl a b
 
+-- the name at a place, with its weight and its place
+abbrev entrant_by : (ℕ → List ℕ) → (ℕ → ℕ) → ℕ → Entrant
+entrant_by name weight i = record { name = name i; weight = weight i; place = i }
+
+-- one more name is entered behind those before it
+pub one_entered : (name : ℕ → List ℕ) (weight : ℕ → ℕ) (n : ℕ) (es new : List Entrant) (a : List ℕ) (w : ℕ) → es ≡ entrants_by name weight n → new ≡ entered es a w → a ≡ name n → w ≡ weight n
+    → new ≡ entrants_by name weight (n + 1)
+one_entered name weight n es new a w held made ea ew =
+    let f = entrant_by name weight in
+    let many : length es ≡ n = ap length held ∙ length-map-range_with_len f 0 n in
+    let one : record { name = a; weight = w; place = length es } ≡ f n = rw (ea, ew, many) refl in
+    made ∙ ap (λ (e : Entrant). es ++ e ∷ []) one ∙ ap (λ (xs : List Entrant). xs ++ f n ∷ []) held ∙ sym (map-range_with_len_more f 0 n n (omega arith))
+
+-- so many as were given
+pub many_given : (name : ℕ → List ℕ) (weight : ℕ → ℕ) (n : ℕ) → length (entrants_by name weight n) ≡ n
+many_given name weight n = length-map-range_with_len (entrant_by name weight) 0 n
+
 -- names that are numbered in turn
-pub named_in_turn : (f : ℕ → Entrant) (n : ℕ) (names : List (List ℕ)) → length names ≡ n → ((i : ℕ) → i < n → (f i).name ≡ get_or names i []) → names_of (map f (range_with_len 0 n)) ≡ names
-named_in_turn f n names len each =
+pub named_in_turn : (name : ℕ → List ℕ) (weight : ℕ → ℕ) (n : ℕ) (names : List (List ℕ)) → length names ≡ n → ((i : ℕ) → i < n → name i ≡ get_or names i []) → names_of (entrants_by name weight n) ≡ names
+named_in_turn name weight n names len each =
+    let f = entrant_by name weight in
     let es : List Entrant = map f (range_with_len 0 n) in
     let many : length es ≡ n = length-map-range_with_len f 0 n in
     let all : length (names_of es) ≡ length es = length-map es (λ (e : Entrant). e.name) in

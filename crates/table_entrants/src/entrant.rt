@@ -2,7 +2,7 @@
 ghost use Rattle.std.specs.Prelude.{◌≡◌};
 ghost use Rattle.table_entrants.specs.declared.entrant.OrderFault.TheVariants.{Memory};
 
-use maglev_table::{Name, Weight};
+use backend_names::{Name, Weight};
 use std::alloc::AllocError;
 
 /// A name, its weight, and its place among the names as they were given.
@@ -10,7 +10,7 @@ use std::alloc::AllocError;
 pub struct Entrant {
     pub name: Name,
     pub weight: Weight,
-    pub place: usize,
+    pub place: u32,
 }
 
 /// Why names aren't put in order.

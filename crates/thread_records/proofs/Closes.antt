@@ -176,12 +176,13 @@ close_more rules packets w left hs at h j d fit below within is known next =
     (closes_serve rules packets w left (newest_first (take at hs)) j d h below here fits)
 
 pub served_refl : (j : JournalView) → IsServed j j
-served_refl j = record { node = refl; ring = refl; installed = refl; placed = refl; commands = refl; lost = refl }
+served_refl j = record { node = refl; ring = refl; newest = refl; installed = refl; placed = refl; commands = refl; lost = refl }
 
 pub served_more : (j k after : JournalView) (w : ℕ) (h : Handled) → after ≡ with_serve w h k → IsServed j k → IsServed j after
 served_more j k after w h e s = record {
   node = ap (λ (v : JournalView). v.node) e ∙ s.node;
   ring = ap (λ (v : JournalView). v.ring) e ∙ s.ring;
+  newest = ap (λ (v : JournalView). v.newest) e ∙ s.newest;
   installed = ap (λ (v : JournalView). v.installed) e ∙ s.installed;
   placed = ap (λ (v : JournalView). v.placed) e ∙ s.placed;
   commands = ap (λ (v : JournalView). commands_of v.events) e ∙ commands_serve k.events k.node w h.version h.unstored ∙ s.commands;
@@ -189,7 +190,7 @@ served_more j k after w h e s = record {
 }
 
 pub served_both : (j k l : JournalView) → IsServed j k → IsServed k l → IsServed j l
-served_both j k l a b = record { node = b.node ∙ a.node; ring = b.ring ∙ a.ring; installed = b.installed ∙ a.installed; placed = b.placed ∙ a.placed; commands = b.commands ∙ a.commands; lost = b.lost ∙ a.lost }
+served_both j k l a b = record { node = b.node ∙ a.node; ring = b.ring ∙ a.ring; newest = b.newest ∙ a.newest; installed = b.installed ∙ a.installed; placed = b.placed ∙ a.placed; commands = b.commands ∙ a.commands; lost = b.lost ∙ a.lost }
 
 pub commands_restart : (j k after : JournalView) (left : ℕ) → after ≡ with_restart left k → IsServed j k → commands_of after.events ≡ commands_of j.events ++ commands.Restart ∷ []
 commands_restart j k after left e s = ap (λ (v : JournalView). commands_of v.events) e ∙ commands_append k.events (Restart k.node ∷ []) ∙ ap (λ (l : List Command). l ++ commands.Restart ∷ []) s.commands

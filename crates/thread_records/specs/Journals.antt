@@ -150,6 +150,7 @@ AllFitIn rules hss = (w : ℕ) → w < length hss → AllFit rules (slice_index_
 pub record IsServed (j k : JournalView) : Type 0 where
   pub node : k.node ≡ j.node
   pub ring : k.ring ≡ j.ring
+  pub newest : k.newest ≡ j.newest
   pub installed : k.installed ≡ j.installed
   pub placed : k.placed ≡ j.placed
   pub commands : commands_of k.events ≡ commands_of j.events

@@ -232,6 +232,7 @@ impl Journal {
         ensures arrives { IfOk result (λ o. ArrivesAs (slice_get packets.now packet) o) }
         ensures event { OnOk result ((marks : List Bool) × (self.new.events ≡ self.old.events ++ Arrive self.old.node packet marks ∷ [])) }
         ensures kept { OnOk result ((self.new.node ≡ self.old.node) × (self.new.ring ≡ self.old.ring)) }
+        ensures newest { OnOk result (self.new.newest ≡ self.old.newest) }
     {
         match packet_at(packets, packet) {
             None => self.write_unsteered(packet, Outcome::Refused(Reason::NoPacket)),
@@ -269,6 +270,7 @@ impl Journal {
         ensures told { IfOk result (λ o. self.new.outcomes ≡ self.old.outcomes ++ o ∷ []) }
         ensures arrives { IfOk result (λ o. ArrivesAs (slice_get packets.now packet) o) }
         ensures kept { OnOk result ((self.new.node ≡ self.old.node) × (self.new.ring ≡ self.old.ring)) }
+        ensures newest { OnOk result (self.new.newest ≡ self.old.newest) }
     {
         self.write_arrival(hash, packets, packet, rings)
     }
@@ -303,15 +305,14 @@ impl Journal {
             commands_of self.events ≡ map as_written cs → KeepDrained (drained_lives cs) (losses self.outcomes) →
             IfOk result (λ r. IsRunOf rules packets self.node self.ring cs r) }
     {
-        let early = self.early;
+        if self.refused_early() {
+            return Err(LifeFault::RingLost);
+        }
         let Journal {
             events,
             outcomes,
             ..
         } = self;
-        if early {
-            return Err(LifeFault::RingLost);
-        }
         if !merged(sent.as_slice(), outcomes.as_slice()) {
             return Err(LifeFault::RingLost);
         }

@@ -3,9 +3,9 @@ ghost use Rattle.std.specs.Prelude.{◌≡◌, ◌↔◌, IfOk, IsTrue};
 ghost use Rattle.cluster_core.specs.Setups.{Fixed};
 ghost use Rattle.thread_records.specs.Sources.{MadeOf, IsMadeOf, IsFrom};
 
+use backend_names::TableSize;
 use cluster_core::Setup;
 use hash_laws::FlowHash;
-use maglev_table::TableSize;
 use pool_versions::{Catalogue, Version};
 use selection::{PreparedVersion, Scheme};
 use std::alloc::AllocError;

@@ -1,3 +1,4 @@
 pub mod Counting
 pub mod Goes
 pub mod Taking
+pub mod Showing

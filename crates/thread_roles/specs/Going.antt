@@ -50,28 +50,36 @@ pub record IsEnded (rules : Rules) (packets : List Packet) (commands : List Comm
   pub next : stop < length commands → Going rules packets (take (stop + 1) commands) n places j
   pub last : length commands ≤ stop → IsLast rules packets commands n places j
 
--- a life may begin at a place of the commands: those before it were obeyed, and unless a count was lost the shares have what
--- the journal's outcomes come to
-pub record Begins (rules : Rules) (packets : List Packet) (commands : List Command) (n places start : ℕ) (j : JournalView) (lost : Bool) (shares : Counted) : Type 0 where
-  pub within : start ≤ length commands
-  pub going : Going rules packets (take start commands) n places j
-  pub some : 0 < shares.parts
-  pub counts : AreRead packets → Counts lost shares j.outcomes
-
--- one life of a node as contracts see it: what its threads share, the place of its first command, and the parts of the
--- counts that are left to its driver
-pub record LifeView (S H : Type 0) : Type 0 where
+-- what a node is asked to do, and in which cluster
+pub record Asked (S H : Type 0) : Type 0 where
   pub setup : Fixed S H
   pub catalogue : Pools
   pub packets : List Packet
-  pub commands : List Command
   pub node : ℕ
   pub ring : ℕ
+  pub commands : List Command
+
+abbrev pub asked_of : {S H : Type 0} → Fixed S H → Pools → List Packet → ℕ → ℕ → List Command → Asked S H
+asked_of setup pools packets node ring commands = record { setup = setup; catalogue = pools; packets = packets; node = node; ring = ring; commands = commands }
+
+-- a life may begin at a place of the commands: those before it were obeyed, and unless a count was lost the shares have what
+-- the journal's outcomes come to
+pub record Begins {S H : Type 0} (rules : Rules) (asked : Asked S H) (start : ℕ) (j : JournalView) (lost : Bool) (shares : Counted) : Type 0 where
+  pub within : start ≤ length asked.commands
+  pub going : Going rules asked.packets (take start asked.commands) asked.node asked.ring j
+  pub some : 0 < shares.parts
+  pub counts : AreRead asked.packets → Counts lost shares j.outcomes
+
+-- one life of a node as contracts see it: what the node is asked to do, the place of the life's first command, the parts of the
+-- counts that are left to its driver, and the number of the version that was installed last
+pub record LifeView (S H : Type 0) : Type 0 where
+  pub asked : Asked S H
   pub start : ℕ
   pub parts : ℕ
+  pub newest : ℕ
 
 -- a life ended, with shares of so many parts that have what the journal's outcomes come to then
-pub record IsLived (rules : Rules) (packets : List Packet) (commands : List Command) (n places start parts stop : ℕ) (j : JournalView) (lost : Bool) (shares : Counted) : Type 0 where
-  pub ended : IsEnded rules packets commands n places start stop j
+pub record IsLived {S H : Type 0} (rules : Rules) (asked : Asked S H) (start parts stop : ℕ) (j : JournalView) (lost : Bool) (shares : Counted) : Type 0 where
+  pub ended : IsEnded rules asked.packets asked.commands asked.node asked.ring start stop j
   pub parts_are : shares.parts ≡ parts
-  pub counts : AreRead packets → Counts lost shares j.outcomes
+  pub counts : AreRead asked.packets → Counts lost shares j.outcomes

@@ -1,5 +1,7 @@
 //! What the driver does in one life.
-ghost use Rattle.std.specs.Prelude.{◌≡◌, ◌≤◌, ◌<◌, ◌++◌, ◌∷◌, [], ℕ, Bool, false, List, Some, take, length, IfOk, OnOk, is_some, slice_get};
+ghost use Rattle.std.specs.Prelude.{◌≡◌, ◌≤◌, ◌<◌, ◌++◌, ◌∷◌, [], ℕ, Bool, true, false, List, Some, take, length, IfOk, IfErr, OnOk, MatchResult, is_some, slice_get};
+ghost use Rattle.std.specs.Arc.{arc_value};
+ghost use Rattle.version_board.specs.Seats.{published_by};
 ghost use Rattle.pool_versions.specs.Pool.{version_at};
 ghost use Rattle.cluster_core.specs.Setups.{Fixed, rules_for};
 ghost use Rattle.cluster_node.specs.declared.packets.Packet.{Packet};
@@ -9,6 +11,8 @@ ghost use Rattle.thread_records.specs.Journals.{JournalView};
 ghost use Rattle.stats_book.specs.Counts.{Counted};
 ghost use Rattle.thread_roles.specs.Counts.{AreRead, Counts, with_came, with_drop};
 ghost use Rattle.thread_roles.specs.Going.{Going, IsDriven, stops};
+ghost use Rattle.thread_roles.specs.Shown.{number_of, last_published};
+ghost use Rattle.thread_roles.specs.declared.fault.RunFault.TheVariants.{Memory};
 
 use crate::fault::RunFault;
 use crate::gate::Gate;
@@ -33,14 +37,19 @@ fn knows(catalogue: &Catalogue, number: u32) -> bool
     catalogue.get(number).is_some()
 }
 
-// A version that was installed is prepared after the newest one, and shown to the workers.
+// A version that was installed is prepared after the newest one, and shown to the workers. Of one that the catalogue has, and
+// that is above the last one published, only Memory is answered.
 fn show_next<S: Scheme, H: FlowHash, G: Gate, B: Names, R: Wait + Drop>(
     alloc: Global,
     plan: NodePlan<'_, S, H, G, B>,
     desk: &mut Desk<'_, S, R>,
     newest: &mut Option<Shared<S>>,
     number: u32,
-) -> Result<(), RunFault> {
+) -> Result<(), RunFault>
+    ensures published { OnOk result (published_by desk.new.seat ≡ published_by desk.old.seat ++ number ∷ []) }
+    ensures newest { OnOk result (number_of arc_value newest.new ≡ number) }
+    ensures newer { is_some (version_at number plan.entry.catalogue.now.versions) ≡ true → last_published desk.old.seat < number → IfErr result (λ fault. fault ≡ Memory) }
+{
     // Only a version that the catalogue has is installed.
     let Some(version) = plan.catalogue.get(number) else {
         return Err(RunFault::Foreign);
@@ -52,7 +61,8 @@ fn show_next<S: Scheme, H: FlowHash, G: Gate, B: Names, R: Wait + Drop>(
     Ok(())
 }
 
-// A version is installed, and then prepared and shown. One that isn't installed is neither.
+// A version is installed, and then prepared and shown. One that isn't installed is neither. Where the board has the number
+// of the version installed last, it has it afterwards, and nothing but Memory is answered.
 fn publish<S: Scheme, H: FlowHash, G: Gate, B: Names, R: Wait + Drop>(
     alloc: Global,
     plan: NodePlan<'_, S, H, G, B>,
@@ -64,6 +74,8 @@ fn publish<S: Scheme, H: FlowHash, G: Gate, B: Names, R: Wait + Drop>(
     ensures going { let rules = rules_for (λ s z. S.pick s z) (λ h. H.plain h) plan.entry.setup.now plan.entry.catalogue.now in
         (packets : List Packet) (cs : List Command) (n : ℕ) (places : ℕ) → Going rules packets cs n places journal.old → OnOk result (Going rules packets (cs ++ Publish number ∷ []) n places journal.new) }
     ensures counts { (lost : Bool) (shares : Counted) → Counts lost shares journal.old.outcomes → OnOk result (Counts lost shares journal.new.outcomes) }
+    ensures published { last_published desk.old.seat ≡ journal.old.newest → MatchResult result (λ _. last_published desk.new.seat ≡ journal.new.newest) (λ fault. fault ≡ Memory) }
+    ensures newest { number_of arc_value newest.old ≡ journal.old.newest → OnOk result (number_of arc_value newest.new ≡ journal.new.newest) }
 {
     let _ = plan.setup.workers();
     match journal.install(knows(plan.catalogue, number), number) {
@@ -124,6 +136,8 @@ fn offer<S: Scheme, H: FlowHash, G, B: Names, R: Wait>(
         (cs : List Command) (n : ℕ) (places : ℕ) → Going rules plan.entry.packets.now cs n places journal.old → OnOk result (Going rules plan.entry.packets.now (cs ++ Offer packet ∷ []) n places journal.new) }
     ensures parts { tally.new.shares.parts ≡ tally.old.shares.parts }
     ensures counts { AreRead plan.entry.packets.now → Counts tally.old.lost tally.old.shares journal.old.outcomes → OnOk result (Counts tally.new.lost tally.new.shares journal.new.outcomes) }
+    ensures newest { OnOk result (journal.new.newest ≡ journal.old.newest) }
+    ensures fault { IfErr result (λ fault. fault ≡ Memory) }
 {
     let _ = plan.catalogue.size();
     count_arrival(rt, plan.book, tally, plan.packets, packet);
@@ -152,7 +166,8 @@ fn command_at(commands: &[Command], at: usize) -> Command
 }
 
 /// Obeys the commands from one place on, up to one that ends the life or the end of the list. A version is prepared when it
-/// is installed, after the newest one, and shown then.
+/// is installed, after the newest one, and shown then. Where the board has the number of the version installed last, only
+/// Memory is answered.
 pub fn drive<S: Scheme, H: FlowHash, G: Gate, B: Names, R: Wait, W: Wait + Drop>(
     rt: &R,
     alloc: Global,
@@ -168,6 +183,7 @@ pub fn drive<S: Scheme, H: FlowHash, G: Gate, B: Names, R: Wait, W: Wait + Drop>
     ensures driven { let rules = rules_for (λ s z. S.pick s z) (λ h. H.plain h) plan.entry.setup.now plan.entry.catalogue.now in IfOk result (λ d. IsDriven rules plan.entry.packets.now plan.entry.commands.now plan.entry.node plan.entry.ring progress.at d.at d.journal) }
     ensures parts { IfOk result (λ d. d.tally.shares.parts ≡ progress.tally.shares.parts) }
     ensures counts { AreRead plan.entry.packets.now → IfOk result (λ d. Counts d.tally.lost d.tally.shares d.journal.outcomes) }
+    ensures published { last_published desk.old.seat ≡ progress.journal.newest → MatchResult result (λ d. last_published desk.new.seat ≡ d.journal.newest) (λ fault. fault ≡ Memory) }
 {
     let Progress {
         journal,

@@ -1,6 +1,8 @@
 //! What all threads of a node's run share.
 ghost use Rattle.std.specs.Prelude.{◌≡◌, ◌<◌, ◌≤◌, ◌+◌, [], length};
+ghost use Rattle.std.specs.Arc.{arc_value};
 ghost use Rattle.thread_roles.specs.Counts.{counted};
+ghost use Rattle.thread_roles.specs.Shown.{number_of};
 
 use crate::live::Shared;
 use crate::tally::ThreadShares;
@@ -71,7 +73,7 @@ impl<'e, S: Scheme, H: FlowHash, G, B: Names> Clone for NodePlan<'e, S, H, G, B>
 
 impl<'e, S: Scheme, H: FlowHash, G, B: Names> Copy for NodePlan<'e, S, H, G, B> {}
 
-/// How far a node got in its commands.
+/// How far a node got in its commands. By its type the version that is prepared is the one that was installed last.
 #[derive(Drop)]
 pub struct Progress<S: Scheme, B: Names> {
     /// What its driver has written.
@@ -82,4 +84,5 @@ pub struct Progress<S: Scheme, B: Names> {
     pub at: usize,
     /// What was counted for what the driver has written.
     pub tally: ThreadShares<B>,
+    pub ghost prepared: { number_of arc_value newest ≡ journal.newest },
 }

@@ -5,6 +5,7 @@ ghost use Rattle.left_right.specs.Handles.{published};
 ghost use Rattle.version_board.specs.Numbers.{newest};
 ghost use Rattle.version_board.specs.Seats.{IsPublisherOf, IsWatcherOf, published_by, seen_by};
 ghost use Rattle.thread_records.specs.Steps.{MatchStep};
+ghost use Rattle.thread_roles.specs.Faults.{IsRefusal};
 ghost use Rattle.thread_roles.specs.Shown.{number_of};
 ghost use Rattle.thread_roles.specs.declared.fault.RunFault.TheVariants.{Memory};
 
@@ -74,6 +75,7 @@ impl<'a, S: Scheme> Post<'a, S> {
             (worker.new ≡ worker.old)) }
         ensures saw { (number : ℕ) × (self.new ≡ self.old ++ number ∷ []) × All (λ n. n ≤ number) self.old }
         ensures err { OnErr result (worker.new ≡ worker.old) }
+        ensures fault { IfErr result (λ fault. IsRefusal fault) }
     {
         let number = self.board.look(&mut self.seat);
         let Some(current) = self.reader.enter() else {
@@ -121,12 +123,15 @@ impl<'a, S: Scheme, R: Wait + Drop> Desk<'a, S, R> {
     /// The board's publisher.
     pub fn new(board: &'a WordBoard, seat: Publisher, stage: Stage<S, R>) -> Desk<'a, S, R>
         requires { IsPublisherOf board.now seat }
+        ensures { result.seat ≡ seat }
     {
         Desk { board, seat, stage }
     }
 
     /// Tells the workers to halt.
-    pub fn halt(&mut self) {
+    pub fn halt(&mut self)
+        ensures { published_by self.new.seat ≡ published_by self.old.seat }
+    {
         self.board.halt(&mut self.seat);
     }
 

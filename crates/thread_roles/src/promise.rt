@@ -1,7 +1,8 @@
 //! What a worker's thread promises.
-ghost use Rattle.std.specs.Prelude.{IfOk};
+ghost use Rattle.std.specs.Prelude.{MatchResult};
 ghost use Rattle.thread_records.specs.Works.{WorkView};
 ghost use Rattle.thread_roles.specs.Counts.{IsWork};
+ghost use Rattle.thread_roles.specs.Faults.{IsRefusal};
 
 use crate::fault::RunFault;
 use crate::tally::ThreadShares;
@@ -20,11 +21,12 @@ pub struct WorkerRun<S: Scheme, T: ConnTable, B: Names> {
     pub tally: ThreadShares<B>,
 }
 
-/// What a worker's thread promises: that it counted what it handled.
+/// What a worker's thread promises: that it counted what it handled, and else that memory was refused or what is shown couldn't
+/// be read.
 #[derive(Clone, Copy, Drop)]
 pub struct CountsOwn;
 
 impl<S: Scheme, T: ConnTable, B: Names> Promise<Result<WorkerRun<S, T, B>, RunFault>>
     for CountsOwn {
-    ghost kept_by = { λ p r. IfOk r (λ w. IsWork w.record w.tally.lost w.tally.shares) };
+    ghost kept_by = { λ p r. MatchResult r (λ w. IsWork w.record w.tally.lost w.tally.shares) (λ fault. IsRefusal fault) };
 }

@@ -6,7 +6,8 @@ use cluster_node::{Item, Outcome};
 use rtrb::{Producer, PushError};
 use std::hint::spin_loop;
 use std::sync::Wait;
-use std::thread::yield_now;
+use std::thread::{Parker, yield_now};
+use std::time::Duration;
 use thread_records::Rings;
 
 /// What a driver pushes to a worker.
@@ -27,29 +28,50 @@ pub enum Output {
     Close,
 }
 
-// How often an idle thread looks again before it gives its processor up.
+// How often an idle thread looks again at once, and how often it has looked when it goes to sleep.
 const SPINS: u32 = 64;
 
-/// A thread that has nothing to do: it spins for some turns, and from then on gives its processor up at each turn.
+const LOOKS: u32 = 128;
+
+// Microseconds of the first sleep of a thread that stays idle, and of the longest.
+const SHORTEST: u64 = 50;
+
+const LONGEST: u64 = 6_400;
+
+/// A thread that has nothing to do. It looks again at once for some turns, and for some more it gives its processor up
+/// meanwhile. From then on it sleeps at each turn, twice as long as at the one before. A sleep is about as long as the thread
+/// was idle until then, and at most 6.4 milliseconds. It ends by itself, so nobody has to wake the thread.
 #[derive(Drop)]
 pub struct Idle {
-    turns: u32,
+    looks: u32,
+    sleep: u64,
+    parker: Parker,
 }
 
 impl Idle {
     /// A thread that just had something to do.
     pub fn new() -> Idle {
-        Idle { turns: 0 }
+        Idle {
+            looks: 0,
+            sleep: SHORTEST,
+            parker: Parker::new(),
+        }
     }
 
     /// One turn.
-    pub fn wait(&mut self) {
-        if self.turns < SPINS {
-            self.turns += 1;
-            spin_loop();
-        } else {
-            yield_now();
+    pub fn wait<R: Wait>(&mut self, rt: &R) {
+        if self.looks < LOOKS {
+            self.looks += 1;
+            if self.looks <= SPINS {
+                spin_loop();
+            } else {
+                yield_now();
+            }
+            return;
         }
+        self.parker
+            .park_timeout(rt, Duration::from_micros(self.sleep));
+        self.sleep = LONGEST.min(self.sleep.saturating_mul(2));
     }
 }
 
@@ -64,7 +86,7 @@ pub fn push_waiting<T, R: Wait>(rt: &R, ring: &mut Producer<T>, item: T)
             Ok(()) => return,
             Err(PushError::Full(back)) => item = back,
         }
-        idle.wait();
+        idle.wait(rt);
     }
     unreachable!()
 }

@@ -1,7 +1,8 @@
 //! What a worker's thread does.
-ghost use Rattle.std.specs.Prelude.{◌≡◌, ◌<◌, ◌++◌, ◌∷◌, [], ℕ, IfOk, OnOk};
+ghost use Rattle.std.specs.Prelude.{◌≡◌, ◌<◌, ◌++◌, ◌∷◌, [], ℕ, IfOk, IfErr, OnOk, MatchResult};
 ghost use Rattle.thread_records.specs.Works.{WorkView};
 ghost use Rattle.thread_roles.specs.Counts.{IsWork};
+ghost use Rattle.thread_roles.specs.Faults.{IsRefusal};
 
 use crate::fault::RunFault;
 use crate::gate::Gate;
@@ -52,13 +53,14 @@ fn serve_one<S: Scheme, T: ConnTable, R: Wait>(
     worker: &mut WorkerRecord<S, T>,
     item: &Item,
 ) -> Result<Served, RunFault>
-    ensures { IfOk result (λ s. (version : ℕ) × (worker.new.handled ≡ worker.old.handled ++ record { item = item.now; version = version; choice = s.choice; unstored = s.unstored } ∷ [])) }
+    ensures served { IfOk result (λ s. (version : ℕ) × (worker.new.handled ≡ worker.old.handled ++ record { item = item.now; version = version; choice = s.choice; unstored = s.unstored } ∷ [])) }
+    ensures fault { IfErr result (λ fault. IsRefusal fault) }
 {
     let mut idle = Idle::new();
     for _ in rt.forever() {
         match post.handle(worker, item)? {
             Step::Done(served) => return Ok(served),
-            Step::Behind => idle.wait(),
+            Step::Behind => idle.wait(rt),
         }
     }
     unreachable!()
@@ -96,7 +98,8 @@ fn serve_gated<S: Scheme, H: FlowHash, T: ConnTable, G: Gate, B: Names, R: Wait>
     nth: u64,
 ) -> Result<(), RunFault>
     requires { 0 < run.old.tally.shares.parts }
-    ensures { IsWork run.old.record run.old.tally.lost run.old.tally.shares → OnOk result (IsWork run.new.record run.new.tally.lost run.new.tally.shares) }
+    ensures work { IsWork run.old.record run.old.tally.lost run.old.tally.shares → OnOk result (IsWork run.new.record run.new.tally.lost run.new.tally.shares) }
+    ensures fault { IfErr result (λ fault. IsRefusal fault) }
 {
     plan.gate.before(plan.node, ends.number, nth);
     let WorkerRun { record, tally } = run;
@@ -141,7 +144,7 @@ fn next<S: Scheme, R: Wait>(rt: &R, ends: &mut Ends<'_, S>) -> Option<Item> {
         match ends.ring.pop() {
             Ok(Message::Serve(item)) => return Some(item),
             Ok(Message::Close) => return None,
-            Err(_) => idle.wait(),
+            Err(_) => idle.wait(rt),
         }
     }
     unreachable!()
@@ -155,7 +158,7 @@ fn serve_all<S: Scheme, H: FlowHash, T: ConnTable, G: Gate, B: Names, R: Wait>(
     ends: &mut Ends<'_, S>,
     part: Part<B>,
 ) -> Result<WorkerRun<S, T, B>, RunFault>
-    ensures { IfOk result (λ w. IsWork w.record w.tally.lost w.tally.shares) }
+    ensures { MatchResult result (λ w. IsWork w.record w.tally.lost w.tally.shares) (λ fault. IsRefusal fault) }
 {
     let mut run: WorkerRun<S, T, B> = begin(alloc, plan, part)?;
     let mut nth = 0u64;
@@ -188,7 +191,7 @@ pub fn work<S: Scheme, H: FlowHash, T: ConnTable, G: Gate, B: Names, R: Wait>(
     plan: NodePlan<'_, S, H, G, B>,
     outfit: Outfit<'_, S, B>,
 ) -> Result<WorkerRun<S, T, B>, RunFault>
-    ensures { IfOk result (λ w. IsWork w.record w.tally.lost w.tally.shares) }
+    ensures { MatchResult result (λ w. IsWork w.record w.tally.lost w.tally.shares) (λ fault. IsRefusal fault) }
 {
     let Outfit {
         post,

@@ -1,5 +1,5 @@
+use backend_names::{Name, TableSize, Weight};
 use five_tuple::Flow;
-use maglev_table::{Name, TableSize, Weight};
 use pool_versions::{Backend, Catalogue, Member, PoolFault, Service, Version};
 use std::alloc::Global;
 use std::process::Abort;

@@ -5,11 +5,11 @@ ghost use Rattle.cluster_node.specs.Records.{WasRead};
 
 use super::{VIP, packet};
 use crate::checks::holds;
+use backend_names::{Name, TableSize, Weight};
 use cluster_core::Setup;
 use cluster_node::{Outcome, Packet};
 use connection_table::{LruTable, PlainTable};
 use hash_laws::SumHash;
-use maglev_table::{Name, TableSize, Weight};
 use node_threads::{ClusterRun, OpenGate, run_cluster};
 use pool_versions::{Backend, Catalogue, Member, Service, Version};
 use selection::Maglev;

@@ -1,10 +1,10 @@
 //! Reading frames, and what a setup refuses.
 use crate::checks::holds;
+use backend_names::TableSize;
 use cluster_core::{Cause, Packet, Setup, SetupFault, read_packet};
 use five_tuple::Flow;
 use hash_laws::SumHash;
 use ip_headers::Link;
-use maglev_table::TableSize;
 use selection::RoundRobin;
 use std::process::Abort;
 

@@ -3,10 +3,10 @@ use super::journals::{
     Act, Node, Reply, does, empty_queues, fresh_node, handles, same_told, setup_of, shared, told,
 };
 use super::{Row, Sums, catalogue, flow, forward, good, holds, packets, version};
+use backend_names::TableSize;
 use cluster_node::{Item, Outcome};
 use connection_table::{LruTable, PlainTable};
 use hash_laws::{AnyHash, SumHash};
-use maglev_table::TableSize;
 use selection::{Maglev, PreparedVersion};
 use std::alloc::Global;
 use std::process::Abort;

@@ -8,7 +8,7 @@ use Rattle.node_ends.proofs.end.Goals as goal
 pub returns-in-Ok-clause-ended : goal.returns-in-Ok-clause-ended
 returns-in-Ok-clause-ended g c = λ packets d.
     let rules : Rules = rules_for (λ s z. g.S.Scheme.pick s z) (λ h. g.H.FlowHash.plain h) c.args.setup.now c.args.catalogue.now in
-    let all = c.in_ok-compare.ensures in
+    let all = c.in_ok-compare.ensures.of in
     (c.in-Ok.ensures.tells rules packets d all, c.in-Ok.ensures.drained rules packets d all refl)
 
 pub returns-in-Ok-clause-counts : goal.returns-in-Ok-clause-counts

@@ -295,6 +295,7 @@ impl Journal {
         ensures drives { (rules : Rules) (packets : List Packet) → Drives rules packets self.old → All (λ w. IsOf (λ s z. S.pick s z) rules w) workers.now → OnOk result (Drives rules packets self.new) }
         ensures command { OnOk result (commands_of self.new.events ≡ commands_of self.old.events ++ Restart ∷ []) }
         ensures kept { OnOk result ((self.new.node ≡ self.old.node) × (self.new.ring ≡ self.old.ring)) }
+        ensures newest { OnOk result (self.new.newest ≡ self.old.newest) }
         ensures left { IfOk result (λ left. left ≡ left_over self.old.placed (all_handled workers.now) % 2 ^ 64) }
         ensures lost { IfOk result (λ left. (losses self.new.outcomes ≡ losses self.old.outcomes ++ left ∷ []) × LosesNone drained left) }
     {

@@ -1,6 +1,6 @@
 use Rattle.std.proofs.Common.{◌∙◌, sym}
 use Rattle.std.proofs.lemmas.List.Folds.{list_all-map}
-use Rattle.maglev_table.specs.NameText.{is_name}
+use Rattle.backend_names.specs.NameText.{is_name}
 use Rattle.maglev_ffi.proofs.entrants.are_names.Goals as goal
 
 pub returns : goal.returns

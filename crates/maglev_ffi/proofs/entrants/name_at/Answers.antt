@@ -1,5 +1,5 @@
 use Rattle.std.proofs.Common.{[], get_or}
-use Rattle.maglev_table.specs.NameText.{is_name}
+use Rattle.backend_names.specs.NameText.{is_name}
 use Rattle.table_entrants.proofs.Ranked.{all_named}
 use Rattle.maglev_ffi.proofs.Named.{is_made}
 use Rattle.maglev_ffi.proofs.entrants.name_at.Goals as goal

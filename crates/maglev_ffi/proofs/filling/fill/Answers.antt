@@ -1,7 +1,7 @@
 use Rattle.std.proofs.Common.{rules, ◌≡◌, ◌≢◌, ◌∙◌, sym, ap, length, false, map, List, ℕ, Bor}
 use Rattle.std.specs.Prelude.{is_some}
 use Rattle.hash_laws.specs.declared.any.AnyHash.{AnyHash}
-use Rattle.maglev_table.specs.Sizes.{is_table_size}
+use Rattle.backend_names.specs.Sizes.{is_table_size}
 use Rattle.maglev_ffi.specs.Tables.{AreListed}
 use Rattle.maglev_ffi.proofs.Faults.{bad_size, bad_hash, bad_room, accepted_after, refuses_after}
 use Rattle.maglev_ffi.proofs.filling.fill.Goals as goal

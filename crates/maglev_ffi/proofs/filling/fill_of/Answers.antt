@@ -1,12 +1,9 @@
-use Rattle.std.proofs.Common.{rules, ◌≡◌, ◌<◌, ◌^◌, List, sym, subst, arith, map, None}
-use Rattle.std.specs.List.{All}
+use Rattle.std.proofs.Common.{rules, ◌≡◌, sym, map, None}
 use Rattle.std.proofs.lemmas.List.{length-map}
 use Rattle.hash_laws.specs.Any.{plain_of}
 use Rattle.maglev_ffi.specs.Tables.{names_fault}
 use Rattle.maglev_ffi.proofs.Faults.{good, refused}
 use Rattle.maglev_ffi.proofs.Filled.{filled_by}
-use Rattle.maglev_ffi.proofs.Named.{small_places}
-use Rattle.table_entrants.specs.declared.entrant.Entrant.{Entrant}
 use Rattle.maglev_ffi.proofs.filling.fill_of.Goals as goal
 
 pub returns-in-Some-clause-fault : goal.returns-in-Some-clause-fault
@@ -23,16 +20,9 @@ ranked-requires-clause-weights c =
     let len = length-map c.args.words.now (λ w. w.now) in
     rw len at (good _ _ _ none).weighed
 
-pub write-requires-clause-places : goal.write-requires-clause-places
-write-requires-clause-places c =
-    let none : names_fault c.args.size (map (λ w. w.now) c.args.words.now) c.args.weights.now ≡ None = search rules in
-    let few = (good _ _ _ none).few in
-    let small = c.requires.small in
-    subst (λ (es : List Entrant). All (λ e. e.place < 2 ^ 32) es) (sym c.as_slice-2.ensures.value) (small_places _ _ _ c.in_ok-entrants.ensures.ranked (omega arith))
-
 pub returns-clause-table : goal.returns-clause-table
 returns-clause-table c = record {
   entrants = c.in_ok-entrants.entrants.items;
   ranked = c.in_ok-entrants.ensures.ranked;
-  filled = filled_by (plain_of c.args.hash.now) c.args.size c.in_ok-entrants.entrants.items _ _ _ _ c.write.ensures c.as_slice-2.ensures.value c.in-Ok.ensures.table c.as_slice.ensures.value;
+  filled = filled_by (plain_of c.args.hash.now) c.args.size c.in_ok-entrants.entrants.items _ _ _ _ _ _ c.write.ensures c.as_slice-3.ensures.value c.in_ok-places.ensures c.as_slice.ensures.value c.in-Ok.ensures.table c.as_slice-2.ensures.value;
 }

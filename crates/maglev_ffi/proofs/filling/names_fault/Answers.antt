@@ -1,7 +1,7 @@
 use Rattle.std.proofs.Common.{◌≡◌, map, length, sym, rules, true, false, arith}
 use Rattle.std.specs.List.{list_all}
 use Rattle.std.proofs.lemmas.List.{length-map}
-use Rattle.maglev_table.specs.NameText.{is_name}
+use Rattle.backend_names.specs.NameText.{is_name}
 use Rattle.maglev_ffi.specs.Tables.{are_weights}
 use Rattle.maglev_ffi.proofs.Faults.{bad_name, too_many, bad_weight, no_fault}
 use Rattle.maglev_ffi.proofs.filling.names_fault.Goals as goal

@@ -1,16 +1,13 @@
-use Rattle.std.proofs.Common.{◌≡◌, ◌≤◌, ◌-◌, length, take}
-use Rattle.cluster_core.specs.Setups.{rules_for}
-use Rattle.thread_roles.specs.Counts.{AreRead, Counts}
-use Rattle.thread_roles.specs.Going.{Going}
+use Rattle.std.proofs.Common.{◌≡◌, ◌≤◌, ◌-◌, length}
+use Rattle.thread_roles.specs.Going.{asked_of}
 use Rattle.node_threads.proofs.node.run_counted.Given as goal
 
 abbrev pub invariant-loop-sent : goal.invariant-loop-sent
 invariant-loop-sent g l = record {
-  within : l.progress.at ≤ length l.plan.commands.now;
-  going : Going (rules_for (λ s z. g.S.Scheme.pick s z) (λ h. g.H.FlowHash.plain h) l.plan.setup.now l.plan.catalogue.now) l.plan.packets.now (take l.progress.at l.plan.commands.now) l.plan.node l.plan.ring l.progress.journal;
-  parts : l.progress.tally.shares.parts ≡ l.fn.task.shares.parts;
-  counts : AreRead l.plan.packets.now → Counts l.progress.tally.lost l.progress.tally.shares l.progress.journal.outcomes;
+  asked : l.life.asked ≡ asked_of l.plan.setup.now l.plan.catalogue.now l.plan.packets.now l.plan.node l.plan.ring l.plan.commands.now;
+  within : l.life.start ≤ length l.plan.commands.now;
+  parts : l.life.parts ≡ l.fn.task.shares.parts;
 }
 
 abbrev pub decreases-loop-sent : goal.decreases-loop-sent
-decreases-loop-sent g l = length l.plan.commands.now - l.progress.at
+decreases-loop-sent g l = length l.plan.commands.now - l.life.start

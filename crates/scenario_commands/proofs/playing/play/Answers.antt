@@ -11,7 +11,7 @@ pub returns-in-Ok-play_scenario-clause-played : goal.returns-in-Ok-play_scenario
 returns-in-Ok-play_scenario-clause-played g c =
     IfOk-weaker c.put_text.result
     (λ _. Appends (g.R.Sink.tape c.args.report.now).bytes (g.R.Sink.tape c.put_text.new.sink).bytes c.as_str.result.now × Unfailed (g.R.Sink.tape c.args.report.now) (g.R.Sink.tape c.put_text.new.sink))
-    (λ _. Plays c.args.asked c.args.scenario.now (g.I.Source.tape c.args.input.now) (g.I.Source.tape c.play_scenario.new.input) (g.O.Sink.tape c.args.output.now) (g.O.Sink.tape c.play_scenario.new.output) (g.R.Sink.tape c.args.report.now) (g.R.Sink.tape c.put_text.new.sink))
+    (λ _. Plays c.args.asked c.args.scenario.now (g.I.Source.tape c.args.input.now) (g.I.Source.tape c.play_scenario.new.input) (g.O.Outlet.tape c.args.output.now) (g.O.Outlet.tape c.play_scenario.new.output) (g.R.Sink.tape c.args.report.now) (g.R.Sink.tape c.put_text.new.sink))
     (λ _ written. record {
       scenario = c.in-Ok.scenario;
       means = c.in-Ok.ensures.means;
@@ -27,8 +27,8 @@ pub returns-in-Ok-play_scenario-clause-stopped : goal.returns-in-Ok-play_scenari
 returns-in-Ok-play_scenario-clause-stopped g c =
     IfErr-weaker c.put_text.result (λ fault. (fault ≡ Write) × PutRefused c.as_str.result.now (g.R.Sink.tape c.args.report.now) (g.R.Sink.tape c.put_text.new.sink))
     (λ fault. (ScenarioFails InTurn fault c.args.scenario.now × ((c.play_scenario.new.input ≡ c.args.input.now) × (c.play_scenario.new.output ≡ c.args.output.now) × (c.put_text.new.sink ≡ c.args.report.now)))
-    ⊎ ((RunFails fault c.args.scenario.now (g.I.Source.tape c.args.input.now) (g.I.Source.tape c.play_scenario.new.input) (g.O.Sink.tape c.args.output.now) (g.O.Sink.tape c.play_scenario.new.output) × (c.put_text.new.sink ≡ c.args.report.now))
-    ⊎ ReportFails fault c.args.asked c.args.scenario.now (g.I.Source.tape c.args.input.now) (g.I.Source.tape c.play_scenario.new.input) (g.O.Sink.tape c.args.output.now) (g.O.Sink.tape c.play_scenario.new.output) (g.R.Sink.tape c.args.report.now) (g.R.Sink.tape c.put_text.new.sink)))
+    ⊎ ((RunFails fault c.args.scenario.now (g.I.Source.tape c.args.input.now) (g.I.Source.tape c.play_scenario.new.input) (g.O.Outlet.tape c.args.output.now) (g.O.Outlet.tape c.play_scenario.new.output) × (c.put_text.new.sink ≡ c.args.report.now))
+    ⊎ ReportFails fault c.args.asked c.args.scenario.now (g.I.Source.tape c.args.input.now) (g.I.Source.tape c.play_scenario.new.input) (g.O.Outlet.tape c.args.output.now) (g.O.Outlet.tape c.play_scenario.new.output) (g.R.Sink.tape c.args.report.now) (g.R.Sink.tape c.put_text.new.sink)))
     (λ _ is. inr (inr (record {
       scenario = c.in-Ok.scenario;
       means = c.in-Ok.ensures.means;

@@ -1,7 +1,7 @@
 use Rattle.std.proofs.Common.{arith, ◌≡◌, ℕ, ◌+◌, ◌-◌, ◌<◌, ◌∷◌, List, length, drop, get_or, ap, sym, ◌∙◌}
 use Rattle.std.specs.HashMap.{get}
 use Rattle.std.proofs.lemmas.List.{drop_more, length-drop}
-use Rattle.selection.specs.Places.{same_key}
+use Rattle.pool_versions.specs.Pool.{same_key}
 use Rattle.selection.specs.Readied.{ReadiedService}
 use Rattle.selection.proofs.Places.{placed_put}
 use Rattle.selection.proofs.prepared.places_of.Goals as goal

@@ -1,14 +1,11 @@
-use Rattle.std.proofs.Common.{◌∙◌, ◌++◌, ◌∷◌, [], List, sym, ap, map, arith}
-use Rattle.std.specs.List.{range_with_len}
-use Rattle.std.proofs.lemmas.List.FromFn.{map-range_with_len_more}
-use Rattle.table_commands.specs.Text.{entrant_at}
-use Rattle.table_entrants.specs.declared.entrant.Entrant.{Entrant}
+use Rattle.std.proofs.Common.{ap, map}
+use Rattle.maglev_texts.specs.declared.weights.WeighedName.{WeighedName}
+use Rattle.table_commands.specs.Text.{name_in, weight_in}
+use Rattle.table_entrants.proofs.Ranked.{one_entered}
 use Rattle.table_commands.proofs.names.entrants_of.Goals as goal
 
 pub loop-place-preserved : goal.loop-place-preserved
 loop-place-preserved c =
-    let f = entrant_at (map (λ w. w.now) c.args.words.now) in
-    c.in_ok-push.ensures.items
-    ∙ ap (λ (es : List Entrant). es ++ c.entrant_at.result ∷ []) c.loop-place.invariant
-    ∙ ap (λ (e : Entrant). map f (range_with_len 0 c.loop-place.place) ++ e ∷ []) c.entrant_at.ensures
-    ∙ sym (map-range_with_len_more f 0 c.loop-place.place c.loop-place.place (omega arith))
+    let words = map (λ w. w.now) c.args.words.now in
+    one_entered (name_in words) (weight_in words) c.loop-place.place _ _ _ _ c.loop-place.invariant c.in_ok-enter.ensures
+    (ap (λ (w : WeighedName). w.name) c.weighed_at-name.ensures) (ap (λ (w : WeighedName). w.weight) c.weighed_at-name.ensures)

@@ -1,18 +1,13 @@
 use Rattle.std.proofs.Common.{rules, ◌≡◌, ℕ, List, sym, subst, map, string_bytes}
-use Rattle.hash_laws.specs.Any.{plain_of}
-use Rattle.table_commands.specs.Pick.{IsPickLine, IsPickLineOf}
+use Rattle.table_commands.specs.Pick.{IsPickLineOf}
 use Rattle.table_commands.proofs.pick_command.pick.Goals as goal
 
 pub returns-in-Ok-put_text-clause-written : goal.returns-in-Ok-put_text-clause-written
 returns-in-Ok-put_text-clause-written g c =
     let value : c.as_str.result.now ≡ string_bytes c.in-Ok.line = search rules in
-    let line = subst (λ (n : ℕ). IsPickLine (plain_of c.in-Some-of_word.hash) n (map (λ w. w.now) c.args.words.now) c.args.check (g.R.Source.tape c.args.input.now).bytes (string_bytes c.in-Ok.line)) c.in-Some.ensures.0 c.in-Ok.ensures.line in
-    let is : IsPickLineOf c.args.hash.now c.args.size (map (λ w. w.now) c.args.words.now) c.args.check (g.R.Source.tape c.args.input.now).bytes (string_bytes c.in-Ok.line) = (c.in-Some-of_word.hash, sym c.in-Some-of_word.ensures, line) in
-    (c.as_str.result.now, subst (λ (t : List ℕ). IsPickLineOf c.args.hash.now c.args.size (map (λ w. w.now) c.args.words.now) c.args.check (g.R.Source.tape c.args.input.now).bytes t) (sym value) is, c.in-Ok-put_text.ensures.written.0, c.in-Ok-put_text.ensures.written.1)
+    (c.as_str.result.now, subst (λ (t : List ℕ). IsPickLineOf c.args.hash.now c.args.size (map (λ w. w.now) c.args.words.now) c.args.check (g.R.Source.tape c.args.input.now).bytes t) (sym value) c.in-Ok.ensures.line, c.in-Ok-put_text.ensures.written.0, c.in-Ok-put_text.ensures.written.1)
 
 pub returns-clause-broken : goal.returns-clause-broken
 returns-clause-broken g c = λ write.
     let value : c.as_str.result.now ≡ string_bytes c.in-Ok.line = search rules in
-    let line = subst (λ (n : ℕ). IsPickLine (plain_of c.in-Some-of_word.hash) n (map (λ w. w.now) c.args.words.now) c.args.check (g.R.Source.tape c.args.input.now).bytes (string_bytes c.in-Ok.line)) c.in-Some.ensures.0 c.in-Ok.ensures.line in
-    let is : IsPickLineOf c.args.hash.now c.args.size (map (λ w. w.now) c.args.words.now) c.args.check (g.R.Source.tape c.args.input.now).bytes (string_bytes c.in-Ok.line) = (c.in-Some-of_word.hash, sym c.in-Some-of_word.ensures, line) in
-    (c.as_str.result.now, subst (λ (t : List ℕ). IsPickLineOf c.args.hash.now c.args.size (map (λ w. w.now) c.args.words.now) c.args.check (g.R.Source.tape c.args.input.now).bytes t) (sym value) is, c.in-Err-put_text.ensures.refused.1)
+    (c.as_str.result.now, subst (λ (t : List ℕ). IsPickLineOf c.args.hash.now c.args.size (map (λ w. w.now) c.args.words.now) c.args.check (g.R.Source.tape c.args.input.now).bytes t) (sym value) c.in-Ok.ensures.line, c.in-Err-put_text.ensures.refused.1)

@@ -3,9 +3,9 @@ use Rattle.thread_records.specs.declared.step.Handled.{Handled}
 use Rattle.thread_roles.proofs.Counting.{counts_choice}
 use Rattle.thread_roles.proofs.working.serve_gated.Goals as goal
 
-pub returns-in-Ok : goal.returns-in-Ok
-returns-in-Ok g c = λ had.
-    let told = c.in-Ok.ensures in
+pub returns-in-Ok-clause-work : goal.returns-in-Ok-clause-work
+returns-in-Ok-clause-work g c = λ had.
+    let told = c.in-Ok.ensures.served in
     let h : Handled = record { item = c.args.item.now; version = told.0; choice = c.in-Ok.served.choice; unstored = c.in-Ok.served.unstored } in
     record {
       part = c.serve_one-stats.ensures.parts ∙ had.part;

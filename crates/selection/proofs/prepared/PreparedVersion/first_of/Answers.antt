@@ -1,8 +1,9 @@
 use Rattle.std.proofs.Common.{arith, ◌≡◌, ℕ, ◌-◌, ◌<◌, Some, None, List, length, option_copied, slice_get, ap, sym, ◌∙◌, subst}
 use Rattle.std.specs.HashMap.{get}
 use Rattle.five_tuple.specs.declared.Flow.{Flow}
-use Rattle.selection.specs.declared.ready.ServiceKey.{ServiceKey}
-use Rattle.selection.specs.Places.{behind_first, same_key}
+use Rattle.pool_versions.specs.declared.key.ServiceKey.{ServiceKey}
+use Rattle.pool_versions.specs.Pool.{same_key}
+use Rattle.selection.specs.Places.{behind_first}
 use Rattle.selection.specs.Readied.{Readied, ReadiedService, ready_for, serves_readied}
 use Rattle.selection.proofs.Places.{none_first, behind_below, first_is_there, flow_of, key_of_flow_of, got}
 use Rattle.selection.proofs.prepared.PreparedVersion.first_of.Goals as goal

@@ -3,8 +3,9 @@ use Rattle.std.specs.Arc.{arc_value}
 use Rattle.std.specs.HashMap.{get}
 use Rattle.std.proofs.lemmas.Grind.{common_steps}
 use Rattle.pool_versions.specs.Same.{Parts, parts_of}
-use Rattle.selection.specs.Places.{same_key, ArePlaced}
-use Rattle.selection.specs.Readied.{Readied, ReadiedService, readied_of, readied_version}
+use Rattle.pool_versions.specs.Pool.{same_key}
+use Rattle.selection.specs.Places.{ArePlaced}
+use Rattle.selection.specs.Readied.{Readied, ReadiedService, readied_of}
 use Rattle.selection.proofs.Versions.{AreFor_readied, ups_for_readied}
 use Rattle.selection.proofs.Sources.{readied_same}
 use Rattle.selection.proofs.prepared.PreparedVersion.prepare.Goals as goal

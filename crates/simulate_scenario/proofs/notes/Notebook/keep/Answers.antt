@@ -1,4 +1,4 @@
-use Rattle.cluster_core.specs.Noting.{said_by}
+use Rattle.event_trace.specs.Noting.{said_by}
 use Rattle.simulate_scenario.proofs.Noted.{keeps_more}
 use Rattle.simulate_scenario.proofs.notes.Notebook.keep.Goals as goal
 

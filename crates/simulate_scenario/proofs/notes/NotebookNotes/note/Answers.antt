@@ -1,7 +1,7 @@
 use Rattle.std.proofs.Common.{◌≡◌, ◌∷◌, refl, sym, ◌∙◌, subst}
 use Rattle.cluster_core.specs.Histories.{outcomes_of}
 use Rattle.event_trace.specs.declared.counts.Counts.{Counts}
-use Rattle.cluster_core.specs.Noting.{said_by}
+use Rattle.event_trace.specs.Noting.{said_by}
 use Rattle.event_trace.specs.Counting.{CountsAre}
 use Rattle.event_trace.proofs.Counted.{then_ok}
 use Rattle.run_report.specs.declared.book.SplitBook.{SplitBook}

@@ -14,7 +14,7 @@ returns-in-Some-clause-settled g c = λ all k past can quiet.
     let s = c.in-Some.said in
     let can' = subst (λ (o : Option LogEntry). CanSettle all k past (if_there o) c.args.self.now.waiting) c.in-Some.is can in
     let quiet' = subst (λ (o : Option LogEntry). NoArrivals (if_there o)) c.in-Some.is quiet in
-    subst (λ (o : Option LogEntry). OnOk c.settle_one.result (Mirrors all k (onto past (if_there o)) c.settle_one.new.self.waiting × Wrote (g.O.Sink.tape c.args.output.now) (g.O.Sink.tape c.settle_one.new.output) (sent (traffic c.args.wire.now all) (if_there o)))) (sym c.in-Some.is)
+    subst (λ (o : Option LogEntry). OnOk c.settle_one.result (Mirrors all k (onto past (if_there o)) c.settle_one.new.self.waiting × Wrote (g.O.Outlet.tape c.args.output.now) (g.O.Outlet.tape c.settle_one.new.output) (sent (traffic c.args.wire.now all) (if_there o)))) (sym c.in-Some.is)
     (settled_one c.settle_one.result _ (traffic c.args.wire.now all) s _ _ (c.settle_one.ensures.settled all k past (can_first all k past [] s c.args.self.now.waiting can') quiet'.0))
 
 pub returns-in-Some-clause-cut : goal.returns-in-Some-clause-cut
@@ -22,6 +22,6 @@ returns-in-Some-clause-cut g c = λ all k past can quiet.
     let s = c.in-Some.said in
     let can' = subst (λ (o : Option LogEntry). CanSettle all k past (if_there o) c.args.self.now.waiting) c.in-Some.is can in
     let quiet' = subst (λ (o : Option LogEntry). NoArrivals (if_there o)) c.in-Some.is quiet in
-    subst (λ (o : Option LogEntry). IfErr c.settle_one.result (λ fault. WroteUntil fault (g.O.Sink.tape c.args.output.now) (g.O.Sink.tape c.settle_one.new.output) (sent (traffic c.args.wire.now all) (if_there o)))) (sym c.in-Some.is)
-    (subst (λ (l : List Sending). IfErr c.settle_one.result (λ fault. WroteUntil fault (g.O.Sink.tape c.args.output.now) (g.O.Sink.tape c.settle_one.new.output) l)) (sym (append-nil (sent_by (traffic c.args.wire.now all) s.outcome)))
+    subst (λ (o : Option LogEntry). IfErr c.settle_one.result (λ fault. WroteUntil fault (g.O.Outlet.tape c.args.output.now) (g.O.Outlet.tape c.settle_one.new.output) (sent (traffic c.args.wire.now all) (if_there o)))) (sym c.in-Some.is)
+    (subst (λ (l : List Sending). IfErr c.settle_one.result (λ fault. WroteUntil fault (g.O.Outlet.tape c.args.output.now) (g.O.Outlet.tape c.settle_one.new.output) l)) (sym (append-nil (sent_by (traffic c.args.wire.now all) s.outcome)))
     (c.settle_one.ensures.cut all k past (can_first all k past [] s c.args.self.now.waiting can') quiet'.0))

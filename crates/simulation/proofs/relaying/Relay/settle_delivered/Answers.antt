@@ -22,5 +22,5 @@ returns-in-Through-clause-cut g c = λ all k past can first.
     let p = passed c.args.wire.now all k past _ (placed_there c.args.read.now d c.in-Through.worker c.in-Through.floor) (served_there d c.in-Through.worker o) c.args.intake.now.record_read c.args.self.now.waiting
     (told_served c.args.read.now d c.in-Through.worker c.in-Through.floor o c.if-not-delivery.false c.in-Through.is)
     (sym (c.passes.ensures d.place c.in-Through.floor d.version d.refused) ∙ c.if-passes.true) can first in
-    subst (λ (l : List Sending). IfErr c.send_taken.result (λ fault. WroteUntil fault (g.O.Sink.tape c.args.output.now) (g.O.Sink.tape c.send_taken.new.output) l))
+    subst (λ (l : List Sending). IfErr c.send_taken.result (λ fault. WroteUntil fault (g.O.Outlet.tape c.args.output.now) (g.O.Outlet.tape c.send_taken.new.output) l))
     (ap (sent_with (traffic c.args.wire.now []) o) c.frame-frame.ensures ∙ p.sends) c.send_taken.ensures.cut

@@ -20,5 +20,5 @@ returns-clause-settled g c = λ all k past can quiet.
 
 pub returns-clause-cut : goal.returns-clause-cut
 returns-clause-cut g c = λ all k past can quiet.
-    subst (λ (l : List Sending). IfErr c.send_waited.result (λ fault. WroteUntil fault (g.O.Sink.tape c.args.output.now) (g.O.Sink.tape c.send_waited.new.output) l))
+    subst (λ (l : List Sending). IfErr c.send_waited.result (λ fault. WroteUntil fault (g.O.Outlet.tape c.args.output.now) (g.O.Outlet.tape c.send_waited.new.output) l))
     (sent_as_taken c.args.wire.now all c.args.said.now.outcome (packet c.as_ref.result.now) (λ n w i x b v e. c.in-Some.ensures.sent all k past can n w i x b v e ∙ ap (λ (f : Frame). Some (packet f)) (sym c.as_ref.ensures))) c.send_waited.ensures.cut

@@ -20,8 +20,8 @@ returns-in-Some-clause-settled g c = λ all k past can first.
     let f = first_of all k past events (t ∷ []) s r qs is can first in
     let m = c.in_ok-take_in.ensures.taken all k past f.can f.comes in
     let b = behind_arrival c.args.wire.now all k past events s t r qs c.take_in.new.self.waiting is can first c.take_in.ensures.count m in
-    subst (λ (l : List LogEntry). OnOk c.settle_one.result (Mirrors all k (onto past l) c.settle_one.new.self.waiting × Wrote (g.O.Sink.tape c.args.output.now) (g.O.Sink.tape c.settle_one.new.output) (sent (traffic c.args.wire.now all) events))) (sym is)
-    (subst (λ (l : List Sending). OnOk c.settle_one.result (Mirrors all k (t ∷ s ∷ past) c.settle_one.new.self.waiting × Wrote (g.O.Sink.tape c.args.output.now) (g.O.Sink.tape c.settle_one.new.output) l))
+    subst (λ (l : List LogEntry). OnOk c.settle_one.result (Mirrors all k (onto past l) c.settle_one.new.self.waiting × Wrote (g.O.Outlet.tape c.args.output.now) (g.O.Outlet.tape c.settle_one.new.output) (sent (traffic c.args.wire.now all) events))) (sym is)
+    (subst (λ (l : List Sending). OnOk c.settle_one.result (Mirrors all k (t ∷ s ∷ past) c.settle_one.new.self.waiting × Wrote (g.O.Outlet.tape c.args.output.now) (g.O.Outlet.tape c.settle_one.new.output) l))
     b.sends (c.settle_one.ensures.settled all k (s ∷ past) b.can b.quiet))
 
 pub returns-in-Some-clause-cut : goal.returns-in-Some-clause-cut
@@ -35,7 +35,7 @@ returns-in-Some-clause-cut g c = λ all k past can first.
     let f = first_of all k past events (t ∷ []) s r qs is can first in
     let m = c.in_ok-take_in.ensures.taken all k past f.can f.comes in
     let b = behind_arrival c.args.wire.now all k past events s t r qs c.take_in.new.self.waiting is can first c.take_in.ensures.count m in
-    subst (λ (l : List Sending). IfErr c.settle_one.result (λ fault. WroteUntil fault (g.O.Sink.tape c.args.output.now) (g.O.Sink.tape c.settle_one.new.output) l))
+    subst (λ (l : List Sending). IfErr c.settle_one.result (λ fault. WroteUntil fault (g.O.Outlet.tape c.args.output.now) (g.O.Outlet.tape c.settle_one.new.output) l))
     b.sends (c.settle_one.ensures.cut all k (s ∷ past) b.can b.quiet)
 
 pub returns-in-None-clause-settled : goal.returns-in-None-clause-settled

@@ -80,9 +80,9 @@ returns-in-Some-clause-reached g c = λ choice text begun left ss same r. where_
     (packet_there link plan.check all c.args.place old.play.trace.read (Some x) (omega (arith, there.0, r.place)) there.1)
     (after w refl same ∙ ap (λ (t : Taking). deliver w c.args.place (packet_in t.head.link plan.check t.record_read) old.play.trace) rest ∙ sym (repeat_some w c.args.place (packet_in link plan.check x) old.play.trace)) l)
     (λ more s. let all = r.seen ++ more in
-    subst (λ (t : Taking). Sound cluster plan t.head.link all new.play.trace new.relay.waiting begun (g.O.Sink.tape c.deliver.new.output)) rest
+    subst (λ (t : Taking). Sound cluster plan t.head.link all new.play.trace new.relay.waiting begun (g.O.Outlet.tape c.deliver.new.output)) rest
     (done _ (c.deliver.ensures.sound all begun
-    (subst (λ (t : Taking). Sound cluster plan t.head.link all old.play.trace old.relay.waiting begun (g.O.Sink.tape c.args.output.now)) (sym rest) s)
+    (subst (λ (t : Taking). Sound cluster plan t.head.link all old.play.trace old.relay.waiting begun (g.O.Outlet.tape c.args.output.now)) (sym rest) s)
     ((is_there r.seen more c.args.place x got).1 ∙ ap (λ (t : Taking). Some t.record_read) (sym rest))))))
 
 pub returns-in-Some-clause-short : goal.returns-in-Some-clause-short
@@ -101,7 +101,7 @@ returns-in-Some-clause-short g c = λ choice text begun left ss same r. where_fa
     (λ l. repeated cluster choice plan link r.seen c.args.place ss old.play.trace d (Some (packet_in link plan.check x))
     (packet_there link plan.check r.seen c.args.place old.play.trace.read (Some x) (omega (arith, lt, r.place)) (sym got))
     (sym (repeat_some w c.args.place (packet_in link plan.check x) old.play.trace)) l)
-    (λ s. subst (λ (t : Taking). WroteUntil fault begun (g.O.Sink.tape c.deliver.new.output) (sent (traffic_of plan t.head.link r.seen) (reverse (deliver w c.args.place (packet_in t.head.link plan.check t.record_read) old.play.trace).past))) rest
+    (λ s. subst (λ (t : Taking). WroteUntil fault begun (g.O.Outlet.tape c.deliver.new.output) (sent (traffic_of plan t.head.link r.seen) (reverse (deliver w c.args.place (packet_in t.head.link plan.check t.record_read) old.play.trace).past))) rest
     (failed _ (c.deliver.ensures.cut w r.seen begun refl same
-    (subst (λ (t : Taking). Sound cluster plan t.head.link r.seen old.play.trace old.relay.waiting begun (g.O.Sink.tape c.args.output.now)) (sym rest) s)
+    (subst (λ (t : Taking). Sound cluster plan t.head.link r.seen old.play.trace old.relay.waiting begun (g.O.Outlet.tape c.args.output.now)) (sym rest) s)
     (sym got ∙ ap (λ (t : Taking). Some t.record_read) (sym rest))))))

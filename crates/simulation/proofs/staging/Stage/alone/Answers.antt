@@ -16,14 +16,14 @@ use Rattle.simulation.proofs.Staged.{Quietly, stepped, stepped_told, names_few, 
 use Rattle.simulation.proofs.staging.Stage.alone.Goals as goal
 
 pub returns-in_err-said-clause-cut : goal.returns-in_err-said-clause-cut
-returns-in_err-said-clause-cut g c = λ w all begun i q s.
+returns-in_err-said-clause-cut g c = λ q w all begun i s.
     let c0 = c.args.self.now.play.trace in
     let a : Quietly c0 (after w c.args.step.now c0) = stepped w c.args.step.now c0 (after w c.args.step.now c0) (names_few c.args.step.now q) refl in
     at_exit c.from_residual.result Memory _ c.from_residual.ensures.1
     (cut_before (g.C.Core.cluster c.args.run.now.setup.now) (planned c.args.run.now.plan) c.args.self.now.intake.head.link all c0 (after w c.args.step.now c0) a.moved c.args.self.now.relay.waiting begun _ s)
 
 pub returns-clause-sound : goal.returns-clause-sound
-returns-clause-sound g c = λ all begun q s.
+returns-clause-sound g c = λ q all begun s.
     let k = g.C.Core.cluster c.args.run.now.setup.now in
     let w = world_of k (g.P.Spread.choice c.args.self.now.play.spread) [] in
     let c0 = c.args.self.now.play.trace in
@@ -36,11 +36,11 @@ returns-clause-sound g c = λ all begun q s.
     let can = can_settle k (planned c.args.run.now.plan) c.args.self.now.intake.head.link all c0 d a.moved es c.args.self.now.relay.waiting begun _ s told ev in
     let quiet = subst NoArrivals (sym ev) a.quiet in
     sound_after k (planned c.args.run.now.plan) c.args.self.now.intake.head.link all c0 d a.moved es c.args.self.now.relay.waiting c.settle.new.self.waiting begun _ _ c.settle.result s told ev c.settle.ensures.count
-    (subst (λ (x : Wire). OnOk c.settle.result (Mirrors all k (onto c0.past es) c.settle.new.self.waiting × Wrote (g.O.Sink.tape c.args.output.now) (g.O.Sink.tape c.settle.new.output) (sent (traffic x all) es)))
+    (subst (λ (x : Wire). OnOk c.settle.result (Mirrors all k (onto c0.past es) c.settle.new.self.waiting × Wrote (g.O.Outlet.tape c.args.output.now) (g.O.Outlet.tape c.settle.new.output) (sent (traffic x all) es)))
     c.wire-wire.ensures (c.settle.ensures.settled all k c0.past can quiet))
 
 pub returns-clause-cut : goal.returns-clause-cut
-returns-clause-cut g c = λ w all begun i q s.
+returns-clause-cut g c = λ q w all begun i s.
     let k = g.C.Core.cluster c.args.run.now.setup.now in
     let c0 = c.args.self.now.play.trace in
     let d = c.step_alone.new.self.trace in
@@ -52,7 +52,7 @@ returns-clause-cut g c = λ w all begun i q s.
     let ev = events_behind c0 d a.moved es c.in_ok-said.ensures.told in
     let can = can_settle k (planned c.args.run.now.plan) link all c0 d a.moved es c.args.self.now.relay.waiting begun _ s told ev in
     let quiet = subst NoArrivals (sym ev) a.quiet in
-    subst (λ (x : Trace). IfErr c.settle.result (λ fault. WroteUntil fault begun (g.O.Sink.tape c.settle.new.output) (sent (traffic_of (planned c.args.run.now.plan) link all) (reverse x.past)))) e
+    subst (λ (x : Trace). IfErr c.settle.result (λ fault. WroteUntil fault begun (g.O.Outlet.tape c.settle.new.output) (sent (traffic_of (planned c.args.run.now.plan) link all) (reverse x.past)))) e
     (cut_after k (planned c.args.run.now.plan) link all c0 d a.moved es c.args.self.now.relay.waiting begun _ _ c.settle.result s ev
-    (subst (λ (x : Wire). IfErr c.settle.result (λ fault. WroteUntil fault (g.O.Sink.tape c.args.output.now) (g.O.Sink.tape c.settle.new.output) (sent (traffic x all) es)))
+    (subst (λ (x : Wire). IfErr c.settle.result (λ fault. WroteUntil fault (g.O.Outlet.tape c.args.output.now) (g.O.Outlet.tape c.settle.new.output) (sent (traffic x all) es)))
     c.wire-wire.ensures (c.settle.ensures.cut all k c0.past can quiet)))

@@ -45,7 +45,7 @@ returns-clause-sound g c = λ all begun s here.
     let can = can_settle k (planned c.args.run.now.plan) c.args.self.now.intake.head.link all c0 c.deliver.new.self.trace a.moved es c.args.self.now.relay.waiting begun _ s told ev in
     let first = subst (λ (l : List LogEntry). ArrivesFirst all r l) (sym ev) a.first in
     sound_after k (planned c.args.run.now.plan) c.args.self.now.intake.head.link all c0 c.deliver.new.self.trace a.moved es c.args.self.now.relay.waiting c.settle_delivered.new.self.waiting begun _ _ c.settle_delivered.result s told ev c.settle_delivered.ensures.count
-    (subst (λ (x : Wire). OnOk c.settle_delivered.result (Mirrors all k (onto c0.past es) c.settle_delivered.new.self.waiting × Wrote (g.O.Sink.tape c.args.output.now) (g.O.Sink.tape c.settle_delivered.new.output) (sent (traffic x all) es)))
+    (subst (λ (x : Wire). OnOk c.settle_delivered.result (Mirrors all k (onto c0.past es) c.settle_delivered.new.self.waiting × Wrote (g.O.Outlet.tape c.args.output.now) (g.O.Outlet.tape c.settle_delivered.new.output) (sent (traffic x all) es)))
     c.wire-wire.ensures (c.settle_delivered.ensures.settled all k c0.past can first))
 
 pub returns-clause-cut : goal.returns-clause-cut
@@ -63,7 +63,7 @@ returns-clause-cut g c = λ w all begun i j s here.
     let first = subst (λ (l : List LogEntry). ArrivesFirst all r l) (sym ev) a.first in
     let pk = c.packet-packet.ensures ∙ ap (λ (x : Wire). packet_in x.link x.check (packet c.frame.result.now)) c.wire-wire.ensures ∙ ap (λ (x : Record). packet_in link c.args.run.now.plan.check x) c.frame.ensures in
     let is = e ∙ ap (λ (p : Packet). deliver w c.args.place p c0) pk in
-    subst (λ (d : Trace). IfErr c.settle_delivered.result (λ fault. WroteUntil fault begun (g.O.Sink.tape c.settle_delivered.new.output) (sent (traffic_of (planned c.args.run.now.plan) link all) (reverse d.past)))) is
+    subst (λ (d : Trace). IfErr c.settle_delivered.result (λ fault. WroteUntil fault begun (g.O.Outlet.tape c.settle_delivered.new.output) (sent (traffic_of (planned c.args.run.now.plan) link all) (reverse d.past)))) is
     (cut_after k (planned c.args.run.now.plan) link all c0 c.deliver.new.self.trace a.moved es c.args.self.now.relay.waiting begun _ _ c.settle_delivered.result s ev
-    (subst (λ (x : Wire). IfErr c.settle_delivered.result (λ fault. WroteUntil fault (g.O.Sink.tape c.args.output.now) (g.O.Sink.tape c.settle_delivered.new.output) (sent (traffic x all) es)))
+    (subst (λ (x : Wire). IfErr c.settle_delivered.result (λ fault. WroteUntil fault (g.O.Outlet.tape c.args.output.now) (g.O.Outlet.tape c.settle_delivered.new.output) (sent (traffic x all) es)))
     c.wire-wire.ensures (c.settle_delivered.ensures.cut all k c0.past can first)))

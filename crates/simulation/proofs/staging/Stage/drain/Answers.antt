@@ -23,7 +23,7 @@ loop-worker-preserved g c = record {
       ∙ ap (λ (m : ℕ). serve_times w c.args.node c.loop-worker.worker m c.loop-worker.self.play.trace) (c.waiting-times.ensures c.loop-worker.self.play.trace.past c.loop-worker.invariant.stands ∙ ap (λ (k : Cluster). waiting_on k c.args.node c.loop-worker.worker c.loop-worker.self.play.trace.past) (sym j)))
       ∙ sym (drain_next w c.args.node c.args.workers c.loop-worker.worker c.loop-worker.self.play.trace (omega arith)) ∙ c.loop-worker.invariant.rest w j;
   sound = λ all begun s.
-      subst (λ (t : Taking). Sound (g.C.Core.cluster c.args.run.now.setup.now) (planned c.args.run.now.plan) t.head.link all c.serve_times.new.self.play.trace c.serve_times.new.self.relay.waiting begun (g.O.Sink.tape c.serve_times.new.output)) (sym c.serve_times.ensures.intake)
+      subst (λ (t : Taking). Sound (g.C.Core.cluster c.args.run.now.setup.now) (planned c.args.run.now.plan) t.head.link all c.serve_times.new.self.play.trace c.serve_times.new.self.relay.waiting begun (g.O.Outlet.tape c.serve_times.new.output)) (sym c.serve_times.ensures.intake)
       (c.in_ok-serve_times.ensures.sound all begun (c.loop-worker.invariant.sound all begun s));
 }
 
@@ -38,14 +38,14 @@ returns-in_err-serve_times-clause-cut g c = λ w all begun i s.
     let waits = c.waiting-times.ensures c1.past c.loop-worker.invariant.stands ∙ ap (λ (k : Cluster). waiting_on k c.args.node u c1.past) (sym i) in
     let is = ap (λ (t : ℕ). drain_from w c.args.node (u + 1) m (serve_times w c.args.node u t c1)) waits ∙ sym (drain_next w c.args.node c.args.workers u c1 (omega arith)) ∙ c.loop-worker.invariant.rest w i in
     at_exit c.from_residual.result c.in_err-serve_times.field-0.0 _ c.from_residual.ensures.1
-    (subst (λ (x : Trace). WroteUntil c.in_err-serve_times.field-0.0 begun (g.O.Sink.tape c.serve_times.new.output) (sent (traffic_of plan link all) (reverse x.past))) is
+    (subst (λ (x : Trace). WroteUntil c.in_err-serve_times.field-0.0 begun (g.O.Outlet.tape c.serve_times.new.output) (sent (traffic_of plan link all) (reverse x.past))) is
     (cut_grown plan link all d (drain_from w c.args.node (u + 1) m d) c.in_err-serve_times.field-0.0 begun _ (drain_grows w c.args.node (u + 1) m d)
-    (subst (λ (t : Taking). WroteUntil c.in_err-serve_times.field-0.0 begun (g.O.Sink.tape c.serve_times.new.output) (sent (traffic_of plan t.head.link all) (reverse d.past))) c.loop-worker.invariant.intake
+    (subst (λ (t : Taking). WroteUntil c.in_err-serve_times.field-0.0 begun (g.O.Outlet.tape c.serve_times.new.output) (sent (traffic_of plan t.head.link all) (reverse d.past))) c.loop-worker.invariant.intake
     (c.in_err-serve_times.ensures.cut w all begun i (c.loop-worker.invariant.sound all begun s)))))
 
 pub returns-clause-sound : goal.returns-clause-sound
 returns-clause-sound g c = λ all begun s.
-    subst (λ (t : Taking). Sound (g.C.Core.cluster c.args.run.now.setup.now) (planned c.args.run.now.plan) t.head.link all c.loop-worker.self.play.trace c.loop-worker.self.relay.waiting begun (g.O.Sink.tape c.loop-worker.output)) c.loop-worker.invariant.intake
+    subst (λ (t : Taking). Sound (g.C.Core.cluster c.args.run.now.setup.now) (planned c.args.run.now.plan) t.head.link all c.loop-worker.self.play.trace c.loop-worker.self.relay.waiting begun (g.O.Outlet.tape c.loop-worker.output)) c.loop-worker.invariant.intake
     (c.loop-worker.invariant.sound all begun s)
 
 pub returns-clause-play : goal.returns-clause-play

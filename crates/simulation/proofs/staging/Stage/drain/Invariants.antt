@@ -14,6 +14,6 @@ invariant-loop-worker g l = record {
   intake : l.self.intake ≡ l.initial.self.intake;
   rest : (w : World) → w.cluster ≡ g.C.Core.cluster l.run.setup.now → drain_from w l.node l.worker (l.workers - l.worker) l.self.play.trace ≡ drain_from w l.node 0 l.workers l.initial.self.play.trace;
   sound : (all : List Record) (begun : Tape) →
-      Sound (g.C.Core.cluster l.run.setup.now) (planned l.run.plan) l.initial.self.intake.head.link all l.initial.self.play.trace l.initial.self.relay.waiting begun (g.O.Sink.tape l.initial.output) →
-      Sound (g.C.Core.cluster l.run.setup.now) (planned l.run.plan) l.self.intake.head.link all l.self.play.trace l.self.relay.waiting begun (g.O.Sink.tape l.output);
+      Sound (g.C.Core.cluster l.run.setup.now) (planned l.run.plan) l.initial.self.intake.head.link all l.initial.self.play.trace l.initial.self.relay.waiting begun (g.O.Outlet.tape l.initial.output) →
+      Sound (g.C.Core.cluster l.run.setup.now) (planned l.run.plan) l.self.intake.head.link all l.self.play.trace l.self.relay.waiting begun (g.O.Outlet.tape l.output);
 }

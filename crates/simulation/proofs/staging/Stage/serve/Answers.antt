@@ -35,7 +35,7 @@ returns-clause-sound g c = λ all begun s.
     let can = can_settle k (planned c.args.run.now.plan) c.args.self.now.intake.head.link all c0 d a.moved es c.args.self.now.relay.waiting begun _ s told ev in
     let quiet = subst NoArrivals (sym ev) a.quiet in
     sound_after k (planned c.args.run.now.plan) c.args.self.now.intake.head.link all c0 d a.moved es c.args.self.now.relay.waiting c.settle.new.self.waiting begun _ _ c.settle.result s told ev c.settle.ensures.count
-    (subst (λ (x : Wire). OnOk c.settle.result (Mirrors all k (onto c0.past es) c.settle.new.self.waiting × Wrote (g.O.Sink.tape c.args.output.now) (g.O.Sink.tape c.settle.new.output) (sent (traffic x all) es)))
+    (subst (λ (x : Wire). OnOk c.settle.result (Mirrors all k (onto c0.past es) c.settle.new.self.waiting × Wrote (g.O.Outlet.tape c.args.output.now) (g.O.Outlet.tape c.settle.new.output) (sent (traffic x all) es)))
     c.wire-wire.ensures (c.settle.ensures.settled all k c0.past can quiet))
 
 pub returns-clause-cut : goal.returns-clause-cut
@@ -51,7 +51,7 @@ returns-clause-cut g c = λ w all begun i s.
     let ev = events_behind c0 d a.moved es c.in_ok-said.ensures.told in
     let can = can_settle k (planned c.args.run.now.plan) link all c0 d a.moved es c.args.self.now.relay.waiting begun _ s told ev in
     let quiet = subst NoArrivals (sym ev) a.quiet in
-    subst (λ (x : Trace). IfErr c.settle.result (λ fault. WroteUntil fault begun (g.O.Sink.tape c.settle.new.output) (sent (traffic_of (planned c.args.run.now.plan) link all) (reverse x.past)))) e
+    subst (λ (x : Trace). IfErr c.settle.result (λ fault. WroteUntil fault begun (g.O.Outlet.tape c.settle.new.output) (sent (traffic_of (planned c.args.run.now.plan) link all) (reverse x.past)))) e
     (cut_after k (planned c.args.run.now.plan) link all c0 d a.moved es c.args.self.now.relay.waiting begun _ _ c.settle.result s ev
-    (subst (λ (x : Wire). IfErr c.settle.result (λ fault. WroteUntil fault (g.O.Sink.tape c.args.output.now) (g.O.Sink.tape c.settle.new.output) (sent (traffic x all) es)))
+    (subst (λ (x : Wire). IfErr c.settle.result (λ fault. WroteUntil fault (g.O.Outlet.tape c.args.output.now) (g.O.Outlet.tape c.settle.new.output) (sent (traffic x all) es)))
     c.wire-wire.ensures (c.settle.ensures.cut all k c0.past can quiet)))

@@ -21,7 +21,7 @@ loop-preserved g c = record {
   rest = λ w j. ap (λ (d : Trace). serve_times w c.args.node c.args.worker (c.args.times - (c.loop.counter + 1)) d) (c.in_ok-serve.ensures.play w j)
       ∙ sym (serve_next w c.args.node c.args.worker c.args.times c.loop.counter c.loop.self.play.trace (omega arith)) ∙ c.loop.invariant.rest w j;
   sound = λ all begun s.
-      subst (λ (t : Taking). Sound (g.C.Core.cluster c.args.run.now.setup.now) (planned c.args.run.now.plan) t.head.link all c.serve.new.self.play.trace c.serve.new.self.relay.waiting begun (g.O.Sink.tape c.serve.new.output)) (sym c.serve.ensures.intake)
+      subst (λ (t : Taking). Sound (g.C.Core.cluster c.args.run.now.setup.now) (planned c.args.run.now.plan) t.head.link all c.serve.new.self.play.trace c.serve.new.self.relay.waiting begun (g.O.Outlet.tape c.serve.new.output)) (sym c.serve.ensures.intake)
       (c.in_ok-serve.ensures.sound all begun (c.loop.invariant.sound all begun s));
 }
 
@@ -34,14 +34,14 @@ returns-in_err-serve-clause-cut g c = λ w all begun i s.
     let m = c.args.times - (c.loop.counter + 1) in
     let is = sym (serve_next w c.args.node c.args.worker c.args.times c.loop.counter c1 (omega arith)) ∙ c.loop.invariant.rest w i in
     at_exit c.from_residual.result c.in_err-serve.field-0.0 _ c.from_residual.ensures.1
-    (subst (λ (x : Trace). WroteUntil c.in_err-serve.field-0.0 begun (g.O.Sink.tape c.serve.new.output) (sent (traffic_of plan link all) (reverse x.past))) is
+    (subst (λ (x : Trace). WroteUntil c.in_err-serve.field-0.0 begun (g.O.Outlet.tape c.serve.new.output) (sent (traffic_of plan link all) (reverse x.past))) is
     (cut_grown plan link all d (serve_times w c.args.node c.args.worker m d) c.in_err-serve.field-0.0 begun _ (times_grows w c.args.node c.args.worker m d)
-    (subst (λ (t : Taking). WroteUntil c.in_err-serve.field-0.0 begun (g.O.Sink.tape c.serve.new.output) (sent (traffic_of plan t.head.link all) (reverse d.past))) c.loop.invariant.intake
+    (subst (λ (t : Taking). WroteUntil c.in_err-serve.field-0.0 begun (g.O.Outlet.tape c.serve.new.output) (sent (traffic_of plan t.head.link all) (reverse d.past))) c.loop.invariant.intake
     (c.in_err-serve.ensures.cut w all begun i (c.loop.invariant.sound all begun s)))))
 
 pub returns-clause-sound : goal.returns-clause-sound
 returns-clause-sound g c = λ all begun s.
-    subst (λ (t : Taking). Sound (g.C.Core.cluster c.args.run.now.setup.now) (planned c.args.run.now.plan) t.head.link all c.loop.self.play.trace c.loop.self.relay.waiting begun (g.O.Sink.tape c.loop.output)) c.loop.invariant.intake
+    subst (λ (t : Taking). Sound (g.C.Core.cluster c.args.run.now.setup.now) (planned c.args.run.now.plan) t.head.link all c.loop.self.play.trace c.loop.self.relay.waiting begun (g.O.Outlet.tape c.loop.output)) c.loop.invariant.intake
     (c.loop.invariant.sound all begun s)
 
 pub returns-clause-play : goal.returns-clause-play

@@ -14,6 +14,6 @@ invariant-loop g l = record {
   intake : l.self.intake ≡ l.initial.self.intake;
   rest : (w : World) → w.cluster ≡ g.C.Core.cluster l.run.setup.now → serve_times w l.node l.worker (l.times - l.counter) l.self.play.trace ≡ serve_times w l.node l.worker l.times l.initial.self.play.trace;
   sound : (all : List Record) (begun : Tape) →
-      Sound (g.C.Core.cluster l.run.setup.now) (planned l.run.plan) l.initial.self.intake.head.link all l.initial.self.play.trace l.initial.self.relay.waiting begun (g.O.Sink.tape l.initial.output) →
-      Sound (g.C.Core.cluster l.run.setup.now) (planned l.run.plan) l.self.intake.head.link all l.self.play.trace l.self.relay.waiting begun (g.O.Sink.tape l.output);
+      Sound (g.C.Core.cluster l.run.setup.now) (planned l.run.plan) l.initial.self.intake.head.link all l.initial.self.play.trace l.initial.self.relay.waiting begun (g.O.Outlet.tape l.initial.output) →
+      Sound (g.C.Core.cluster l.run.setup.now) (planned l.run.plan) l.self.intake.head.link all l.self.play.trace l.self.relay.waiting begun (g.O.Outlet.tape l.output);
 }

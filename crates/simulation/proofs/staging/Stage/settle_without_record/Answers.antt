@@ -15,13 +15,13 @@ returns-in-Drain-clause-play g c = where_done c.drain.result _ (λ got. λ w i q
     i c.workers.ensures c.in-Drain.is c.release.ensures.trace (got _ c.drain.ensures.play w i))
 
 pub returns-in-Drain-clause-cut : goal.returns-in-Drain-clause-cut
-returns-in-Drain-clause-cut g c = λ w all begun i q s.
+returns-in-Drain-clause-cut g c = λ q w all begun i s.
     let k = g.C.Core.cluster c.args.run.now.setup.now in
     let plan = planned c.args.run.now.plan in
     let link = c.args.self.now.intake.head.link in
     let c0 = c.args.self.now.play.trace in
     let r = c.release.new.self.trace in
     let qs = c.args.self.now.relay.waiting in
-    subst (λ (x : Trace). IfErr c.drain.result (λ fault. WroteUntil fault begun (g.O.Sink.tape c.drain.new.output) (sent (traffic_of plan link all) (reverse x.past))))
+    subst (λ (x : Trace). IfErr c.drain.result (λ fault. WroteUntil fault begun (g.O.Outlet.tape c.drain.new.output) (sent (traffic_of plan link all) (reverse x.past))))
     (drained w k c.in-Drain.node c.workers.result c.args.step.now c0 r (drain_from w c.in-Drain.node 0 c.workers.result r) i c.workers.ensures c.in-Drain.is c.release.ensures.trace refl)
     (c.drain.ensures.cut w all begun i (sound_same k plan link all c0 r qs qs begun _ (ap (λ (x : Trace). x.past) c.release.ensures.trace) refl s))

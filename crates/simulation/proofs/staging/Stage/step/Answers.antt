@@ -8,17 +8,17 @@ use Rattle.simulation.proofs.staging.Stage.step.Goals as goal
 pub returns-in-Take-clause-short : goal.returns-in-Take-clause-short
 returns-in-Take-clause-short g c = λ choice text begun ss same r.
     c.take.ensures.short choice text begun ss same
-    (subst (λ (s : ScenarioStep). Reached (g.C.Core.cluster c.args.run.now.setup.now) choice (planned c.args.run.now.plan) text begun (s ∷ ss) c.args.self.now (g.I.Source.tape c.args.input.now) (g.O.Sink.tape c.args.output.now)) c.in-Take.is r)
+    (subst (λ (s : ScenarioStep). Reached (g.C.Core.cluster c.args.run.now.setup.now) choice (planned c.args.run.now.plan) text begun (s ∷ ss) c.args.self.now (g.I.Source.tape c.args.input.now) (g.O.Outlet.tape c.args.output.now)) c.in-Take.is r)
 
 pub returns-in-Lose-clause-short : goal.returns-in-Lose-clause-short
 returns-in-Lose-clause-short g c = λ choice text begun ss same r.
-    c.lose.ensures.short (g.C.Core.cluster c.args.run.now.setup.now) choice (planned c.args.run.now.plan) text begun (g.O.Sink.tape c.args.output.now) ss
-    (subst (λ (s : ScenarioStep). Reached (g.C.Core.cluster c.args.run.now.setup.now) choice (planned c.args.run.now.plan) text begun (s ∷ ss) c.args.self.now (g.I.Source.tape c.args.input.now) (g.O.Sink.tape c.args.output.now)) c.in-Lose.is r)
+    c.lose.ensures.short (g.C.Core.cluster c.args.run.now.setup.now) choice (planned c.args.run.now.plan) text begun (g.O.Outlet.tape c.args.output.now) ss
+    (subst (λ (s : ScenarioStep). Reached (g.C.Core.cluster c.args.run.now.setup.now) choice (planned c.args.run.now.plan) text begun (s ∷ ss) c.args.self.now (g.I.Source.tape c.args.input.now) (g.O.Outlet.tape c.args.output.now)) c.in-Lose.is r)
 
 pub returns-in-Again-clause-short : goal.returns-in-Again-clause-short
 returns-in-Again-clause-short g c = λ choice text begun ss same r.
     c.again.ensures.short choice text begun _ ss same
-    (subst (λ (s : ScenarioStep). Reached (g.C.Core.cluster c.args.run.now.setup.now) choice (planned c.args.run.now.plan) text begun (s ∷ ss) c.args.self.now (g.I.Source.tape c.args.input.now) (g.O.Sink.tape c.args.output.now)) c.in-Again.is r)
+    (subst (λ (s : ScenarioStep). Reached (g.C.Core.cluster c.args.run.now.setup.now) choice (planned c.args.run.now.plan) text begun (s ∷ ss) c.args.self.now (g.I.Source.tape c.args.input.now) (g.O.Outlet.tape c.args.output.now)) c.in-Again.is r)
 
 pub returns-in-Take-clause-choice : goal.returns-in-Take-clause-choice
 returns-in-Take-clause-choice g c = same_choice (λ s. g.P.Spread.choice s) (sym c.take.ensures.spread)

@@ -30,7 +30,7 @@ returns-clause-reached g c = λ choice text begun left ss r. where_done c.settle
     (read_apart w0 c.args.step.now old.play.trace new.play.trace c.requires.apart (after w0 refl c.requires.apart))
     (subst (KeepsNamed r.seen ss) (sym c.settle_without_record.ensures.kept) (kept_apart r.seen c.args.step.now ss old.kept c.requires.apart r.kept))
     (λ more l. stepped_left cluster choice plan old.intake.head.link (r.seen ++ more) c.args.step.now ss old.play.trace new.play.trace (after (world_of cluster choice (packets_of old.intake.head.link plan.check (r.seen ++ more))) refl c.requires.apart) l)
-    (λ more s. got _ (c.settle_without_record.ensures.sound (r.seen ++ more) begun c.requires.apart s)))
+    (λ more s. got _ (c.settle_without_record.ensures.sound c.requires.apart (r.seen ++ more) begun s)))
 
 pub returns-clause-short : goal.returns-clause-short
 returns-clause-short g c = λ choice text begun left ss r. where_failed c.settle_without_record.result _ (λ fault got.
@@ -41,4 +41,4 @@ returns-clause-short g c = λ choice text begun left ss r. where_failed c.settle
     let d : Trace = after w c.args.step.now old.play.trace in
     short_same cluster choice plan text begun (c.args.step.now ∷ ss) ss old left _ _ d fault r (got _ c.settle_without_record.ensures.named)
     (λ l. stepped_left cluster choice plan old.intake.head.link r.seen c.args.step.now ss old.play.trace d refl l)
-    (λ s. got _ (c.settle_without_record.ensures.cut w r.seen begun refl c.requires.apart s)))
+    (λ s. got _ (c.settle_without_record.ensures.cut c.requires.apart w r.seen begun refl s)))

@@ -14,6 +14,6 @@ invariant-loop-step g l = record {
   counted : Counted l.self.intake.given l.step-index l.self.play.trace;
   head : l.self.intake.head ≡ l.initial.self.intake.head;
   reached : (choice : Choice) (text begun : Tape) → SameChoice choice (g.P.Spread.choice l.initial.self.play.spread) →
-      Reached (g.C.Core.cluster l.run.setup.now) choice (planned l.run.plan) text begun l.run.plan.steps.now l.initial.self (g.I.Source.tape l.initial.input) (g.O.Sink.tape l.initial.output) →
-      Reached (g.C.Core.cluster l.run.setup.now) choice (planned l.run.plan) text begun (drop l.step-index l.run.plan.steps.now) l.self (g.I.Source.tape l.input) (g.O.Sink.tape l.output);
+      Reached (g.C.Core.cluster l.run.setup.now) choice (planned l.run.plan) text begun l.run.plan.steps.now l.initial.self (g.I.Source.tape l.initial.input) (g.O.Outlet.tape l.initial.output) →
+      Reached (g.C.Core.cluster l.run.setup.now) choice (planned l.run.plan) text begun (drop l.step-index l.run.plan.steps.now) l.self (g.I.Source.tape l.input) (g.O.Outlet.tape l.output);
 }

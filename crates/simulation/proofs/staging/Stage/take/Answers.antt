@@ -19,16 +19,16 @@ pub returns-then-not-more-clause-reached : goal.returns-then-not-more-clause-rea
 returns-then-not-more-clause-reached g c = λ choice text begun ss same r.
     let cluster = g.C.Core.cluster c.args.run.now.setup.now in
     let k = c.args.count - (c.loop.counter + 1) in
-    let here = subst (λ (m : ℕ). Reached cluster choice (planned c.args.run.now.plan) text begun (take_of m ∷ ss) c.loop.self (g.I.Source.tape c.loop.input) (g.O.Sink.tape c.loop.output)) (one_fewer c.args.count c.loop.counter (omega arith)) (c.loop.invariant.reached choice text begun ss same r) in
-    subst (λ (b : Bool). Reached cluster choice (planned c.args.run.now.plan) text begun (still_to_take b k ss) c.take_one.new.self (g.I.Source.tape c.take_one.new.input) (g.O.Sink.tape c.take_one.new.output)) c.if-not-more.true (c.in_ok-more.ensures.reached choice text begun ss k (chosen_still (λ s. g.P.Spread.choice s) same c.loop.invariant.spread) here)
+    let here = subst (λ (m : ℕ). Reached cluster choice (planned c.args.run.now.plan) text begun (take_of m ∷ ss) c.loop.self (g.I.Source.tape c.loop.input) (g.O.Outlet.tape c.loop.output)) (one_fewer c.args.count c.loop.counter (omega arith)) (c.loop.invariant.reached choice text begun ss same r) in
+    subst (λ (b : Bool). Reached cluster choice (planned c.args.run.now.plan) text begun (still_to_take b k ss) c.take_one.new.self (g.I.Source.tape c.take_one.new.input) (g.O.Outlet.tape c.take_one.new.output)) c.if-not-more.true (c.in_ok-more.ensures.reached choice text begun ss k (chosen_still (λ s. g.P.Spread.choice s) same c.loop.invariant.spread) here)
 
 pub returns-in_err-more-clause-short : goal.returns-in_err-more-clause-short
 returns-in_err-more-clause-short g c = λ choice text begun ss same r.
     let cluster = g.C.Core.cluster c.args.run.now.setup.now in
     let k = c.args.count - (c.loop.counter + 1) in
-    let here = subst (λ (m : ℕ). Reached cluster choice (planned c.args.run.now.plan) text begun (take_of m ∷ ss) c.loop.self (g.I.Source.tape c.loop.input) (g.O.Sink.tape c.loop.output)) (one_fewer c.args.count c.loop.counter (omega arith)) (c.loop.invariant.reached choice text begun ss same r) in
+    let here = subst (λ (m : ℕ). Reached cluster choice (planned c.args.run.now.plan) text begun (take_of m ∷ ss) c.loop.self (g.I.Source.tape c.loop.input) (g.O.Outlet.tape c.loop.output)) (one_fewer c.args.count c.loop.counter (omega arith)) (c.loop.invariant.reached choice text begun ss same r) in
     at_exit c.from_residual.result c.in_err-more.field-0.0 _ c.from_residual.ensures.1
-    (subst (λ (h : Head). Shortened cluster choice (planned c.args.run.now.plan) h text (g.I.Source.tape c.take_one.new.input) begun (g.O.Sink.tape c.take_one.new.output) c.in_err-more.field-0.0) c.loop.invariant.head (c.in_err-more.ensures.short choice text begun ss k (chosen_still (λ s. g.P.Spread.choice s) same c.loop.invariant.spread) here))
+    (subst (λ (h : Head). Shortened cluster choice (planned c.args.run.now.plan) h text (g.I.Source.tape c.take_one.new.input) begun (g.O.Outlet.tape c.take_one.new.output) c.in_err-more.field-0.0) c.loop.invariant.head (c.in_err-more.ensures.short choice text begun ss k (chosen_still (λ s. g.P.Spread.choice s) same c.loop.invariant.spread) here))
 
 pub loop-preserved : goal.loop-preserved
 loop-preserved g c = record {
@@ -39,8 +39,8 @@ loop-preserved g c = record {
   reached = λ choice text begun ss same r.
       let cluster = g.C.Core.cluster c.args.run.now.setup.now in
       let k = c.args.count - (c.loop.counter + 1) in
-      let here = subst (λ (m : ℕ). Reached cluster choice (planned c.args.run.now.plan) text begun (take_of m ∷ ss) c.loop.self (g.I.Source.tape c.loop.input) (g.O.Sink.tape c.loop.output)) (one_fewer c.args.count c.loop.counter (omega arith)) (c.loop.invariant.reached choice text begun ss same r) in
-      subst (λ (b : Bool). Reached cluster choice (planned c.args.run.now.plan) text begun (still_to_take b k ss) c.take_one.new.self (g.I.Source.tape c.take_one.new.input) (g.O.Sink.tape c.take_one.new.output)) c.if-not-more.false (c.in_ok-more.ensures.reached choice text begun ss k (chosen_still (λ s. g.P.Spread.choice s) same c.loop.invariant.spread) here);
+      let here = subst (λ (m : ℕ). Reached cluster choice (planned c.args.run.now.plan) text begun (take_of m ∷ ss) c.loop.self (g.I.Source.tape c.loop.input) (g.O.Outlet.tape c.loop.output)) (one_fewer c.args.count c.loop.counter (omega arith)) (c.loop.invariant.reached choice text begun ss same r) in
+      subst (λ (b : Bool). Reached cluster choice (planned c.args.run.now.plan) text begun (still_to_take b k ss) c.take_one.new.self (g.I.Source.tape c.take_one.new.input) (g.O.Outlet.tape c.take_one.new.output)) c.if-not-more.false (c.in_ok-more.ensures.reached choice text begun ss k (chosen_still (λ s. g.P.Spread.choice s) same c.loop.invariant.spread) here);
 }
 
 pub returns-clause-reached : goal.returns-clause-reached

@@ -16,6 +16,6 @@ invariant-loop g l = record {
   few : (n : ℕ) → Counted l.initial.self.intake.given n l.initial.self.play.trace → Counted l.self.intake.given n l.self.play.trace;
   head : l.self.intake.head ≡ l.initial.self.intake.head;
   reached : (choice : Choice) (text begun : Tape) (ss : List ScenarioStep) → SameChoice choice (g.P.Spread.choice l.initial.self.play.spread) →
-      Reached (g.C.Core.cluster l.run.setup.now) choice (planned l.run.plan) text begun (take_of l.count ∷ ss) l.initial.self (g.I.Source.tape l.initial.input) (g.O.Sink.tape l.initial.output) →
-      Reached (g.C.Core.cluster l.run.setup.now) choice (planned l.run.plan) text begun (take_of (l.count - l.counter) ∷ ss) l.self (g.I.Source.tape l.input) (g.O.Sink.tape l.output);
+      Reached (g.C.Core.cluster l.run.setup.now) choice (planned l.run.plan) text begun (take_of l.count ∷ ss) l.initial.self (g.I.Source.tape l.initial.input) (g.O.Outlet.tape l.initial.output) →
+      Reached (g.C.Core.cluster l.run.setup.now) choice (planned l.run.plan) text begun (take_of (l.count - l.counter) ∷ ss) l.self (g.I.Source.tape l.input) (g.O.Outlet.tape l.output);
 }

@@ -64,10 +64,10 @@ returns-clause-reached g c = λ choice text begun ss k same r.
     (λ rest l. let w = world_of cluster choice (packets_of link plan.check (r.seen ++ x ∷ rest)) in
     took cluster choice plan link r.seen rest x k ss old.play.trace new.play.trace r.place
     (c.in_ok-deliver.ensures.play w refl (chosen_still (λ x. g.P.Spread.choice x) same (c.next_place-place.ensures.spread ∙ ap (λ x. x.spread) c.in_ok-more.ensures.play)) ∙ delivered_same w plan.check x mid.intake.head old.intake.head c.next_place-place.result old.play.trace.read s (record old.play.trace { read = old.play.trace.read + 1 }) c.in_ok-more.ensures.head place moved) l)
-    (λ rest sound. subst (λ (h : Head). Sound cluster plan h.link (r.seen ++ x ∷ rest) new.play.trace new.relay.waiting begun (g.O.Sink.tape c.deliver.new.output)) c.in_ok-more.ensures.head
+    (λ rest sound. subst (λ (h : Head). Sound cluster plan h.link (r.seen ++ x ∷ rest) new.play.trace new.relay.waiting begun (g.O.Outlet.tape c.deliver.new.output)) c.in_ok-more.ensures.head
     (c.in_ok-deliver.ensures.sound (r.seen ++ x ∷ rest) begun
-    (subst (λ (h : Head). Sound cluster plan h.link (r.seen ++ x ∷ rest) s mid.relay.waiting begun (g.O.Sink.tape c.args.output.now)) (sym c.in_ok-more.ensures.head)
-    (sound_same cluster plan link (r.seen ++ x ∷ rest) old.play.trace s old.relay.waiting mid.relay.waiting begun (g.O.Sink.tape c.args.output.now) (ap (λ (y : Trace). y.past) moved) (ap (λ y. y.waiting) c.in_ok-more.ensures.relay) sound))
+    (subst (λ (h : Head). Sound cluster plan h.link (r.seen ++ x ∷ rest) s mid.relay.waiting begun (g.O.Outlet.tape c.args.output.now)) (sym c.in_ok-more.ensures.head)
+    (sound_same cluster plan link (r.seen ++ x ∷ rest) old.play.trace s old.relay.waiting mid.relay.waiting begun (g.O.Outlet.tape c.args.output.now) (ap (λ (y : Trace). y.past) moved) (ap (λ y. y.waiting) c.in_ok-more.ensures.relay) sound))
     (at_place r.seen rest x c.next_place-place.result (place ∙ r.place))))
 
 pub returns-in_err-deliver-clause-short : goal.returns-in_err-deliver-clause-short
@@ -92,10 +92,10 @@ returns-in_err-deliver-clause-short g c = λ choice text begun ss k same r.
     at_exit c.from_residual-in_err-deliver.result c.in_err-deliver.field-0.0 _ c.from_residual-in_err-deliver.ensures.1
     (short_more cluster choice plan text begun (take_of (k + 1) ∷ ss) (take_of k ∷ ss) old mid _ _ _ _ x d c.in_err-deliver.field-0.0 r more c.in_err-deliver.ensures.named
     (λ l. took cluster choice plan link r.seen [] x k ss old.play.trace d r.place refl l)
-    (λ sound. subst (λ (y : Trace). WroteUntil c.in_err-deliver.field-0.0 begun (g.O.Sink.tape c.deliver.new.output) (sent (traffic_of plan link (r.seen ++ x ∷ [])) (reverse y.past)))
+    (λ sound. subst (λ (y : Trace). WroteUntil c.in_err-deliver.field-0.0 begun (g.O.Outlet.tape c.deliver.new.output) (sent (traffic_of plan link (r.seen ++ x ∷ [])) (reverse y.past)))
     (delivered_same w plan.check x mid.intake.head old.intake.head c.next_place-place.result old.play.trace.read s (record old.play.trace { read = old.play.trace.read + 1 }) c.in_ok-more.ensures.head place moved)
-    (subst (λ (h : Head). WroteUntil c.in_err-deliver.field-0.0 begun (g.O.Sink.tape c.deliver.new.output) (sent (traffic_of plan h.link (r.seen ++ x ∷ [])) (reverse (deliver w c.next_place-place.result (packet_in mid.intake.head.link plan.check x) s).past))) c.in_ok-more.ensures.head
+    (subst (λ (h : Head). WroteUntil c.in_err-deliver.field-0.0 begun (g.O.Outlet.tape c.deliver.new.output) (sent (traffic_of plan h.link (r.seen ++ x ∷ [])) (reverse (deliver w c.next_place-place.result (packet_in mid.intake.head.link plan.check x) s).past))) c.in_ok-more.ensures.head
     (c.in_err-deliver.ensures.cut w (r.seen ++ x ∷ []) begun refl (chosen_still (λ x. g.P.Spread.choice x) same (c.next_place-place.ensures.spread ∙ ap (λ x. x.spread) c.in_ok-more.ensures.play))
-    (subst (λ (h : Head). Sound cluster plan h.link (r.seen ++ x ∷ []) s mid.relay.waiting begun (g.O.Sink.tape c.args.output.now)) (sym c.in_ok-more.ensures.head)
-    (sound_same cluster plan link (r.seen ++ x ∷ []) old.play.trace s old.relay.waiting mid.relay.waiting begun (g.O.Sink.tape c.args.output.now) (ap (λ (y : Trace). y.past) moved) (ap (λ y. y.waiting) c.in_ok-more.ensures.relay) sound))
+    (subst (λ (h : Head). Sound cluster plan h.link (r.seen ++ x ∷ []) s mid.relay.waiting begun (g.O.Outlet.tape c.args.output.now)) (sym c.in_ok-more.ensures.head)
+    (sound_same cluster plan link (r.seen ++ x ∷ []) old.play.trace s old.relay.waiting mid.relay.waiting begun (g.O.Outlet.tape c.args.output.now) (ap (λ (y : Trace). y.past) moved) (ap (λ y. y.waiting) c.in_ok-more.ensures.relay) sound))
     (at_place r.seen [] x c.next_place-place.result (place ∙ r.place))))))

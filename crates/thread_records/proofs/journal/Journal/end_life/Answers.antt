@@ -16,6 +16,7 @@ returns-in-Ok g c =
       drives = λ rules packets d all. restarted_drives rules packets c.args.self.now c.close_life.new.self c.write_restart.new.self c.args.drained (all_handled c.args.workers.now) is was.after was.few d was.judged (was.fit rules all);
       command = life_commands (all_handled c.args.workers.now) c.args.self.now c.write_restart.new.self is;
       kept = (ap (λ (j : JournalView). j.node) is ∙ served.node, ap (λ (j : JournalView). j.ring) is ∙ served.ring);
+      newest = ap (λ (j : JournalView). j.newest) is ∙ served.newest;
       left = was.left;
       lost = (restarted_losses c.in_ok-left.left (all_handled c.args.workers.now) c.args.self.now c.close_life.new.self c.write_restart.new.self was.after c.in-Ok.ensures, restarted_lost c.in_ok-left.left c.args.drained (all_handled c.args.workers.now) c.args.self.now was.judged was.left);
     }

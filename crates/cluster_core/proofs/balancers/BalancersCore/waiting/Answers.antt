@@ -1,5 +1,0 @@
-use Rattle.cluster_core.specs.Deployed.{rules_of}
-use Rattle.cluster_core.proofs.balancers.BalancersCore.waiting.Goals as goal
-
-pub returns : goal.returns
-returns g c = λ past st. c.waiting.ensures.said (rules_of (λ s z. g.S.Scheme.pick s z) (λ h. g.H.FlowHash.plain h) c.args.setup.now.deployment) past st.0

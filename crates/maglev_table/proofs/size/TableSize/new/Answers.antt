@@ -1,9 +1,0 @@
-use Rattle.std.proofs.Common.{arith}
-use Rattle.std.proofs.lemmas.Grind.{common_steps}
-use Rattle.maglev_table.proofs.size.TableSize.new.Goals as goal
-
-pub returns-then-contains : goal.returns-then-contains
-returns-then-contains c = grind (arith, common_steps)
-
-pub returns-else-contains : goal.returns-else-contains
-returns-else-contains c = grind (arith, common_steps)
