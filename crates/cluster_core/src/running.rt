@@ -135,10 +135,10 @@ fn prepare_for<S: Scheme>(
     match *event {
         Event::Install { version, .. } => match catalogue.get(version) {
             None => Ok(false),
-            Some(found) => match prepare_newer(alloc, versions, scheme, size, newest, found) {
-                Ok(()) => Ok(true),
-                Err(refusal) => Err(refusal),
-            },
+            Some(found) => {
+                prepare_newer(alloc, versions, scheme, size, newest, found)?;
+                Ok(true)
+            }
         },
         _ => Ok(false),
     }

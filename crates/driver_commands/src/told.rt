@@ -3,7 +3,7 @@ use event_trace::Tally;
 use thread_records::Command;
 
 /// What a scenario's steps tell the drivers.
-#[derive(Drop)]
+#[derive(Debug, Drop)]
 pub struct Orders {
     /// The commands of each node's driver, in the order of the nodes.
     pub commands: Vec<Vec<Command>>,

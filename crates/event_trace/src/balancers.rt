@@ -17,6 +17,7 @@ use connection_table::ConnTable;
 use hash_laws::FlowHash;
 use selection::Scheme;
 use std::alloc::{AllocError, Global};
+use std::fmt;
 use std::marker::PhantomData;
 
 /// The balancers of a cluster, under events that are learnt one by one, and what is kept of these. The deployment, and what
@@ -26,6 +27,14 @@ pub struct Balancers<S: Scheme, H: FlowHash, T: ConnTable, N: Notes> {
     run: Run<S, T>,
     notes: N,
     hash: PhantomData<H>,
+}
+
+impl<S: Scheme, H: FlowHash, T: ConnTable, N: Notes> fmt::Debug for Balancers<S, H, T, N> {
+    fn fmt<W: fmt::Write>(&self, f: &mut fmt::Formatter<W>) -> fmt::Result {
+        f.debug_struct("Balancers")
+            .field("run", &self.run)
+            .finish_non_exhaustive()
+    }
 }
 
 // What came of an arrival at a node, and of its serving under a version where it was placed, is noted.

@@ -7,7 +7,7 @@ use cluster_node::{Event, LogEntry, Outcome, Packet, Passed};
 use std::alloc::AllocError;
 
 /// What is reported of a packet that was handed to the spreader: room that a caller has, and uses again for the next packet.
-#[derive(Clone, Copy)]
+#[derive(Clone, Copy, Debug)]
 pub struct Delivery {
     /// It arrived at a node. Where none was live it didn't, and the other fields mean nothing.
     pub arrived: bool,

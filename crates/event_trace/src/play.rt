@@ -18,6 +18,7 @@ use cluster_node::{Event, LogEntry, Outcome, Packet, Passed};
 use ghost_log::Log;
 use spreader::Spread;
 use std::alloc::{AllocError, Global};
+use std::fmt;
 use std::marker::Model;
 
 /// All nodes of a cluster of so many, ascending: the live ones at the start.
@@ -45,6 +46,18 @@ pub struct Play<P: Spread> {
     unrouted: u64,
     lost: u64,
     skipped: u64,
+}
+
+impl<P: Spread> fmt::Debug for Play<P> {
+    fn fmt<W: fmt::Write>(&self, f: &mut fmt::Formatter<W>) -> fmt::Result {
+        f.debug_struct("Play")
+            .field("count", &self.count)
+            .field("read", &self.read)
+            .field("unrouted", &self.unrouted)
+            .field("lost", &self.lost)
+            .field("skipped", &self.skipped)
+            .finish_non_exhaustive()
+    }
 }
 
 impl<P: Spread> Model for Play<P> {

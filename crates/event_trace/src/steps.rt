@@ -2,7 +2,7 @@
 
 /// A step of a scenario. A node is its place among the cluster's nodes, and workers are numbered from 0. A record is named
 /// by its place in the capture, from 0.
-#[derive(Drop)]
+#[derive(Debug, Drop)]
 pub enum ScenarioStep {
     /// `install N V`: a node is told to install a version.
     Install { node: u16, version: u32 },

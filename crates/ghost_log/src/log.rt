@@ -2,6 +2,7 @@
 ghost use Rattle.std.specs.Prelude.{◌≡◌, List, [], ◌∷◌};
 ghost use Rattle.std.specs.Borrow.{ftrue};
 
+use std::fmt;
 use std::marker::{Model, PhantomData};
 
 /// A list that takes no memory. A clause reads it as `items`, the newest in front.
@@ -9,6 +10,12 @@ use std::marker::{Model, PhantomData};
 pub struct Log<A> {
     of: PhantomData<A>,
     pub ghost items: { List A },
+}
+
+impl<A> fmt::Debug for Log<A> {
+    fn fmt<W: fmt::Write>(&self, f: &mut fmt::Formatter<W>) -> fmt::Result {
+        f.debug_struct("Log").finish_non_exhaustive()
+    }
 }
 
 impl<A> Model for Log<A> {

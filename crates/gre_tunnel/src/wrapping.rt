@@ -85,10 +85,7 @@ pub fn wrap_into(inner: &[u8], node: u32, backend: u32, room: &mut Vec<u8>) -> R
         return Err(GreFault::TooLarge);
     }
     room.clear();
-    match wrap_onto(inner, node, backend, room) {
-        Ok(()) => Ok(()),
-        Err(fault) => Err(fault),
-    }
+    wrap_onto(inner, node, backend, room)
 }
 
 /// The datagram after an outer header and a GRE header, as `wrap_into` writes them, in memory of
@@ -100,8 +97,6 @@ pub fn wrap(alloc: Global, inner: &[u8], node: u32, backend: u32) -> Result<Vec<
     ensures refused { IfErr result (λ fault. (fault ≡ GreFault.TooLarge) ⊎ (fault ≡ GreFault.Memory)) }
 {
     let mut bytes = Vec::new(alloc);
-    match wrap_into(inner, node, backend, &mut bytes) {
-        Ok(()) => Ok(bytes),
-        Err(fault) => Err(fault),
-    }
+    wrap_into(inner, node, backend, &mut bytes)?;
+    Ok(bytes)
 }

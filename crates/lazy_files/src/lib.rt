@@ -52,7 +52,7 @@ pub enum FileFault {
 }
 
 /// What the system answered where it refused a file.
-#[derive(Clone, Copy)]
+#[derive(Clone, Copy, Debug)]
 pub struct Refusal {
     kind: ErrorKind,
     code: Option<i32>,

@@ -10,7 +10,7 @@ use hash_laws::{AnyHash, FlowHash, Fnv, Sha256Head, SumHash};
 
 /// A flow as C has it, the `struct maglev_flow` of `maglev.h`.
 #[repr(C)]
-#[derive(Clone, Copy)]
+#[derive(Clone, Copy, Debug)]
 pub struct MaglevFlow {
     /// The source address.
     pub src: u32,

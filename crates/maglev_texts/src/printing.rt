@@ -3,15 +3,15 @@ use pool_versions::Backend;
 use std::fmt;
 
 /// An IPv4 address, printed as four numbers joined by dots.
-#[derive(Clone, Copy)]
+#[derive(Clone, Copy, Debug)]
 pub struct AddressText(pub u32);
 
 /// A backend, printed as `NAME@ADDRESS`.
-#[derive(Clone, Copy)]
+#[derive(Clone, Copy, Debug)]
 pub struct BackendText(pub Backend);
 
 /// A flow, printed as its protocol, a space and `SRC:SPORT>DST:DPORT`. The protocol is `tcp`, `udp` or a number.
-#[derive(Clone, Copy)]
+#[derive(Clone, Copy, Debug)]
 pub struct FlowText(pub Flow);
 
 #[derive(Clone, Copy)]

@@ -26,7 +26,7 @@ pub(crate) fn at_star(word: &[u8]) -> (&[u8], Option<&[u8]>)
 }
 
 /// A name and its weight.
-#[derive(Clone, Copy)]
+#[derive(Clone, Copy, Debug)]
 pub struct WeighedName {
     pub name: Name,
     pub weight: Weight,

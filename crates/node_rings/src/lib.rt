@@ -12,6 +12,7 @@ use rtrb::{Consumer, RingBuffer};
 use selection::Scheme;
 use stats_book::Names;
 use std::alloc::{AllocError, Global};
+use std::fmt;
 use std::sync::Wait;
 use thread_roles::{Current, Inputs, Outfit, Output, Part, Post, RunFault, Stage, ThreadShares};
 use version_board::{Watcher, WordBoard};
@@ -25,6 +26,14 @@ pub struct Laid<'a, S: Scheme, B: Names> {
     pub inputs: Inputs,
     /// The mux's ends.
     pub outputs: Vec<Consumer<Output>>,
+}
+
+impl<S: Scheme, B: Names> fmt::Debug for Laid<'_, S, B> {
+    fn fmt<W: fmt::Write>(&self, f: &mut fmt::Formatter<W>) -> fmt::Result {
+        f.debug_struct("Laid")
+            .field("outfits", &self.outfits)
+            .finish_non_exhaustive()
+    }
 }
 
 // A worker's place to read versions. One that isn't had is a thread that couldn't be started.

@@ -4,6 +4,7 @@ ghost use Rattle.pcap_file.specs.Device.{fault_for, failures_after, interruption
 
 use crate::counts::CallCounts;
 use crate::device::{DeviceFault, Sink, Source};
+use std::fmt;
 use std::io::{ErrorKind, Read, Write};
 
 /// A reader as a source. An error that isn't Interrupted is a failure.
@@ -11,6 +12,14 @@ use std::io::{ErrorKind, Read, Write};
 pub struct FromRead<R> {
     reader: R,
     counts: CallCounts,
+}
+
+impl<R> fmt::Debug for FromRead<R> {
+    fn fmt<W: fmt::Write>(&self, f: &mut fmt::Formatter<W>) -> fmt::Result {
+        f.debug_struct("FromRead")
+            .field("counts", &self.counts)
+            .finish_non_exhaustive()
+    }
 }
 
 impl<R: Read> FromRead<R> {
@@ -55,6 +64,14 @@ impl<R: Read> Source for FromRead<R> {
 pub struct ToWrite<W> {
     writer: W,
     counts: CallCounts,
+}
+
+impl<W> fmt::Debug for ToWrite<W> {
+    fn fmt<F: fmt::Write>(&self, f: &mut fmt::Formatter<F>) -> fmt::Result {
+        f.debug_struct("ToWrite")
+            .field("counts", &self.counts)
+            .finish_non_exhaustive()
+    }
 }
 
 impl<W: Write> ToWrite<W> {

@@ -15,6 +15,7 @@ use crate::sending::{Sending, Split, sent_by};
 use cluster_node::{Event, Outcome};
 use connection_table::TableKey;
 use std::alloc::{AllocError, Global};
+use std::fmt;
 
 /// What is known of a cluster's events so far: how many there were, the last send of each flow, and the splits. Splits are
 /// in the order of their later sends. The book's memory grows with the flows and the splits, and not with the events. Flows
@@ -24,6 +25,15 @@ pub struct SplitBook {
     number: u64,
     last: LastSends,
     splits: Vec<Split>,
+}
+
+impl fmt::Debug for SplitBook {
+    fn fmt<W: fmt::Write>(&self, f: &mut fmt::Formatter<W>) -> fmt::Result {
+        f.debug_struct("SplitBook")
+            .field("number", &self.number)
+            .field("splits", &self.splits)
+            .finish_non_exhaustive()
+    }
 }
 
 // The number of the next event. Where it has no room it is refused, as memory is.

@@ -3,7 +3,7 @@ use cluster_node::{Cause, Reason};
 use std::fmt;
 
 /// A cause of a drop, printed by its name.
-#[derive(Clone, Copy)]
+#[derive(Clone, Copy, Debug)]
 pub struct CauseText(pub Cause);
 
 // Why an event was refused, printed by its name.

@@ -8,7 +8,7 @@ use pool_versions::Backend;
 
 /// A packet that was sent: the number of its serving among the events, counted from 0, its flow, and its backend. Beside
 /// these it has the version under which it was served, and the one under which the backend was chosen.
-#[derive(Clone, Copy, PartialEq, Eq)]
+#[derive(Clone, Copy, Debug, PartialEq, Eq)]
 pub struct Sending {
     pub number: u64,
     pub flow: Flow,
@@ -18,7 +18,7 @@ pub struct Sending {
 }
 
 /// Two packets of one flow that were sent to different backends, with no packet of that flow sent between them.
-#[derive(Clone, Copy, PartialEq, Eq)]
+#[derive(Clone, Copy, Debug, PartialEq, Eq)]
 pub struct Split {
     pub first: Sending,
     pub later: Sending,

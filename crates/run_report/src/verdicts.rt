@@ -9,7 +9,7 @@ use std::alloc::{AllocError, Global};
 use std::fmt;
 
 /// A version and the backend that was chosen under it, printed as `version V BACKEND`.
-#[derive(Clone, Copy)]
+#[derive(Clone, Copy, Debug)]
 pub struct ChoiceText(pub u32, pub Backend);
 
 #[derive(Clone, Copy)]

@@ -25,7 +25,7 @@ use toml::Table;
 const LONGEST: usize = 1_048_576;
 
 /// A cluster, and what happens to it.
-#[derive(Drop)]
+#[derive(Debug, Drop)]
 pub struct Scenario {
     /// The number of slots of each table.
     pub size: TableSize,

@@ -190,7 +190,7 @@ impl Headers {
 }
 
 /// Where a value is.
-#[derive(Clone, Copy)]
+#[derive(Clone, Copy, Debug)]
 pub enum Spot<'a> {
     /// The text from the value on.
     Value(&'a str),

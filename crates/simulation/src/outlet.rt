@@ -66,7 +66,7 @@ impl<O: Sink> Outlet for O {
 }
 
 /// Nothing is wrapped or written: for a run of which only the trace is wanted.
-#[derive(Drop)]
+#[derive(Debug, Drop)]
 pub struct Nowhere;
 
 impl Outlet for Nowhere {

@@ -1,8 +1,9 @@
 use event_trace::ScenarioStep;
 use std::alloc::Global;
+use std::fmt;
 
 /// What a run takes of a scenario.
-#[derive(Clone, Copy)]
+#[derive(Clone, Copy, Debug)]
 pub struct Plan<'a> {
     /// The nodes' IPv4 addresses.
     pub nodes: &'a [u32],
@@ -21,4 +22,12 @@ pub struct RunContext<'a, S> {
     pub plan: Plan<'a>,
     /// What its cluster's core works by.
     pub setup: &'a S,
+}
+
+impl<S> fmt::Debug for RunContext<'_, S> {
+    fn fmt<W: fmt::Write>(&self, f: &mut fmt::Formatter<W>) -> fmt::Result {
+        f.debug_struct("RunContext")
+            .field("plan", &self.plan)
+            .finish_non_exhaustive()
+    }
 }

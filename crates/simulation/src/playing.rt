@@ -12,6 +12,7 @@ use crate::staging::play_records;
 use event_trace::{Core, Play};
 use pcap_file::{InputEnd, Source, read_start};
 use spreader::Spread;
+use std::fmt;
 
 /// A run over a capture: the trace of its steps, how many records the capture has, and how it ends.
 #[derive(Drop)]
@@ -19,6 +20,16 @@ pub struct Played<P: Spread> {
     pub play: Play<P>,
     pub packets: u32,
     pub ending: InputEnd,
+}
+
+impl<P: Spread> fmt::Debug for Played<P> {
+    fn fmt<W: fmt::Write>(&self, f: &mut fmt::Formatter<W>) -> fmt::Result {
+        f.debug_struct("Played")
+            .field("play", &self.play)
+            .field("packets", &self.packets)
+            .field("ending", &self.ending)
+            .finish_non_exhaustive()
+    }
 }
 
 /// Runs a scenario's steps over a capture, record by record. What the cluster sends goes to the outlet, whose capture

@@ -16,7 +16,7 @@ use pool_versions::Backend;
 use std::alloc::AllocError;
 
 /// The nodes' addresses, and how frames are read.
-#[derive(Clone, Copy)]
+#[derive(Clone, Copy, Debug)]
 pub struct Wire<'a> {
     pub nodes: &'a [u32],
     pub link: Link,

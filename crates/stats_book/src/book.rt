@@ -9,6 +9,7 @@ use crate::ledgers::{Names, Of};
 use crate::shares::Shares;
 use crate::stats::Stats;
 use cluster_node::Cause;
+use std::fmt;
 use std::marker::Model;
 use std::sync::ledger::{Blank, Book};
 
@@ -18,6 +19,12 @@ pub struct Blanks {
     received: Blank,
     forwarded: Blank,
     dropped: DropBlanks,
+}
+
+impl fmt::Debug for Blanks {
+    fn fmt<W: fmt::Write>(&self, f: &mut fmt::Formatter<W>) -> fmt::Result {
+        f.debug_struct("Blanks").finish_non_exhaustive()
+    }
 }
 
 impl Model for Blanks {
@@ -51,6 +58,14 @@ pub struct StatsBook<B: Names> {
     received: Book<Of<B, 0>>,
     forwarded: Book<Of<B, 1>>,
     dropped: DropBooks<B>,
+}
+
+impl<B: Names> fmt::Debug for StatsBook<B> {
+    fn fmt<W: fmt::Write>(&self, f: &mut fmt::Formatter<W>) -> fmt::Result {
+        f.debug_struct("StatsBook")
+            .field("stats", &self.stats)
+            .finish_non_exhaustive()
+    }
 }
 
 impl<B: Names> Model for StatsBook<B> {

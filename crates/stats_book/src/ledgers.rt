@@ -1,6 +1,7 @@
 //! One ledger for each count.
 ghost use Rattle.std.specs.Prelude.{ℕ};
 
+use std::fmt;
 use std::marker::{Brand, PhantomData};
 use std::sync::ledger::Ledger;
 
@@ -23,6 +24,12 @@ impl Names for Brand {
 /// The ledger of the count at place `N`: what was received, what was forwarded, and the drops in the order of `Cause`.
 pub struct Of<B: Names, const N: usize> {
     marker: PhantomData<B>,
+}
+
+impl<B: Names, const N: usize> fmt::Debug for Of<B, N> {
+    fn fmt<W: fmt::Write>(&self, f: &mut fmt::Formatter<W>) -> fmt::Result {
+        f.debug_struct("Of").finish_non_exhaustive()
+    }
 }
 
 impl<B: Names, const N: usize> Ledger for Of<B, N> {

@@ -5,6 +5,7 @@ ghost use Rattle.stats_book.specs.Counts.{Counted, one_more, sums};
 use crate::drops::{DropBooks, DropShares, some_parts};
 use crate::ledgers::{Names, Of};
 use cluster_node::Cause;
+use std::fmt;
 use std::marker::Model;
 use std::sync::ledger::{Book, Share};
 
@@ -14,6 +15,12 @@ pub struct Shares<B: Names> {
     pub(crate) received: Share<Of<B, 0>>,
     pub(crate) forwarded: Share<Of<B, 1>>,
     pub(crate) dropped: DropShares<B>,
+}
+
+impl<B: Names> fmt::Debug for Shares<B> {
+    fn fmt<W: fmt::Write>(&self, f: &mut fmt::Formatter<W>) -> fmt::Result {
+        f.debug_struct("Shares").finish_non_exhaustive()
+    }
 }
 
 impl<B: Names> Model for Shares<B> {

@@ -6,7 +6,7 @@ use backend_names::{Name, Weight};
 use std::alloc::AllocError;
 
 /// A name, its weight, and its place among the names as they were given.
-#[derive(Clone, Copy)]
+#[derive(Clone, Copy, Debug)]
 pub struct Entrant {
     pub name: Name,
     pub weight: Weight,

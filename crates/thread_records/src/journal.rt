@@ -22,6 +22,7 @@ use cluster_node::{Cause, Event, Item, Outcome, Packet, Reason};
 use five_tuple::Flow;
 use hash_laws::FlowHash;
 use std::alloc::{AllocError, Global};
+use std::fmt;
 use std::marker::Model;
 use steering::{Placed, Steerer};
 
@@ -43,6 +44,20 @@ pub struct Journal {
     events: Vec<Event>,
     outcomes: Vec<Outcome>,
     early: bool,
+}
+
+impl fmt::Debug for Journal {
+    fn fmt<W: fmt::Write>(&self, f: &mut fmt::Formatter<W>) -> fmt::Result {
+        f.debug_struct("Journal")
+            .field("node", &self.node)
+            .field("ring", &self.ring)
+            .field("newest", &self.newest)
+            .field("installed", &self.installed)
+            .field("events", &self.events)
+            .field("outcomes", &self.outcomes)
+            .field("early", &self.early)
+            .finish_non_exhaustive()
+    }
 }
 
 impl Model for Journal {

@@ -20,6 +20,7 @@ use hash_laws::FlowHash;
 use pool_versions::Catalogue;
 use selection::{PreparedVersion, Scheme};
 use std::alloc::{AllocError, Global};
+use std::fmt;
 use std::marker::Model;
 use std::sync::Arc;
 
@@ -37,6 +38,17 @@ pub struct WorkerRecord<S: Scheme, T: ConnTable> {
     capacity: u32,
     idle: Option<u64>,
     handled: Vec<Handled>,
+}
+
+impl<S: Scheme, T: ConnTable> fmt::Debug for WorkerRecord<S, T> {
+    fn fmt<W: fmt::Write>(&self, f: &mut fmt::Formatter<W>) -> fmt::Result {
+        f.debug_struct("WorkerRecord")
+            .field("worker", &self.worker)
+            .field("capacity", &self.capacity)
+            .field("idle", &self.idle)
+            .field("handled", &self.handled)
+            .finish_non_exhaustive()
+    }
 }
 
 impl<S: Scheme, T: ConnTable> Model for WorkerRecord<S, T> {

@@ -15,6 +15,7 @@ use forwarder::Forwarder;
 use hash_laws::FlowHash;
 use selection::{PreparedVersion, Scheme};
 use std::alloc::{AllocError, Global};
+use std::fmt;
 use std::marker::Model;
 
 /// A worker. It serves under versions that ascend.
@@ -22,6 +23,15 @@ use std::marker::Model;
 pub struct Worker<S: Scheme, T: ConnTable> {
     used: u32,
     forwarder: Forwarder<S, T>,
+}
+
+impl<S: Scheme, T: ConnTable> fmt::Debug for Worker<S, T> {
+    fn fmt<W: fmt::Write>(&self, f: &mut fmt::Formatter<W>) -> fmt::Result {
+        f.debug_struct("Worker")
+            .field("used", &self.used)
+            .field("forwarder", &self.forwarder)
+            .finish_non_exhaustive()
+    }
 }
 
 impl<S: Scheme, T: ConnTable> Model for Worker<S, T> {

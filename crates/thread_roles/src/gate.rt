@@ -26,7 +26,7 @@ pub trait Gate {
 }
 
 /// Does nothing.
-#[derive(Clone, Copy, Drop)]
+#[derive(Clone, Copy, Debug, Drop)]
 pub struct OpenGate;
 
 impl Gate for OpenGate {

@@ -12,6 +12,7 @@ use left_right::{Absorb, ReadHandle, WriteHandle};
 use pool_versions::Version;
 use selection::{PreparedVersion, Scheme};
 use std::alloc::{AllocError, Global};
+use std::fmt;
 use std::sync::{Arc, Wait};
 
 /// A prepared version with several owners: the two copies that are swapped, the driver, and the workers that used it last.
@@ -22,6 +23,14 @@ pub type Shared<S> = Arc<PreparedVersion<S>>;
 pub struct Current<S: Scheme> {
     /// The version.
     pub version: Option<Shared<S>>,
+}
+
+impl<S: Scheme> fmt::Debug for Current<S> {
+    fn fmt<W: fmt::Write>(&self, f: &mut fmt::Formatter<W>) -> fmt::Result {
+        f.debug_struct("Current")
+            .field("version", &self.version)
+            .finish_non_exhaustive()
+    }
 }
 
 impl<S: Scheme> Current<S> {

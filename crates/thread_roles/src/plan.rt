@@ -13,6 +13,7 @@ use pool_versions::Catalogue;
 use selection::Scheme;
 use stats_book::{Names, Shares, StatsBook};
 use std::alloc::AllocError;
+use std::fmt;
 use std::sync::Mutex;
 use thread_records::{Command, Journal};
 
@@ -45,6 +46,15 @@ pub struct NodeTask<'e, S: Scheme, H: FlowHash, G, B: Names> {
     pub ghost fresh: { shares ≡ counted shares.parts [] },
 }
 
+impl<S: Scheme, H: FlowHash, G, B: Names> fmt::Debug for NodeTask<'_, S, H, G, B> {
+    fn fmt<W: fmt::Write>(&self, f: &mut fmt::Formatter<W>) -> fmt::Result {
+        f.debug_struct("NodeTask")
+            .field("node", &self.node)
+            .field("ring", &self.ring)
+            .finish_non_exhaustive()
+    }
+}
+
 /// What all threads of a node's run share. None of them changes anything but the book.
 pub struct NodePlan<'e, S: Scheme, H: FlowHash, G, B: Names> {
     /// The cluster.
@@ -63,6 +73,15 @@ pub struct NodePlan<'e, S: Scheme, H: FlowHash, G, B: Names> {
     pub node: u16,
     /// The places of a ring.
     pub ring: u32,
+}
+
+impl<S: Scheme, H: FlowHash, G, B: Names> fmt::Debug for NodePlan<'_, S, H, G, B> {
+    fn fmt<W: fmt::Write>(&self, f: &mut fmt::Formatter<W>) -> fmt::Result {
+        f.debug_struct("NodePlan")
+            .field("node", &self.node)
+            .field("ring", &self.ring)
+            .finish_non_exhaustive()
+    }
 }
 
 impl<'e, S: Scheme, H: FlowHash, G, B: Names> Clone for NodePlan<'e, S, H, G, B> {
@@ -85,4 +104,13 @@ pub struct Progress<S: Scheme, B: Names> {
     /// What was counted for what the driver has written.
     pub tally: ThreadShares<B>,
     pub ghost prepared: { number_of arc_value newest ≡ journal.newest },
+}
+
+impl<S: Scheme, B: Names> fmt::Debug for Progress<S, B> {
+    fn fmt<W: fmt::Write>(&self, f: &mut fmt::Formatter<W>) -> fmt::Result {
+        f.debug_struct("Progress")
+            .field("journal", &self.journal)
+            .field("at", &self.at)
+            .finish_non_exhaustive()
+    }
 }

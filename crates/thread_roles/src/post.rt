@@ -15,6 +15,7 @@ use cluster_node::Item;
 use connection_table::ConnTable;
 use left_right::{Absorb, ReadHandle};
 use selection::Scheme;
+use std::fmt;
 use std::marker::Model;
 use std::sync::Wait;
 use thread_records::{Step, WorkerRecord};
@@ -27,6 +28,12 @@ pub struct Post<'a, S: Scheme> {
     board: &'a WordBoard,
     seat: Watcher,
     reader: ReadHandle<Current<S>>,
+}
+
+impl<S: Scheme> fmt::Debug for Post<'_, S> {
+    fn fmt<W: fmt::Write>(&self, f: &mut fmt::Formatter<W>) -> fmt::Result {
+        f.debug_struct("Post").finish_non_exhaustive()
+    }
 }
 
 impl<'a, S: Scheme> Model for Post<'a, S> {

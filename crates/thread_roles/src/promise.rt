@@ -9,6 +9,7 @@ use crate::tally::ThreadShares;
 use connection_table::ConnTable;
 use selection::Scheme;
 use stats_book::Names;
+use std::fmt;
 use std::thread::Promise;
 use thread_records::WorkerRecord;
 
@@ -21,9 +22,17 @@ pub struct WorkerRun<S: Scheme, T: ConnTable, B: Names> {
     pub tally: ThreadShares<B>,
 }
 
+impl<S: Scheme, T: ConnTable, B: Names> fmt::Debug for WorkerRun<S, T, B> {
+    fn fmt<W: fmt::Write>(&self, f: &mut fmt::Formatter<W>) -> fmt::Result {
+        f.debug_struct("WorkerRun")
+            .field("record", &self.record)
+            .finish_non_exhaustive()
+    }
+}
+
 /// What a worker's thread promises: that it counted what it handled, and else that memory was refused or what is shown couldn't
 /// be read.
-#[derive(Clone, Copy, Drop)]
+#[derive(Clone, Copy, Debug, Drop)]
 pub struct CountsOwn;
 
 impl<S: Scheme, T: ConnTable, B: Names> Promise<Result<WorkerRun<S, T, B>, RunFault>>

@@ -4,6 +4,7 @@ ghost use Rattle.rtrb.specs.Ring.{sent};
 
 use cluster_node::{Item, Outcome};
 use rtrb::{Producer, PushError};
+use std::fmt;
 use std::hint::spin_loop;
 use std::sync::Wait;
 use std::thread::{Parker, yield_now};
@@ -11,7 +12,7 @@ use std::time::Duration;
 use thread_records::Rings;
 
 /// What a driver pushes to a worker.
-#[derive(Clone, Copy)]
+#[derive(Clone, Copy, Debug)]
 pub enum Message {
     /// A packet to be served.
     Serve(Item),
@@ -20,7 +21,7 @@ pub enum Message {
 }
 
 /// What a worker pushes to the mux.
-#[derive(Clone, Copy)]
+#[derive(Clone, Copy, Debug)]
 pub enum Output {
     /// A packet that is sent on.
     Send(Outcome),
@@ -46,6 +47,15 @@ pub struct Idle {
     looks: u32,
     sleep: u64,
     parker: Parker,
+}
+
+impl fmt::Debug for Idle {
+    fn fmt<W: fmt::Write>(&self, f: &mut fmt::Formatter<W>) -> fmt::Result {
+        f.debug_struct("Idle")
+            .field("looks", &self.looks)
+            .field("sleep", &self.sleep)
+            .finish_non_exhaustive()
+    }
 }
 
 impl Idle {
@@ -96,6 +106,12 @@ pub fn push_waiting<T, R: Wait>(rt: &R, ring: &mut Producer<T>, item: T)
 pub struct Inputs {
     /// One for each worker.
     pub rings: Vec<Producer<Message>>,
+}
+
+impl fmt::Debug for Inputs {
+    fn fmt<W: fmt::Write>(&self, f: &mut fmt::Formatter<W>) -> fmt::Result {
+        f.debug_struct("Inputs").finish_non_exhaustive()
+    }
 }
 
 impl Rings for Inputs {

@@ -6,6 +6,7 @@ ghost use Rattle.thread_roles.specs.Counts.{plus, with_arrival, with_choice, wit
 use cluster_node::Cause;
 use forwarder::Choice;
 use stats_book::{Names, Shares, Stats, StatsBook};
+use std::fmt;
 use std::sync::{Mutex, Wait};
 
 /// Shares of a book on which nothing was counted: one part of each ledger.
@@ -15,6 +16,12 @@ pub struct Part<B: Names> {
     ghost fresh: { shares ≡ record { parts = 1; received = 0; forwarded = 0; dropped = replicate 13 0 } },
 }
 
+impl<B: Names> fmt::Debug for Part<B> {
+    fn fmt<W: fmt::Write>(&self, f: &mut fmt::Formatter<W>) -> fmt::Result {
+        f.debug_struct("Part").finish_non_exhaustive()
+    }
+}
+
 /// What one thread counted, and whether the book refused to count something.
 #[derive(Drop)]
 pub struct ThreadShares<B: Names> {
@@ -22,6 +29,14 @@ pub struct ThreadShares<B: Names> {
     pub shares: Shares<B>,
     /// A count was refused: something was at its greatest, or nothing waited.
     pub lost: bool,
+}
+
+impl<B: Names> fmt::Debug for ThreadShares<B> {
+    fn fmt<W: fmt::Write>(&self, f: &mut fmt::Formatter<W>) -> fmt::Result {
+        f.debug_struct("ThreadShares")
+            .field("lost", &self.lost)
+            .finish_non_exhaustive()
+    }
 }
 
 impl<B: Names> ThreadShares<B> {

@@ -19,6 +19,7 @@ use rtrb::{Consumer, Producer};
 use selection::Scheme;
 use stats_book::Names;
 use std::alloc::{AllocError, Global};
+use std::fmt;
 use std::sync::Wait;
 use thread_records::{Step, WorkerRecord};
 
@@ -35,6 +36,14 @@ pub struct Outfit<'a, S: Scheme, B: Names> {
     pub part: Part<B>,
     /// Its number among the node's workers.
     pub number: u16,
+}
+
+impl<S: Scheme, B: Names> fmt::Debug for Outfit<'_, S, B> {
+    fn fmt<W: fmt::Write>(&self, f: &mut fmt::Formatter<W>) -> fmt::Result {
+        f.debug_struct("Outfit")
+            .field("number", &self.number)
+            .finish_non_exhaustive()
+    }
 }
 
 // A worker's ends of what it shares with other threads.

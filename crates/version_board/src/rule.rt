@@ -1,6 +1,7 @@
 //! The rule of the table under a board, and what its steps tell.
 use atomic_table::{Join, Play, Split, TableRule};
 use std::collections::LinkedList;
+use std::fmt;
 
 /// What a seat knows. No value of it is made.
 pub struct View {
@@ -12,8 +13,15 @@ pub struct View {
     pub given_back: LinkedList<u32>,
 }
 
+impl fmt::Debug for View {
+    fn fmt<W: fmt::Write>(&self, f: &mut fmt::Formatter<W>) -> fmt::Result {
+        f.debug_struct("View").finish_non_exhaustive()
+    }
+}
+
 /// The publisher's numbers ascend, word 0 is the last of them, and what the workers' seats saw is among them. Word 1 says
 /// whether to halt; no seat knows anything of it.
+#[derive(Debug)]
 pub struct BoardRule;
 
 impl TableRule<(), View, u32> for BoardRule {
@@ -26,6 +34,7 @@ impl TableRule<(), View, u32> for BoardRule {
 }
 
 /// A number is stored, and is last.
+#[derive(Debug)]
 pub struct Publishes;
 
 impl Play<(), View> for Publishes {
@@ -35,6 +44,7 @@ impl Play<(), View> for Publishes {
 }
 
 /// A number is loaded.
+#[derive(Debug)]
 pub struct Looks;
 
 impl Play<(), View> for Looks {
@@ -44,6 +54,7 @@ impl Play<(), View> for Looks {
 }
 
 /// The word that says whether to halt is stored or loaded, and the view stays as it is.
+#[derive(Debug)]
 pub struct Keeps;
 
 impl Play<(), View> for Keeps {
@@ -53,6 +64,7 @@ impl Play<(), View> for Keeps {
 }
 
 /// The publisher learns that what was given back is among its numbers.
+#[derive(Debug)]
 pub struct Compares;
 
 impl Play<(), View> for Compares {
@@ -62,6 +74,7 @@ impl Play<(), View> for Compares {
 }
 
 /// A worker's seat is cut off, which has seen the board's first number.
+#[derive(Debug)]
 pub struct Seats;
 
 impl Split<View> for Seats {
@@ -73,6 +86,7 @@ impl Split<View> for Seats {
 }
 
 /// A worker's seat is given back.
+#[derive(Debug)]
 pub struct GivesBack;
 
 impl Join<View> for GivesBack {

@@ -6,6 +6,7 @@ ghost use Rattle.version_board.specs.Rule.{publisher, watcher};
 use crate::rule::{BoardRule, View};
 use atomic_table::{Seat, Table};
 use std::alloc::Global;
+use std::fmt;
 
 mod steps;
 
@@ -18,11 +19,25 @@ pub struct Publisher {
     ghost newest: { last ≡ newest seat.me.0.numbers },
 }
 
+impl fmt::Debug for Publisher {
+    fn fmt<W: fmt::Write>(&self, f: &mut fmt::Formatter<W>) -> fmt::Result {
+        f.debug_struct("Publisher")
+            .field("last", &self.last)
+            .finish_non_exhaustive()
+    }
+}
+
 /// A worker's seat.
 #[derive(Drop)]
 pub struct Watcher {
     seat: Seat<(), View>,
     ghost watches: { seat.me ≡ (watcher seat.me.0.numbers, []) },
+}
+
+impl fmt::Debug for Watcher {
+    fn fmt<W: fmt::Write>(&self, f: &mut fmt::Formatter<W>) -> fmt::Result {
+        f.debug_struct("Watcher").finish_non_exhaustive()
+    }
 }
 
 /// A board of two words. The first is the newest number; the second is 1 where the workers are to halt, and else 0.
@@ -31,4 +46,10 @@ pub struct WordBoard {
     table: Table<(), View, u32, BoardRule, Global>,
     ghost two: { table.shared.table_id.words ≡ 2 },
     ghost no_slot: { table.shared.table_id.slots ≡ 0 },
+}
+
+impl fmt::Debug for WordBoard {
+    fn fmt<W: fmt::Write>(&self, f: &mut fmt::Formatter<W>) -> fmt::Result {
+        f.debug_struct("WordBoard").finish_non_exhaustive()
+    }
 }

@@ -16,6 +16,7 @@ use crate::queue::Queue;
 use cluster_node::{Event, LogEntry, Outcome, Packet};
 use pcap_file::Frame;
 use std::alloc::{AllocError, Global};
+use std::fmt;
 use std::marker::Model;
 use std::rc::Rc;
 
@@ -25,6 +26,12 @@ const MOST_WORKERS: usize = 16;
 #[derive(Drop)]
 pub struct Waiting {
     queues: Vec<Queue>,
+}
+
+impl fmt::Debug for Waiting {
+    fn fmt<W: fmt::Write>(&self, f: &mut fmt::Formatter<W>) -> fmt::Result {
+        f.debug_struct("Waiting").finish_non_exhaustive()
+    }
 }
 
 impl Model for Waiting {
