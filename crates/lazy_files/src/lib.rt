@@ -9,6 +9,7 @@ use std::io;
 use std::io::{BufReader, BufWriter, ErrorKind, Printer, Read, Stdin, Write};
 use std::os::fd::AsRawFd;
 use std::os::unix::fs::MetadataExt;
+use thiserror::Error;
 
 /// The bytes that a file's buffer holds.
 const BUFFER: usize = 65_536;
@@ -43,11 +44,13 @@ fn stand_in(rt: &HostRuntime) -> Option<File> {
 }
 
 /// Why a file isn't open.
-#[derive(Clone, Copy, Debug, PartialEq, Eq)]
+#[derive(Clone, Copy, Debug, PartialEq, Eq, Drop, Error)]
 pub enum FileFault {
     /// There was no memory for its buffer.
+    #[error("out of memory")]
     Memory,
     /// The system refused it, or what is written would have come to a file that is read.
+    #[error("the system refused the file, or it is also read")]
     Refused,
 }
 

@@ -4,9 +4,11 @@ ghost use Rattle.std.specs.Io.KnownBytes.{Consumes, Appends, IsAtEnd};
 ghost use Rattle.pcap_file.specs.Device.{WithinCalls, Unfailed, ReadRefused, PutRefused};
 
 use crate::device::{DeviceFault, Sink, Source};
+use thiserror::Error;
 
 /// A device failed, or was called as often as a piece allows.
-#[derive(Clone, Copy, Debug, PartialEq, Eq)]
+#[derive(Clone, Copy, Debug, PartialEq, Eq, Drop, Error)]
+#[error("the device failed, or was called too often")]
 pub struct Refused;
 
 /// Reads until the place is full or the input ends, and answers how many bytes came. The device is

@@ -1,14 +1,18 @@
 use pcap_file::PcapFault;
 use std::alloc::AllocError;
+use thiserror::Error;
 
 /// Why a run over a capture stopped.
-#[derive(Clone, Copy, Debug, PartialEq, Eq)]
+#[derive(Clone, Copy, Debug, PartialEq, Eq, Drop, Error)]
 pub enum SimulationFault {
     /// The input isn't a capture, or couldn't be read.
+    #[error(transparent)]
     Capture(PcapFault),
     /// The output couldn't be written.
+    #[error("the output can't be written")]
     Write,
     /// Memory was refused.
+    #[error("out of memory")]
     Memory,
 }
 

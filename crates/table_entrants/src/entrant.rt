@@ -4,6 +4,7 @@ ghost use Rattle.table_entrants.specs.declared.entrant.OrderFault.TheVariants.{M
 
 use backend_names::{Name, Weight};
 use std::alloc::AllocError;
+use thiserror::Error;
 
 /// A name, its weight, and its place among the names as they were given.
 #[derive(Clone, Copy, Debug)]
@@ -14,11 +15,13 @@ pub struct Entrant {
 }
 
 /// Why names aren't put in order.
-#[derive(Clone, Copy, Debug, PartialEq, Eq, Drop)]
+#[derive(Clone, Copy, Debug, PartialEq, Eq, Drop, Error)]
 pub enum OrderFault {
     /// A name is there twice.
+    #[error("a name is there twice")]
     DoubleName,
     /// Memory was refused.
+    #[error("out of memory")]
     Memory,
 }
 

@@ -3,22 +3,28 @@ ghost use Rattle.std.specs.Prelude.{◌≡◌};
 ghost use Rattle.thread_roles.specs.Faults.{run_fault};
 
 use std::alloc::AllocError;
+use thiserror::Error;
 use thread_records::LifeFault;
 
 /// Why a run has no record. Memory comes before ThreadLost. Where neither came, all records are compared after the joins,
 /// and then Foreign comes before RingLost, and BookLost is last.
-#[derive(Clone, Copy, Debug, PartialEq, Eq)]
+#[derive(Clone, Copy, Debug, PartialEq, Eq, Drop, Error)]
 pub enum RunFault {
     /// A version was used that was not installed on the node before, or that isn't the catalogue's, prepared for the cluster.
+    #[error("a worker used a version that wasn't installed on its node")]
     Foreign,
     /// What a worker took isn't what was placed on it, or what was gathered isn't a merge of what the workers sent. Or a
     /// ring refused a packet before it had taken as many as it has places.
+    #[error("a ring lost, changed or refused a packet")]
     RingLost,
     /// A thread couldn't be started, had no place to read versions, or couldn't read them any more.
+    #[error("a thread can't be started, or can't read versions")]
     ThreadLost,
     /// The book of the run's counts refused one: a count was at its greatest, or no packet waited.
+    #[error("the book of counts refused one")]
     BookLost,
     /// Memory was refused.
+    #[error("out of memory")]
     Memory,
 }
 

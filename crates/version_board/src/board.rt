@@ -2,8 +2,11 @@
 ghost use Rattle.std.specs.Prelude.{◌≡◌, ◌++◌, ◌∷◌, [], List, ℕ, ◌<◌, ◌≤◌, All, MatchResult};
 ghost use Rattle.version_board.specs.Numbers.{newest};
 
+use thiserror::Error;
+
 /// The number isn't above the one that was published last. Nothing was written.
-#[derive(Clone, Copy, Debug, PartialEq, Eq, Drop)]
+#[derive(Clone, Copy, Debug, PartialEq, Eq, Drop, Error)]
+#[error("the number isn't above the last that was published")]
 pub struct NotNewer;
 
 /// A board of version numbers: one seat publishes numbers that ascend, and the other seats look at the newest.

@@ -18,15 +18,19 @@ use connection_table::ConnTable;
 use forwarder::Choice;
 use selection::Scheme;
 use std::alloc::AllocError;
+use thiserror::Error;
 
 /// Why the records of a life don't fit together, in the order in which it is reported.
-#[derive(Clone, Copy, Debug, PartialEq, Eq)]
+#[derive(Clone, Copy, Debug, PartialEq, Eq, Drop, Error)]
 pub enum LifeFault {
     /// A version was used that was not installed on the node.
+    #[error("a worker used a version that wasn't installed on its node")]
     Foreign,
     /// What a worker took is not what was placed on it.
+    #[error("what a worker took is not what was placed on it")]
     RingLost,
     /// Memory was refused.
+    #[error("out of memory")]
     Memory,
 }
 
