@@ -1,5 +1,6 @@
 /* embed NAMES: times `maglev_table` of b1 .. bNAMES at 65537 slots beside the common algorithm in C over the same text, which both
- * split, sort and hash each time; and `maglev_slots` of a million flows beside C. Of nine rounds, in turns, the fastest counts. */
+ * split, sort and hash each time; and `maglev_slots` of a million flows beside C. Of 25 rounds, in turns, it prints the least times,
+ * and the median of the rounds' ratios. */
 #include "maglev.h"
 #include "population.h"
 
@@ -8,7 +9,7 @@
 #include <string.h>
 #include <time.h>
 
-enum { SLOTS = 65537, FLOWS = 1000000, ROUNDS = 9 };
+enum { SLOTS = 65537, FLOWS = 1000000, ROUNDS = 25 };
 
 struct entrant {
     const char *name;
@@ -81,39 +82,55 @@ __attribute__((noinline)) static void slots_of(uint32_t size, const struct magle
 static uint32_t ours[SLOTS], theirs[SLOTS], found[FLOWS], wanted[FLOWS];
 static struct maglev_flow flows[FLOWS];
 
-static void least(double *best, double begun, unsigned times) {
-    double one = (now() - begun) / times;
-    if (one < *best) *best = one;
+/* What the rounds gave: the least seconds of either, and the ratio of each round. */
+struct timed {
+    double library, peer, ratios[ROUNDS];
+};
+
+static int by_size(const void *a, const void *b) {
+    double one = *(const double *)a, other = *(const double *)b;
+    return (one > other) - (one < other);
+}
+
+/* Both halves of a round follow one another, so that what slows the machine slows both. */
+static void keep(struct timed *timed, int round, double begun, double between, double ended) {
+    double library = between - begun, peer = ended - between;
+    if (round == 0 || library < timed->library) timed->library = library;
+    if (round == 0 || peer < timed->peer) timed->peer = peer;
+    timed->ratios[round] = library / peer;
+}
+
+static double median(struct timed *timed) {
+    qsort(timed->ratios, ROUNDS, sizeof *timed->ratios, by_size);
+    return timed->ratios[ROUNDS / 2];
 }
 
 static void time_tables(const char *text, size_t len, uint32_t count) {
-    double library = 1e9, peer = 1e9;
+    struct timed timed;
     for (int round = 0; round < ROUNDS; round++) {
         double begun = now();
         for (int i = 0; i < 20; i++)
             if (maglev_table(SLOTS, MAGLEV_FNV, (const uint8_t *)text, len, (const uint8_t *)"", 0, ours, SLOTS)) exit(1);
-        least(&library, begun, 20);
-        begun = now();
+        double between = now();
         for (int i = 0; i < 20; i++) table(text, len, count, theirs);
-        least(&peer, begun, 20);
+        keep(&timed, round, begun, between, now());
     }
     const char *same = memcmp(ours, theirs, sizeof ours) ? "DIFFERENT" : "equal";
-    printf("maglev_table 65537 x %u: libmaglev %.3f ms, C %.3f ms, ratio %.2f, tables %s\n", count, library, peer, library / peer, same);
+    printf("maglev_table 65537 x %u: libmaglev %.3f ms, C %.3f ms, ratio %.2f, tables %s\n", count, timed.library / 20, timed.peer / 20, median(&timed), same);
 }
 
 static void time_slots(void) {
-    double library = 1e9, peer = 1e9;
+    struct timed timed;
     for (uint32_t i = 0; i < FLOWS; i++) flows[i] = (struct maglev_flow){i * 2654435761u, 0xc0000201, (uint16_t)(i * 40503u), 80, 6};
     for (int round = 0; round < ROUNDS; round++) {
         double begun = now();
         if (maglev_slots(SLOTS, MAGLEV_FNV, flows, FLOWS, found, FLOWS)) exit(1);
-        least(&library, begun, 1);
-        begun = now();
+        double between = now();
         slots_of(SLOTS, flows, FLOWS, wanted);
-        least(&peer, begun, 1);
+        keep(&timed, round, begun, between, now());
     }
     const char *same = memcmp(found, wanted, sizeof found) ? "DIFFERENT" : "equal";
-    printf("maglev_slots: libmaglev %.1f ns a flow, C %.1f ns, ratio %.2f, slots %s\n", library, peer, library / peer, same);
+    printf("maglev_slots: libmaglev %.1f ns a flow, C %.1f ns, ratio %.2f, slots %s\n", timed.library, timed.peer, median(&timed), same);
 }
 
 int main(int argc, char **argv) {
