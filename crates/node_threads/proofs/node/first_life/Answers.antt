@@ -7,11 +7,11 @@ use Rattle.thread_records.specs.Losses.{losses, KeepDrained}
 use Rattle.thread_roles.specs.Counts.{Counts}
 use Rattle.node_threads.proofs.node.first_life.Goals as goal
 
-pub new-requires-2-clause-begins : goal.new-requires-2-clause-begins
-new-requires-2-clause-begins g c =
+pub new-requires-2 : goal.new-requires-2
+new-requires-2 g c =
     let rules : Rules = rules_for (λ s z. g.S.Scheme.pick s z) (λ h. g.H.FlowHash.plain h) c.args.plan.setup.now c.args.plan.catalogue.now in
     let fresh = c.in_ok-new.ensures.fresh in
-    record {
+    record { begins = record {
       within = omega arith;
       going = record {
         drives = c.in_ok-new.ensures.drives rules c.args.plan.packets.now c.requires.there c.workers.ensures.workers;
@@ -22,4 +22,4 @@ new-requires-2-clause-begins g c =
       };
       some = omega (arith, c.requires.parts);
       counts = λ read. subst (λ (j : JournalView). Counts false c.args.shares j.outcomes) (sym fresh) (λ e. c.requires.fresh);
-    }
+    }; }
