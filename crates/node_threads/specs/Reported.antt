@@ -41,7 +41,7 @@ pub record NodesTell {S H : Type 0} (eq : S → S → Bool) (rules : Rules) (all
   pub told : AreTold eq rules all 0 all.commands faults
   pub first : ComesFirst fault faults
 
--- So is each fault told that isn't Memory or ThreadLost.
+-- Foreign, RingLost and BookLost are reported so. Memory and ThreadLost no record tells.
 unfoldable pub ClusterTells : {S H : Type 0} → (S → S → Bool) → Rules → AllAsked S H → RunFault → Type 0
 ClusterTells eq rules all Foreign = NodesTell eq rules all Foreign
 ClusterTells eq rules all RingLost = NodesTell eq rules all RingLost

@@ -80,7 +80,8 @@ impl<'e, S: Scheme, H: FlowHash, G, B: Names> Life<'e, S, H, G, B> {
           parts = result.1.tally.shares.parts;
           newest = result.1.journal.newest;
         } }
-        ensures begins { let asked = asked_of result.0.setup.now result.0.catalogue.now result.0.packets.now result.0.node result.0.ring result.0.commands.now in
+        ensures begins { let p = result.0 in
+            let asked = asked_of p.setup.now p.catalogue.now p.packets.now p.node p.ring p.commands.now in
             let rules = rules_for (λ s z. S.pick s z) (λ h. H.plain h) asked.setup asked.catalogue in
             Begins rules asked result.1.at result.1.journal result.1.tally.lost result.1.tally.shares }
     {

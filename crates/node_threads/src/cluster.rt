@@ -1,5 +1,6 @@
 //! A cluster on threads: each node's run, with its driver in a thread of its own.
-ghost use Rattle.std.specs.Prelude.{◌≡◌, ◌≤◌, ◌<◌, ◌+◌, ◌*◌, ◌++◌, ◌∷◌, [], ℕ, List, ◌↔◌, length, map, Option, None, Some, Ok, IfOk, IfErr, IfSome, IsSomeAnd, IsTrue, MatchResult, All, slice_get, slice_index, slice_index_or};
+ghost use Rattle.std.specs.Prelude.{◌≡◌, ◌≤◌, ◌<◌, ◌+◌, ◌*◌, ◌++◌, ◌∷◌, [], ℕ, List, ◌↔◌};
+ghost use Rattle.std.specs.Prelude.{length, map, Option, None, Some, Ok, IfOk, IfErr, IfSome, IsSomeAnd, IsTrue, MatchResult, All, slice_get, slice_index, slice_index_or};
 ghost use Rattle.cluster_core.specs.Setups.{Fixed, rules_for};
 ghost use Rattle.cluster_core.specs.Headline.{Agreement, Keeping};
 ghost use Rattle.cluster_core.specs.Histories.{IsSteady};
@@ -170,7 +171,8 @@ impl<B: Names> Joined<B> {
     #[tactic(auto, using(crate::proofs::Reporting::sums_none, crate::proofs::Reporting::sums_some, crate::proofs::Reporting::refused_still))]
     fn keep(&mut self, answer: Answer<B>)
         ensures kept { self.new.fault ≡ None → (self.old.fault ≡ None)
-            × ((r : CountedRun _) × (answer ≡ Ok r) × (self.new.nodes.items ≡ self.old.nodes.items ++ r.record ∷ []) × (self.new.shares ≡ plus self.old.shares r.shares)) }
+            × ((r : CountedRun _) × (answer ≡ Ok r)
+            × (self.new.nodes.items ≡ self.old.nodes.items ++ r.record ∷ []) × (self.new.shares ≡ plus self.old.shares r.shares)) }
         ensures told { (fs : List (Option RunFault)) → IsSumUp fs self.old.fault → IsSumUp (fs ++ fault_in answer ∷ []) self.new.fault }
         ensures refused { IsSomeAnd self.old.fault (λ fault. IsRefusal fault) → IsSomeAnd self.new.fault (λ fault. IsRefusal fault) }
     {
@@ -231,7 +233,8 @@ where
         match scope.spawn_with(
             promise,
             move || -> Result<CountedRun<B>, RunFault>
-                ensures { let asked = asked_of task.entry.setup.now task.entry.catalogue.now task.entry.packets.now task.entry.node task.entry.ring task.entry.commands.now in
+                ensures { let t = task.entry in
+                    let asked = asked_of t.setup.now t.catalogue.now t.packets.now t.node t.ring t.commands.now in
                     let rules = rules_for (λ s z. S.pick s z) (λ h. H.plain h) asked.setup asked.catalogue in
                     MatchResult result (λ run. IsCounted rules asked run.record run.shares) (λ fault. NodeTells (λ a b. S.eq a b) rules asked fault) }
             { run_counted::<S, H, T, G, B, R>(rt, alloc, task) },

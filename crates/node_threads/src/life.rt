@@ -124,7 +124,8 @@ fn join_one<S: Scheme, T: ConnTable, B: Names, R: Threads>(
     joined: &mut Joined<S, T, B>,
     handle: PromisedHandle<Answer<S, T, B>, CountsOwn>,
 )
-    ensures of { All (λ w. IsWork w.record w.tally.lost w.tally.shares) joined.old.runs.items → All (λ w. IsWork w.record w.tally.lost w.tally.shares) joined.new.runs.items }
+    ensures of { All (λ w. IsWork w.record w.tally.lost w.tally.shares) joined.old.runs.items
+        → All (λ w. IsWork w.record w.tally.lost w.tally.shares) joined.new.runs.items }
     ensures all { joined.new.fault ≡ None → (joined.old.fault ≡ None) × (length joined.new.runs.items ≡ length joined.old.runs.items + 1) }
     ensures fault { IfSome joined.old.fault (λ fault. IsRefusal fault) → IfSome joined.new.fault (λ fault. IsRefusal fault) }
 {

@@ -31,15 +31,17 @@ new-life-requires g c =
     = subst (λ (a : Asked _ _). IsLived (rules_for (λ s z. g.S.Scheme.pick s z) (λ h. g.H.FlowHash.plain h) a.setup a.catalogue) a c.loop-sent.life.start c.loop-sent.life.parts p.at p.journal p.tally.lost p.tally.shares) c.loop-sent.invariant.asked c.in_ok-lived.ensures in
     let same = c.past_end.ensures.same in
     let parts : c.past_end.result.tally.shares.parts ≡ p.tally.shares.parts = ap (λ (s : Counted). s.parts) same.1 in
-    record { begins = record {
-      within = omega (arith, c.if-progress-commands.false, c.past_end.ensures.at);
-      going = subst (λ (n : ℕ). Going rules asked.packets (take n asked.commands) asked.node asked.ring c.past_end.result.journal) (sym c.past_end.ensures.at)
-          (subst (λ (j : JournalView). Going rules asked.packets (take (p.at + 1) asked.commands) asked.node asked.ring j) (sym same.0) (lived.ended.next (omega (arith, c.if-progress-commands.false))));
-      some = omega (arith, parts, lived.parts_are, c.loop-sent.invariant.parts, c.args.task.parts);
-      counts = λ read. subst (λ (j : JournalView). Counts c.past_end.result.tally.lost c.past_end.result.tally.shares j.outcomes) (sym same.0)
-          (subst (λ (s : Counted). Counts c.past_end.result.tally.lost s p.journal.outcomes) (sym same.1)
-          (subst (λ (b : Bool). Counts b p.tally.shares p.journal.outcomes) (sym same.2) (lived.counts read)));
-    }; }
+    record {
+      begins = record {
+        within = omega (arith, c.if-progress-commands.false, c.past_end.ensures.at);
+        going = subst (λ (n : ℕ). Going rules asked.packets (take n asked.commands) asked.node asked.ring c.past_end.result.journal) (sym c.past_end.ensures.at)
+            (subst (λ (j : JournalView). Going rules asked.packets (take (p.at + 1) asked.commands) asked.node asked.ring j) (sym same.0) (lived.ended.next (omega (arith, c.if-progress-commands.false))));
+        some = omega (arith, parts, lived.parts_are, c.loop-sent.invariant.parts, c.args.task.parts);
+        counts = λ read. subst (λ (j : JournalView). Counts c.past_end.result.tally.lost c.past_end.result.tally.shares j.outcomes) (sym same.0)
+            (subst (λ (s : Counted). Counts c.past_end.result.tally.lost s p.journal.outcomes) (sym same.1)
+            (subst (λ (b : Bool). Counts b p.tally.shares p.journal.outcomes) (sym same.2) (lived.counts read)));
+      };
+    }
 
 pub returns-then-progress-commands-clause-run : goal.returns-then-progress-commands-clause-run
 returns-then-progress-commands-clause-run g c =
