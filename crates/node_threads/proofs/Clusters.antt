@@ -1,6 +1,6 @@
 -- One more node.
-use Rattle.std.proofs.Common.{◌≡◌, ◌+◌, ◌++◌, ◌∷◌, [], ℕ, Bool, false, List, length, refl, sym, ap, ◌∙◌, subst, arith}
-use Rattle.std.specs.Prelude.{Result, Ok, Err, IfOk}
+use Rattle.std.proofs.Common.{◌≡◌, ◌+◌, ◌++◌, ◌∷◌, [], ℕ, Bool, false, List, length, map, refl, sym, ap, ◌∙◌, subst, arith}
+use Rattle.std.specs.Prelude.{Result, Ok, Err, IfOk, IfErr, MatchResult}
 use Rattle.std.proofs.lemmas.List.{append-nil, append_assoc}
 use Rattle.stats_book.specs.Counts.{Counted}
 use Rattle.cluster_node.specs.declared.outcomes.Outcome.{Outcome}
@@ -13,6 +13,7 @@ use Rattle.cluster_node.specs.Rules.{Rules}
 use Rattle.cluster_node.specs.declared.packets.Packet.{Packet}
 use Rattle.thread_records.specs.declared.command.Command.{Command}
 use Rattle.node_threads.specs.Handed.{IsCounted}
+use Rattle.node_threads.specs.Orders.{AllAsked, asked_one}
 use Rattle.node_threads.specs.PrivateClusters.{AreNumbered, AreCounted}
 
 pub numbered_more : (k m : ℕ) (ns : List ℕ) → AreNumbered k ns → m ≡ k + length ns → AreNumbered k (ns ++ m ∷ [])
@@ -29,17 +30,22 @@ outcomes_push : (rs : List NodeRecord) (r : NodeRecord) → all_outcomes (rs ++ 
 outcomes_push [] r = append-nil r.outcomes.items
 outcomes_push (q ∷ qs) r = ap (λ (l : List Outcome). q.outcomes.items ++ l) (outcomes_push qs r) ∙ sym (append_assoc q.outcomes.items (all_outcomes qs) r.outcomes.items)
 
+-- nothing is left
+pub none_left : {A B : Type 0} (f : A → B) (xs : List A) (ys : List B) → length xs ≡ 0 → ys ++ map f xs ≡ ys
+none_left f [] ys e = append-nil ys
+none_left f (x ∷ xs) ys e = absurd (omega (arith, e))
+
 -- one more node's run, and what was counted on it
-pub counted_more : (rules : Rules) (packets : List Packet) (ring m workers : ℕ) (cs : List (List Command)) (c : List Command) (rs new : List NodeRecord) (r : NodeRecord) (had own all : Counted) →
-    AreCounted rules packets ring cs rs had → m ≡ length cs → IsCounted rules packets m ring workers c r own → new ≡ rs ++ r ∷ [] → all ≡ plus had own → AreCounted rules packets ring (cs ++ c ∷ []) new all
-counted_more rules packets ring m workers cs c rs new r had own all h len is items put = record {
-  runs = subst (λ (l : List NodeRecord). AreRuns rules packets ring 0 (cs ++ c ∷ []) l) (sym items) (runs_more rules packets ring 0 m cs c rs r h.runs (omega (arith, len)) is.run);
+pub counted_more : {S H : Type 0} (rules : Rules) (all : AllAsked S H) (m : ℕ) (cs : List (List Command)) (c : List Command) (rs new : List NodeRecord) (r : NodeRecord) (had own sum : Counted) →
+    AreCounted rules all cs rs had → m ≡ length cs → IsCounted rules (asked_one all m c) r own → new ≡ rs ++ r ∷ [] → sum ≡ plus had own → AreCounted rules all (cs ++ c ∷ []) new sum
+counted_more rules all m cs c rs new r had own sum h len is items put = record {
+  runs = subst (λ (l : List NodeRecord). AreRuns rules all.packets all.ring 0 (cs ++ c ∷ []) l) (sym items) (runs_more rules all.packets all.ring 0 m cs c rs r h.runs (omega (arith, len)) is.run);
   counts = λ read.
-      let both : all ≡ counted all.parts (all_outcomes rs ++ r.outcomes.items) = counts_plus false false false had own all (all_outcomes rs) r.outcomes.items (λ e. (refl, refl)) put (λ e. h.counts read) (λ e. is.counts read) refl in
-      both ∙ ap (λ (os : List Outcome). counted all.parts os) (sym (ap all_outcomes items ∙ outcomes_push rs r));
+      let both : sum ≡ counted sum.parts (all_outcomes rs ++ r.outcomes.items) = counts_plus false false false had own sum (all_outcomes rs) r.outcomes.items (λ e. (refl, refl)) put (λ e. h.counts read) (λ e. is.counts read) refl in
+      both ∙ ap (λ (os : List Outcome). counted sum.parts os) (sym (ap all_outcomes items ∙ outcomes_push rs r));
 }
 
--- what an answer is said to be by each of three clauses, the last of them under a premise
-pub by_clauses : {X E : Type 0} (A : Type 0) (P Q R : X → Type 0) (r : Result X E) → IfOk r P → IfOk r Q → (A → IfOk r R) → IfOk r (λ x. P x × Q x × (A → R x))
-by_clauses A P Q R (Ok x) p q s = (p, q, s)
-by_clauses A P Q R (Err e) p q s = tt
+-- what an answer is by its clauses, one of them under a premise
+pub by_clauses : {X E : Type 0} (A : Type 0) (P Q R All : X → Type 0) (Faults : E → Type 0) (r : Result X E) → ((x : X) → P x → Q x → (A → R x) → All x) → IfOk r P → IfOk r Q → (A → IfOk r R) → IfErr r Faults → MatchResult r All Faults
+by_clauses A P Q R All Faults (Ok x) all p q s told = all x p q s
+by_clauses A P Q R All Faults (Err e) all p q s told = told

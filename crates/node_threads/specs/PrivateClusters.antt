@@ -1,8 +1,7 @@
--- The nodes of a cluster by number, their runs with what was counted on all of them, and the order of their faults.
-use Rattle.std.specs.Prelude.{◌≡◌, ℕ, ◌+◌, List, [], ◌∷◌, Option, Some, None, nat_le, if◌then◌else◌}
+-- The nodes of a cluster by number, their runs with what was counted on all of them, and the first of their faults.
+use Rattle.std.specs.Prelude.{◌≡◌, ℕ, ◌+◌, List, [], ◌∷◌, Option, Some, None, Result, Ok, Err, nat_le, if◌then◌else◌, Contains}
 use Rattle.stats_book.specs.Counts.{Counted}
 use Rattle.cluster_node.specs.Rules.{Rules}
-use Rattle.cluster_node.specs.declared.packets.Packet.{Packet}
 use Rattle.thread_records.specs.declared.command.Command.{Command}
 use Rattle.thread_records.specs.declared.nodes.NodeRecord.{NodeRecord}
 use Rattle.thread_records.specs.Joins.{all_outcomes}
@@ -10,26 +9,35 @@ use Rattle.thread_records.specs.Runs.{AreRuns}
 use Rattle.thread_roles.specs.Counts.{AreRead, counted}
 use Rattle.thread_roles.specs.declared.fault.RunFault.{RunFault}
 use Rattle.thread_roles.specs.declared.fault.RunFault.TheVariants.{Foreign, RingLost, ThreadLost, BookLost, Memory}
+use Rattle.node_threads.specs.Orders.{AllAsked}
+use Rattle.node_threads.specs.Reported.{rank_of, ComesFirst}
 
 -- these are the numbers from one on, in order
 abbrev pub AreNumbered : ℕ → List ℕ → Type 0
 AreNumbered k [] = Unit {0}
 AreNumbered k (n ∷ ns) = (n ≡ k) × AreNumbered (k + 1) ns
 
--- the order in which faults are told
-abbrev pub rank_of : RunFault → ℕ
-rank_of Memory = 0
-rank_of ThreadLost = 1
-rank_of Foreign = 2
-rank_of RingLost = 3
-rank_of BookLost = 4
-
 -- the one of two that is told
 abbrev pub first_fault : Option RunFault → RunFault → RunFault
 first_fault None b = b
 first_fault (Some a) b = if nat_le (rank_of a) (rank_of b) then a else b
 
--- runs of the nodes from the first on, and shares with what all their outcomes come to
-pub record AreCounted (rules : Rules) (packets : List Packet) (ring : ℕ) (commands : List (List Command)) (rs : List NodeRecord) (shares : Counted) : Type 0 where
-  pub runs : AreRuns rules packets ring 0 commands rs
-  pub counts : AreRead packets → shares ≡ counted shares.parts (all_outcomes rs)
+-- why there is no answer, if there is none
+abbrev pub fault_in : {A : Type 0} → Result A RunFault → Option RunFault
+fault_in (Ok x) = None
+fault_in (Err fault) = Some fault
+
+-- What is to be reported of these: nothing where there is no fault, and else the first of them. Nothing is said of Memory and
+-- ThreadLost.
+abbrev pub IsSumUp : List (Option RunFault) → Option RunFault → Type 0
+IsSumUp fs None = (other : RunFault) → Contains fs (Some other) → ⊥
+IsSumUp fs (Some Foreign) = ComesFirst Foreign fs
+IsSumUp fs (Some RingLost) = ComesFirst RingLost fs
+IsSumUp fs (Some ThreadLost) = Unit {0}
+IsSumUp fs (Some BookLost) = ComesFirst BookLost fs
+IsSumUp fs (Some Memory) = Unit {0}
+
+-- runs of all nodes, and shares with what all their outcomes come to
+pub record AreCounted {S H : Type 0} (rules : Rules) (all : AllAsked S H) (commands : List (List Command)) (rs : List NodeRecord) (shares : Counted) : Type 0 where
+  pub runs : AreRuns rules all.packets all.ring 0 commands rs
+  pub counts : AreRead all.packets → shares ≡ counted shares.parts (all_outcomes rs)

@@ -64,9 +64,11 @@ impl ClusterRun {
             alloc,
             nodes.len(),
             &|at| -> Result<bool, AllocError>
-                requires { (at < length nodes.now) × (catalogue.now.size ≡ setup.now.size) × ((k : ℕ) (p : Packet) → slice_get packets.now k ≡ Some p → WasRead (Some p)) }
+                requires { (at < length nodes.now) × (catalogue.now.size ≡ setup.now.size)
+                    × ((k : ℕ) (p : Packet) → slice_get packets.now k ≡ Some p → WasRead (Some p)) }
                 ensures { let rules = rules_for (λ s z. S.pick s z) (λ h. H.plain h) setup.entry.now catalogue.entry.now in
-                    (d : NodeRecord) → IfOk result (λ b. IsTrue b ↔ ((slice_index_or nodes.entry.now at d).outcomes.items ≡ verdicts rules [] packets.entry.now (slice_index_or nodes.entry.now at d).events.items)) }
+                    (d : NodeRecord) → IfOk result (λ b. IsTrue b ↔
+                    ((slice_index_or nodes.entry.now at d).outcomes.items ≡ verdicts rules [] packets.entry.now (slice_index_or nodes.entry.now at d).events.items)) }
             { nodes[at].audit::<S, H, T>(alloc, setup, catalogue, packets) },
         )?;
         all_agree(audits)

@@ -1,21 +1,27 @@
 //! A cluster on threads: each node's run, with its driver in a thread of its own.
-ghost use Rattle.std.specs.Prelude.{◌≡◌, ◌≤◌, ◌<◌, ◌+◌, ◌*◌, ◌++◌, ◌∷◌, [], ℕ, List, ◌↔◌, length, map, None, Some, Ok, IfOk, IsTrue, All, slice_get, slice_index, slice_index_or};
+ghost use Rattle.std.specs.Prelude.{◌≡◌, ◌≤◌, ◌<◌, ◌+◌, ◌*◌, ◌++◌, ◌∷◌, [], ℕ, List, ◌↔◌};
+ghost use Rattle.std.specs.Prelude.{length, map, Option, None, Some, Ok, IfOk, IfErr, IfSome, IsSomeAnd, IsTrue, MatchResult, All, slice_get, slice_index, slice_index_or};
 ghost use Rattle.cluster_core.specs.Setups.{Fixed, rules_for};
 ghost use Rattle.cluster_core.specs.Headline.{Agreement, Keeping};
 ghost use Rattle.cluster_core.specs.Histories.{IsSteady};
 ghost use Rattle.cluster_core.specs.Runs.{verdicts};
 ghost use Rattle.cluster_node.specs.declared.packets.Packet.{Packet};
 ghost use Rattle.cluster_node.specs.Records.{WasRead};
-ghost use Rattle.thread_records.specs.declared.command.Command.{Command};
 ghost use Rattle.thread_records.specs.declared.nodes.NodeRecord.{NodeRecord};
-ghost use Rattle.thread_records.specs.Joins.{all_outcomes};
 ghost use Rattle.thread_records.specs.Runs.{AreRuns, JoinsRuns};
 ghost use Rattle.thread_roles.specs.Counts.{AreRead, AreTotals, counted, plus};
+ghost use Rattle.thread_roles.specs.Faults.{IsRefusal};
+ghost use Rattle.thread_roles.specs.Going.{asked_of};
+ghost use Rattle.thread_roles.specs.declared.fault.RunFault.{RunFault};
 ghost use Rattle.node_threads.specs.declared.run.CountedRun.{CountedRun};
 ghost use Rattle.node_threads.specs.Handed.{IsCounted};
-ghost use Rattle.node_threads.specs.PrivateClusters.{AreNumbered, rank_of, first_fault, AreCounted};
+ghost use Rattle.node_threads.specs.Orders.{asked_all, asked_one};
+ghost use Rattle.node_threads.specs.PrivateClusters.{AreNumbered, AreCounted, first_fault, fault_in, IsSumUp};
+ghost use Rattle.node_threads.specs.Reported.{rank_of, ClusterTells};
+ghost use Rattle.node_threads.specs.Told.{NodeTells};
 
 use crate::node::run_counted;
+use crate::order::{ClusterOrder, OfNode};
 use crate::run::CountedRun;
 use cluster_core::Setup;
 use cluster_node::{Event, Outcome, Packet};
@@ -30,13 +36,13 @@ use std::sync::{Mutex, Wait};
 use std::thread;
 use std::thread::{Promise, PromisedHandle, Scope, Threads};
 use thread_records::{Command, History, NodeRecord, join_runs};
-use thread_roles::{Gate, NodeTask, RunFault};
+use thread_roles::{Gate, RunFault};
 
 // Parts of the counts for 64 drivers and 16 workers of each, and one more.
 const PARTS: u64 = 64 * 17 + 1;
 
 /// What the nodes of a cluster did.
-#[derive(Drop)]
+#[derive(Debug, Drop)]
 pub struct ClusterRun {
     /// Each node's own record, in the order of the nodes.
     pub nodes: Vec<NodeRecord>,
@@ -96,91 +102,24 @@ impl ClusterRun {
     }
 }
 
-// What all nodes are to do: there is a list of commands for each, and a ring has places.
-struct Tasks<'e, S: Scheme, H: FlowHash, G, B: Names> {
-    setup: &'e Setup<S, H>,
-    catalogue: &'e Catalogue,
-    packets: &'e [Packet],
-    lists: &'e [Vec<Command>],
-    gate: &'e G,
-    book: &'e Mutex<StatsBook<B>>,
-    ring: u32,
-    ghost each: { length lists.now ≡ length setup.now.nodes },
-    ghost some: { 0 < ring },
-    ghost limit: { ring ≤ 65536 },
-}
-
-// Shares for all nodes, on which nothing was counted: parts for 64 drivers and 16 workers of each, and one more.
+// A book of all nodes, and shares of it on which nothing was counted: parts for 64 drivers and 16 workers of each, and one more.
 #[derive(Drop)]
-struct Supply<B: Names> {
+struct Supply<'e, B: Names> {
+    book: &'e Mutex<StatsBook<B>>,
     shares: Shares<B>,
     ghost enough: { 64 * 17 < shares.parts },
     ghost fresh: { shares ≡ counted shares.parts [] },
 }
 
-impl<'e, S: Scheme, H: FlowHash, G, B: Names> Clone for Tasks<'e, S, H, G, B> {
-    fn clone(&self) -> Result<Self, AllocError> {
-        Ok(*self)
-    }
-}
-
-impl<'e, S: Scheme, H: FlowHash, G, B: Names> Copy for Tasks<'e, S, H, G, B> {}
-
-impl<'e, S: Scheme, H: FlowHash, G, B: Names> Tasks<'e, S, H, G, B> {
-    // What a node is to do.
-    fn task_of(
-        self,
-        node: u16,
-        commands: &'e [Command],
-        shares: Shares<B>,
-    ) -> NodeTask<'e, S, H, G, B>
-        requires there { node < length self.setup.now.nodes }
-        requires parts { shares.parts ≡ self.setup.now.workers + 1 }
-        requires fresh { shares ≡ counted shares.parts [] }
-        ensures setup { result.setup.now ≡ self.entry.setup.now }
-        ensures catalogue { result.catalogue.now ≡ self.entry.catalogue.now }
-        ensures packets { result.packets.now ≡ self.entry.packets.now }
-        ensures commands { result.commands.now ≡ commands.now }
-        ensures place { (result.node ≡ node) × (result.ring ≡ self.entry.ring) }
-    {
-        NodeTask {
-            setup: self.setup,
-            catalogue: self.catalogue,
-            packets: self.packets,
-            commands,
-            gate: self.gate,
-            book: self.book,
-            node,
-            ring: self.ring,
-            shares,
-        }
-    }
-}
-
-/// What a driver's thread promises: that its record is one of its node's commands, and that it counted its outcomes.
-#[derive(Drop)]
-pub struct OfNode<'e, S: Scheme, H: FlowHash> {
-    /// The cluster.
-    pub setup: &'e Setup<S, H>,
-    /// Its versions.
-    pub catalogue: &'e Catalogue,
-    /// The packets that the commands offer.
-    pub packets: &'e [Packet],
-    /// The commands of the node's driver.
-    pub commands: &'e [Command],
-    /// The node's place.
-    pub node: u16,
-    /// The places of a ring.
-    pub ring: u32,
-}
+// What a driver's thread answers.
+type Answer<B> = Result<CountedRun<B>, RunFault>;
 
 impl<'e, S: Scheme, H: FlowHash, B: Names> Promise<Result<CountedRun<B>, RunFault>>
     for OfNode<'e, S, H> {
-    ghost kept_by = { λ p r. IfOk r (λ run. IsCounted (rules_for (λ s z. S.pick s z) (λ h. H.plain h) p.setup.now p.catalogue.now) p.packets.now p.node p.ring p.setup.now.workers p.commands.now run.record run.shares) };
+    ghost kept_by = { λ p r. let asked = asked_of p.setup.now p.catalogue.now p.packets.now p.node p.ring p.commands.now in
+        let rules = rules_for (λ s z. S.pick s z) (λ h. H.plain h) asked.setup asked.catalogue in
+        MatchResult r (λ run. IsCounted rules asked run.record run.shares) (λ fault. NodeTells (λ a b. S.eq a b) rules asked fault) };
 }
-
-// What a driver's thread answers.
-type Answer<B> = Result<CountedRun<B>, RunFault>;
 
 // The drivers' threads, and why not all were started.
 #[derive(Drop)]
@@ -228,9 +167,14 @@ fn first_of(fault: Option<RunFault>, other: RunFault) -> RunFault
 }
 
 impl<B: Names> Joined<B> {
-    // Keeps what a node did.
+    // Keeps what a node did, or why it has no record.
+    #[tactic(auto, using(crate::proofs::Reporting::sums_none, crate::proofs::Reporting::sums_some, crate::proofs::Reporting::refused_still))]
     fn keep(&mut self, answer: Answer<B>)
-        ensures { self.new.fault ≡ None → (self.old.fault ≡ None) × ((r : CountedRun _) × (answer ≡ Ok r) × (self.new.nodes.items ≡ self.old.nodes.items ++ r.record ∷ []) × (self.new.shares ≡ plus self.old.shares r.shares)) }
+        ensures kept { self.new.fault ≡ None → (self.old.fault ≡ None)
+            × ((r : CountedRun _) × (answer ≡ Ok r)
+            × (self.new.nodes.items ≡ self.old.nodes.items ++ r.record ∷ []) × (self.new.shares ≡ plus self.old.shares r.shares)) }
+        ensures told { (fs : List (Option RunFault)) → IsSumUp fs self.old.fault → IsSumUp (fs ++ fault_in answer ∷ []) self.new.fault }
+        ensures refused { IsSomeAnd self.old.fault (λ fault. IsRefusal fault) → IsSomeAnd self.new.fault (λ fault. IsRefusal fault) }
     {
         match answer {
             Err(fault) => self.fault = Some(first_of(self.fault, fault)),
@@ -243,25 +187,6 @@ impl<B: Names> Joined<B> {
                 };
             }
         }
-    }
-
-    // Joins a driver.
-    fn join<'e, S: Scheme, H: FlowHash, G, R: Threads>(
-        &mut self,
-        rt: &R,
-        tasks: Tasks<'e, S, H, G, B>,
-        handle: PromisedHandle<Answer<B>, OfNode<'e, S, H>>,
-    )
-        requires { (handle.promise.setup.now ≡ tasks.setup.now) × (handle.promise.catalogue.now ≡ tasks.catalogue.now) × (handle.promise.packets.now ≡ tasks.packets.now) × (handle.promise.ring ≡ tasks.ring) }
-        ensures kept { self.new.fault ≡ None → self.old.fault ≡ None }
-        ensures more { let rules = rules_for (λ s z. S.pick s z) (λ h. H.plain h) tasks.entry.setup.now tasks.entry.catalogue.now in
-            (cs : List (List Command)) → (self.old.fault ≡ None → AreCounted rules tasks.entry.packets.now tasks.entry.ring cs self.old.nodes.items self.old.shares) → handle.entry.promise.node ≡ length cs → self.new.fault ≡ None →
-            AreCounted rules tasks.entry.packets.now tasks.entry.ring (cs ++ handle.entry.promise.commands.now ∷ []) self.new.nodes.items self.new.shares }
-        ensures parts { self.new.fault ≡ None → self.new.shares.parts ≡ self.old.shares.parts + (tasks.entry.setup.now.workers + 1) }
-    {
-        let _ = (tasks.setup.workers(), tasks.catalogue.size());
-        let answer = handle.join(rt);
-        self.keep(answer);
     }
 }
 
@@ -279,42 +204,39 @@ fn start_drivers<
     scope: &Scope<'s, &'e ()>,
     rt: &'e R,
     alloc: Global,
-    tasks: Tasks<'e, S, H, G, B>,
+    order: &ClusterOrder<'e, S, H, G>,
+    book: &'e Mutex<StatsBook<B>>,
     shares: &mut Shares<B>,
 ) -> Drivers<'e, S, H, B>
 where
     S::Prepared: Send + Sync,
     requires parts { 64 * 17 < shares.old.parts }
     requires fresh { shares.old ≡ counted shares.old.parts [] }
-    ensures same { All (λ h. (h.promise.setup.now ≡ tasks.entry.setup.now) × (h.promise.catalogue.now ≡ tasks.entry.catalogue.now) × (h.promise.packets.now ≡ tasks.entry.packets.now) × (h.promise.ring ≡ tasks.entry.ring)) result.handles.items }
+    ensures same { All (λ h. let p = h.promise in
+        asked_of p.setup.now p.catalogue.now p.packets.now p.node p.ring p.commands.now ≡ asked_one order.now p.node p.commands.now) result.handles.items }
     ensures numbered { AreNumbered 0 (map (λ h. h.promise.node) result.handles.items) }
-    ensures lists { result.fault ≡ None → map (λ h. h.promise.commands.now) result.handles.items ≡ map (λ c. c.items) tasks.entry.lists.now }
-    ensures parts { result.fault ≡ None → shares.new.parts + length result.handles.items * (tasks.entry.setup.now.workers + 1) ≡ shares.old.parts }
+    ensures fault { IfSome result.fault (λ fault. IsRefusal fault) }
+    ensures lists { result.fault ≡ None → map (λ h. h.promise.commands.now) result.handles.items ≡ order.now.commands }
+    ensures parts { result.fault ≡ None → shares.new.parts + length result.handles.items * (order.now.setup.workers + 1) ≡ shares.old.parts }
     ensures rest { shares.new ≡ record shares.old { parts = shares.new.parts } }
 {
-    let each = u64::from(tasks.setup.workers()) + 1;
-    let _few = tasks.setup.nodes();
+    let each = u64::from(order.workers()) + 1;
     let mut handles = Vec::new(alloc);
-    for at in 0..tasks.lists.len() {
+    for node in 0..order.nodes() {
         if handles.reserve(1).is_err() {
             let fault = Some(RunFault::Memory);
             return Drivers { handles, fault };
         }
-        let node = at as u16;
-        let commands = tasks.lists[at].as_slice();
-        let promise = OfNode {
-            setup: tasks.setup,
-            catalogue: tasks.catalogue,
-            packets: tasks.packets,
-            commands,
-            node,
-            ring: tasks.ring,
-        };
-        let task = tasks.task_of(node, commands, shares.split_off(each));
+        let own = order.order_of(node);
+        let promise = own.promise();
+        let task = own.task(book, shares.split_off(each));
         match scope.spawn_with(
             promise,
             move || -> Result<CountedRun<B>, RunFault>
-                ensures { IfOk result (λ run. IsCounted (rules_for (λ s z. S.pick s z) (λ h. H.plain h) task.entry.setup.now task.entry.catalogue.now) task.entry.packets.now task.entry.node task.entry.ring task.entry.setup.now.workers task.entry.commands.now run.record run.shares) }
+                ensures { let t = task.entry in
+                    let asked = asked_of t.setup.now t.catalogue.now t.packets.now t.node t.ring t.commands.now in
+                    let rules = rules_for (λ s z. S.pick s z) (λ h. H.plain h) asked.setup asked.catalogue in
+                    MatchResult result (λ run. IsCounted rules asked run.record run.shares) (λ fault. NodeTells (λ a b. S.eq a b) rules asked fault) }
             { run_counted::<S, H, T, G, B, R>(rt, alloc, task) },
         ) {
             Ok(handle) => handles.push_reserved(handle),
@@ -344,20 +266,25 @@ fn run_drivers<
     scope: &Scope<'s, &'e ()>,
     rt: &'e R,
     alloc: Global,
-    tasks: Tasks<'e, S, H, G, B>,
-    supply: Supply<B>,
+    order: ClusterOrder<'e, S, H, G>,
+    supply: Supply<'e, B>,
 ) -> Result<Gathered<B>, RunFault>
 where
     S::Prepared: Send + Sync,
-    ensures { IfOk result (λ v. AreCounted (rules_for (λ s z. S.pick s z) (λ h. H.plain h) tasks.entry.setup.now tasks.entry.catalogue.now) tasks.entry.packets.now tasks.entry.ring (map (λ c. c.items) tasks.entry.lists.now) v.nodes.items v.shares × (v.shares.parts ≡ supply.shares.parts)) }
+    ensures { let all = order.entry in
+        let rules = rules_for (λ s z. S.pick s z) (λ h. H.plain h) all.setup all.catalogue in
+        MatchResult result
+        (λ v. AreCounted rules all all.commands v.nodes.items v.shares × (v.shares.parts ≡ supply.entry.shares.parts))
+        (λ fault. ClusterTells (λ a b. S.eq a b) rules all fault) }
 {
-    let Supply { shares } = supply;
+    let Supply { book, shares } = supply;
     let mut shares = shares;
     let drivers: Drivers<'e, S, H, B> = start_drivers::<S, H, T, G, B, R>(
         scope,
         rt,
         alloc,
-        tasks,
+        &order,
+        book,
         &mut shares,
     );
     let Drivers { handles, fault } = drivers;
@@ -367,7 +294,7 @@ where
         fault,
     };
     for handle in handles {
-        joined.join(rt, tasks, handle);
+        joined.keep(handle.join(rt));
     }
     let Joined {
         nodes,
@@ -392,19 +319,27 @@ fn run_nodes<
 >(
     rt: &'e R,
     alloc: Global,
-    tasks: Tasks<'e, S, H, G, B>,
-    supply: Supply<B>,
+    order: ClusterOrder<'e, S, H, G>,
+    supply: Supply<'e, B>,
 ) -> Result<Gathered<B>, RunFault>
 where
     S::Prepared: Send + Sync,
-    ensures { IfOk result (λ v. AreCounted (rules_for (λ s z. S.pick s z) (λ h. H.plain h) tasks.entry.setup.now tasks.entry.catalogue.now) tasks.entry.packets.now tasks.entry.ring (map (λ c. c.items) tasks.entry.lists.now) v.nodes.items v.shares × (v.shares.parts ≡ supply.shares.parts)) }
+    ensures { let all = order.entry in
+        let rules = rules_for (λ s z. S.pick s z) (λ h. H.plain h) all.setup all.catalogue in
+        MatchResult result
+        (λ v. AreCounted rules all all.commands v.nodes.items v.shares × (v.shares.parts ≡ supply.entry.shares.parts))
+        (λ fault. ClusterTells (λ a b. S.eq a b) rules all fault) }
 {
     thread::scope(
         thread::scope_env(),
         rt,
         move |scope| -> Result<Gathered<B>, RunFault>
-            ensures { IfOk result (λ v. AreCounted (rules_for (λ s z. S.pick s z) (λ h. H.plain h) tasks.entry.setup.now tasks.entry.catalogue.now) tasks.entry.packets.now tasks.entry.ring (map (λ c. c.items) tasks.entry.lists.now) v.nodes.items v.shares × (v.shares.parts ≡ supply.shares.parts)) }
-        { run_drivers::<S, H, T, G, B, R>(scope, rt, alloc, tasks, supply) },
+            ensures { let all = order.entry in
+                let rules = rules_for (λ s z. S.pick s z) (λ h. H.plain h) all.setup all.catalogue in
+                MatchResult result
+                (λ v. AreCounted rules all all.commands v.nodes.items v.shares × (v.shares.parts ≡ supply.entry.shares.parts))
+                (λ fault. ClusterTells (λ a b. S.eq a b) rules all fault) }
+        { run_drivers::<S, H, T, G, B, R>(scope, rt, alloc, order, supply) },
     )
 }
 
@@ -419,38 +354,29 @@ fn run_booked<
 >(
     rt: &R,
     alloc: Global,
-    setup: &Setup<S, H>,
-    catalogue: &Catalogue,
-    packets: &[Packet],
-    commands: &[Vec<Command>],
-    ring: u32,
-    gate: &G,
+    order: ClusterOrder<'_, S, H, G>,
     blanks: Blanks,
 ) -> Result<ClusterRun, RunFault>
 where
     S::Prepared: Send + Sync,
-    requires nodes { length commands.now ≡ length setup.now.nodes }
-    requires some { 0 < ring }
-    requires limit { ring ≤ 65536 }
     requires names { (n : ℕ) → slice_index blanks.names n ≡ B.names n }
     requires parts { (blanks.parts ≡ B.parts) × (64 * 17 < B.parts) }
-    ensures runs { let rules = rules_for (λ s z. S.pick s z) (λ h. H.plain h) setup.now catalogue.now in IfOk result (λ run.
-        AreRuns rules packets.now ring 0 (map (λ c. c.items) commands.now) run.nodes.items × JoinsRuns rules packets.now run.nodes.items run.history) }
-    ensures stats { AreRead packets.now → IfOk result (λ run. AreTotals run.stats run.history.outcomes.items) }
+    ensures runs { let all = order.entry in
+        let rules = rules_for (λ s z. S.pick s z) (λ h. H.plain h) all.setup all.catalogue in
+        IfOk result (λ run. AreRuns rules all.packets all.ring 0 all.commands run.nodes.items × JoinsRuns rules all.packets run.nodes.items run.history) }
+    ensures stats { AreRead order.entry.packets → IfOk result (λ run. AreTotals run.stats run.history.outcomes.items) }
+    ensures told { let all = order.entry in
+        let rules = rules_for (λ s z. S.pick s z) (λ h. H.plain h) all.setup all.catalogue in
+        IfErr result (λ fault. ClusterTells (λ a b. S.eq a b) rules all fault) }
 {
+    let _ = order.nodes();
     let (book, shares) = StatsBook::<B>::open(blanks);
     let book = Mutex::new(book);
-    let tasks = Tasks {
-        setup,
-        catalogue,
-        packets,
-        lists: commands,
-        gate,
+    let supply = Supply {
         book: &book,
-        ring,
+        shares,
     };
-    let supply = Supply { shares };
-    let gathered = run_nodes::<S, H, T, G, B, R>(rt, alloc, tasks, supply)?;
+    let gathered = run_nodes::<S, H, T, G, B, R>(rt, alloc, order, supply)?;
     let Gathered { nodes, shares } = gathered;
     let history = join_runs(alloc, nodes.as_slice())?;
     let mut book = book.into_inner();
@@ -469,6 +395,7 @@ where
 /// Whatever the schedule was, each record is one of a run of its node's commands, and the history has all of them, node by
 /// node. The outcome of each event in it is that of the event in its node. Of several faults Memory is reported first, then
 /// ThreadLost, Foreign, RingLost and BookLost. A driver that can't be started is ThreadLost, and so the others end first.
+/// Foreign, RingLost and BookLost are faults that a node's records tell, and none of another node comes before (`told`).
 ///
 /// So what is promised of every list of events is promised of the run. Two packets of one flow that were sent to different
 /// backends, by any nodes, were chosen under versions that pick these backends (`agreement`). A worker keeps a flow's
@@ -503,9 +430,18 @@ where
         IfOk result (λ run. Keeping rules [] packets.now run.history.events.items run.history.outcomes.items) }
     // where all packets were read, the counts are the totals of the outcomes, and nothing waits
     ensures stats { AreRead packets.now → IfOk result (λ run. AreTotals run.stats run.history.outcomes.items) }
+    ensures told { let all = asked_all setup.now catalogue.now packets.now ring (map (λ c. c.items) commands.now) in
+        let rules = rules_for (λ s z. S.pick s z) (λ h. H.plain h) all.setup all.catalogue in
+        IfErr result (λ fault. ClusterTells (λ a b. S.eq a b) rules all fault) }
 {
+    let order = ClusterOrder {
+        setup,
+        catalogue,
+        packets,
+        lists: commands,
+        gate,
+        ring,
+    };
     let blanks = Blanks::new(PARTS);
-    run_booked::<S, H, T, G, Brand, R>(
-        rt, alloc, setup, catalogue, packets, commands, ring, gate, blanks,
-    )
+    run_booked::<S, H, T, G, Brand, R>(rt, alloc, order, blanks)
 }

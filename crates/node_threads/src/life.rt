@@ -17,8 +17,8 @@ use selection::Scheme;
 use stats_book::Names;
 use std::alloc::{AllocError, Global};
 use std::sync::Wait;
-use std::thread;
 use std::thread::{JoinHandle, PromisedHandle, Scope, Threads};
+use std::{fmt, thread};
 use thread_roles::{
     CountsOwn, Desk, Gate, Inputs, NodePlan, Outfit, Progress, RunFault, Stage, WorkerRun, drive,
     gather, stops_at, work,
@@ -34,6 +34,15 @@ pub struct LifeRun<S: Scheme, B: Names> {
     pub progress: Progress<S, B>,
     /// What was sent, as the mux gathered it.
     pub sent: Vec<Outcome>,
+}
+
+impl<S: Scheme, B: Names> fmt::Debug for LifeRun<S, B> {
+    fn fmt<W: fmt::Write>(&self, f: &mut fmt::Formatter<W>) -> fmt::Result {
+        f.debug_struct("LifeRun")
+            .field("progress", &self.progress)
+            .field("sent", &self.sent)
+            .finish_non_exhaustive()
+    }
 }
 
 // The workers' threads, and why not all were started.
@@ -115,7 +124,8 @@ fn join_one<S: Scheme, T: ConnTable, B: Names, R: Threads>(
     joined: &mut Joined<S, T, B>,
     handle: PromisedHandle<Answer<S, T, B>, CountsOwn>,
 )
-    ensures of { All (λ w. IsWork w.record w.tally.lost w.tally.shares) joined.old.runs.items → All (λ w. IsWork w.record w.tally.lost w.tally.shares) joined.new.runs.items }
+    ensures of { All (λ w. IsWork w.record w.tally.lost w.tally.shares) joined.old.runs.items
+        → All (λ w. IsWork w.record w.tally.lost w.tally.shares) joined.new.runs.items }
     ensures all { joined.new.fault ≡ None → (joined.old.fault ≡ None) × (length joined.new.runs.items ≡ length joined.old.runs.items + 1) }
     ensures fault { IfSome joined.old.fault (λ fault. IsRefusal fault) → IfSome joined.new.fault (λ fault. IsRefusal fault) }
 {
@@ -235,7 +245,8 @@ fn drive_crew<
         inputs,
     } = crew;
     let mut inputs = inputs;
-    let (plan, progress, desk) = life.open(stage);
+    let (life, desk) = life.open(stage);
+    let (plan, progress) = life.parts();
     let mut desk = desk;
     let from = progress.at;
     let driven = drive(rt, alloc, plan, progress, &mut desk, &mut inputs);

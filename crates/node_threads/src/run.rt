@@ -13,6 +13,7 @@ use pool_versions::Catalogue;
 use selection::Scheme;
 use stats_book::{Names, Shares, Stats};
 use std::alloc::{AllocError, Global};
+use std::fmt;
 use thread_records::NodeRecord;
 
 /// A node's record, and the shares of a book on which its run was counted.
@@ -24,8 +25,16 @@ pub struct CountedRun<B: Names> {
     pub shares: Shares<B>,
 }
 
+impl<B: Names> fmt::Debug for CountedRun<B> {
+    fn fmt<W: fmt::Write>(&self, f: &mut fmt::Formatter<W>) -> fmt::Result {
+        f.debug_struct("CountedRun")
+            .field("record", &self.record)
+            .finish_non_exhaustive()
+    }
+}
+
 /// What a node did, and what its threads counted meanwhile.
-#[derive(Drop)]
+#[derive(Debug, Drop)]
 pub struct NodeRun {
     /// What the node did.
     pub record: NodeRecord,

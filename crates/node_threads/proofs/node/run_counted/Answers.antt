@@ -22,8 +22,8 @@ loop-sent-init g c = record {
   parts = c.in_ok-life.ensures.begins.1;
 }
 
-pub new-life-requires-clause-begins : goal.new-life-requires-clause-begins
-new-life-requires-clause-begins g c =
+pub new-life-requires : goal.new-life-requires
+new-life-requires g c =
     let rules : Rules = rules_for (λ s z. g.S.Scheme.pick s z) (λ h. g.H.FlowHash.plain h) c.args.task.setup.now c.args.task.catalogue.now in
     let asked : Asked _ _ = asked_of c.args.task.setup.now c.args.task.catalogue.now c.args.task.packets.now c.args.task.node c.args.task.ring c.args.task.commands.now in
     let p = c.in_ok-lived.lived.progress in
@@ -32,13 +32,15 @@ new-life-requires-clause-begins g c =
     let same = c.past_end.ensures.same in
     let parts : c.past_end.result.tally.shares.parts ≡ p.tally.shares.parts = ap (λ (s : Counted). s.parts) same.1 in
     record {
-      within = omega (arith, c.if-progress-commands.false, c.past_end.ensures.at);
-      going = subst (λ (n : ℕ). Going rules asked.packets (take n asked.commands) asked.node asked.ring c.past_end.result.journal) (sym c.past_end.ensures.at)
-          (subst (λ (j : JournalView). Going rules asked.packets (take (p.at + 1) asked.commands) asked.node asked.ring j) (sym same.0) (lived.ended.next (omega (arith, c.if-progress-commands.false))));
-      some = omega (arith, parts, lived.parts_are, c.loop-sent.invariant.parts, c.args.task.parts);
-      counts = λ read. subst (λ (j : JournalView). Counts c.past_end.result.tally.lost c.past_end.result.tally.shares j.outcomes) (sym same.0)
-          (subst (λ (s : Counted). Counts c.past_end.result.tally.lost s p.journal.outcomes) (sym same.1)
-          (subst (λ (b : Bool). Counts b p.tally.shares p.journal.outcomes) (sym same.2) (lived.counts read)));
+      begins = record {
+        within = omega (arith, c.if-progress-commands.false, c.past_end.ensures.at);
+        going = subst (λ (n : ℕ). Going rules asked.packets (take n asked.commands) asked.node asked.ring c.past_end.result.journal) (sym c.past_end.ensures.at)
+            (subst (λ (j : JournalView). Going rules asked.packets (take (p.at + 1) asked.commands) asked.node asked.ring j) (sym same.0) (lived.ended.next (omega (arith, c.if-progress-commands.false))));
+        some = omega (arith, parts, lived.parts_are, c.loop-sent.invariant.parts, c.args.task.parts);
+        counts = λ read. subst (λ (j : JournalView). Counts c.past_end.result.tally.lost c.past_end.result.tally.shares j.outcomes) (sym same.0)
+            (subst (λ (s : Counted). Counts c.past_end.result.tally.lost s p.journal.outcomes) (sym same.1)
+            (subst (λ (b : Bool). Counts b p.tally.shares p.journal.outcomes) (sym same.2) (lived.counts read)));
+      };
     }
 
 pub returns-then-progress-commands-clause-run : goal.returns-then-progress-commands-clause-run
