@@ -1191,6 +1191,95 @@ def random_scenario(source, weights=("",), steps_of=random_steps, versions=4):
     return text
 
 
+def plans(name, text, words, expected):
+    """`plan` prints this text of a scenario, from a file and from standard input."""
+    answers = [with_files(text, None, lambda folder: run(["plan", "s.toml", *words], cwd=folder)), run(["plan", "-", *words], stdin=text.encode())]
+    check(name, answers == [(0, expected.encode(), b"")] * 2, repr(answers))
+
+
+def test_plan():
+    """Rows by hand: B A B C C A A is the table of A, B and C, A A A C C C A that of A and C, B B B C C C B that of B and C."""
+    head = "service 192.0.2.1:80/tcp\nslots 7"
+    whole = f"{head}\nA@10.8.0.1 weight 1 slots 3\nB@10.8.0.2 weight 1 slots 2\nC@10.8.0.3 weight 1 slots 2\n"
+    without = f"{head}\nA@10.8.0.1 weight 1 slots 4\nB@10.8.0.2 weight 1 slots 0 down\nC@10.8.0.3 weight 1 slots 3\n"
+    two = scenario([])
+    plans("a plan of one version", two, ["1"], whole)
+    plans("a plan of a version with a member that is down", two, ["2"], without)
+    rows = "A@10.8.0.1 weight 1 before 3 after 4\nB@10.8.0.2 weight 1 before 2 after 0 down\nC@10.8.0.3 weight 1 before 2 after 3\n"
+    plans("a plan of a member that goes down", two, ["1", "2"], f"{head} changed 3 down 2 moved 1 least 2\n{rows}")
+    rows = "A@10.8.0.1 weight 1 before 4 after 3\nB@10.8.0.2 weight 1 before 0 after 2\nC@10.8.0.3 weight 1 before 3 after 2\n"
+    plans("a plan of a member that comes back", two, ["2", "1"], f"{head} changed 3 down 0 moved 3 least 2\n{rows}")
+    plans("a plan of no change", two, ["1", "1"], head + " changed 0 down 0 moved 0 least 0\n" + whole[len(head) + 1 :].replace(" slots 3", " before 3 after 3").replace(" slots 2", " before 2 after 2"))
+    replaced = scenario([], (ALL, ["C@10.8.0.3", "B@10.8.0.2", "A@10.8.0.9"]))
+    rows = "A@10.8.0.1 weight 1 before 3 after 0 down\nA@10.8.0.9 weight 1 before 0 after 3\nB@10.8.0.2 weight 1 before 2 after 2\nC@10.8.0.3 weight 1 before 2 after 2\n"
+    plans("a plan of another address", replaced, ["1", "2"], f"{head} changed 3 down 3 moved 0 least 3\n{rows}")
+    heavier = scenario([], (ALL, ["A@10.8.0.1*3", "B@10.8.0.2", "C@10.8.0.3"])).replace("format = 1", "format = 2")
+    rows = "A@10.8.0.1 weight 3 before 3 after 4\nB@10.8.0.2 weight 1 before 2 after 2\nC@10.8.0.3 weight 1 before 2 after 1\n"
+    plans("a plan of a weight", heavier, ["1", "2"], f"{head} changed 3 down 0 moved 3 least 1\n{rows}")
+    nobody = scenario([], (ALL, [word + "/down" for word in ALL]))
+    rows = "A@10.8.0.1 weight 1 before 3 after 0 down\nB@10.8.0.2 weight 1 before 2 after 0 down\nC@10.8.0.3 weight 1 before 2 after 0 down\n"
+    plans("a plan after which nobody is up", nobody, ["1", "2"], f"{head} changed 7 down 7 moved 0 least 7\n{rows}")
+    rows = "A@10.8.0.1 weight 1 before 0 after 3\nB@10.8.0.2 weight 1 before 0 after 2\nC@10.8.0.3 weight 1 before 0 after 2\n"
+    plans("a plan before which nobody is up", nobody, ["2", "1"], f"{head} changed 7 down 7 moved 0 least 7\n{rows}")
+    in_turn = scenario([], scheme="round")
+    rows = "A@10.8.0.1 weight 1 before 3 after 4\nB@10.8.0.2 weight 1 before 2 after 0 down\nC@10.8.0.3 weight 1 before 2 after 3\n"
+    for name, text in [("round", in_turn), ("plain", in_turn.replace("round", "plain"))]:
+        plans(f"a plan of the scheme {name}", text, ["1", "2"], f"{head} changed 4 down 2 moved 2 least 2\n{rows}")
+    other = two.replace("port = 80", "port = 53").replace('"tcp"', '"udp"').replace("number = 1", "number = 3")
+    moved = two + other[other.index("[[versions]]") : other.index("[[versions]]", other.index("number = 3"))]
+    gone = head.replace("80/tcp", "53/udp") + " changed 7 down 7 moved 0 least 7\n" + "A@10.8.0.1 weight 1 before 0 after 3\nB@10.8.0.2 weight 1 before 0 after 2\nC@10.8.0.3 weight 1 before 0 after 2\n"
+    gone += head + " changed 7 down 7 moved 0 least 7\n" + "A@10.8.0.1 weight 1 before 3 after 0 down\nB@10.8.0.2 weight 1 before 2 after 0 down\nC@10.8.0.3 weight 1 before 2 after 0 down\n"
+    plans("a plan of a service that another one replaces", moved, ["1", "3"], gone)
+    empty = two + "[[versions]]\nnumber = 4294967295\nservices = []\n"
+    plans("a plan of a version without services", empty, ["4294967295"], "")
+
+
+def test_plan_against_the_model():
+    """What is printed of random scenarios is what the plain model says."""
+    for seed in range(200):
+        source = random.Random(7000 + seed)
+        weights = source.choice([("",), ("", "*2", "*16")])
+        text = random_scenario(source, weights)
+        first, second = source.randrange(1, 5), source.randrange(1, 5)
+        plans(f"plan {first} {second} of scenario {seed}", text, [str(first), str(second)], model.plan(text, first, second))
+        plans(f"plan {first} of scenario {seed}", text, [str(first)], model.planned(text, first))
+
+
+def test_plan_of_the_pages():
+    """The documents show what is printed."""
+    text = (EXAMPLES / "rolling.toml").read_text()
+    pages = {name: (TOP / "docs" / name).read_text() for name in ["FORMATS.md", "USING.md"]}
+    ((_, shown),) = [one for one in commands_of(pages["USING.md"]) if one[0][:2] == ["maglev", "plan"]]
+    plans("the plan of USING.md", text, ["1", "2"], shown)
+    check("the plan of USING.md by the model", shown == model.plan(text, 1, 2), shown)
+    block = "".join(f"    {line}\n" for line in model.plan(scenario([]), 1, 2).splitlines())
+    check("the plan of FORMATS.md", block in pages["FORMATS.md"])
+
+
+def test_plan_faults():
+    good = scenario(["install 0 1", "take 1"])
+    for name, text, words, fault in [
+        ("no TOML", "format = ", ["1"], "BadToml"),
+        ("an unknown key", "color = 1\n" + good, ["1", "2"], "BadKey"),
+        ("a step of run", scenario(["stop 0"]), ["1", "2"], "BadStep 0"),
+        ("a double name", good.replace("B@", "A@"), ["1", "2"], "DoubleName"),
+        ("a version that isn't there", good, ["3"], "BadNumber"),
+        ("a first version that isn't there", good, ["3", "1"], "BadNumber"),
+        ("a second version that isn't there", good, ["1", "3"], "BadNumber"),
+        ("the version 0", good, ["0"], "BadNumber"),
+        ("a bad step and a version that isn't there", scenario(["take"]), ["3"], "BadStep 0"),
+    ]:
+        answer = with_files(text, None, lambda folder: run(["plan", "s.toml", *words], cwd=folder))
+        check(f"plan: {name}", answer == (1, b"", f"fault: {fault}\n".encode()), repr(answer))
+    faults("plan of no scenario", ["plan", "no/such/file", "1"], "OpenScenario")
+    with_files(good, None, lambda folder: unprinted(["plan", "s.toml", "1", "2"], folder))
+    says("plan", good.replace('"maglev"', "1"), None, "BadKey", 'scheme, line 7: found 1, expected "maglev", "plain" or "round"\n', ("plan", "s.toml", "1"))
+    says("plan of a version that isn't there", good, None, "BadNumber", "FROM or TO: expected the number of a version that the scenario has\n", ("plan", "s.toml", "1", "3"))
+    says("plan of a version of the number 0", good.replace("number = 2", "number = 0"), None, "BadNumber", "versions[1].number, line 18: found 0, expected a number from 1\n", ("plan", "s.toml", "1", "3"))
+    for words in [[], ["s.toml"], ["s.toml", "one"], ["s.toml", "1", "2", "3"], ["s.toml", "-1"], ["s.toml", "1", "4294967296"]]:
+        misused(f"plan {words}", ["plan", *words])
+
+
 def test_against_the_model():
     """What random scenarios print and write is what the plain model says."""
     for seed in range(60):
@@ -1395,7 +1484,7 @@ def test_command_line():
     folder = TOP / "tests" / "texts"
     prints("the help", ["--help"], (folder / "maglev.txt").read_text())
     prints("the help of help", ["help", "--help"], (folder / "maglev.txt").read_text())
-    for name in ["table", "pick", "compare", "simulate", "explain", "run"]:
+    for name in ["table", "pick", "compare", "plan", "simulate", "explain", "run"]:
         prints(f"the help of {name}", [name, "--help"], (folder / f"{name}.txt").read_text())
     for name, words in [
         ("unknown_command", ["tables"]),

@@ -387,3 +387,57 @@ class Run:
             return "same\n"
         halves = f"version {origin1} {'@'.join(backend1)} version {origin2} {'@'.join(backend2)}"
         return f"split slot {self.slot(flow)} {halves}\n"
+
+
+def named_slots(document, members):
+    """The member that each slot of a service names, as (name, address, weight), or None where nobody is up. A scheme without a
+    table names whom it picks for the slot's number, taken for a hash or a turn."""
+    size, plain = document["size"], HASHES[document["hash"]]
+    ups = sorted(member[:3] for member in members if member[3])
+    if not ups:
+        return [None] * size
+    if document["scheme"] != "maglev":
+        return [ups[slot % len(ups)] for slot in range(size)]
+    owner = filled({name: weight for name, _, weight in ups}, size, plain)
+    by_name = {up[0]: up for up in ups}
+    return [by_name[owner[slot]] for slot in range(size)]
+
+
+def services_of(document, number):
+    """The members of a version's services, by the text of the service, in order."""
+    version = next(version for version in document["versions"] if version["number"] == number)
+    return {f"{one['vip']}:{one['port']}/{one['proto']}": [member_of(word) for word in one["members"]] for one in version["services"]}
+
+
+def planned(scenario, number):
+    """What `plan` prints of one version."""
+    document = tomllib.loads(scenario)
+    lines = []
+    for service, members in services_of(document, number).items():
+        named = named_slots(document, members)
+        lines += [f"service {service}", f"slots {len(named)}"]
+        for name, at, weight, is_up in sorted(members):
+            slots = sum(one is not None and one[:2] == (name, at) for one in named)
+            lines.append(f"{name}@{at} weight {weight} slots {slots}{'' if is_up else ' down'}")
+    return "".join(line + "\n" for line in lines)
+
+
+def plan(scenario, first, second):
+    """What `plan` prints of two versions."""
+    document = tomllib.loads(scenario)
+    before, after = services_of(document, first), services_of(document, second)
+    lines = []
+    for service in [*after, *(service for service in before if service not in after)]:
+        old, new = before.get(service, []), after.get(service, [])
+        olds = [one and one[:2] for one in named_slots(document, old)]
+        news = [one and one[:2] for one in named_slots(document, new)]
+        ups = {member[:2] for member in new if member[3]}
+        changed = [one for one, other in zip(olds, news) if one != other]
+        down = sum(one not in ups for one in changed)
+        least = len(olds) - sum((collections.Counter(olds) & collections.Counter(news)).values())
+        lines += [f"service {service}", f"slots {len(olds)} changed {len(changed)} down {down} moved {len(changed) - down} least {least}"]
+        rows = {member[:2]: (0, member[2]) for member in old} | {member[:2]: (1, member[2]) for member in new}
+        for (name, at), (_, weight) in sorted(rows.items(), key=lambda row: (row[0][0], row[1][0])):
+            one, end = (name, at), "" if (name, at) in ups else " down"
+            lines.append(f"{name}@{at} weight {weight} before {olds.count(one)} after {news.count(one)}{end}")
+    return "".join(line + "\n" for line in lines)

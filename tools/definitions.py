@@ -39,6 +39,11 @@ PROMISES = [
         ],
     ),
     (
+        "`plan`: what a rollout moves",
+        "`plan` of `rollout_plan`, and the laws of its counts.",
+        [("rollout_plan", "plan_command", "plan"), ("rollout_plan", "laws", "plans_add_up")],
+    ),
+    (
         "libmaglev: the table for programs in other languages",
         "These functions of `maglev_ffi`.",
         [("maglev_ffi", "lib", f"maglev_{name}") for name in ("table", "slot", "slots", "differing")],

@@ -54,6 +54,13 @@ const EXPLAIN_HELP: &str =
 
 SCENARIO or INPUT may be -, which is standard input. Faults are those of simulate.";
 
+/// The end of the help of `plan`.
+const PLAN_HELP: &str = "Example: maglev plan examples/rolling.toml 1 2
+
+Each service has a block. Of its slots that name another server, down counts those whose server isn't up any more, moved those whose server is; no table with the same counts changes fewer than least. Without TO the slots of the version FROM are printed alone. A version that lacks a service counts as one where it has no members.
+
+SCENARIO may be -, which is standard input. Faults of the scenario are those of simulate. BadNumber comes also where it has no version FROM or TO.";
+
 /// The end of the help of `pick`.
 const PICK_HELP: &str = "The datagram is read from standard input.
 
@@ -225,6 +232,30 @@ fn list<'a>(alloc: Global) -> Arg<'a> {
         .action(ArgAction::SetTrue)
 }
 
+fn version<'a>(alloc: Global, id: &'a str, name: &'a str, help: &'a str) -> Arg<'a> {
+    Arg::new(alloc, id)
+        .value_name(name)
+        .help(help)
+        .action(ArgAction::Set)
+        .value_parser(value_parser!(u32))
+}
+
+fn plan<'a>(alloc: Global) -> Result<Command<'a>, AllocError> {
+    let args = [
+        of_places(alloc),
+        scenario(alloc),
+        version(alloc, "from", "FROM", "number of the version before").required(true),
+        version(alloc, "to", "TO", "number of the version after"),
+    ];
+    let args = Vec::from_array(alloc, args)?;
+    Command::new(alloc, "plan")
+        .about(
+            "Prints how many slots of each service change from one version of a scenario to another, and why",
+        )
+        .after_help(PLAN_HELP)
+        .args(args)
+}
+
 fn simulate<'a>(alloc: Global) -> Result<Command<'a>, AllocError> {
     let args = [
         list(alloc),
@@ -278,7 +309,7 @@ fn run<'a>(alloc: Global) -> Result<Command<'a>, AllocError> {
 }
 
 /// How many commands there are.
-const COMMANDS: usize = 6;
+const COMMANDS: usize = 7;
 
 // The command at a place of the help.
 fn command_at<'a>(alloc: Global, place: usize) -> Result<Command<'a>, AllocError> {
@@ -286,8 +317,9 @@ fn command_at<'a>(alloc: Global, place: usize) -> Result<Command<'a>, AllocError
         0 => table(alloc),
         1 => pick(alloc),
         2 => compare(alloc),
-        3 => simulate(alloc),
-        4 => explain(alloc),
+        3 => plan(alloc),
+        4 => simulate(alloc),
+        5 => explain(alloc),
         _ => run(alloc),
     }
 }

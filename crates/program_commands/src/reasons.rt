@@ -3,6 +3,7 @@ use crate::files::Paths;
 use command_faults::CliFault;
 use lazy_files::{FirstBytes, Refusal};
 use pcap_file::{MAX_RECORDS, PcapFault};
+use pool_versions::PoolFault;
 use scenario::ScenarioFault;
 use scenario_diagnostics::words_of;
 use shown_text::shown;
@@ -101,7 +102,19 @@ fn reason_by(alloc: Global, trouble: &Trouble, files: &Files<'_, '_>) -> Option<
             format!(in alloc; "{path}: expected at most 1048576 bytes").ok()
         }
         CliFault::Capture(fault) => capture(alloc, fault, trouble, files),
+        CliFault::Pool(PoolFault::BadNumber) => bad_number(alloc, files.text),
         fault => words_of(alloc, files.text, scenario_fault(fault)?),
+    }
+}
+
+// Where a version's number is 0, or else that a version which was asked for isn't there.
+fn bad_number(alloc: Global, text: &[u8]) -> Option<String> {
+    match words_of(alloc, text, ScenarioFault::Pool(PoolFault::BadNumber)) {
+        Some(words) => Some(words),
+        None => plain(
+            alloc,
+            "FROM or TO: expected the number of a version that the scenario has",
+        ),
     }
 }
 

@@ -7,12 +7,14 @@ use command_faults::CliFault;
 use connection_table::TableKey;
 use lazy_files::{InputFile, KeptText, OutputFile};
 use pcap_file::{FromRead, PcapFault, ToWrite};
+use rollout_plan::plan;
 use scenario::{Played, read};
 use scenario_commands::simulate_keyed;
 use scenario_warnings::{warning_text, warnings};
 use shown_text::shown;
 use simulate_scenario::Wanted;
 use std::alloc::AllocError;
+use std::io;
 use std::io::Write;
 
 /// The paths that the command line names. What a command sends goes to `output`.
@@ -148,6 +150,38 @@ pub(crate) fn run_explain(rt: &HostRuntime, matches: &ArgMatches<'_>) -> u8 {
     let text = text.as_slice();
     let outcome = match read {
         Ok(()) => explain_files(rt, &paths, text, one, other),
+        Err(trouble) => Err(trouble),
+    };
+    let verbose = matches.get_flag("verbose");
+    ended(rt, verbose, paths, Played::InTurn, text, outcome)
+}
+
+// What a scenario's versions change, printed on standard output.
+fn print_plan(rt: &HostRuntime, text: &[u8], from: u32, to: Option<u32>) -> Result<(), Trouble> {
+    let mut report = ToWrite::new(io::writer(rt));
+    match plan(rt.alloc(), text, from, to, &mut report) {
+        Ok(()) => Ok(()),
+        Err(fault) => Err(fault.into()),
+    }
+}
+
+/// The command `plan`.
+pub(crate) fn run_plan(rt: &HostRuntime, matches: &ArgMatches<'_>) -> u8 {
+    let (Some(scenario), Some(from)) = (
+        matches.get_str("scenario"),
+        matches.get_one::<u32>("from"),
+    ) else {
+        return USAGE;
+    };
+    let paths = Paths {
+        scenario,
+        input: "",
+        output: "standard output",
+    };
+    let (text, read) = read_scenario(rt, scenario);
+    let text = text.as_slice();
+    let outcome = match read {
+        Ok(()) => print_plan(rt, text, from, matches.get_one::<u32>("to")),
         Err(trouble) => Err(trouble),
     };
     let verbose = matches.get_flag("verbose");

@@ -1,0 +1,4 @@
+pub mod SlotCounts
+pub mod Least
+pub mod Once
+pub mod Shown

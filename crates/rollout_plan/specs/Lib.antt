@@ -1,0 +1,5 @@
+pub mod Tables
+pub mod Counts
+pub mod Text
+pub mod Plans
+pub mod Laws

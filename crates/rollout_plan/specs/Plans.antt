@@ -1,0 +1,64 @@
+-- Which text the command `plan` writes for a scenario's text, and when it gives up, by which fault.
+use Rattle.std.specs.Prelude.{◌≡◌, ◌⊎◌, ℕ, Bool, true, false, ◌&&◌, List, Option, Some, None, is_some}
+use Rattle.pool_versions.specs.declared.catalogue.PoolFault.TheVariants.{BadNumber}
+use Rattle.pool_versions.specs.declared.service.Version.{Version}
+use Rattle.pool_versions.specs.Pool.{version_at}
+use Rattle.scenario.specs.declared.playing.Played.TheVariants.{InTurn}
+use Rattle.scenario.specs.declared.reading.Scenario.{Scenario}
+use Rattle.scenario.specs.Meaning.{Means}
+use Rattle.scenario_commands.specs.Scenarios.{ScenarioFails}
+use Rattle.command_faults.specs.declared.fault.CliFault.{CliFault}
+use Rattle.command_faults.specs.declared.fault.CliFault.TheVariants.{Pool, Write, Memory}
+use Rattle.rollout_plan.specs.Tables.{rule_of}
+use Rattle.rollout_plan.specs.Text.{plan_text, version_text}
+
+-- a scenario's version of a number
+abbrev pub version_in : Scenario → ℕ → Option Version
+version_in s n = version_at n s.catalogue.versions
+
+-- the text is what one version of a scenario has
+pub record ShowsVersion (s : Scenario) (number : ℕ) (text : List ℕ) : Type 0 where
+  pub version : Version
+  pub of_number : version_in s number ≡ Some version
+  pub is : text ≡ version_text (rule_of s) version
+
+-- the text is what changes from one version of a scenario to another
+pub record ShowsChange (s : Scenario) (from to : ℕ) (text : List ℕ) : Type 0 where
+  pub before : Version
+  pub after : Version
+  pub of_from : version_in s from ≡ Some before
+  pub of_to : version_in s to ≡ Some after
+  pub is : text ≡ plan_text (rule_of s) before after
+
+-- the text is what was asked of a scenario: of one version, or of two
+abbrev pub Shows : Scenario → ℕ → Option ℕ → List ℕ → Type 0
+Shows s from None text = ShowsVersion s from text
+Shows s from (Some to) text = ShowsChange s from to text
+
+-- the same of the scenario that a text means
+pub record IsPlan (scenario : List ℕ) (from : ℕ) (to : Option ℕ) (text : List ℕ) : Type 0 where
+  pub meant : Scenario
+  pub means : Means InTurn scenario meant
+  pub shows : Shows meant from to text
+
+-- a scenario has the versions that are asked for
+abbrev pub has_versions : Scenario → ℕ → Option ℕ → Bool
+has_versions s from None = is_some (version_in s from)
+has_versions s from (Some to) = is_some (version_in s from) && is_some (version_in s to)
+
+-- what it is where a command over a scenario that was read ends by a fault: it lacks a version, or has all
+abbrev pub AskedFails : CliFault → Bool → Type 0
+AskedFails (Pool fault) has = (fault ≡ BadNumber) × (has ≡ false)
+AskedFails Memory has = has ≡ true
+AskedFails Write has = has ≡ true
+AskedFails _ has = ⊥
+
+-- a scenario was read, and then the command gave up
+pub record ReadFails (fault : CliFault) (scenario : List ℕ) (from : ℕ) (to : Option ℕ) : Type 0 where
+  pub meant : Scenario
+  pub means : Means InTurn scenario meant
+  pub why : AskedFails fault (has_versions meant from to)
+
+-- when `plan` gives up, and by which fault
+abbrev pub PlanFails : CliFault → List ℕ → ℕ → Option ℕ → Type 0
+PlanFails fault scenario from to = ScenarioFails InTurn fault scenario ⊎ ReadFails fault scenario from to

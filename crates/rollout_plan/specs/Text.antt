@@ -1,0 +1,110 @@
+-- The text of the command `plan`, as a list of bytes.
+use Rattle.std.specs.Prelude.{ℕ, Bool, true, false, not, List, [], ◌++◌, map, filter, find, Option, Some, None, codes}
+use Rattle.std.specs.List.{flat_map, list_any}
+use Rattle.std.specs.Fmt.{decimal}
+use Rattle.maglev_texts.specs.Printing.{backend_text, end_text, protocol_text}
+use Rattle.pool_versions.specs.declared.backend.Backend.{Backend}
+use Rattle.pool_versions.specs.declared.backend.Member.{Member}
+use Rattle.pool_versions.specs.declared.key.ServiceKey.{ServiceKey}
+use Rattle.pool_versions.specs.declared.service.Service.{Service}
+use Rattle.pool_versions.specs.declared.service.Version.{Version}
+use Rattle.pool_versions.specs.Pool.{key_of, same_key, ranked}
+use Rattle.selection.specs.Picks.{NamedTable}
+use Rattle.selection.specs.Readied.{same_backend}
+use Rattle.rollout_plan.specs.declared.slots.TableRule.{TableRule}
+use Rattle.rollout_plan.specs.Tables.{table_by}
+use Rattle.rollout_plan.specs.Counts.{slots_naming, is_up, changed, down, moved, least}
+
+-- a backend is that of one of some members
+abbrev pub has_member : List Member → Backend → Bool
+has_member ms b = list_any (λ m. same_backend m.backend b) ms
+
+-- the members whose backend the other list lacks
+abbrev pub members_gone : List Member → List Member → List Member
+members_gone before after = filter (λ m. not (has_member after m.backend)) before
+
+-- a member as one that is up
+abbrev pub as_up : Member → Member
+as_up m = record m { up = true }
+
+-- some members in ascending order of name, whether they are up or down
+abbrev pub in_order : List Member → List Member
+in_order ms = ranked (map as_up ms)
+
+-- the members of either list, each backend once: those of the second as they are there
+abbrev pub members_of_both : List Member → List Member → List Member
+members_of_both before after = in_order (members_gone before after ++ after)
+
+-- the service that a key is of
+abbrev pub service_by : ServiceKey → Version → Option Service
+service_by key v = find (λ s. same_key (key_of s) key) v.services.items
+
+abbrev pub members_in : Option Service → List Member
+members_in None = []
+members_in (Some s) = s.members.items
+
+-- its members under a version, none where the version lacks it
+abbrev pub members_under : ServiceKey → Version → List Member
+members_under key v = members_in (service_by key v)
+
+-- `service ADDRESS:PORT/PROTOCOL`
+unfoldable pub service_line : ServiceKey → List ℕ
+service_line key = codes "service " ++ (end_text key.vip key.port ++ (codes "/" ++ (protocol_text key.proto ++ codes "\n")))
+
+-- what stands behind a backend that isn't up
+abbrev pub state_text : Bool → List ℕ
+state_text true = []
+state_text false = codes " down"
+
+-- `slots M changed C down D moved V least L`
+unfoldable pub counts_line : NamedTable → NamedTable → List ℕ
+counts_line before after =
+    codes "slots " ++ (decimal before.size ++ (codes " changed " ++ (decimal (changed before after) ++ (codes " down " ++ (decimal (down before after) ++ (codes " moved " ++ (decimal (moved before after) ++ (codes " least " ++ (decimal (least before after) ++ codes "\n")))))))))
+
+-- `BACKEND weight W before N after N`, and ` down` where it isn't up after
+unfoldable pub change_line : NamedTable → NamedTable → Member → List ℕ
+change_line before after m =
+    backend_text m.backend ++ (codes " weight " ++ (decimal m.weight ++ (codes " before " ++ (decimal (slots_naming (Some m.backend) before) ++ (codes " after " ++ (decimal (slots_naming (Some m.backend) after) ++ (state_text (is_up after m.backend) ++ codes "\n")))))))
+
+-- what changes for a service, between the members before and after
+unfoldable pub change_text : TableRule → ServiceKey → List Member → List Member → List ℕ
+change_text rule key before after =
+    service_line key ++ (counts_line (table_by rule before) (table_by rule after) ++ flat_map (change_line (table_by rule before) (table_by rule after)) (members_of_both before after))
+
+-- of a service of the later version
+abbrev pub kept_text : TableRule → Version → Service → List ℕ
+kept_text rule before s = change_text rule (key_of s) (members_under (key_of s) before) s.members.items
+
+-- of a service that the later version lacks
+abbrev pub gone_text : TableRule → Service → List ℕ
+gone_text rule s = change_text rule (key_of s) s.members.items []
+
+-- a version has the service of a key
+abbrev pub has_service : ServiceKey → Version → Bool
+has_service key v = list_any (λ s. same_key (key_of s) key) v.services.items
+
+-- the services that another version lacks
+abbrev pub services_gone : List Service → Version → List Service
+services_gone before after = filter (λ s. not (has_service (key_of s) after)) before
+
+-- what changes from one version to another: the later one's services, and then those that it lacks
+abbrev pub plan_text : TableRule → Version → Version → List ℕ
+plan_text rule before after =
+    flat_map (kept_text rule before) after.services.items ++ flat_map (gone_text rule) (services_gone before.services.items after)
+
+-- `slots M`
+abbrev pub slots_line : ℕ → List ℕ
+slots_line size = codes "slots " ++ (decimal size ++ codes "\n")
+
+-- `BACKEND weight W slots N`, and ` down` where it isn't up
+unfoldable pub backend_line : NamedTable → Member → List ℕ
+backend_line t m =
+    backend_text m.backend ++ (codes " weight " ++ (decimal m.weight ++ (codes " slots " ++ (decimal (slots_naming (Some m.backend) t) ++ (state_text (is_up t m.backend) ++ codes "\n")))))
+
+-- what a service has
+unfoldable pub service_text : TableRule → Service → List ℕ
+service_text rule s = service_line (key_of s) ++ (slots_line rule.size ++ flat_map (backend_line (table_by rule s.members.items)) (in_order s.members.items))
+
+-- what one version has
+abbrev pub version_text : TableRule → Version → List ℕ
+version_text rule v = flat_map (service_text rule) v.services.items

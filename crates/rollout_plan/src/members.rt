@@ -1,0 +1,87 @@
+//! Whose lines are printed: the members of a service under one version or two.
+ghost use Rattle.std.specs.Prelude.{◌≡◌, map, option_copied, IfOk};
+ghost use Rattle.rollout_plan.specs.Text.{has_member, members_gone, in_order, members_of_both, members_under, service_by, as_up};
+
+use pool_versions::{Backend, Member, Service, ServiceKey, Version};
+use std::alloc::{AllocError, Global};
+
+fn has_member(members: &[Member], backend: &Backend) -> bool
+    ensures { result ≡ has_member members.now backend.now }
+{
+    members.iter().any(|member| member.backend == *backend)
+}
+
+// The members whose backend the other list lacks.
+fn members_gone(
+    alloc: Global,
+    before: &[Member],
+    after: &[Member],
+) -> Result<Vec<Member>, AllocError>
+    ensures { IfOk result (λ v. v.items ≡ members_gone before.now after.now) }
+{
+    let mut gone = Vec::new(alloc);
+    for member in before {
+        if !has_member(after, &member.backend) {
+            gone.push(*member)?;
+        }
+    }
+    Ok(gone)
+}
+
+// Some members as ones that are up.
+fn as_up(alloc: Global, members: &[Member]) -> Result<Vec<Member>, AllocError>
+    ensures { IfOk result (λ v. v.items ≡ map as_up members.now) }
+{
+    let mut ups = Vec::with_capacity(alloc, members.len())?;
+    for member in members {
+        ups.push(Member {
+            backend: member.backend,
+            up: true,
+            weight: member.weight,
+        })?;
+    }
+    Ok(ups)
+}
+
+/// Some members in ascending order of name, whether they are up or down.
+pub(crate) fn in_order(alloc: Global, members: &[Member]) -> Result<Vec<Member>, AllocError>
+    ensures { IfOk result (λ v. v.items ≡ in_order members.now) }
+{
+    let service = Service {
+        vip: 0,
+        proto: 0,
+        port: 0,
+        members: as_up(alloc, members)?,
+    };
+    service.ranked(alloc)
+}
+
+/// The members of either list in ascending order of name, each backend once: those of the second as they are there.
+pub(crate) fn members_of_both(
+    alloc: Global,
+    before: &[Member],
+    after: &[Member],
+) -> Result<Vec<Member>, AllocError>
+    ensures { IfOk result (λ v. v.items ≡ members_of_both before.now after.now) }
+{
+    let mut members = members_gone(alloc, before, after)?;
+    members.extend_from_slice(after)?;
+    in_order(alloc, members.as_slice())
+}
+
+// The service of a version that a key is of.
+fn service_by(key: ServiceKey, version: &Version) -> Option<&Service>
+    ensures { option_copied result ≡ service_by key version.entry.now }
+{
+    version.services.iter().find(|service| service.key() == key)
+}
+
+/// The members of a service under a version, none where the version lacks it.
+pub(crate) fn members_under(key: ServiceKey, version: &Version) -> &[Member]
+    ensures { result.now ≡ members_under key version.entry.now }
+{
+    match service_by(key, version) {
+        Some(service) => service.members.as_slice(),
+        None => &[],
+    }
+}

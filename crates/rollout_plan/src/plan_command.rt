@@ -1,0 +1,103 @@
+//! The command `plan`.
+ghost use Rattle.std.specs.Prelude.{◌≡◌, ◌≢◌, Some, None, string_bytes, IfOk, OnOk, IfErr};
+ghost use Rattle.command_faults.specs.Printing.{Prints, BreaksOff};
+ghost use Rattle.rollout_plan.specs.Tables.{rule_of};
+ghost use Rattle.rollout_plan.specs.Plans.{Shows, IsPlan, AskedFails, PlanFails, has_versions, version_in};
+
+use crate::slots::TableRule;
+use crate::text::{plan_text_of, version_text_of};
+use command_faults::{CliFault, put_text};
+use pcap_file::Sink;
+use pool_versions::{PoolFault, Version};
+use scenario::{Played, Scenario, read};
+use scenario_commands::scenario_fault;
+use std::alloc::Global;
+
+fn rule_of(scenario: &Scenario) -> TableRule
+    ensures { result ≡ rule_of scenario.now }
+{
+    TableRule {
+        size: scenario.size,
+        hash: scenario.hash,
+        kind: scenario.scheme,
+    }
+}
+
+// A scenario's version of a number.
+fn version_of(scenario: &Scenario, number: u32) -> Result<&Version, CliFault>
+    ensures found { IfOk result (λ v. version_in scenario.entry.now number ≡ Some v.now) }
+    ensures missing { IfErr result (λ fault. (fault ≡ CliFault.Pool PoolFault.BadNumber) × (version_in scenario.entry.now number ≡ None)) }
+{
+    match scenario.catalogue.get(number) {
+        Some(version) => Ok(version),
+        None => Err(CliFault::Pool(PoolFault::BadNumber)),
+    }
+}
+
+// The text of what is asked of a scenario: of one version, or of two.
+fn text_of(
+    alloc: Global,
+    scenario: &Scenario,
+    from: u32,
+    to: Option<u32>,
+) -> Result<String, CliFault>
+    ensures text { IfOk result (λ s. Shows scenario.now from to (string_bytes s)) }
+    ensures fault { IfErr result (λ fault. AskedFails fault (has_versions scenario.now from to)) }
+    ensures unwritten { IfErr result (λ fault. fault ≢ CliFault.Write) }
+{
+    let rule = rule_of(scenario);
+    let before = version_of(scenario, from)?;
+    match to {
+        None => Ok(version_text_of(alloc, &rule, before)?),
+        Some(to) => {
+            let after = version_of(scenario, to)?;
+            Ok(plan_text_of(alloc, &rule, before, after)?)
+        }
+    }
+}
+
+// The same of the scenario that a text means.
+fn text_for(alloc: Global, scenario: &[u8], from: u32, to: Option<u32>) -> Result<String, CliFault>
+    ensures text { IfOk result (λ s. IsPlan scenario.now from to (string_bytes s)) }
+    ensures fault { IfErr result (λ fault. PlanFails fault scenario.now from to) }
+    ensures unwritten { IfErr result (λ fault. fault ≢ CliFault.Write) }
+{
+    let scenario = match read(alloc, Played::InTurn, scenario) {
+        Ok(scenario) => scenario,
+        Err(fault) => return Err(scenario_fault(fault)),
+    };
+    match text_of(alloc, &scenario, from, to) {
+        Ok(text) => Ok(text),
+        Err(fault) => Err(fault),
+    }
+}
+
+/// The command `plan`: writes what changes from a scenario's version `from` to its version `to`, or what the version `from`
+/// has where `to` is None.
+///
+/// Of each service of either version it has a block: how many slots name somebody else, and how many of these named a backend
+/// that is up no more, or nobody, and how many one that is up still; the fewest that any table with the same counts would
+/// change; and each backend with its weight and its slots. A version without the service counts as one where it has no
+/// members. A scenario is one that is played in turn. Where it lacks a version the fault is BadNumber. The text is written in
+/// one piece once it is whole, so after any fault but `Write` nothing was written.
+pub fn plan<S: Sink>(
+    alloc: Global,
+    scenario: &[u8],
+    from: u32,
+    to: Option<u32>,
+    out: &mut S,
+) -> Result<(), CliFault>
+    ensures written { OnOk result (Prints (IsPlan scenario.now from to) (S.tape out.old) (S.tape out.new)) }
+    ensures broken { IfErr result (λ fault. fault ≡ CliFault.Write → BreaksOff (IsPlan scenario.now from to) (S.tape out.old) (S.tape out.new)) }
+    ensures silent { IfErr result (λ fault. fault ≢ CliFault.Write → out.new ≡ out.old) }
+    ensures fault { IfErr result (λ fault. PlanFails fault scenario.now from to) }
+{
+    let text = match text_for(alloc, scenario, from, to) {
+        Ok(text) => text,
+        Err(fault) => return Err(fault),
+    };
+    match put_text(out, text.as_str()) {
+        Ok(()) => Ok(()),
+        Err(fault) => Err(fault),
+    }
+}

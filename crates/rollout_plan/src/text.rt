@@ -1,0 +1,250 @@
+//! The text of the command `plan`.
+ghost use Rattle.std.specs.Prelude.{◌≡◌, ◌++◌, [], IfOk, OnOk, string_bytes};
+ghost use Rattle.std.specs.List.{flat_map};
+ghost use Rattle.rollout_plan.specs.Tables.{table_by};
+ghost use Rattle.rollout_plan.specs.Text.{service_line, state_text, counts_line, change_line, change_text, kept_text, gone_text, services_gone, has_service, plan_text, slots_line, backend_line, service_text, version_text};
+
+use crate::counting::{Causes, causes_of, least};
+use crate::members::{in_order, members_of_both, members_under};
+use crate::slots::{SlotTable, TableRule};
+use maglev_texts::{AddressText, BackendText};
+use pool_versions::{Member, Service, ServiceKey, Version};
+use std::alloc::{AllocError, Global};
+use std::fmt;
+
+/// A protocol: `tcp`, `udp` or its number.
+#[derive(Clone, Copy)]
+struct ProtocolText(u8);
+
+impl fmt::Display for ProtocolText {
+    ghost use Rattle.std.specs.Prelude.{Some};
+    ghost use Rattle.maglev_texts.specs.Printing.{protocol_text};
+
+    ghost output = { λ p. Some (protocol_text p.0) };
+
+    fn fmt<W: fmt::Write>(&self, f: &mut fmt::Formatter<W>) -> fmt::Result {
+        let proto = self.0;
+        match proto {
+            6 => f.write_str("tcp"),
+            17 => f.write_str("udp"),
+            _ => write!(f, "{proto}"),
+        }
+    }
+}
+
+/// What stands behind a backend's numbers: nothing where it is up.
+#[derive(Clone, Copy)]
+struct StateText(bool);
+
+impl fmt::Display for StateText {
+    ghost use Rattle.std.specs.Prelude.{Some};
+    ghost use Rattle.rollout_plan.specs.Text.{state_text};
+
+    ghost output = { λ s. Some (state_text s.0) };
+
+    fn fmt<W: fmt::Write>(&self, f: &mut fmt::Formatter<W>) -> fmt::Result {
+        if self.0 { Ok(()) } else { f.write_str(" down") }
+    }
+}
+
+#[tactic(auto, unfolding(crate::specs::Text::service_line))]
+fn push_service_line(text: &mut String, key: ServiceKey) -> Result<(), AllocError>
+    ensures { OnOk result (string_bytes text.new ≡ string_bytes text.old ++ service_line key) }
+{
+    let address = AddressText(key.vip);
+    let port = key.port;
+    let protocol = ProtocolText(key.proto);
+    write!(text, "service {address}:{port}/{protocol}\n")
+}
+
+#[tactic(auto, unfolding(crate::specs::Text::counts_line))]
+fn push_counts_line(
+    text: &mut String,
+    before: &SlotTable,
+    after: &SlotTable,
+) -> Result<(), AllocError>
+    requires { before.now.size ≡ after.now.size }
+    ensures { OnOk result (string_bytes text.new ≡ string_bytes text.old ++ counts_line before.now after.now) }
+{
+    let slots = before.size();
+    let Causes { down, moved } = causes_of(before, after);
+    let changed = down + moved;
+    let least = least(before, after);
+    write!(
+        text,
+        "slots {slots} changed {changed} down {down} moved {moved} least {least}\n"
+    )
+}
+
+#[tactic(auto, unfolding(crate::specs::Text::change_line))]
+fn push_change_line(
+    text: &mut String,
+    before: &SlotTable,
+    after: &SlotTable,
+    member: &Member,
+) -> Result<(), AllocError>
+    ensures { OnOk result (string_bytes text.new ≡ string_bytes text.old ++ change_line before.now after.now member.now) }
+{
+    let backend = BackendText(member.backend);
+    let weight = member.weight.turns();
+    let old = before.slots_of(&member.backend);
+    let new = after.slots_of(&member.backend);
+    let state = StateText(after.is_up(&member.backend));
+    write!(
+        text,
+        "{backend} weight {weight} before {old} after {new}{state}\n"
+    )
+}
+
+fn push_change_lines(
+    text: &mut String,
+    before: &SlotTable,
+    after: &SlotTable,
+    members: &[Member],
+) -> Result<(), AllocError>
+    ensures { OnOk result (string_bytes text.new ≡ string_bytes text.old ++ flat_map (change_line before.now after.now) members.now) }
+{
+    for member in members {
+        push_change_line(text, before, after, member)?;
+    }
+    Ok(())
+}
+
+// What changes for a service, between its members before and after.
+#[tactic(auto, unfolding(crate::specs::Text::change_text))]
+fn push_change(
+    alloc: Global,
+    text: &mut String,
+    rule: &TableRule,
+    key: ServiceKey,
+    before: &[Member],
+    after: &[Member],
+) -> Result<(), AllocError>
+    ensures { OnOk result (string_bytes text.new ≡ string_bytes text.old ++ change_text rule.now key before.now after.now) }
+{
+    let old = rule.table(alloc, before)?;
+    let new = rule.table(alloc, after)?;
+    let members = members_of_both(alloc, before, after)?;
+    push_service_line(text, key)?;
+    push_counts_line(text, &old, &new)?;
+    push_change_lines(text, &old, &new, members.as_slice())
+}
+
+// What changes for the services of the later version.
+fn push_kept(
+    alloc: Global,
+    text: &mut String,
+    rule: &TableRule,
+    before: &Version,
+    services: &[Service],
+) -> Result<(), AllocError>
+    ensures { OnOk result (string_bytes text.new ≡ string_bytes text.old ++ flat_map (kept_text rule.now before.now) services.now) }
+{
+    for service in services {
+        let key = service.key();
+        let members = members_under(key, before);
+        push_change(alloc, text, rule, key, members, service.members.as_slice())?;
+    }
+    Ok(())
+}
+
+fn has_service(version: &Version, key: ServiceKey) -> bool
+    ensures { result ≡ has_service key version.now }
+{
+    version.services.iter().any(|service| service.key() == key)
+}
+
+// What changes for the services that the later version lacks.
+fn push_gone(
+    alloc: Global,
+    text: &mut String,
+    rule: &TableRule,
+    services: &[Service],
+    after: &Version,
+) -> Result<(), AllocError>
+    ensures { OnOk result (string_bytes text.new ≡ string_bytes text.old ++ flat_map (gone_text rule.now) (services_gone services.now after.now)) }
+{
+    for service in services {
+        let key = service.key();
+        if !has_service(after, key) {
+            push_change(alloc, text, rule, key, service.members.as_slice(), &[])?;
+        }
+    }
+    Ok(())
+}
+
+/// What changes from one version to another.
+pub(crate) fn plan_text_of(
+    alloc: Global,
+    rule: &TableRule,
+    before: &Version,
+    after: &Version,
+) -> Result<String, AllocError>
+    ensures { IfOk result (λ s. string_bytes s ≡ plan_text rule.now before.now after.now) }
+{
+    let mut text = String::new(alloc);
+    push_kept(alloc, &mut text, rule, before, after.services.as_slice())?;
+    push_gone(alloc, &mut text, rule, before.services.as_slice(), after)?;
+    Ok(text)
+}
+
+#[tactic(auto, unfolding(crate::specs::Text::backend_line))]
+fn push_backend_line(
+    text: &mut String,
+    table: &SlotTable,
+    member: &Member,
+) -> Result<(), AllocError>
+    ensures { OnOk result (string_bytes text.new ≡ string_bytes text.old ++ backend_line table.now member.now) }
+{
+    let backend = BackendText(member.backend);
+    let weight = member.weight.turns();
+    let slots = table.slots_of(&member.backend);
+    let state = StateText(table.is_up(&member.backend));
+    write!(text, "{backend} weight {weight} slots {slots}{state}\n")
+}
+
+fn push_backend_lines(
+    text: &mut String,
+    table: &SlotTable,
+    members: &[Member],
+) -> Result<(), AllocError>
+    ensures { OnOk result (string_bytes text.new ≡ string_bytes text.old ++ flat_map (backend_line table.now) members.now) }
+{
+    for member in members {
+        push_backend_line(text, table, member)?;
+    }
+    Ok(())
+}
+
+// What a service has.
+#[tactic(auto, unfolding(crate::specs::Text::service_text))]
+fn push_service(
+    alloc: Global,
+    text: &mut String,
+    rule: &TableRule,
+    service: &Service,
+) -> Result<(), AllocError>
+    ensures { OnOk result (string_bytes text.new ≡ string_bytes text.old ++ service_text rule.now service.now) }
+{
+    let table = rule.table(alloc, service.members.as_slice())?;
+    let members = in_order(alloc, service.members.as_slice())?;
+    let slots = rule.size.slots();
+    push_service_line(text, service.key())?;
+    write!(text, "slots {slots}\n")?;
+    push_backend_lines(text, &table, members.as_slice())
+}
+
+/// What one version has.
+pub(crate) fn version_text_of(
+    alloc: Global,
+    rule: &TableRule,
+    version: &Version,
+) -> Result<String, AllocError>
+    ensures { IfOk result (λ s. string_bytes s ≡ version_text rule.now version.now) }
+{
+    let mut text = String::new(alloc);
+    for service in &version.services {
+        push_service(alloc, &mut text, rule, service)?;
+    }
+    Ok(text)
+}
