@@ -1,0 +1,4 @@
+pub mod Counts
+pub mod Text
+pub mod Reading
+pub mod Sketch
