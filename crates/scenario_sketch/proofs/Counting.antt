@@ -28,7 +28,7 @@ none_counted_cases : (v : Bool) (rest : Bool) (n : ℕ) → (rest ≡ false → 
 none_counted_cases true rest n h e = absurd cc
 none_counted_cases false rest n h e = omega (arith, h e)
 
-none_counted : (p : ServiceKey → Bool) (ds : List ServiceKey) → list_any p ds ≡ false → count_by p ds ≡ 0
+pub none_counted : (p : ServiceKey → Bool) (ds : List ServiceKey) → list_any p ds ≡ false → count_by p ds ≡ 0
 none_counted p [] h = refl
 none_counted p (x ∷ xs) h = sum_by-cons (λ k. cond (p k) 1 0) x xs ∙ none_counted_cases (p x) (list_any p xs) (count_by p xs) (none_counted p xs) h
 

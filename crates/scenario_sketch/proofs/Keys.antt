@@ -70,7 +70,7 @@ others_apart_cases : (x k : ServiceKey) (b : Bool) (ks : List ServiceKey) → sa
 others_apart_cases x k true ks e h = h
 others_apart_cases x k false ks e h = (e, h)
 
-others_apart : (x : ServiceKey) (ks : List ServiceKey) → AllByRecursion (λ k. same_key x k ≡ false) (others x ks)
+pub others_apart : (x : ServiceKey) (ks : List ServiceKey) → AllByRecursion (λ k. same_key x k ≡ false) (others x ks)
 others_apart x [] = search rules
 others_apart x (k ∷ ks) = others_apart_cases x k (same_key x k) (others x ks) refl (others_apart x ks)
 

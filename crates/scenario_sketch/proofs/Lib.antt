@@ -4,3 +4,4 @@ pub mod Orders
 pub mod Texts
 pub mod Walks
 pub mod Refusals
+pub mod Fairness

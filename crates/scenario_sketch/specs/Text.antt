@@ -10,23 +10,28 @@ abbrev pub comment_text : ℕ → ℕ → List ℕ
 comment_text destinations busy =
     codes "# Destinations: " ++ (decimal destinations ++ (codes ". Of more than 5 packets: " ++ (decimal busy ++ codes ". The first 256 of these are services, the most frequent first.\n")))
 
--- a cluster of one node, which plays so many records under version 1
+-- a cluster of one balancer
+abbrev pub cluster_text : List ℕ
+cluster_text = codes "format = 1\nsize = 65537\nhash = \"fnv\"\nscheme = \"maglev\"\nspread = \"hash\"\nworkers = 1\ncapacity = 100000\nnodes = [\"10.9.0.1\"]\n"
+
+-- the cluster, which plays so many records under version 1
 abbrev pub head_text : ℕ → List ℕ
-head_text records =
-    codes "format = 1\nsize = 65537\nhash = \"fnv\"\nscheme = \"maglev\"\nspread = \"hash\"\nworkers = 1\ncapacity = 100000\nnodes = [\"10.9.0.1\"]\nsteps = [\"install 0 1\", \"take "
-    ++ (decimal records ++ codes "\"]\n\n[[versions]]\nnumber = 1\n")
+head_text records = cluster_text ++ (codes "steps = [\"install 0 1\", \"take " ++ (decimal records ++ codes "\"]\n\n[[versions]]\nnumber = 1\n"))
 
 -- 6 is TCP, and 17 is UDP
 abbrev pub protocol_word : ℕ → List ℕ
 protocol_word proto = if proto == 6 then codes "tcp" else codes "udp"
 
+-- no members yet, and what they may be
+abbrev pub members_text : List ℕ
+members_text = codes "members = []\n# members = [\"web-1@10.8.0.1\", \"web-2@10.8.0.2\"]"
+
 -- a service whose members are left to fill in
 abbrev pub service_text : Counted → List ℕ
 service_text c =
-    codes "\n# " ++ (decimal c.packets ++ (codes " packets\n[[versions.services]]\nvip = \""
-    ++ (address_text c.service.vip ++ (codes "\"\nproto = \""
-    ++ (protocol_word c.service.proto ++ (codes "\"\nport = "
-    ++ (decimal c.service.port ++ codes "\nmembers = []\n# members = [\"web-1@10.8.0.1\", \"web-2@10.8.0.2\"]\n")))))))
+    codes "\n# " ++ (decimal c.packets ++ (codes " packets\n[[versions.services]]\n"
+    ++ (codes "vip = \"" ++ (address_text c.service.vip ++ (codes "\"\nproto = \"" ++ (protocol_word c.service.proto
+    ++ (codes "\"\nport = " ++ (decimal c.service.port ++ (codes "\n" ++ (members_text ++ codes "\n"))))))))))
 
 -- the services of a version, which may be 256 at most
 abbrev pub services_text : List Counted → List ℕ

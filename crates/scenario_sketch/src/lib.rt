@@ -5,10 +5,12 @@
 #![tactic(auto)]
 
 mod counted;
+mod laws;
 mod ranking;
 mod reading;
 mod sketch_command;
 mod sketch_text;
 mod tally;
 
+pub use laws::ranked_are_fair;
 pub use sketch_command::sketch;

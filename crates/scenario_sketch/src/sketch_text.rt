@@ -8,6 +8,24 @@ use maglev_texts::AddressText;
 use pool_versions::MOST_SERVICES;
 use std::alloc::{AllocError, Global};
 
+/// A cluster of one balancer.
+const CLUSTER: &str = "format = 1
+size = 65537
+hash = \"fnv\"
+scheme = \"maglev\"
+spread = \"hash\"
+workers = 1
+capacity = 100000
+nodes = [\"10.9.0.1\"]
+";
+
+/// Which destinations are services.
+const ORDER: &str = "The first 256 of these are services, the most frequent first.";
+
+/// No members yet, and what they may be.
+const MEMBERS: &str = "members = []
+# members = [\"web-1@10.8.0.1\", \"web-2@10.8.0.2\"]";
+
 // The word of a scenario for a protocol: 6 is TCP, and 17 is UDP.
 fn protocol_word(proto: u8) -> &'static str
     ensures { result.now ≡ protocol_word proto }
@@ -15,13 +33,13 @@ fn protocol_word(proto: u8) -> &'static str
     if proto == 6 { "tcp" } else { "udp" }
 }
 
-// The cluster, its steps and the version's number.
+// The cluster, and a step that plays so many records under version 1.
 fn push_head(text: &mut String, records: u32) -> Result<(), AllocError>
     ensures { OnOk result (string_bytes text.new ≡ string_bytes text.old ++ head_text records) }
 {
     write!(
         text,
-        "format = 1\nsize = 65537\nhash = \"fnv\"\nscheme = \"maglev\"\nspread = \"hash\"\nworkers = 1\ncapacity = 100000\nnodes = [\"10.9.0.1\"]\nsteps = [\"install 0 1\", \"take {records}\"]\n\n[[versions]]\nnumber = 1\n"
+        "{CLUSTER}steps = [\"install 0 1\", \"take {records}\"]\n\n[[versions]]\nnumber = 1\n"
     )
 }
 
@@ -34,7 +52,7 @@ fn push_service(text: &mut String, counted: &Counted) -> Result<(), AllocError>
     let port = counted.service.port;
     write!(
         text,
-        "\n# {packets} packets\n[[versions.services]]\nvip = \"{vip}\"\nproto = \"{proto}\"\nport = {port}\nmembers = []\n# members = [\"web-1@10.8.0.1\", \"web-2@10.8.0.2\"]\n"
+        "\n# {packets} packets\n[[versions.services]]\nvip = \"{vip}\"\nproto = \"{proto}\"\nport = {port}\n{MEMBERS}\n"
     )
 }
 
@@ -70,7 +88,7 @@ pub(crate) fn sketch_text(
 {
     let busy = ranked.len();
     let mut text = format!(in alloc;
-        "# Destinations: {destinations}. Of more than 5 packets: {busy}. The first 256 of these are services, the most frequent first.\n"
+        "# Destinations: {destinations}. Of more than 5 packets: {busy}. {ORDER}\n"
     )?;
     push_head(&mut text, records)?;
     push_services(&mut text, ranked)?;
