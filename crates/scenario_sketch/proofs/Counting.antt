@@ -8,7 +8,8 @@ use Rattle.std.proofs.lemmas.Simd.{map-map}
 use Rattle.indexmap.specs.IndexMap.{insert_entry}
 use Rattle.pool_versions.specs.declared.key.ServiceKey.{ServiceKey}
 use Rattle.pool_versions.specs.Pool.{same_key}
-use Rattle.scenario_sketch.specs.Counts.{destinations_among, count_entries, counted_in, is_busy, busy}
+use Rattle.scenario_sketch.specs.Counts.{destinations_among, is_busy, busy}
+use Rattle.scenario_sketch.specs.Entries.{count_entries, counted_in}
 use Rattle.scenario_sketch.proofs.Keys.{same_key-true, same_key-refl, same_key-flip, among_once, once_distinct, once_push}
 
 abbrev pub pairs : (ServiceKey → ℕ) → List ServiceKey → List (ServiceKey × ℕ)

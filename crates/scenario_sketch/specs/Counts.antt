@@ -1,5 +1,5 @@
 -- How many packets went to each destination, and which destinations are busy.
-use Rattle.std.specs.Prelude.{ℕ, Bool, not, nat_lt, List, [], ◌∷◌, map, filter, count_by}
+use Rattle.std.specs.Prelude.{Bool, not, nat_lt, List, [], ◌∷◌, map, filter, count_by}
 use Rattle.std.specs.List.Sorted.{IsPermutation, IsSortedBy, IsStableBy}
 use Rattle.pool_versions.specs.declared.key.ServiceKey.{ServiceKey}
 use Rattle.pool_versions.specs.Pool.{same_key}
@@ -30,10 +30,3 @@ pub record IsRanked (given ranked : List Counted) : Type 0 where
   pub permutation : IsPermutation given ranked
   pub descending : IsSortedBy is_busier ranked
   pub ties : IsStableBy is_busier given ranked
-
--- the counts as entries of a map, and an entry as a count
-abbrev pub count_entries : List ServiceKey → List (ServiceKey × ℕ)
-count_entries ds = map (λ k. (k, count_by (same_key k) ds)) (destinations_among ds)
-
-abbrev pub counted_in : ServiceKey × ℕ → Counted
-counted_in e = record { service = e.0; packets = e.1 }

@@ -1,4 +1,5 @@
 pub mod Counts
+pub mod Entries
 pub mod Text
 pub mod Reading
 pub mod Sketch

@@ -1,7 +1,8 @@
 //! How many packets went to each destination.
 ghost use Rattle.std.specs.Prelude.{◌≡◌, ◌<◌, ◌++◌, ◌∷◌, [], length, map, filter, IfOk, OnOk};
 ghost use Rattle.pcap_file.specs.Format.{max_records};
-ghost use Rattle.scenario_sketch.specs.Counts.{destinations_among, counted_in, is_busy, busy};
+ghost use Rattle.scenario_sketch.specs.Counts.{destinations_among, is_busy, busy};
+ghost use Rattle.scenario_sketch.specs.Entries.{counted_in};
 
 use crate::counted::Counted;
 use connection_table::TableKey;
@@ -25,7 +26,7 @@ pub(crate) struct Tally {
 impl Model for Tally {
     ghost use Rattle.std.specs.Prelude.{◌≡◌, List, reverse};
     ghost use Rattle.pool_versions.specs.declared.key.ServiceKey.{ServiceKey};
-    ghost use Rattle.scenario_sketch.specs.Counts.{count_entries};
+    ghost use Rattle.scenario_sketch.specs.Entries.{count_entries};
 
     ghost Value = { List ServiceKey };
 

@@ -4,7 +4,7 @@ use Rattle.std.proofs.lemmas.List.{reverse-append}
 use Rattle.indexmap.specs.IndexMap.{insert_entry}
 use Rattle.pool_versions.specs.declared.key.ServiceKey.{ServiceKey}
 use Rattle.pool_versions.specs.Pool.{same_key}
-use Rattle.scenario_sketch.specs.Counts.{count_entries}
+use Rattle.scenario_sketch.specs.Entries.{count_entries}
 use Rattle.scenario_sketch.proofs.Counting.{count_read, counted_more, few_counted}
 use Rattle.scenario_sketch.proofs.tally.Tally.count.Goals as goal
 
