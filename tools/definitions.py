@@ -63,6 +63,11 @@ PROMISES = [
         "`run` of `maglev_cli`.",
         [("maglev_cli", "running", "run")],
     ),
+    (
+        "`scenario`: the scenario to start from that a capture gives",
+        "`sketch` and the law `ranked_are_fair` of `scenario_sketch`.",
+        [("scenario_sketch", "sketch_command", "sketch"), ("scenario_sketch", "laws", "ranked_are_fair")],
+    ),
 ]
 
 PREFACE = [

@@ -1,0 +1,7 @@
+pub mod Keys
+pub mod Counting
+pub mod Orders
+pub mod Texts
+pub mod Walks
+pub mod Refusals
+pub mod Fairness

@@ -1,0 +1,10 @@
+use Rattle.std.proofs.Common.{◌-◌}
+use Rattle.pcap_file.specs.Format.{max_records}
+use Rattle.scenario_sketch.proofs.Walks.{HasCounted}
+use Rattle.scenario_sketch.proofs.reading.count_records.Given as goal
+
+abbrev pub invariant-loop-tally : goal.invariant-loop-tally
+invariant-loop-tally g l = HasCounted l.head (g.I.Source.tape l.initial.input) (g.I.Source.tape l.input) l.given l.tally
+
+abbrev pub decreases-loop-tally : goal.decreases-loop-tally
+decreases-loop-tally g l = max_records - l.given

@@ -1,0 +1,57 @@
+-- The command `scenario`: what it writes of a capture, and when it gives up.
+use Rattle.std.specs.Prelude.{◌≡◌, ◌⊎◌, ℕ, List, length, Option, Ok, Err}
+use Rattle.pcap_file.specs.declared.format.Head.{Head}
+use Rattle.pcap_file.specs.declared.format.PcapFault.{PcapFault}
+use Rattle.pcap_file.specs.declared.format.PcapFault.TheVariants as capture
+use Rattle.pcap_file.specs.Capture.{HeadRead, HeadCause}
+use Rattle.pcap_file.specs.Device.{Tape, Unfailed}
+use Rattle.pcap_file.specs.Text.{AllRefused}
+use Rattle.pool_versions.specs.declared.key.ServiceKey.{ServiceKey}
+use Rattle.command_faults.specs.declared.fault.CliFault.{CliFault}
+use Rattle.command_faults.specs.declared.fault.CliFault.TheVariants.{Capture, Memory, Write}
+use Rattle.scenario_sketch.specs.declared.counted.Counted.{Counted}
+use Rattle.scenario_sketch.specs.Counts.{destinations_among, busy, IsRanked}
+use Rattle.scenario_sketch.specs.Reading.{IsCounted}
+use Rattle.scenario_sketch.specs.Text.{sketch_text}
+
+-- the input is a capture, of so many records whose packets have these destinations
+pub record IsCapture (input : Option (List ℕ)) (records : ℕ) (destinations : List ServiceKey) : Type 0 where
+  pub head : Head
+  pub behind : Option (List ℕ)
+  pub header : HeadRead input behind (Ok head)
+  pub counted : IsCounted head behind records destinations
+
+-- the text sketches the capture that the input is
+pub record IsSketchOf (input : Option (List ℕ)) (text : List ℕ) : Type 0 where
+  pub records : ℕ
+  pub destinations : List ServiceKey
+  pub read : IsCapture input records destinations
+  pub ranked : List Counted
+  pub order : IsRanked (busy destinations) ranked
+  pub is : text ≡ sketch_text records (length (destinations_among destinations)) ranked
+
+-- the header is refused
+pub record StartFails (fault : PcapFault) (input left : Tape) : Type 0 where
+  pub read : HeadRead input.bytes left.bytes (Err fault)
+  pub cause : HeadCause (Err fault) input left
+
+-- the header is that of a capture, and a record is refused
+pub record RecordFails (fault : PcapFault) (input left : Tape) : Type 0 where
+  pub head : Head
+  pub at : Tape
+  pub header : HeadRead input.bytes at.bytes (Ok head)
+  pub unfailed : Unfailed input at
+  pub refused : AllRefused head at left fault
+
+-- want of memory is one fault, wherever it comes from
+abbrev pub capture_fault : PcapFault → CliFault
+capture_fault capture.Memory = Memory
+capture_fault fault = Capture fault
+
+-- when `scenario` gives up, and by which fault
+abbrev pub SketchFails : CliFault → Tape → Tape → Type 0
+SketchFails (Capture capture.Memory) input left = ⊥
+SketchFails (Capture fault) input left = StartFails fault input left ⊎ RecordFails fault input left
+SketchFails Memory input left = Unit {0}
+SketchFails Write input left = Unfailed input left
+SketchFails _ input left = ⊥

@@ -1,0 +1,75 @@
+ghost use Rattle.std.specs.Prelude.{◌≡◌, ◌≢◌, IfOk, IfErr, OnOk, string_bytes};
+ghost use Rattle.pcap_file.specs.Device.{Unfailed};
+ghost use Rattle.command_faults.specs.Printing.{Prints, BreaksOff};
+ghost use Rattle.scenario_sketch.specs.Sketch.{capture_fault, IsSketchOf, SketchFails};
+
+use crate::ranking::ranked;
+use crate::reading::count_records;
+use crate::sketch_text::sketch_text;
+use crate::tally::Tally;
+use command_faults::{CliFault, put_text};
+use connection_table::TableKey;
+use pcap_file::{PcapFault, Sink, Source, read_start};
+use std::alloc::Global;
+
+// A capture's fault as the command's. Want of memory is one fault, wherever it comes from.
+fn capture_fault(fault: PcapFault) -> CliFault
+    ensures { result ≡ capture_fault fault }
+{
+    match fault {
+        PcapFault::Memory => CliFault::Memory,
+        fault => CliFault::Capture(fault),
+    }
+}
+
+// The sketch of the capture that the input is.
+fn text_of<I: Source>(alloc: Global, key: TableKey, input: &mut I) -> Result<String, CliFault>
+    ensures text { IfOk result (λ s. IsSketchOf (I.tape input.old).bytes (string_bytes s)) }
+    ensures unfailed { OnOk result (Unfailed (I.tape input.old) (I.tape input.new)) }
+    ensures fault { IfErr result (λ fault. SketchFails fault (I.tape input.old) (I.tape input.new)) }
+    ensures unwritten { IfErr result (λ fault. fault ≢ CliFault.Write) }
+{
+    let head = match read_start(input) {
+        Ok(head) => head,
+        Err(fault) => return Err(capture_fault(fault)),
+    };
+    let mut tally = Tally::new(alloc, key);
+    let records = match count_records(alloc, input, head, &mut tally) {
+        Ok(records) => records,
+        Err(fault) => return Err(capture_fault(fault)),
+    };
+    let ranked = ranked(alloc, &tally)?;
+    let destinations = tally.destinations();
+    match sketch_text(alloc, records, destinations, ranked.as_slice()) {
+        Ok(text) => Ok(text),
+        Err(_) => Err(CliFault::Memory),
+    }
+}
+
+/// The command `scenario`: reads a capture, and writes a scenario to start from.
+///
+/// Its services are the destinations of the capture's datagrams with more than five packets, the most frequent first. Of two
+/// that are as frequent the one that came first in the capture is first, and of more than 256 the first 256 are services.
+/// Datagrams that can't be balanced aren't counted. Memory grows with the destinations, which are hashed by the key. The text
+/// is written in one piece, so after any fault but `Write` nothing was written.
+pub fn sketch<I: Source, S: Sink>(
+    alloc: Global,
+    key: TableKey,
+    input: &mut I,
+    out: &mut S,
+) -> Result<(), CliFault>
+    ensures written { OnOk result (Prints (IsSketchOf (I.tape input.old).bytes) (S.tape out.old) (S.tape out.new)) }
+    ensures unfailed { OnOk result (Unfailed (I.tape input.old) (I.tape input.new)) }
+    ensures broken { IfErr result (λ fault. fault ≡ CliFault.Write → BreaksOff (IsSketchOf (I.tape input.old).bytes) (S.tape out.old) (S.tape out.new)) }
+    ensures silent { IfErr result (λ fault. fault ≢ CliFault.Write → out.new ≡ out.old) }
+    ensures fault { IfErr result (λ fault. SketchFails fault (I.tape input.old) (I.tape input.new)) }
+{
+    let text = match text_of(alloc, key, input) {
+        Ok(text) => text,
+        Err(fault) => return Err(fault),
+    };
+    match put_text(out, text.as_str()) {
+        Ok(()) => Ok(()),
+        Err(fault) => Err(fault),
+    }
+}
