@@ -15,6 +15,7 @@ import struct
 import subprocess
 import sys
 import tempfile
+import tomllib
 
 import model
 import soak_run
@@ -1280,6 +1281,56 @@ def test_plan_faults():
         misused(f"plan {words}", ["plan", *words])
 
 
+def sketches(name, data):
+    """`scenario` prints what the model says, from a file and from standard input, and its services are those of the text."""
+    text, services = model.sketched(data)
+    answer = with_files("", data, lambda folder: run(["scenario", "in.pcap"], cwd=folder))
+    check(f"the sketch of {name}", answer == (0, text.encode(), b""), repr(answer))
+    prints(f"the sketch of {name}, from standard input", ["scenario", "-"], text, stdin=data)
+    read = tomllib.loads(answer[1].decode())["versions"][0]["services"]
+    check(f"the services of {name}", [(one["vip"], one["proto"], one["port"]) for one in read] == services, repr(read))
+
+
+def sketch_plays(name, data):
+    """A sketch is a scenario: with members filled in each packet to its services is sent, and without none."""
+    text, services = model.sketched(data)
+    filled = text.replace("members = []", 'members = ["A@10.8.0.1"]')
+    for kind, played in [("empty", text), ("filled in", filled)]:
+        expected = model.Run(played, data)
+        simulates(f"the sketch of {name}, {kind}", played, data, expected.report(), expected.output())
+    check(f"{name} has a service", services)
+
+
+def test_scenario():
+    for path in sorted((TOP / "examples").glob("*.pcap")):
+        sketches(path.name, path.read_bytes())
+        sketch_plays(path.name, path.read_bytes())
+    for seed in range(100):
+        sketches(f"random capture {seed}", random_capture(random.Random(9000 + seed)))
+    six = b"".join(record(P) for _ in range(6))
+    sketches("five packets", HEAD + six[: 5 * len(record(P))])
+    sketches("six packets", HEAD + six)
+    sketches("a capture that is cut", HEAD + six + record(P)[:-1])
+    sketches("no records", HEAD)
+
+
+def test_scenario_faults():
+    for name, data, fault in [
+        ("an empty file", b"", "ShortHeader"),
+        ("no capture", bytes(24), "BadMagic"),
+        ("a version that isn't 2.4", HEAD[:7] + b"\x03" + HEAD[8:], "BadVersion"),
+        ("Linux cooked capture", HEAD[:23] + b"\x71", "BadLink"),
+        ("a record that is too long", HEAD + record(P) + struct.pack("<4I", 0, 0, 262145, 262145), "TooLong"),
+    ]:
+        faults(f"scenario of {name}", ["scenario", "-"], fault, stdin=data)
+    faults("scenario of no file", ["scenario", "no/such/file"], "OpenInput")
+    faults("scenario of a folder", ["scenario", "."], "Read")
+    with_files("", capture("y"), lambda folder: unprinted(["scenario", "in.pcap"], folder))
+    says("scenario of no capture", "", bytes(24), "BadMagic", "in.pcap: ", ("scenario", "in.pcap"))
+    for words in [[], ["in.pcap", "out.pcap"], ["--list", "in.pcap"]]:
+        misused(f"scenario {words}", ["scenario", *words])
+
+
 def test_against_the_model():
     """What random scenarios print and write is what the plain model says."""
     for seed in range(60):
@@ -1484,7 +1535,7 @@ def test_command_line():
     folder = TOP / "tests" / "texts"
     prints("the help", ["--help"], (folder / "maglev.txt").read_text())
     prints("the help of help", ["help", "--help"], (folder / "maglev.txt").read_text())
-    for name in ["table", "pick", "compare", "plan", "simulate", "explain", "run"]:
+    for name in ["table", "pick", "compare", "plan", "scenario", "simulate", "explain", "run"]:
         prints(f"the help of {name}", [name, "--help"], (folder / f"{name}.txt").read_text())
     for name, words in [
         ("unknown_command", ["tables"]),

@@ -441,3 +441,45 @@ def plan(scenario, first, second):
             one, end = (name, at), "" if (name, at) in ups else " down"
             lines.append(f"{name}@{at} weight {weight} before {olds.count(one)} after {news.count(one)}{end}")
     return "".join(line + "\n" for line in lines)
+
+
+SKETCH = """# Destinations: {all}. Of more than 5 packets: {busy}. The first 256 of these are services, the most frequent first.
+format = 1
+size = 65537
+hash = "fnv"
+scheme = "maglev"
+spread = "hash"
+workers = 1
+capacity = 100000
+nodes = ["10.9.0.1"]
+steps = ["install 0 1", "take {records}"]
+
+[[versions]]
+number = 1
+"""
+
+SKETCHED_SERVICE = """
+# {packets} packets
+[[versions.services]]
+vip = "{vip}"
+proto = "{proto}"
+port = {port}
+members = []
+# members = ["web-1@10.8.0.1", "web-2@10.8.0.2"]
+"""
+
+
+def sketched(data):
+    """What `scenario` prints of a capture, and the services in it as (address, protocol, port)."""
+    link, records, _ = read_capture(data)
+    read = [read_packet(link, frame, True) for _, _, frame in records]
+    places = [(flow[4:8], flow[12], flow[10:12]) for flow, datagram in read if datagram]
+    counts = collections.Counter(places)
+    first = {place: at for at, place in reversed(list(enumerate(places)))}
+    busy = sorted((place for place in counts if counts[place] > 5), key=lambda place: (-counts[place], first[place]))
+    words = {6: "tcp", 17: "udp"}
+    services = [(dotted(vip), words[proto], int.from_bytes(port, "big")) for vip, proto, port in busy[:256]]
+    text = SKETCH.format(all=len(counts), busy=len(busy), records=len(records))
+    for place, (vip, proto, port) in zip(busy, services):
+        text += SKETCHED_SERVICE.format(packets=counts[place], vip=vip, proto=proto, port=port)
+    return text + ("" if services else "services = []\n"), services

@@ -15,6 +15,7 @@ import sys
 import tempfile
 
 import soak_run
+import model
 from harness import TOP, told
 
 sys.path.append(str(TOP / "bin"))
@@ -63,6 +64,8 @@ LOST = (1, b"", b"fault: ThreadLost\n")
 SHOWN = "service 192.0.2.1:80/tcp\nslots 7\nA@10.8.0.1 weight 1 slots 3\nB@10.8.0.2 weight 1 slots 2\nC@10.8.0.3 weight 1 slots 2\n"
 CHANGED = "service 192.0.2.1:80/tcp\nslots 7 changed 3 down 3 moved 0 least 3\n"
 CHANGED += "A@10.8.0.1 weight 1 before 3 after 0 down\nB@10.8.0.2 weight 1 before 2 after 4\nC@10.8.0.3 weight 1 before 2 after 3\n"
+# A service of six packets.
+SKETCHED, _ = model.sketched(CAPTURE + 5 * CAPTURE[24:])
 # Two nodes of a worker each, and a packet of one flow at each: what the second sends bears its own address.
 NODES = {"s.toml": SCENARIO.replace(b"workers = 1", b"workers = 1\nring = 16").replace(b'"take 1"', b'"install 1 1", "take 2"'), "in.pcap": CAPTURE + CAPTURE[24:]}
 SENT_BY_TWO = SENT + SENT[24:].replace(bytes.fromhex("267d0a090001"), bytes.fromhex("267c0a090002"))
@@ -107,6 +110,7 @@ CASES = [
     Case(["compare", "--size", "7", "--hash", "sum", "--old", THREE, "--new", THREE.replace(".2", ".2/down")], MOVED),
     Case(["pick", "--size", "7", "--hash", "sum", "A", "B", "C"], "tcp 10.0.0.1:1000>192.0.2.1:80 slot 6 backend A\n", TCP),
     Case(["plan", "s.toml", "1"], SHOWN, files=FILES),
+    Case(["scenario", "in.pcap"], SKETCHED, files={"in.pcap": CAPTURE + 5 * CAPTURE[24:]}),
     Case(["plan", "s.toml", "1", "2"], CHANGED, files=SPLIT),
     Case(["simulate", "s.toml", "in.pcap", "out.pcap"], REPORT, files=FILES, written={"out.pcap": SENT}),
     Case(["simulate", "--list", "s.toml", "in.pcap", "out.pcap"], EVENTS + REPORT, files=FILES, written={"out.pcap": SENT}),

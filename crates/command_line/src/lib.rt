@@ -61,6 +61,11 @@ Each service has a block. Of its slots that name another server, down counts tho
 
 SCENARIO may be -, which is standard input. Faults of the scenario are those of simulate. BadNumber comes also where it has no version FROM or TO.";
 
+/// The end of the help of `scenario`.
+const SCENARIO_HELP: &str = "Example: maglev scenario examples/rolling.pcap > scenario.toml
+
+INPUT may be -, which is standard input. The scenario has a service for each address, protocol and port to which more than 5 packets went, the most frequent first. Fill in the members of each, and play it with simulate. Faults are those of simulate for INPUT, NoRandom, Write and Memory.";
+
 /// The end of the help of `pick`.
 const PICK_HELP: &str = "The datagram is read from standard input.
 
@@ -218,6 +223,11 @@ fn of_places<'a>(alloc: Global) -> Arg<'a> {
     verbose(alloc, help)
 }
 
+// What a command with a capture alone says more.
+fn of_captures<'a>(alloc: Global) -> Arg<'a> {
+    verbose(alloc, "say where a fault is and what was expected")
+}
+
 fn splits<'a>(alloc: Global) -> Arg<'a> {
     Arg::new(alloc, "splits")
         .long("splits")
@@ -253,6 +263,17 @@ fn plan<'a>(alloc: Global) -> Result<Command<'a>, AllocError> {
             "Prints how many slots of each service change from one version of a scenario to another, and why",
         )
         .after_help(PLAN_HELP)
+        .args(args)
+}
+
+fn sketch<'a>(alloc: Global) -> Result<Command<'a>, AllocError> {
+    let args = [of_captures(alloc), input(alloc)];
+    let args = Vec::from_array(alloc, args)?;
+    Command::new(alloc, "scenario")
+        .about(
+            "Prints a scenario to start from: a service for each frequent destination of a capture",
+        )
+        .after_help(SCENARIO_HELP)
         .args(args)
 }
 
@@ -309,7 +330,7 @@ fn run<'a>(alloc: Global) -> Result<Command<'a>, AllocError> {
 }
 
 /// How many commands there are.
-const COMMANDS: usize = 7;
+const COMMANDS: usize = 8;
 
 // The command at a place of the help.
 fn command_at<'a>(alloc: Global, place: usize) -> Result<Command<'a>, AllocError> {
@@ -318,8 +339,9 @@ fn command_at<'a>(alloc: Global, place: usize) -> Result<Command<'a>, AllocError
         1 => pick(alloc),
         2 => compare(alloc),
         3 => plan(alloc),
-        4 => simulate(alloc),
-        5 => explain(alloc),
+        4 => sketch(alloc),
+        5 => simulate(alloc),
+        6 => explain(alloc),
         _ => run(alloc),
     }
 }

@@ -10,6 +10,7 @@ use lazy_files::{
 };
 use pcap_file::{Frame, FromRead, PcapFault, ToWrite, read_record_into, read_start};
 use scenario_commands::explain_keyed;
+use scenario_sketch::sketch;
 use std::fs::File;
 use std::io;
 use std::io::{BufReader, ErrorKind, Read, Write};
@@ -194,6 +195,20 @@ pub(crate) fn explain_files(
     let mut input = FromRead::new(InputFile::new(rt, files.input));
     let mut report = ToWrite::new(io::writer(rt));
     match explain_keyed(rt.alloc(), key, text, &mut input, one, other, &mut report) {
+        Ok(()) => Ok(()),
+        Err(fault) => {
+            let input = input.into_inner();
+            Err(trouble_of(of_input(fault, &input), &input, None))
+        }
+    }
+}
+
+/// The command `scenario` over a file.
+pub(crate) fn sketch_file(rt: &HostRuntime, path: &str) -> Result<(), Trouble> {
+    let key = table_key(rt)?;
+    let mut input = FromRead::new(InputFile::new(rt, path));
+    let mut out = ToWrite::new(io::writer(rt));
+    match sketch(rt.alloc(), key, &mut input, &mut out) {
         Ok(()) => Ok(()),
         Err(fault) => {
             let input = input.into_inner();

@@ -14,7 +14,7 @@ use command_faults::{CliFault, finish};
 use pcap_file::ToWrite;
 pub use scenario::Played;
 pub use scenarios::between_captures;
-use scenarios::{run_explain, run_plan, run_simulate};
+use scenarios::{run_explain, run_plan, run_simulate, run_sketch};
 use std::io::Write;
 use tables::{run_compare, run_pick, run_table};
 pub use words::{matches_of, refused, unread, words_of};
@@ -46,6 +46,7 @@ pub fn run_without_threads(rt: &HostRuntime, matches: &ArgMatches<'_>) -> u8 {
         Some(("pick", inner)) => run_pick(rt, inner),
         Some(("compare", inner)) => run_compare(rt, inner),
         Some(("plan", inner)) => run_plan(rt, inner),
+        Some(("scenario", inner)) => run_sketch(rt, inner),
         Some(("simulate", inner)) => run_simulate(rt, inner),
         Some(("explain", inner)) => run_explain(rt, inner),
         _ => USAGE,

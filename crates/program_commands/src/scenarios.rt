@@ -1,5 +1,7 @@
 //! The commands that play a scenario on one thread, from what the command line says, and the end of each command over files.
-use crate::files::{Paths, between_files, explain_files, read_scenario, records_before};
+use crate::files::{
+    Paths, between_files, explain_files, read_scenario, records_before, sketch_file,
+};
 use crate::reasons::{Files, Trouble, reason};
 use crate::{USAGE, say, told};
 use clap::ArgMatches;
@@ -167,10 +169,8 @@ fn print_plan(rt: &HostRuntime, text: &[u8], from: u32, to: Option<u32>) -> Resu
 
 /// The command `plan`.
 pub(crate) fn run_plan(rt: &HostRuntime, matches: &ArgMatches<'_>) -> u8 {
-    let (Some(scenario), Some(from)) = (
-        matches.get_str("scenario"),
-        matches.get_one::<u32>("from"),
-    ) else {
+    let (Some(scenario), Some(from)) = (matches.get_str("scenario"), matches.get_one::<u32>("from"))
+    else {
         return USAGE;
     };
     let paths = Paths {
@@ -186,4 +186,19 @@ pub(crate) fn run_plan(rt: &HostRuntime, matches: &ArgMatches<'_>) -> u8 {
     };
     let verbose = matches.get_flag("verbose");
     ended(rt, verbose, paths, Played::InTurn, text, outcome)
+}
+
+/// The command `scenario`.
+pub(crate) fn run_sketch(rt: &HostRuntime, matches: &ArgMatches<'_>) -> u8 {
+    let Some(input) = matches.get_str("input") else {
+        return USAGE;
+    };
+    let paths = Paths {
+        scenario: "",
+        input,
+        output: "standard output",
+    };
+    let outcome = sketch_file(rt, input);
+    let verbose = matches.get_flag("verbose");
+    ended(rt, verbose, paths, Played::InTurn, b"", outcome)
 }

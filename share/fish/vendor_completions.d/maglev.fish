@@ -4,6 +4,7 @@ complete -c maglev -n __fish_use_subcommand -a table -d 'Prints which backend ea
 complete -c maglev -n __fish_use_subcommand -a pick -d 'Reads one IPv4 datagram as hexadecimal text, and prints its flow, slot and backend, or why it is dropped'
 complete -c maglev -n __fish_use_subcommand -a compare -d 'Prints the slots that name another backend after a change of members'
 complete -c maglev -n __fish_use_subcommand -a plan -d 'Prints how many slots of each service change from one version of a scenario to another, and why'
+complete -c maglev -n __fish_use_subcommand -a scenario -d 'Prints a scenario to start from: a service for each frequent destination of a capture'
 complete -c maglev -n __fish_use_subcommand -a simulate -d 'Plays a scenario over a capture, writes what the cluster sends, and prints a report'
 complete -c maglev -n __fish_use_subcommand -a explain -d 'Plays a scenario over a capture, and prints why the packets of two events went where they went'
 complete -c maglev -n __fish_use_subcommand -a run -d 'Runs a scenario'\''s cluster on threads over a capture, writes what the nodes send, node by node, and prints a report with an audit'
@@ -26,6 +27,9 @@ complete -c maglev -n '__fish_seen_subcommand_from compare' -l help -d 'Print he
 complete -c maglev -n '__fish_seen_subcommand_from plan' -F
 complete -c maglev -n '__fish_seen_subcommand_from plan' -l verbose -d 'say where a fault is and what was expected, or warn of what may not be meant'
 complete -c maglev -n '__fish_seen_subcommand_from plan' -l help -d 'Print help'
+complete -c maglev -n '__fish_seen_subcommand_from scenario' -F
+complete -c maglev -n '__fish_seen_subcommand_from scenario' -l verbose -d 'say where a fault is and what was expected'
+complete -c maglev -n '__fish_seen_subcommand_from scenario' -l help -d 'Print help'
 complete -c maglev -n '__fish_seen_subcommand_from simulate' -F
 complete -c maglev -n '__fish_seen_subcommand_from simulate' -l list -d 'print each event and its outcome before the report'
 complete -c maglev -n '__fish_seen_subcommand_from simulate' -l splits -d 'print each flow that was split, and why, before the report'
