@@ -167,10 +167,8 @@ fn print_plan(rt: &HostRuntime, text: &[u8], from: u32, to: Option<u32>) -> Resu
 
 /// The command `plan`.
 pub(crate) fn run_plan(rt: &HostRuntime, matches: &ArgMatches<'_>) -> u8 {
-    let (Some(scenario), Some(from)) = (
-        matches.get_str("scenario"),
-        matches.get_one::<u32>("from"),
-    ) else {
+    let (Some(scenario), Some(from)) = (matches.get_str("scenario"), matches.get_one::<u32>("from"))
+    else {
         return USAGE;
     };
     let paths = Paths {
