@@ -1026,7 +1026,7 @@ def test_warnings():
         warns(f"{name}, by run", steps, expected, on_threads)
     many = [lacks.format(step, 7, 0) for step in range(25)]
     warns("many", ["install 0 7"] * 25, many[:20] + ["5 more of these"])
-    warns("a stop", ["install 0 1", "take 1", "stop 0"], [bare.format(1)], on_threads)
+    warns("a stop", ["install 0 1", "stop 0", "take 1"], [bare.format(1)], on_threads)
     warns("explain", ["install 0 1", "take 2"], [bare.format(1)], ("explain", "-v", "s.toml", "in.pcap", "1", "2"))
 
 
