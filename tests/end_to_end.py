@@ -654,6 +654,9 @@ def breaks_at_files(command):
         check(f"{command}: OUTPUT stands before the report", (folder / "out").read_bytes() == WRITTEN_HEAD + SENT_RECORD)
 
     with_files(scenario(["install 0 1", "take 1"]), capture("y"), use)
+    full = [command, "s.toml", "in.pcap", "/dev/full"]
+    many = scenario(["install 0 1", "take 5000"])
+    with_files(many, capture("y" * 5000), lambda folder: faults(f"{command}: a disk that fills up", full, "Write", cwd=folder))
 
 
 def test_simulate_faults():
