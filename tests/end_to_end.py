@@ -528,6 +528,16 @@ def test_spreading_and_waiting():
     simulates("repeats", text, capture("yzx"), events + counts, model.Run(text, capture("yzx")).output(), ["--list"])
 
 
+# What is no capture that is read, and its fault.
+NO_CAPTURES = [
+    ("pcapng", bytes.fromhex("0a0d0d0a") + bytes(40), "BadMagic"),
+    ("pcapng, another version and link", bytes.fromhex("0a0d0d0a") + HEAD[4:5] + b"\x01" + HEAD[6:23] + b"\x71", "BadMagic"),
+    ("a version that isn't 2.4 and another link", HEAD[:5] + b"\x01" + HEAD[6:23] + b"\x71", "BadVersion"),
+    ("Linux cooked capture", HEAD[:23] + b"\x71", "BadLink"),
+    ("an empty file", b"", "ShortHeader"),
+]
+
+
 def test_simulate_captures():
     text = scenario(["install 0 1", "take 1"])
     output = WRITTEN_HEAD + SENT_RECORD
@@ -571,13 +581,7 @@ def test_simulate_captures():
         simulates(name, text, data, report(1, 1), output)
     stops("a version that isn't 2.4", text, HEAD[:7] + b"\x03" + HEAD[8:], "BadVersion", None)
     explain = ["explain", "s.toml", "in.pcap", "1", "2"]
-    for name, data, fault in [
-        ("pcapng", bytes.fromhex("0a0d0d0a") + bytes(40), "BadMagic"),
-        ("pcapng, another version and link", bytes.fromhex("0a0d0d0a") + HEAD[4:5] + b"\x01" + HEAD[6:23] + b"\x71", "BadMagic"),
-        ("a version that isn't 2.4 and another link", HEAD[:5] + b"\x01" + HEAD[6:23] + b"\x71", "BadVersion"),
-        ("Linux cooked capture", HEAD[:23] + b"\x71", "BadLink"),
-        ("an empty file", b"", "ShortHeader"),
-    ]:
+    for name, data, fault in NO_CAPTURES:
         stops(name, text, data, fault, None)
         answer = with_files(text, data, lambda folder: run(explain, cwd=folder))
         check(f"{name}, explained", answer == (1, b"", f"fault: {fault}\n".encode()), repr(answer))
@@ -1319,10 +1323,9 @@ def test_scenario():
 
 def test_scenario_faults():
     for name, data, fault in [
-        ("an empty file", b"", "ShortHeader"),
+        *NO_CAPTURES,
         ("no capture", bytes(24), "BadMagic"),
         ("a version that isn't 2.4", HEAD[:7] + b"\x03" + HEAD[8:], "BadVersion"),
-        ("Linux cooked capture", HEAD[:23] + b"\x71", "BadLink"),
         ("a record that is too long", HEAD + record(P) + struct.pack("<4I", 0, 0, 262145, 262145), "TooLong"),
     ]:
         faults(f"scenario of {name}", ["scenario", "-"], fault, stdin=data)
