@@ -1,4 +1,5 @@
-/* Where the map of the kit looks for a flow to 192.0.2.1:80 over TCP: its fast hash, of 16 bytes, begun with a state. */
+/* Where a connection table, and a map of the kit, look for a flow to 192.0.2.1:80 over TCP: std's fast hash of 16 bytes, begun
+ * with a state. */
 #include <stdint.h>
 
 #define KNOWN_STATE 0x243f6a8885a308d3u

@@ -48,10 +48,10 @@ length_without x (t ∷ ts) e h = go (same_flow t.0 x) h (length_without x ts e)
     go false h k = ap suc (k h)
 
 -- in front of the others
-in_front : (x : Flow) (e : Entry) (ts : List Touch) → EachFlowOnce ts → EachFlowOnce ((x, e) ∷ without x ts)
+pub in_front : (x : Flow) (e : Entry) (ts : List Touch) → EachFlowOnce ts → EachFlowOnce ((x, e) ∷ without x ts)
 in_front x e ts h = (gone x ts h, once_without x ts h)
 
-absent_take : (y : Flow) (n : ℕ) (ts : List Touch) → last_touch y ts ≡ None → last_touch y (take n ts) ≡ None
+pub absent_take : (y : Flow) (n : ℕ) (ts : List Touch) → last_touch y ts ≡ None → last_touch y (take n ts) ≡ None
 absent_take y zero [] h = refl
 absent_take y zero (t ∷ ts) h = refl
 absent_take y (suc n) [] h = refl
@@ -61,7 +61,7 @@ absent_take y (suc n) (t ∷ ts) h = go (same_flow t.0 y) h (absent_take y n ts)
     go true h k = absurd (some_none t.1 h)
     go false h k = k h
 
-once_take : (n : ℕ) (ts : List Touch) → EachFlowOnce ts → EachFlowOnce (take n ts)
+pub once_take : (n : ℕ) (ts : List Touch) → EachFlowOnce ts → EachFlowOnce (take n ts)
 once_take zero [] h = tt
 once_take zero (t ∷ ts) h = tt
 once_take (suc n) [] h = tt

@@ -1,4 +1,8 @@
 //! What the hash of a table's map begins with.
+ghost use Rattle.std.specs.Prelude.{◌≡◌};
+ghost use Rattle.connection_table.specs.Tied.{flow_hash};
+
+use five_tuple::Flow;
 use std::hash::{BuildHasher, FoldHasher, Hasher};
 use std::random::RandomSource;
 use std::{fmt, io};
@@ -26,6 +30,15 @@ impl TableKey {
         let mut seed = FoldHasher::default();
         seed.write(&bytes);
         Ok(TableKey { seed })
+    }
+
+    // The hash of a flow, whose two halves are joined.
+    #[inline(always)]
+    pub(crate) fn hash_of(&self, flow: &Flow) -> u32
+        ensures { result ≡ flow_hash self.now flow.now }
+    {
+        let hash = self.hash_one(*flow);
+        ((hash ^ (hash >> 32)) & 0xFFFF_FFFF) as u32
     }
 }
 

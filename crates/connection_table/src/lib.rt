@@ -2,14 +2,14 @@
 //!
 //! A table remembers the flows that were used most recently. For each it has the backend that the flow was sent to, and the
 //! version of the pools under which that backend was chosen (connection tracking, Maglev, NSDI 2016, section 3.4).
-//! `PlainTable` keeps a vector, `LruTable` a hash map with links; both keep one law, that of `ConnTable`.
+//! `PlainTable` keeps a vector, `LruTable` places in buckets with links; both keep one law, that of `ConnTable`.
 #![tactic(auto)]
 
 mod key;
 mod laws;
 mod lru_table;
+mod pairs;
 mod plain;
-mod slot;
 mod table;
 
 pub use key::TableKey;

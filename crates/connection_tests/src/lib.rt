@@ -1,6 +1,9 @@
-//! Tests of connection tables: the key that is drawn for the hash of a table, and a flow's entry that is renewed.
+//! Tests of connection tables: the key that is drawn for the hash of a table, a flow's entry that is renewed, and two tables
+//! that do the same.
 #![tactic(auto)]
 
+#[cfg(test)]
+mod agreeing;
 #[cfg(test)]
 mod keys;
 #[cfg(test)]

@@ -1,0 +1,4 @@
+pub mod Walks
+pub mod Removal
+pub mod Chaining
+pub mod Seeking

@@ -1,0 +1,47 @@
+use Rattle.std.proofs.Common.{ℕ, ◌<◌, ◌≤◌, ◌∙◌, sym, ap, subst, arith, length}
+use borrow.Author.Rules.{of_calls}
+use Rattle.place_buckets.specs.Chains.{next_at, hash_at, bucket_of, home_of}
+use Rattle.place_buckets.proofs.Seeking.{left_first, left_more, left_none}
+use Rattle.place_buckets.proofs.chains.find.Goals as goal
+use Rattle.place_buckets.proofs.chains.find.Goals.{else-link-hash-via-then-link-hash+else-is_sought, else-link-hash-via-else-link-hash}
+
+pub loop-place-init : goal.loop-place-init
+unfolding home_of
+loop-place-init g c =
+    let count : ℕ = length c.args.heads.now in
+    left_first _ _ _ _ _ _ _ _ (c.requires.chained.chain c.bucket.result c.bucket.ensures.within) (λ p is. ap (bucket_of count) is ∙ sym c.bucket.ensures.value)
+
+pub bounds-links-place : goal.bounds-links-place
+bounds-links-place g c =
+    let low : c.loop-place.place ≤ length c.args.links.now = (left_more _ _ _ _ _ _ c.loop-place.invariant c.loop-place-test.true).low in
+    let pos : 0 < c.loop-place.place = omega (arith, c.loop-place-test.true) in
+    omega arith
+
+pub is_sought-requires : goal.is_sought-requires
+is_sought-requires g c =
+    let low : c.loop-place.place ≤ length c.args.links.now = (left_more _ _ _ _ _ _ c.loop-place.invariant c.loop-place-test.true).low in
+    let pos : 0 < c.loop-place.place = omega (arith, c.loop-place-test.true) in
+    search (of_calls, c.requires.callable _ pos low)
+
+pub returns-then-is_sought-clause-found : goal.returns-then-is_sought-clause-found
+unfolding hash_at
+returns-then-is_sought-clause-found g c =
+    let low : c.loop-place.place ≤ length c.args.links.now = (left_more _ _ _ _ _ _ c.loop-place.invariant c.loop-place-test.true).low in
+    let pos : 0 < c.loop-place.place = omega (arith, c.loop-place-test.true) in
+    (pos, low, c.if-link-hash.true, subst (goal.F-post g c.args.is_sought c.loop-place.place) c.if-is_sought.true c.is_sought.ensures)
+
+pub loop-place-smaller : goal.loop-place-smaller
+unfolding next_at
+loop-place-smaller g c = (left_more _ _ _ _ _ _ c.loop-place.invariant c.loop-place-test.true).falls
+
+pub loop-place-preserved : goal.loop-place-preserved
+unfolding next_at hash_at
+loop-place-preserved g c =
+    elim c.else-link-hash.branch [
+      | else-link-hash-via-then-link-hash+else-is_sought w ↦
+          (left_more _ _ _ _ _ _ c.loop-place.invariant c.loop-place-test.true).more (λ _. subst (goal.F-post g c.args.is_sought c.loop-place.place) w.if-is_sought.false w.is_sought.ensures)
+      | else-link-hash-via-else-link-hash w ↦ (left_more _ _ _ _ _ _ c.loop-place.invariant c.loop-place-test.true).more (λ e. absurd (w.if-link-hash.false e))
+    ]
+
+pub returns-clause-absent : goal.returns-clause-absent
+returns-clause-absent g c = left_none _ _ _ _ _ _ c.loop-place.invariant c.loop-place-test.false

@@ -1,0 +1,96 @@
+//! Places that are found by their hash.
+ghost use Rattle.std.specs.Prelude.{◌≡◌, ◌<◌, ◌≤◌, ◌-◌, ◌^◌, ℕ, [], ◌∷◌, ◌++◌, length, slice_index, slice_set, true, false, IfSome, IfNone, OnOk, OnErr};
+
+use crate::chains::{Link, find, make_room, push, rehash};
+use std::alloc::{AllocError, Global};
+use std::fmt;
+use std::marker::Model;
+
+/// Places from 1 on, each with a hash, by which it is found.
+#[derive(Drop)]
+pub struct Buckets {
+    alloc: Global,
+    // Of each bucket the first place, 0 where there is none. Their number is 0 or a power of two.
+    heads: Vec<u32>,
+    // Of each place, that of place 1 in front.
+    links: Vec<Link>,
+}
+
+impl Model for Buckets {
+    ghost use Rattle.std.specs.Prelude.{ℕ, List, ◌≤◌, map, length};
+    ghost use Rattle.place_buckets.specs.Chains.{hash_of, AreChained};
+
+    // the places' hashes, that of place 1 in front
+    ghost Value = { List ℕ };
+
+    ghost view = { λ t. map hash_of t.links.items };
+
+    ghost invariant = { λ t. (length t.links.items ≤ length t.heads.items) × AreChained t.heads.items t.links.items (length t.links.items) };
+}
+
+impl fmt::Debug for Buckets {
+    fn fmt<W: fmt::Write>(&self, f: &mut fmt::Formatter<W>) -> fmt::Result {
+        f.debug_struct("Buckets")
+            .field("len", &self.links.len())
+            .finish_non_exhaustive()
+    }
+}
+
+impl Buckets {
+    /// No places. This takes no memory.
+    pub fn new(alloc: Global) -> Buckets
+        ensures { result ≡ [] }
+    {
+        Buckets {
+            alloc,
+            heads: Vec::new(alloc),
+            links: Vec::new(alloc),
+        }
+    }
+
+    /// How many places there are.
+    pub fn len(&self) -> usize
+        ensures { result ≡ length self.now }
+    {
+        self.links.len()
+    }
+
+    /// A place of this hash of which `is_sought` holds.
+    #[inline(always)]
+    pub fn find<F: Fn(u32) -> bool>(&self, hash: u32, is_sought: F) -> Option<u32>
+        requires callable { (p : ℕ) → 0 < p → p ≤ length self.now → F.pre is_sought p }
+        ensures found { IfSome result (λ p. (0 < p) × (p ≤ length self.now) × (slice_index self.now (p - 1) ≡ hash) × F.post is_sought p true) }
+        ensures absent { IfNone result ((p : ℕ) → 0 < p → p ≤ length self.now → slice_index self.now (p - 1) ≡ hash → F.post is_sought p false) }
+    {
+        find(
+            self.heads.as_slice(),
+            self.links.as_slice(),
+            hash,
+            is_sought,
+        )
+    }
+
+    /// One more place, with this hash.
+    pub fn add(&mut self, hash: u32) -> Result<(), AllocError>
+        requires { length self.old < 2 ^ 31 }
+        ensures ok { OnOk result (self.new ≡ self.old ++ hash ∷ []) }
+        ensures err { OnErr result (self.new ≡ self.old) }
+    {
+        make_room(self.alloc, &mut self.heads, self.links.as_mut_slice())?;
+        push(self.heads.as_mut_slice(), &mut self.links, hash)
+    }
+
+    /// Gives a place another hash. This takes no memory.
+    pub fn rehash(&mut self, place: u32, hash: u32)
+        requires some { 0 < place }
+        requires within { place ≤ length self.old }
+        ensures { self.new ≡ slice_set self.old (place - 1) hash }
+    {
+        rehash(
+            self.heads.as_mut_slice(),
+            self.links.as_mut_slice(),
+            place,
+            hash,
+        );
+    }
+}
