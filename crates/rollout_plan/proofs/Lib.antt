@@ -1,3 +1,4 @@
+pub mod ByName
 pub mod SlotCounts
 pub mod Least
 pub mod Once

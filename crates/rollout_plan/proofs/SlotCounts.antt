@@ -230,3 +230,31 @@ slots_of_none plain size (u ∷ us) weights none = absurd (omega (arith, none))
 pub above_zero : (n : ℕ) → (n == 0) ≡ false → 0 < n
 above_zero zero h = absurd (true≢false h)
 above_zero (suc n) h = omega arith
+
+at_any : (b : Backend) (ups : List Backend) (k : ℕ) → k < length ups → name_alike (Some b) (slice_get ups k) ≡ same_backend b (get_or ups k b)
+at_any b ups k low = ap (name_alike (Some b)) (slice_get-get_or ups k b low)
+
+-- the places before a place have no slots of a backend that none of them is
+pub none_before : (b : Backend) (ups : List Backend) (owners : List ℕ) (n : ℕ) → n ≤ length ups → ((k : ℕ) (d : Backend) → k < n → same_backend b (get_or ups k d) ≡ false) →
+    0 ≡ count_by (taken_below b ups n) owners
+none_before b ups owners n within apart = sym (count_none (taken_below b ups n) owners (λ o. elim (cases_lt o n) [
+  | inl low ↦ ap (λ (t : Bool). nat_lt o n && t) (at_any b ups o (omega arith) ∙ apart o b low) ∙ and_false (nat_lt o n)
+  | inr high ↦ ap (λ (t : Bool). t && name_alike (Some b) (slice_get ups o)) (lt_false o n high)
+]))
+
+behind_at : (b : Backend) (ups : List Backend) (n : ℕ) → n ≤ length ups → ((k : ℕ) (d : Backend) → n ≤ k → k < length ups → same_backend b (get_or ups k d) ≡ false) → (o : ℕ) →
+    taken_below b ups n o ≡ taken_below b ups (length ups) o
+behind_at b ups n within apart o = elim (cases_lt o n) [
+  | inl low ↦ ap (λ (t : Bool). t && name_alike (Some b) (slice_get ups o)) (lt_true o n low ∙ sym (lt_true o (length ups) (omega arith)))
+  | inr high ↦ elim (cases_lt o (length ups)) [
+    | inl inside ↦
+        let miss : name_alike (Some b) (slice_get ups o) ≡ false = at_any b ups o inside ∙ apart o b high inside in
+        ap (λ (t : Bool). nat_lt o n && t) miss ∙ and_false (nat_lt o n) ∙ sym (ap (λ (t : Bool). nat_lt o (length ups) && t) miss ∙ and_false (nat_lt o (length ups)))
+    | inr outside ↦ ap (λ (t : Bool). t && name_alike (Some b) (slice_get ups o)) (lt_false o n high ∙ sym (lt_false o (length ups) outside))
+  ]
+]
+
+-- and those from a place on
+pub none_behind : (b : Backend) (ups : List Backend) (owners : List ℕ) (n : ℕ) → n ≤ length ups → ((k : ℕ) (d : Backend) → n ≤ k → k < length ups → same_backend b (get_or ups k d) ≡ false) →
+    count_by (taken_below b ups n) owners ≡ count_by (taken_below b ups (length ups)) owners
+none_behind b ups owners n within apart = count_same (taken_below b ups n) (taken_below b ups (length ups)) owners (λ i d inside. behind_at b ups n within apart (get_or owners i d))

@@ -1,32 +1,15 @@
 //! Whose lines are printed: the members of a service under one version or two.
 ghost use Rattle.std.specs.Prelude.{◌≡◌, map, option_copied, IfOk};
+ghost use Rattle.std.specs.List.{list_any};
+ghost use Rattle.std.specs.List.Sorted.{IsPermutation};
+ghost use Rattle.pool_versions.specs.declared.backend.Backend.{Backend};
+ghost use Rattle.pool_versions.specs.Pool.{AscendsByName, up_members};
+ghost use Rattle.selection.specs.Readied.{same_backend};
 ghost use Rattle.rollout_plan.specs.Text.{has_member, members_gone, in_order, members_of_both, members_under, service_by, as_up};
 
-use pool_versions::{Backend, Member, Service, ServiceKey, Version};
+use crate::by_name::is_among;
+use pool_versions::{Backend, Member, Service, ServiceKey, Version, backends_of};
 use std::alloc::{AllocError, Global};
-
-fn has_member(members: &[Member], backend: &Backend) -> bool
-    ensures { result ≡ has_member members.now backend.now }
-{
-    members.iter().any(|member| member.backend == *backend)
-}
-
-// The members whose backend the other list lacks.
-fn members_gone(
-    alloc: Global,
-    before: &[Member],
-    after: &[Member],
-) -> Result<Vec<Member>, AllocError>
-    ensures { IfOk result (λ v. v.items ≡ members_gone before.now after.now) }
-{
-    let mut gone = Vec::new(alloc);
-    for member in before {
-        if !has_member(after, &member.backend) {
-            gone.push(*member)?;
-        }
-    }
-    Ok(gone)
-}
 
 // Some members as ones that are up.
 fn as_up(alloc: Global, members: &[Member]) -> Result<Vec<Member>, AllocError>
@@ -45,7 +28,9 @@ fn as_up(alloc: Global, members: &[Member]) -> Result<Vec<Member>, AllocError>
 
 /// Some members in ascending order of name, whether they are up or down.
 pub(crate) fn in_order(alloc: Global, members: &[Member]) -> Result<Vec<Member>, AllocError>
-    ensures { IfOk result (λ v. v.items ≡ in_order members.now) }
+    ensures value { IfOk result (λ v. v.items ≡ in_order members.now) }
+    ensures ascending { IfOk result (λ v. AscendsByName (map (λ m. m.backend) v.items)) }
+    ensures permutation { IfOk result (λ v. IsPermutation (up_members (map as_up members.now)) v.items) }
 {
     let service = Service {
         vip: 0,
@@ -54,6 +39,33 @@ pub(crate) fn in_order(alloc: Global, members: &[Member]) -> Result<Vec<Member>,
         members: as_up(alloc, members)?,
     };
     service.ranked(alloc)
+}
+
+// Their backends, in that order.
+fn backends_in_order(alloc: Global, members: &[Member]) -> Result<Vec<Backend>, AllocError>
+    ensures ascending { IfOk result (λ v. AscendsByName v.items) }
+    ensures same { IfOk result (λ v. (b : Backend) → list_any (λ up. same_backend up b) v.items ≡ has_member members.now b) }
+{
+    let members = in_order(alloc, members)?;
+    backends_of(alloc, members.as_slice())
+}
+
+// The members whose backend the other list lacks. That list is put in order once, so that each is sought by halves.
+fn members_gone(
+    alloc: Global,
+    before: &[Member],
+    after: &[Member],
+) -> Result<Vec<Member>, AllocError>
+    ensures { IfOk result (λ v. v.items ≡ members_gone before.now after.now) }
+{
+    let others = backends_in_order(alloc, after)?;
+    let mut gone = Vec::new(alloc);
+    for member in before {
+        if !is_among(others.as_slice(), &member.backend) {
+            gone.push(*member)?;
+        }
+    }
+    Ok(gone)
 }
 
 /// The members of either list in ascending order of name, each backend once: those of the second as they are there.

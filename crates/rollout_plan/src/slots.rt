@@ -1,13 +1,14 @@
 //! Tables of slots whose backends' slots are counted.
-ghost use Rattle.std.specs.Prelude.{◌≡◌, ◌<◌, ◌≤◌, [], All, length, IfOk, OnOk, Some, None, slice_index};
+ghost use Rattle.std.specs.Prelude.{◌≡◌, ◌<◌, ◌≤◌, [], All, length, map, IfOk, OnOk, Some, None, slice_index};
 ghost use Rattle.hash_laws.specs.Any.{plain_of};
 ghost use Rattle.maglev_table.specs.Turns.{all_slots_of};
-ghost use Rattle.pool_versions.specs.Pool.{ranked};
+ghost use Rattle.pool_versions.specs.Pool.{ranked, AscendsByName};
 ghost use Rattle.selection.specs.Picks.{preferences, slots_among, slot_names};
 ghost use Rattle.rollout_plan.specs.Tables.{table_by, turn_slots, slots_by};
 ghost use Rattle.selection.specs.Candidates.{among};
 ghost use Rattle.rollout_plan.specs.Counts.{slots_naming, is_up};
 
+use crate::by_name::{is_among, places_of_name};
 use backend_names::{TableSize, Weight};
 use hash_laws::AnyHash;
 use maglev_table::{Permutation, Table, populate};
@@ -35,6 +36,7 @@ pub(crate) struct SlotTable {
 }
 
 impl Model for SlotTable {
+    ghost use Rattle.pool_versions.specs.Pool.{AscendsByName};
     ghost use Rattle.selection.specs.Picks.{NamedTable};
     ghost use Rattle.rollout_plan.specs.Tables.{IsSlotTable};
 
@@ -42,12 +44,13 @@ impl Model for SlotTable {
 
     ghost view = { λ t. record { size = t.size; ups = t.ups.items; owners = t.owners.items } };
 
-    ghost invariant = { λ t. IsSlotTable t.size t.ups.items t.owners.items t.counts.items };
+    ghost invariant = { λ t. IsSlotTable t.size t.ups.items t.owners.items t.counts.items × AscendsByName t.ups.items };
 }
 
 // The up ones of some members, in ascending order of name.
 fn ranked(alloc: Global, members: &[Member]) -> Result<Vec<Member>, AllocError>
-    ensures { IfOk result (λ v. v.items ≡ ranked members.now) }
+    ensures value { IfOk result (λ v. v.items ≡ ranked members.now) }
+    ensures ascending { IfOk result (λ v. AscendsByName (map (λ m. m.backend) v.items)) }
 {
     let members = Vec::from_slice(alloc, members)?;
     let service = Service {
@@ -214,20 +217,21 @@ impl SlotTable {
         self.ups.get(self.owners[slot as usize] as usize).copied()
     }
 
-    /// Whether a backend is up.
+    /// Whether a backend is up. It is sought by halves.
     pub(crate) fn is_up(&self, backend: &Backend) -> bool
         ensures { result ≡ is_up self.now backend.now }
     {
-        self.ups.iter().any(|up| *up == *backend)
+        is_among(self.ups.as_slice(), backend)
     }
 
-    /// How many slots name a backend.
+    /// How many slots name a backend. Only those places are looked at that have its name.
     pub(crate) fn slots_of(&self, backend: &Backend) -> u32
         ensures slots { result ≡ slots_naming (Some backend.now) self.now }
         ensures few { result ≤ 65537 }
     {
+        let named = places_of_name(self.ups.as_slice(), backend);
         let mut slots = 0;
-        for place in 0..self.ups.len() {
+        for place in named.first..named.end {
             if *backend == self.ups[place] {
                 slots += self.counts[place];
             }

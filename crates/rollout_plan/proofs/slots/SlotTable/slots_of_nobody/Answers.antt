@@ -13,7 +13,7 @@ returns-then-is_empty-clause-slots c =
 pub returns-else-is_empty-clause-slots : goal.returns-else-is_empty-clause-slots
 returns-else-is_empty-clause-slots c =
     let P : NamedTable → Type 0 = λ t. IsSlotTable t.size t.ups t.owners c.self.inside.counts.items in
-    let whole : IsSlotTable c.args.self.now.size c.args.self.now.ups c.args.self.now.owners c.self.inside.counts.items = subst P c.self.view_is c.self.invariant in
+    let whole : IsSlotTable c.args.self.now.size c.args.self.now.ups c.args.self.now.owners c.self.inside.counts.items = subst P c.self.view_is c.self.invariant.0 in
     let ups : c.self.inside.ups.items ≡ c.args.self.now.ups = ap (λ (t : NamedTable). t.ups) c.self.view_is in
     let above = above_zero (vec_len c.self.inside.ups) (sym c.is_empty.ensures ∙ c.if-is_empty.false) in
     let some : 0 < length c.args.self.now.ups = omega (arith, ap length ups, c.self.inside.ups.ok.0, above) in
