@@ -1,8 +1,8 @@
 -- What the drivers are told, event by event.
-use Rattle.std.proofs.Common.{◌≡◌, ℕ, zero, suc, ◌+◌, ◌<◌, Bool, true, false, List, [], ◌∷◌, ◌++◌, map, length, get_or, set, take, replicate, refl, sym, ap, ◌∙◌, arith, subst}
+use Rattle.std.proofs.Common.{◌≡◌, ℕ, zero, suc, ◌+◌, ◌<◌, Bool, true, false, List, [], ◌∷◌, ◌++◌, map, length, get_or, set, take, replicate, reverse, refl, sym, ap, ◌∙◌, arith, subst}
 use Rattle.std.specs.Prelude.{◌==◌, cond, filter, slice_index_or}
 use Rattle.std.proofs.lemmas.Bool.{eqb-true, eqb-false}
-use Rattle.std.proofs.lemmas.List.{length-map, get_or-map, ext_get_or, get_or-replicate, length-replicate, length_push, get_or_append_left, get_or-append-add, map-set, map_more}
+use Rattle.std.proofs.lemmas.List.{length-map, get_or-map, ext_get_or, get_or-replicate, length-replicate, length_push, get_or_append_left, get_or-append-add, map-set, map_more, map-append, append_assoc, append-nil}
 use Rattle.std.proofs.lemmas.List.Elements.{filter-append}
 use Rattle.cluster_node.specs.declared.events.Event.{Event}
 use Rattle.cluster_node.specs.declared.events.Event.TheVariants.{Serve}
@@ -17,7 +17,8 @@ use Rattle.spreader.specs.Choices.{Choice}
 use Rattle.event_trace.specs.Trace.{Trace}
 use Rattle.event_trace.specs.Steps.{world_of, run, start, below}
 use Rattle.driver_commands.specs.Noting.{noting}
-use Rattle.driver_commands.specs.Orders.{commands_on, orders_in, plan_of}
+use Rattle.cluster_core.specs.Cluster.{Behind}
+use Rattle.driver_commands.specs.Orders.{commands_on, events_of, orders_in, plan_of}
 use Rattle.driver_commands.specs.PrivateTelling.{pushed, Follows}
 
 pub commands_more : (n : ℕ) (es fs : List Event) → commands_on n (es ++ fs) ≡ commands_on n es ++ commands_on n fs
@@ -91,13 +92,22 @@ orders_none nodes = ext_get_or [] (replicate nodes []) (orders_in nodes []) (len
         let long : length (replicate {A = List Command} nodes []) ≡ nodes = length-replicate nodes [] in
         get_or-replicate nodes n [] [] (omega arith) ∙ sym (orders_at nodes n [] (omega arith))
 
--- the lists after one event more of a history
-pub history_more : (nodes : ℕ) (history : List LogEntry) (i : ℕ) (s : LogEntry) (old new : List (List Command)) → i < length history → s ≡ get_or history i s
-    → old ≡ orders_in nodes (map (λ x. x.event) (take i history)) → Follows s.event old new → new ≡ orders_in nodes (map (λ x. x.event) (take (i + 1) history))
-history_more nodes history i s old new h is so_far f =
-    orders_more nodes (map (λ (x : LogEntry). x.event) (take i history)) s.event new (subst (λ (l : List (List Command)). Follows s.event l new) so_far f)
-    ∙ ap (λ (e : Event). orders_in nodes (map (λ (x : LogEntry). x.event) (take i history) ++ e ∷ [])) (ap (λ (x : LogEntry). x.event) is)
-    ∙ ap (orders_in nodes) (sym (map_more (λ (x : LogEntry). x.event) history i s h))
+-- the lists after one event more behind others
+pub history_more : (nodes : ℕ) (es : List Event) (history : List LogEntry) (i : ℕ) (s : LogEntry) (old new : List (List Command)) → i < length history → s ≡ get_or history i s
+    → old ≡ orders_in nodes (es ++ map (λ x. x.event) (take i history)) → Follows s.event old new → new ≡ orders_in nodes (es ++ map (λ x. x.event) (take (i + 1) history))
+history_more nodes es history i s old new h is so_far f =
+    let before : List Event = es ++ map (λ (x : LogEntry). x.event) (take i history) in
+    orders_more nodes before s.event new (subst (λ (l : List (List Command)). Follows s.event l new) so_far f)
+    ∙ ap (λ (e : Event). orders_in nodes (before ++ e ∷ [])) (ap (λ (x : LogEntry). x.event) is)
+    ∙ ap (orders_in nodes) (append_assoc es (map (λ (x : LogEntry). x.event) (take i history)) ((get_or history i s).event ∷ []))
+    ∙ ap (λ (l : List Event). orders_in nodes (es ++ l)) (sym (map_more (λ (x : LogEntry). x.event) history i s h))
+
+-- the events of a later record, where these are behind those before
+pub events_behind : (c d : Trace) (events : List LogEntry) → Behind (reverse c.past) d.past events → events_of c ++ map (λ x. x.event) events ≡ events_of d
+events_behind c d events h = sym (map-append (λ (x : LogEntry). x.event) (reverse c.past) events) ∙ ap (map (λ (x : LogEntry). x.event)) (sym h)
+
+pub none_behind : (past : List LogEntry) → Behind (reverse past) past []
+none_behind past = sym (append-nil (reverse past))
 
 -- a run from the start, with the spreader that it was given, is the plan
 pub played : {P : Type 0} (choice : P → Choice) (s t : P) (c d : Trace) (packets : List Packet) (steps : List ScenarioStep) (nodes : ℕ) → d ≡ run (world_of noting (choice s) packets) steps c → s ≡ t → c ≡ start nodes → d ≡ plan_of (choice t) packets steps nodes

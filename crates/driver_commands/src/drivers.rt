@@ -1,9 +1,12 @@
 //! The commands of each node's driver.
-ghost use Rattle.std.specs.Prelude.{◌≡◌, ◌<◌, ◌^◌, [], length, map, replicate, IfOk, OnOk, All};
+ghost use Rattle.std.specs.Prelude.{◌≡◌, ◌<◌, ◌^◌, ◌++◌, ℕ, List, [], length, map, replicate, IfOk, OnOk, All};
+ghost use Rattle.cluster_node.specs.declared.events.Event.{Event};
 ghost use Rattle.cluster_core.specs.Cluster.{Cluster, WereRead};
-ghost use Rattle.event_trace.specs.Steps.{below};
+ghost use Rattle.event_trace.specs.Room.{Counted};
+ghost use Rattle.event_trace.specs.Steps.{below, run, world_of};
 ghost use Rattle.event_trace.specs.Tally.{tally_of};
 ghost use Rattle.thread_records.specs.Losses.{as_written, drained_lives};
+ghost use Rattle.driver_commands.specs.Noting.{noting};
 ghost use Rattle.driver_commands.specs.Orders.{events_of, trace_on, orders_in, plan_of, ends_on, orders_of, IsThere};
 ghost use Rattle.driver_commands.specs.PrivateTelling.{Follows, pushed};
 
@@ -60,19 +63,41 @@ fn tell(commands: &mut Vec<Vec<Command>>, event: &Event) -> Result<(), AllocErro
     }
 }
 
-// What each node's driver has to do, event by event.
-fn commands_by(
-    alloc: Global,
-    nodes: u16,
-    history: &[LogEntry],
-) -> Result<Vec<Vec<Command>>, AllocError>
-    ensures { IfOk result (λ v. map (λ c. c.items) v.items ≡ orders_in nodes (map (λ s. s.event) history.now)) }
+// What each node's driver has to do, event by event, behind what it has to do already.
+fn tell_all(commands: &mut Vec<Vec<Command>>, events: &[LogEntry]) -> Result<(), AllocError>
+    ensures { (nodes : ℕ) (es : List Event) → map (λ c. c.items) commands.old.items ≡ orders_in nodes es →
+        OnOk result (map (λ c. c.items) commands.new.items ≡ orders_in nodes (es ++ map (λ s. s.event) events.now)) }
 {
-    let mut commands = empty_lists(alloc, nodes)?;
-    for said in history {
-        tell(&mut commands, &said.event)?;
+    for said in events {
+        tell(commands, &said.event)?;
     }
-    Ok(commands)
+    Ok(())
+}
+
+// Plays the steps, and tells the drivers after each what follows from it: so the events of no more than one step are kept.
+fn tell_steps<P: Spread>(
+    alloc: Global,
+    play: &mut Play<P>,
+    packets: &[Packet],
+    steps: &[ScenarioStep],
+    commands: &mut Vec<Vec<Command>>,
+) -> Result<(), AllocError>
+    requires read { WereRead packets.now }
+    requires places { length packets.now < 2 ^ 32 }
+    requires steps { length steps.now < 2 ^ 32 }
+    requires fresh { Counted (length packets.now) 0 play.old.trace }
+    ensures run { OnOk result (play.new.trace ≡ run (world_of noting (P.choice play.old.spread) packets.now) steps.now play.old.trace) }
+    ensures counted { OnOk result (Counted (length packets.now) (length steps.now) play.new.trace) }
+    ensures told { (nodes : ℕ) → map (λ c. c.items) commands.old.items ≡ orders_in nodes (events_of play.old.trace) →
+        OnOk result (map (λ c. c.items) commands.new.items ≡ orders_in nodes (events_of play.new.trace)) }
+{
+    let mut events = Vec::new(alloc);
+    for step in steps {
+        events.clear();
+        play.step(alloc, &mut IdleCore, &(), packets, step, &mut events)?;
+        tell_all(commands, events.as_slice())?;
+    }
+    Ok(())
 }
 
 /// What the steps tell the drivers of so many nodes, and what becomes of the capture's records.
@@ -104,9 +129,8 @@ pub fn orders<P: Spread>(
     ensures there { IfOk result (λ o. All (λ c. All (IsThere (plan_of (P.choice spread) packets.now steps.now nodes).read) c.items) o.commands.items) }
 {
     let mut play = Play::start(alloc, spread, nodes)?;
-    let mut events = Vec::new(alloc);
-    play.run(alloc, &mut IdleCore, &(), packets, steps, &mut events)?;
-    let mut commands = commands_by(alloc, nodes, events.as_slice())?;
+    let mut commands = empty_lists(alloc, nodes)?;
+    tell_steps(alloc, &mut play, packets, steps, &mut commands)?;
     end_as(alloc, nodes, steps, &mut commands)?;
     Ok(Orders {
         commands,

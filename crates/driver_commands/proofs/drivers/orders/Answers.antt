@@ -1,11 +1,10 @@
-use Rattle.std.proofs.Common.{◌≡◌, List, [], length, reverse, sym, ap, ◌∙◌, rules, map}
+use Rattle.std.proofs.Common.{◌≡◌, List, length, sym, ap, ◌∙◌, rules, map}
 use Rattle.std.proofs.lemmas.List.{length-map}
-use Rattle.cluster_node.specs.declared.events.LogEntry.{LogEntry}
 use Rattle.thread_records.specs.declared.command.Command.{Command}
 use Rattle.event_trace.specs.Trace.{Trace}
 use Rattle.event_trace.specs.Tally.{tally_of}
 use Rattle.driver_commands.specs.Orders.{events_of, orders_in, plan_of}
-use Rattle.driver_commands.proofs.Telling.{orders_long, played}
+use Rattle.driver_commands.proofs.Telling.{orders_long, orders_none, played}
 use Rattle.driver_commands.proofs.Alike.{told_anywhere}
 use Rattle.driver_commands.proofs.Ending.{end_all}
 use Rattle.driver_commands.proofs.Lives.{all_ends_told}
@@ -14,23 +13,22 @@ use Rattle.driver_commands.proofs.drivers.orders.Goals as goal
 
 pub end_as-requires : goal.end_as-requires
 end_as-requires g c =
-    sym (length-map c.in_ok-commands.commands.items (λ v. v.items))
-    ∙ ap (λ (css : List (List Command)). length css) c.in_ok-commands.ensures
+    sym (length-map c.tell_steps.new.commands.items (λ v. v.items))
+    ∙ ap (λ (css : List (List Command)). length css) (c.in_ok-tell_steps.ensures.told c.args.nodes
+    (c.in_ok-commands.ensures ∙ orders_none c.args.nodes ∙ ap (λ (d : Trace). orders_in c.args.nodes (events_of d)) (sym c.in_ok-play.ensures.trace)))
     ∙ orders_long c.args.nodes _
 
 pub returns-clause-commands : goal.returns-clause-commands
 returns-clause-commands g c =
-    let none = ap (λ (d : Trace). reverse d.past) c.in_ok-play.ensures.trace ∙ sym c.new-events.ensures.items in
-    let told : map (λ v. v.items) c.in_ok-commands.commands.items ≡ orders_in c.args.nodes (events_of (plan_of (g.P.Spread.choice c.args.spread) c.args.packets.now c.args.steps.now c.args.nodes)) =
-    c.in_ok-commands.ensures
-    ∙ ap (λ (es : List LogEntry). orders_in c.args.nodes (map (λ s. s.event) es)) (c.as_slice.ensures.value ∙ sym (c.in_ok-run.ensures.told [] none)
-    ∙ ap (λ (d : Trace). reverse d.past) (played (λ s. g.P.Spread.choice s) c.in_ok-play.play.spread c.args.spread c.in_ok-play.play.trace c.run.new.self.trace c.args.packets.now c.args.steps.now c.args.nodes c.in_ok-run.ensures.run c.in_ok-play.ensures.spread c.in_ok-play.ensures.trace)) in
-    end_all c.args.steps.now c.args.nodes (events_of (plan_of (g.P.Spread.choice c.args.spread) c.args.packets.now c.args.steps.now c.args.nodes)) (map (λ v. v.items) c.in_ok-commands.commands.items) (map (λ v. v.items) c.end_as.new.commands.items) told c.in_ok-end_as.ensures
+    let told : map (λ v. v.items) c.tell_steps.new.commands.items ≡ orders_in c.args.nodes (events_of (plan_of (g.P.Spread.choice c.args.spread) c.args.packets.now c.args.steps.now c.args.nodes)) =
+    c.in_ok-tell_steps.ensures.told c.args.nodes (c.in_ok-commands.ensures ∙ orders_none c.args.nodes ∙ ap (λ (d : Trace). orders_in c.args.nodes (events_of d)) (sym c.in_ok-play.ensures.trace))
+    ∙ ap (λ (d : Trace). orders_in c.args.nodes (events_of d)) (played (λ s. g.P.Spread.choice s) c.in_ok-play.play.spread c.args.spread c.in_ok-play.play.trace c.tell_steps.new.play.trace c.args.packets.now c.args.steps.now c.args.nodes c.in_ok-tell_steps.ensures.run c.in_ok-play.ensures.spread c.in_ok-play.ensures.trace) in
+    end_all c.args.steps.now c.args.nodes (events_of (plan_of (g.P.Spread.choice c.args.spread) c.args.packets.now c.args.steps.now c.args.nodes)) (map (λ v. v.items) c.tell_steps.new.commands.items) (map (λ v. v.items) c.end_as.new.commands.items) told c.in_ok-end_as.ensures
 
 pub returns-clause-tally : goal.returns-clause-tally
 returns-clause-tally g c =
     c.tally.ensures
-    ∙ ap (λ (d : Trace). tally_of (length c.args.packets.now) d) (played (λ s. g.P.Spread.choice s) c.in_ok-play.play.spread c.args.spread c.in_ok-play.play.trace c.run.new.self.trace c.args.packets.now c.args.steps.now c.args.nodes c.in_ok-run.ensures.run c.in_ok-play.ensures.spread c.in_ok-play.ensures.trace)
+    ∙ ap (λ (d : Trace). tally_of (length c.args.packets.now) d) (played (λ s. g.P.Spread.choice s) c.in_ok-play.play.spread c.args.spread c.in_ok-play.play.trace c.tell_steps.new.play.trace c.args.packets.now c.args.steps.now c.args.nodes c.in_ok-tell_steps.ensures.run c.in_ok-play.ensures.spread c.in_ok-play.ensures.trace)
 
 pub returns-clause-anywhere : goal.returns-clause-anywhere
 returns-clause-anywhere g c =
