@@ -32,12 +32,25 @@ pub fn join_runs(alloc: Global, nodes: &[NodeRecord]) -> Result<History, AllocEr
     join_nodes(alloc, nodes)
 }
 
+// How many events and outcomes the nodes have.
+fn lengths(nodes: &[NodeRecord]) -> (usize, usize) {
+    let mut events = 0usize;
+    let mut outcomes = 0usize;
+    for node in nodes {
+        events = events.wrapping_add(node.events.len());
+        outcomes = outcomes.wrapping_add(node.outcomes.len());
+    }
+    (events, outcomes)
+}
+
+// The room is asked for at once: a list that grows is moved each time, over pages that the system has to make.
 fn join_all(alloc: Global, nodes: &[NodeRecord]) -> Result<History, AllocError>
     ensures events { IfOk result (λ h. h.events.items ≡ all_events nodes.now) }
     ensures outcomes { IfOk result (λ h. h.outcomes.items ≡ all_outcomes nodes.now) }
 {
-    let mut events = Vec::new(alloc);
-    let mut outcomes = Vec::new(alloc);
+    let (event_count, outcome_count) = lengths(nodes);
+    let mut events = Vec::with_capacity(alloc, event_count)?;
+    let mut outcomes = Vec::with_capacity(alloc, outcome_count)?;
     for node in nodes {
         events.extend_from_slice(node.events.as_slice())?;
         outcomes.extend_from_slice(node.outcomes.as_slice())?;
