@@ -51,7 +51,7 @@ pub(crate) fn packets_of(
     ensures read { IfOk result (λ v. WereRead v.items) }
     ensures count { IfOk result (λ v. length v.items ≡ length frames.now) }
 {
-    let mut packets = Vec::new(alloc);
+    let mut packets = Vec::with_capacity(alloc, frames.len())?;
     for frame in frames {
         packets.push(wire.packet(frame))?;
     }
