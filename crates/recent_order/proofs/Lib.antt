@@ -1,3 +1,4 @@
 pub mod Others
 pub mod Chains
 pub mod Rings
+pub mod Sides

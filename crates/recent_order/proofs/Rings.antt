@@ -1,14 +1,14 @@
 -- The ring of links, after a use and after a place more.
-use Rattle.std.proofs.Common.{◌≡◌, ℕ, suc, ◌+◌, ◌-◌, ◌<◌, ◌≤◌, List, [], ◌∷◌, length, get_or, not, set, max, refl, sym, ap, ◌∙◌, subst, arith}
+use Rattle.std.proofs.Common.{◌≡◌, ℕ, suc, ◌+◌, ◌-◌, ◌<◌, ◌≤◌, List, [], ◌∷◌, length, get_or, not, set, refl, sym, ap, ◌∙◌, subst, arith}
 use Rattle.std.specs.Prelude.{eqb}
 use Rattle.std.specs.List.{All, AllByRecursion, Contains, IsDistinct}
 use Rattle.std.proofs.lemmas.Bool.{ne_eqb}
-use Rattle.std.proofs.lemmas.List.{length-set, get_or_read, get_or_default}
-use Rattle.std.proofs.lemmas.List.Elements.{All-cons, All-head, All-tail, All-filter, All-weaker, All-get_or}
+use Rattle.std.proofs.lemmas.List.{length-set, get_or_default}
+use Rattle.std.proofs.lemmas.List.Elements.{All-cons, All-head, All-tail, All-filter, All-weaker}
 use Rattle.std.proofs.lemmas.Map.Keys.{IsDistinct-cons}
 use Rattle.recent_order.specs.Places.{without, ArePlaces}
 use Rattle.recent_order.specs.Links.{Chained, AreLinked, IsRing, places_after, places_of}
-use Rattle.recent_order.proofs.Others.{Avoids, avoids_by, distinct_without, places_promoted, places_added, next_avoids, absent}
+use Rattle.recent_order.proofs.Others.{Avoids, avoids_by, distinct_without, places_promoted, places_added}
 use Rattle.recent_order.proofs.Chains.{written, chain_same, older_has, newer_has, taken_out, put_first, places_after_are, last_newer}
 
 -- an element that has what all have
@@ -120,76 +120,6 @@ oldest_is o n (x ∷ xs) some h =
     let e : suc (length xs) - 1 ≡ length xs = omega arith in
     last_newer o n 0 0 x xs h.linked.ring ∙ ap (λ (k : ℕ). get_or (x ∷ xs) k 0) (sym e)
 
-pub record IsOldest (x : ℕ) (xs : List ℕ) : Type 0 where
-  pub last : x ≡ get_or xs (length xs - 1) 0
-  pub some : 0 < x
-  pub within : x ≤ length xs
-
-pub oldest_read : (o n xs : List ℕ) (x : ℕ) → 0 < length xs → IsRing o n (places_of o) → places_of o ≡ xs → x ≡ get_or n 0 x → IsOldest x xs
-oldest_read o n xs x some h view read = record {
-  last = last;
-  some = subst (λ (y : ℕ). 0 < y) (sym last) low.0;
-  within = subst (λ (y : ℕ). y ≤ length xs) (sym last) low.1;
-}
-  where
-    ring : IsRing o n xs
-    ring = subst (λ (ys : List ℕ). IsRing o n ys) view h
-
-    long : 0 < length n
-    long = let sized : length xs ≡ length o - 1 = ring.sized in let even : length n ≡ length o = ring.linked.even in omega arith
-
-    last : x ≡ get_or xs (length xs - 1) 0
-    last = get_or_read n 0 x long read 0 ∙ oldest_is o n xs some ring
-
-    low : (0 < get_or xs (length xs - 1) 0) × (get_or xs (length xs - 1) 0 ≤ length xs)
-    low = All-get_or (λ p. (0 < p) × (p ≤ length xs)) xs (length xs - 1) 0 (omega arith) ring.places.low
-
--- what a method leaves: a ring of these places
-pub record Leaves (o n : List ℕ) (xs : List ℕ) : Type 0 where
-  pub ring : IsRing o n (places_of o)
-  pub view : places_of o ≡ xs
-
-leaves : (o n o₂ n₂ xs : List ℕ) → o ≡ o₂ → n ≡ n₂ → IsRing o₂ n₂ xs → Leaves o n xs
-leaves o n o₂ n₂ xs eo en h =
-    let k : IsRing o n xs = subst (λ (ys : List ℕ). IsRing ys n xs) (sym eo) (subst (λ (ys : List ℕ). IsRing o₂ ys xs) (sym en) h) in
-    record { ring = ring_of o n xs k; view = places_are o n xs k }
-
-pub new_leaves : (o n : List ℕ) → o ≡ [] → n ≡ [] → Leaves o n []
-new_leaves o n eo en = leaves o n o n [] refl refl (no_ring o n eo en)
-
-linked_along : (o n o₂ n₂ xs : List ℕ) → o₂ ≡ o → n₂ ≡ n → AreLinked o n xs → AreLinked o₂ n₂ xs
+-- lists that are equal link alike
+pub linked_along : (o n o₂ n₂ xs : List ℕ) → o₂ ≡ o → n₂ ≡ n → AreLinked o n xs → AreLinked o₂ n₂ xs
 linked_along o n o₂ n₂ xs eo en h = subst (λ (ys : List ℕ). AreLinked ys n₂ xs) (sym eo) (subst (λ (ys : List ℕ). AreLinked o ys xs) (sym en) h)
-
--- o and n are the links before, o₁ and n₁ the slices of them, o₂ and n₂ the slices after, o₃ and n₃ the links after
-pub promote_leaves : (o n o₁ n₁ o₂ n₂ o₃ n₃ : List ℕ) (p : ℕ) (xs : List ℕ) → 0 < p → p ≤ length xs → IsRing o n (places_of o) → places_of o ≡ xs → o₁ ≡ o → n₁ ≡ n
-    → ((ys : List ℕ) → AreLinked o₁ n₁ ys → Contains ys p → AreLinked o₂ n₂ (p ∷ without p ys)) → length o₂ ≡ length o₁ → o₃ ≡ o₂ → n₃ ≡ n₂ → Leaves o₃ n₃ (p ∷ without p xs)
-promote_leaves o n o₁ n₁ o₂ n₂ o₃ n₃ p xs some low h view eo en moves len eo₃ en₃ =
-    let ring : IsRing o n xs = subst (λ (ys : List ℕ). IsRing o n ys) view h in
-    let moved : AreLinked o₂ n₂ (p ∷ without p xs) = moves xs (linked_along o n o₁ n₁ xs eo en ring.linked) (ring.places.all p some low) in
-    leaves o₃ n₃ o₂ n₂ (p ∷ without p xs) eo₃ en₃ (promoted o n o₂ n₂ p xs some low (len ∙ ap length eo) ring moved)
-
--- a use leaves as many places
-pub promoted_length : (o n : List ℕ) (p : ℕ) (xs ys : List ℕ) → 0 < p → p ≤ length xs → IsRing o n (places_of o) → places_of o ≡ xs → ys ≡ p ∷ without p xs → length ys ≡ length xs
-promoted_length o n p xs ys some low h view e =
-    let ring : IsRing o n xs = subst (λ (zs : List ℕ). IsRing o n zs) view h in
-    ap length e ∙ (places_promoted (length xs) p xs some low ring.places).long
-
--- links that read like others, through what a call took and gave
-pub reads : (o e r s : List ℕ) → s ≡ e → ((q : ℕ) → get_or e q 0 ≡ get_or r q 0) → r ≡ o → (q : ℕ) → get_or s q 0 ≡ get_or o q 0
-reads o e r s taken same given q = ap (λ (xs : List ℕ). get_or xs q 0) taken ∙ same q ∙ ap (λ (xs : List ℕ). get_or xs q 0) given
-
--- the links that were extended
-pub extended_linked : (o n o₁ n₁ : List ℕ) (p : ℕ) (xs : List ℕ) → IsRing o n (places_of o) → places_of o ≡ xs → p ≡ max (length o) 1 → length o₁ ≡ p + 1 → length n₁ ≡ p + 1 → ((q : ℕ) → get_or o₁ q 0 ≡ get_or o q 0) → ((q : ℕ) → get_or n₁ q 0 ≡ get_or n q 0) → AreLinked o₁ n₁ xs
-extended_linked o n o₁ n₁ p xs h view is lo ln so sn =
-    let ring : IsRing o n xs = subst (λ (ys : List ℕ). IsRing o n ys) view h in
-    extended o n o₁ n₁ xs (omega arith) (omega arith) so sn ring.linked
-
-pub add_leaves : (o n o₁ n₁ o₂ n₂ o₃ n₃ : List ℕ) (p : ℕ) (xs : List ℕ) → IsRing o n (places_of o) → places_of o ≡ xs → p ≡ max (length o) 1 → length o₁ ≡ p + 1 → length n₁ ≡ p + 1 → ((q : ℕ) → get_or o₁ q 0 ≡ get_or o q 0) → ((q : ℕ) → get_or n₁ q 0 ≡ get_or n q 0)
-    → ((ys : List ℕ) → AreLinked o₁ n₁ ys → (Contains ys p → ⊥) → AreLinked o₂ n₂ (p ∷ ys)) → length o₂ ≡ length o₁ → o₃ ≡ o₂ → n₃ ≡ n₂ → Leaves o₃ n₃ ((length xs + 1) ∷ xs)
-add_leaves o n o₁ n₁ o₂ n₂ o₃ n₃ p xs h view is lo ln so sn links len eo₃ en₃ =
-    let ring : IsRing o n xs = subst (λ (ys : List ℕ). IsRing o n ys) view h in
-    let sized : length xs ≡ length o - 1 = ring.sized in
-    let next : p ≡ length xs + 1 = omega arith in
-    let away : Avoids p xs = subst (λ (q : ℕ). Avoids q xs) (sym next) (next_avoids (length xs) xs ring.places) in
-    let linked : AreLinked o₂ n₂ (p ∷ xs) = links xs (extended_linked o n o₁ n₁ p xs h view is lo ln so sn) (absent p xs away) in
-    leaves o₃ n₃ o₂ n₂ ((length xs + 1) ∷ xs) eo₃ en₃ (added o n o₂ n₂ p xs next (len ∙ lo) ring linked)

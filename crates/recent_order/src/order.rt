@@ -1,33 +1,42 @@
 //! Places in the order of their last use, as a ring of links.
-ghost use Rattle.std.specs.Prelude.{◌≡◌, ◌+◌, ◌-◌, ◌^◌, ◌<◌, ◌≤◌, [], ◌∷◌, length, slice_index, OnOk, OnErr, IfOk, List, ℕ, vec_len, vec_capacity};
+ghost use Rattle.std.specs.Prelude.{◌≡◌, ◌+◌, ◌-◌, ◌^◌, ◌<◌, ◌≤◌, [], ◌∷◌, map, length, slice_index, slice_index_or, OnOk, OnErr, IfOk, List, ℕ, vec_len, vec_capacity};
 ghost use Rattle.std.specs.List.{Contains};
 ghost use Rattle.recent_order.specs.Places.{without, ArePlaces};
-ghost use Rattle.recent_order.specs.Links.{AreLinked};
+ghost use Rattle.recent_order.specs.Sides.{no_links, older_of, newer_of, AreLinkedBy};
 
 use std::alloc::{AllocError, Global};
 use std::fmt;
 use std::marker::Model;
+
+// Both links of a place. They share a line of the cache, so that taking the place out of the ring touches three lines,
+// not four.
+#[derive(Clone, Copy)]
+struct Links {
+    // The place that was used next before it, of 0 the newest.
+    older: u32,
+    // The place that was used next after it, of 0 the oldest.
+    newer: u32,
+}
 
 /// The places 1 to n in the order of their last use.
 ///
 /// They are a ring of links with a sentinel at index 0, so that a use takes a few stores: no walk, no branch.
 #[derive(Drop)]
 pub struct RecentOrder {
-    // Of each place the one that was used next before it, of 0 the newest. Empty, or one longer than there are places.
-    older: Vec<u32>,
-    // Of each place the one that was used next after it, of 0 the oldest.
-    newer: Vec<u32>,
+    // Of each place its links, those of the sentinel in front. Empty, or one longer than there are places.
+    links: Vec<Links>,
 }
 
 impl Model for RecentOrder {
-    ghost use Rattle.std.specs.Prelude.{List, ℕ};
+    ghost use Rattle.std.specs.Prelude.{List, ℕ, map};
     ghost use Rattle.recent_order.specs.Links.{places_of, IsRing};
+    ghost use Rattle.recent_order.specs.Sides.{older_of, newer_of};
 
     ghost Value = { List ℕ };
 
-    ghost view = { λ o. places_of o.older.items };
+    ghost view = { λ o. places_of (map older_of o.links.items) };
 
-    ghost invariant = { λ o. IsRing o.older.items o.newer.items (places_of o.older.items) };
+    ghost invariant = { λ o. IsRing (map older_of o.links.items) (map newer_of o.links.items) (places_of (map older_of o.links.items)) };
 }
 
 impl fmt::Debug for RecentOrder {
@@ -39,53 +48,52 @@ impl fmt::Debug for RecentOrder {
 }
 
 // Takes the place out of the ring, so that its neighbours follow one another.
-fn unlink(older: &mut [u32], newer: &mut [u32], place: u32)
-    requires even { length newer.old ≡ length older.old }
-    requires within { place < length older.old }
-    requires before { slice_index older.old place < length older.old }
-    requires after { slice_index newer.old place < length older.old }
-    ensures { (xs : List ℕ) → AreLinked older.old newer.old xs → Contains xs place → AreLinked older.new newer.new (without place xs) }
+fn unlink(links: &mut [Links], place: u32)
+    requires within { place < length links.old }
+    requires before { slice_index (map older_of links.old) place < length links.old }
+    requires after { slice_index (map newer_of links.old) place < length links.old }
+    ensures { (xs : List ℕ) → AreLinkedBy links.old xs → Contains xs place → AreLinkedBy links.new (without place xs) }
 {
-    let before = older[place as usize];
-    let after = newer[place as usize];
-    older[after as usize] = before;
-    newer[before as usize] = after;
+    let Links { older, newer } = links[place as usize];
+    links[newer as usize].older = older;
+    links[older as usize].newer = newer;
 }
 
 // Puts a place that isn't in the ring in front, next to the sentinel.
-fn link_first(older: &mut [u32], newer: &mut [u32], place: u32)
-    requires even { length newer.old ≡ length older.old }
+fn link_first(links: &mut [Links], place: u32)
     requires some { 0 < place }
-    requires within { place < length older.old }
-    requires first { slice_index older.old 0 < length older.old }
-    ensures { (xs : List ℕ) → AreLinked older.old newer.old xs → (Contains xs place → ⊥) → AreLinked older.new newer.new (place ∷ xs) }
+    requires within { place < length links.old }
+    requires first { slice_index (map older_of links.old) 0 < length links.old }
+    ensures { (xs : List ℕ) → AreLinkedBy links.old xs → (Contains xs place → ⊥) → AreLinkedBy links.new (place ∷ xs) }
 {
-    let first = older[0];
-    older[place as usize] = first;
-    newer[place as usize] = 0;
-    newer[first as usize] = place;
-    older[0] = place;
+    let first = links[0].older;
+    links[place as usize] = Links {
+        older: first,
+        newer: 0,
+    };
+    links[first as usize].newer = place;
+    links[0].older = place;
 }
 
 // Moves the place to the front of the ring.
-fn move_first(older: &mut [u32], newer: &mut [u32], place: u32)
+fn move_first(links: &mut [Links], place: u32)
     requires some { 0 < place }
-    requires within { place < length older.old }
-    requires linked { (xs : List ℕ) × AreLinked older.old newer.old xs × Contains xs place }
-    ensures { (xs : List ℕ) → AreLinked older.old newer.old xs → Contains xs place → AreLinked older.new newer.new (place ∷ without place xs) }
+    requires within { place < length links.old }
+    requires linked { (xs : List ℕ) × AreLinkedBy links.old xs × Contains xs place }
+    ensures { (xs : List ℕ) → AreLinkedBy links.old xs → Contains xs place → AreLinkedBy links.new (place ∷ without place xs) }
 {
-    unlink(older, newer, place);
-    link_first(older, newer, place);
+    unlink(links, place);
+    link_first(links, place);
 }
 
-// Fills the links up with zeros, which read like what is past the end. There is room for them.
-fn extend(links: &mut Vec<u32>, size: usize)
+// Makes the links as many as `size`, for which there is room. The new ones are zeros, which read like what is past the end.
+fn extend(links: &mut Vec<Links>, size: usize)
     requires room { size ≤ vec_capacity links.old }
     requires more { vec_len links.old ≤ size }
     ensures len { vec_len links.new ≡ size }
-    ensures same { (q : ℕ) → slice_index links.new.items q ≡ slice_index links.old.items q }
+    ensures same { (q : ℕ) → slice_index_or links.new.items q no_links ≡ slice_index_or links.old.items q no_links }
 {
-    let _ = links.resize(size, 0);
+    let _ = links.resize(size, Links { older: 0, newer: 0 });
 }
 
 impl RecentOrder {
@@ -94,8 +102,7 @@ impl RecentOrder {
         ensures { result ≡ [] }
     {
         RecentOrder {
-            older: Vec::new(alloc),
-            newer: Vec::new(alloc),
+            links: Vec::new(alloc),
         }
     }
 
@@ -103,14 +110,14 @@ impl RecentOrder {
     pub fn len(&self) -> usize
         ensures { result ≡ length self.now }
     {
-        self.older.len().saturating_sub(1)
+        self.links.len().saturating_sub(1)
     }
 
     /// The order has the places 1 to n, each once. The clause says so; the body does nothing.
     pub fn are_places(&self)
         ensures { ArePlaces (length self.now) self.now }
     {
-        let _ = &self.older;
+        let _ = &self.links;
     }
 
     /// The place whose last use is longest ago.
@@ -120,7 +127,7 @@ impl RecentOrder {
         ensures some { 0 < result }
         ensures within { result ≤ length self.now }
     {
-        self.newer[0]
+        self.links[0].newer
     }
 
     /// The place was used just now: it becomes the newest, and the others keep their order.
@@ -130,7 +137,7 @@ impl RecentOrder {
         ensures after { self.new ≡ place ∷ without place self.old }
         ensures len { length self.new ≡ length self.old }
     {
-        move_first(&mut self.older, &mut self.newer, place);
+        move_first(&mut self.links, place);
     }
 
     /// One more place, which is the newest. The error is that memory ran out.
@@ -140,12 +147,11 @@ impl RecentOrder {
         ensures after { OnOk result (self.new ≡ (length self.old + 1) ∷ self.old) }
         ensures err { OnErr result (self.new ≡ self.old) }
     {
-        let place = self.older.len().max(1);
-        self.older.reserve(2)?;
-        self.newer.reserve(2)?;
-        extend(&mut self.older, place + 1);
-        extend(&mut self.newer, place + 1);
-        link_first(&mut self.older, &mut self.newer, place as u32);
+        let len = self.links.len();
+        let place = len.max(1);
+        self.links.reserve(place + 1 - len)?;
+        extend(&mut self.links, place + 1);
+        link_first(&mut self.links, place as u32);
         Ok(place as u32)
     }
 }

@@ -1,5 +1,5 @@
-use Rattle.recent_order.proofs.Rings.{unlinked}
+use Rattle.recent_order.proofs.Sides.{unlinked_by}
 use Rattle.recent_order.proofs.order.unlink.Goals as goal
 
 pub returns : goal.returns
-returns c = λ xs h there. unlinked c.args.older.now c.args.newer.now c.args.place xs c.requires.before c.requires.after h there
+returns c = λ xs h there. unlinked_by c.args.links.now c.args.place xs c.requires.before c.requires.after h there
