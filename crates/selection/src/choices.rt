@@ -20,8 +20,8 @@ pub(crate) struct Choices<S: Scheme> {
     size: TableSize,
     ups: Vec<Backend>,
     weights: Vec<Weight>,
-    // Where a backend is looked for first, by what remains of its address.
-    places: Vec<usize>,
+    // Where a backend is looked for first, by its address.
+    places: Vec<u32>,
     prepared: S::Prepared,
 }
 
@@ -75,14 +75,31 @@ fn weigh_the_same(weights: &[Weight], others: &[Weight]) -> bool
     true
 }
 
-// For each remainder of an address by the number of backends the place of the last backend with it. Nothing rests on it.
-fn likely_places(alloc: Global, ups: &[Backend]) -> Result<Vec<usize>, AllocError> {
+// By what an address is multiplied: 2^32 by the golden ratio. Addresses at equal distances fall far apart then (Knuth, The Art
+// of Computer Programming, 6.4).
+const SPREAD: u32 = 0x9E37_79B1;
+
+// The cell of an address among so many, a power of two. It takes no division.
+fn cell_of(addr: u32, cells: usize) -> usize {
+    let shift = cells.leading_zeros().wrapping_add(1);
+    (addr.wrapping_mul(SPREAD) as u64)
+        .wrapping_shl(32)
+        .wrapping_shr(shift) as usize
+}
+
+// For each cell the place of the last backend whose address falls into it. There are two to four cells a backend, so that
+// few share one. Nothing rests on it.
+fn likely_places(alloc: Global, ups: &[Backend]) -> Result<Vec<u32>, AllocError> {
+    let cells = match ups.len() {
+        0 => 0,
+        count => count.saturating_mul(2).next_power_of_two(),
+    };
     let mut places = Vec::new(alloc);
-    places.resize_with(ups.len(), || 0)?;
-    for place in 0..ups.len() {
-        let at = ups[place].addr as usize % ups.len();
-        if at < places.len() {
-            places[at] = place;
+    places.resize_with(cells, || 0)?;
+    for (place, backend) in ups.iter().enumerate() {
+        let cell = places.get_mut(cell_of(backend.addr, cells));
+        if let (Some(cell), Ok(place)) = (cell, u32::try_from(place)) {
+            *cell = place;
         }
     }
     Ok(places)
@@ -156,11 +173,11 @@ impl<S: Scheme> Choices<S> {
     pub(crate) fn is_where_expected(&self, backend: &Backend) -> bool
         ensures { IsTrue result → Contains self.now.ups.backends backend.now }
     {
-        if self.places.is_empty() {
+        let cell = cell_of(backend.addr, self.places.len());
+        let Some(place) = self.places.get(cell) else {
             return false;
-        }
-        let place = self.places[backend.addr as usize % self.places.len()];
-        match self.ups.get(place) {
+        };
+        match self.ups.get(*place as usize) {
             Some(other) => is_same(backend, other),
             None => false,
         }
