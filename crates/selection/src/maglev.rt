@@ -8,7 +8,7 @@ ghost use Rattle.selection.specs.PickLaws.{table_pick_is_up, table_pick_is_none,
 use crate::scheme::{PrepareFault, Scheme};
 use backend_names::{TableSize, Weight};
 use five_tuple::Flow;
-use hash_laws::FlowHash;
+use hash_laws::{FlowHash, remainder};
 use maglev_table::{Permutation, Table, TableFault, populate};
 use pool_versions::Backend;
 use std::alloc::{AllocError, Global};
@@ -209,7 +209,7 @@ impl<H: FlowHash> Scheme for Maglev<H> {
     fn choose(&self, prepared: &MaglevTable, flow: &Flow, turn: u64) -> Option<Backend> {
         let _ = turn;
         let hash = self.hash.hash(b'f', &flow.bytes());
-        let slot = hash % u64::from(prepared.size().slots());
+        let slot = remainder(hash, u64::from(prepared.size().slots()));
         prepared.backend_at(slot as u32)
     }
 

@@ -6,7 +6,7 @@ ghost use Rattle.selection.specs.PickLaws.{pick_at_is_up, pick_at_is_none, plain
 use crate::scheme::{PrepareFault, Scheme};
 use backend_names::{TableSize, Weight};
 use five_tuple::Flow;
-use hash_laws::FlowHash;
+use hash_laws::{FlowHash, remainder};
 use pool_versions::Backend;
 use std::alloc::Global;
 
@@ -23,7 +23,7 @@ pub(crate) fn backend_at(ups: &[Backend], number: u64) -> Option<Backend>
     if ups.is_empty() {
         return None;
     }
-    Some(ups[(number % ups.len() as u64) as usize])
+    Some(ups[remainder(number, ups.len() as u64) as usize])
 }
 
 impl<H: FlowHash> Scheme for PlainHash<H> {

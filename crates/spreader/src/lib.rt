@@ -11,7 +11,7 @@ ghost use Rattle.spreader.specs.Choices.{Choice, ChoosesLive, ChoosesWhereLive, 
 ghost use Rattle.spreader.specs.Laws.{by_turn_live, by_turn_some, by_hash_live, by_hash_some, by_hash_none};
 
 use five_tuple::Flow;
-use hash_laws::FlowHash;
+use hash_laws::{FlowHash, remainder};
 use std::marker::Model;
 
 /// Chooses a node for each packet, from a list of live nodes.
@@ -48,7 +48,8 @@ fn node_at(live: &[u16], number: u64) -> Option<u16>
     if live.is_empty() {
         return None;
     }
-    live.get((number % live.len() as u64) as usize).copied()
+    live.get(remainder(number, live.len() as u64) as usize)
+        .copied()
 }
 
 /// Spreads packets in turn over the live nodes.

@@ -10,7 +10,7 @@ ghost use Rattle.steering.specs.Steering.{Steering, home_of, ring_from, but, oth
 ghost use Rattle.steering.specs.Laws.{TriesArePlacings};
 
 use five_tuple::Flow;
-use hash_laws::FlowHash;
+use hash_laws::{FlowHash, remainder};
 use std::marker::Model;
 
 /// Where a packet goes.
@@ -33,7 +33,7 @@ pub fn home<H: FlowHash>(hash: &H, flow: &Flow, workers: u16) -> u16
     if workers == 1 {
         return 0;
     }
-    (hash.hash(b'w', &flow.bytes()) % workers as u64) as u16
+    remainder(hash.hash(b'w', &flow.bytes()), workers as u64) as u16
 }
 
 /// Chooses a worker for each packet of a node, in one life of the node.
