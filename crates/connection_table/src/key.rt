@@ -1,4 +1,4 @@
-//! What the hash of a table's map begins with.
+//! What the hash of a table's flows begins with.
 ghost use Rattle.std.specs.Prelude.{◌≡◌};
 ghost use Rattle.connection_table.specs.Tied.{flow_hash};
 
@@ -7,8 +7,8 @@ use std::hash::{BuildHasher, FoldHasher, Hasher};
 use std::random::RandomSource;
 use std::{fmt, io};
 
-/// What the hash of a table's map begins with. The hash is std's fast one with the key in it. Flows that were chosen before
-/// the key was drawn fall into the groups of the map as others do, and don't make each search as long as the table. It is no
+/// What the hash of a table's flows begins with. The hash is std's fast one with the key in it. Flows that were chosen before
+/// the key was drawn fall into the table's buckets as others do, and don't make each search as long as the table. It is no
 /// cipher: it doesn't hold off an attacker who learns the key by timing many searches. No answer of a table depends on it.
 #[derive(Clone, Copy)]
 pub struct TableKey {

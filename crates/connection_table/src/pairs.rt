@@ -151,9 +151,7 @@ impl Pairs {
         self.pairs.reserve(1)?;
         self.hash_next(key.hash_of(&flow))?;
         self.order.add()?;
-        match self.pairs.push((flow, entry)) {
-            Ok(()) => Ok(()),
-            Err(_) => unreachable!(),
-        }
+        self.pairs.push_reserved((flow, entry));
+        Ok(())
     }
 }
