@@ -125,6 +125,65 @@ fn other_outcomes(rt: HostRuntime) {
     );
 }
 
+static LENGTHS: [(u32, &str); 12] = [
+    (0, "0 install 0 0: installed\n"),
+    (9, "0 install 0 9: installed\n"),
+    (10, "0 install 0 10: installed\n"),
+    (99, "0 install 0 99: installed\n"),
+    (100, "0 install 0 100: installed\n"),
+    (999, "0 install 0 999: installed\n"),
+    (1000, "0 install 0 1000: installed\n"),
+    (9999, "0 install 0 9999: installed\n"),
+    (10_000, "0 install 0 10000: installed\n"),
+    (99_999, "0 install 0 99999: installed\n"),
+    (100_000, "0 install 0 100000: installed\n"),
+    (u32::MAX, "0 install 0 4294967295: installed\n"),
+];
+
+#[test]
+fn numbers_of_all_lengths(rt: HostRuntime) {
+    for (number, line) in LENGTHS.iter() {
+        shows(&rt, listed(rt.alloc(), &[install(*number)]), line);
+    }
+}
+
+// A line after two bytes.
+fn after_two(alloc: Global, number: u64, said: &LogEntry) -> Result<String, AllocError> {
+    let mut text = String::new(alloc);
+    text.push_str("# ")?;
+    push_line(&mut text, number, &said.event, &said.outcome)?;
+    Ok(text)
+}
+
+#[test]
+fn the_longest_lines(rt: HostRuntime) {
+    let event = Event::Serve {
+        node: u16::MAX,
+        worker: u16::MAX,
+        version: u32::MAX,
+        refused: true,
+    };
+    let backend = backend(&rt, "a-name.of.32.bytes-0123456789-ab", u32::MAX);
+    shows(
+        &rt,
+        after_two(
+            rt.alloc(),
+            u64::MAX,
+            &said(event, forward(0, backend, u32::MAX)),
+        ),
+        "# 18446744073709551615 serve 65535 65535 4294967295: forward a-name.of.32.bytes-0123456789-ab@255.255.255.255 from 4294967295\n",
+    );
+    let restart = said(
+        Event::Restart { node: u16::MAX },
+        Outcome::Restarted { lost: u64::MAX },
+    );
+    shows(
+        &rt,
+        after_two(rt.alloc(), u64::MAX, &restart),
+        "# 18446744073709551615 restart 65535: restarted 18446744073709551615\n",
+    );
+}
+
 const NOTHING: Tally = Tally {
     packets: 0,
     lost: 0,

@@ -1,3 +1,4 @@
+pub mod Ascii
 pub mod Walks
 pub mod Lasts
 pub mod Members

@@ -12,6 +12,7 @@ mod last_sends;
 mod laws;
 mod lines;
 mod names;
+mod pieces;
 mod reports;
 mod sending;
 mod split_lines;

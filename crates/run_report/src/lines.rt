@@ -1,69 +1,100 @@
 //! The lines of a listing: one for each event, with its outcome.
-ghost use Rattle.std.specs.Prelude.{◌≡◌, ◌++◌, OnOk, string_bytes};
-ghost use Rattle.run_report.specs.Lines.{line_of};
+ghost use Rattle.std.specs.Prelude.{◌≡◌, ◌≤◌, ◌+◌, ◌++◌, drop, OnOk, string_bytes, IsAscii};
+ghost use Rattle.run_report.specs.Lines.{event_text, outcome_text, line_of};
 
-use crate::names::{CauseText, ReasonText};
+use crate::names::{cause_word, reason_word};
+use crate::pieces::{ROOM, put_backend, put_two, put_u16, put_u32, put_u64, put_word};
 use cluster_node::{Event, Outcome};
-use maglev_texts::BackendText;
 use std::alloc::AllocError;
-use std::fmt;
 
-#[derive(Clone, Copy)]
-struct EventText(Event);
-
-#[derive(Clone, Copy)]
-struct OutcomeText(Outcome);
-
-impl fmt::Display for EventText {
-    ghost use Rattle.std.specs.Prelude.{Some};
-    ghost use Rattle.run_report.specs.Lines.{event_text};
-
-    ghost output = { λ e. Some (event_text e.0) };
-
-    fn fmt<W: fmt::Write>(&self, f: &mut fmt::Formatter<W>) -> fmt::Result {
-        match self.0 {
-            Event::Install { node, version } => write!(f, "install {node} {version}"),
-            Event::Arrive { node, packet, .. } => write!(f, "arrive {node} {packet}"),
-            Event::Serve {
-                node,
-                worker,
-                version,
-                ..
-            } => write!(f, "serve {node} {worker} {version}"),
-            Event::Restart { node } => write!(f, "restart {node}"),
+// An event's text, of up to 28 bytes, so that it ends at `end`. Gives where it starts.
+fn put_event(line: &mut [u8; ROOM], end: usize, event: &Event) -> usize
+    requires room { 28 ≤ end }
+    requires within { end ≤ 128 }
+    ensures low { end ≤ result + 28 }
+    ensures high { result ≤ end }
+    ensures written { drop result line.new ≡ event_text event.now ++ drop end line.old }
+    ensures ascii { IsAscii (event_text event.now) }
+{
+    match event {
+        Event::Install { node, version } => {
+            let at = put_two(line, end, *node, *version);
+            put_word(line, at, b"install ")
+        }
+        Event::Arrive { node, packet, .. } => {
+            let at = put_two(line, end, *node, *packet);
+            put_word(line, at, b"arrive ")
+        }
+        Event::Serve {
+            node,
+            worker,
+            version,
+            ..
+        } => {
+            let at = put_two(line, end, *worker, *version);
+            let at = put_word(line, at, b" ");
+            let at = put_u16(line, at, *node);
+            put_word(line, at, b"serve ")
+        }
+        Event::Restart { node } => {
+            let at = put_u16(line, end, *node);
+            put_word(line, at, b"restart ")
         }
     }
 }
 
-impl fmt::Display for OutcomeText {
-    ghost use Rattle.std.specs.Prelude.{Some};
-    ghost use Rattle.run_report.specs.Lines.{outcome_text};
-
-    ghost output = { λ o. Some (outcome_text o.0) };
-
-    fn fmt<W: fmt::Write>(&self, f: &mut fmt::Formatter<W>) -> fmt::Result {
-        match self.0 {
-            Outcome::Installed => f.write_str("installed"),
-            Outcome::Placed { worker, .. } => write!(f, "placed {worker}"),
-            Outcome::Forward {
-                backend,
-                origin,
-                ..
-            } => {
-                let backend = BackendText(backend);
-                write!(f, "forward {backend} from {origin}")
-            }
-            Outcome::Dropped { cause, .. } => {
-                let cause = CauseText(cause);
-                write!(f, "drop {cause}")
-            }
-            Outcome::Restarted { lost } => write!(f, "restarted {lost}"),
-            Outcome::Refused(reason) => {
-                let reason = ReasonText(reason);
-                write!(f, "refused {reason}")
-            }
+// The same of an outcome's text, of up to 72 bytes.
+fn put_outcome(line: &mut [u8; ROOM], end: usize, outcome: &Outcome) -> usize
+    requires room { 72 ≤ end }
+    requires within { end ≤ 128 }
+    ensures low { end ≤ result + 72 }
+    ensures high { result ≤ end }
+    ensures written { drop result line.new ≡ outcome_text outcome.now ++ drop end line.old }
+    ensures ascii { IsAscii (outcome_text outcome.now) }
+{
+    match outcome {
+        Outcome::Installed => put_word(line, end, b"installed"),
+        Outcome::Placed { worker, .. } => {
+            let at = put_u16(line, end, *worker);
+            put_word(line, at, b"placed ")
+        }
+        Outcome::Forward {
+            backend,
+            origin,
+            ..
+        } => {
+            let at = put_u32(line, end, *origin);
+            let at = put_word(line, at, b" from ");
+            let at = put_backend(line, at, backend);
+            put_word(line, at, b"forward ")
+        }
+        Outcome::Dropped { cause, .. } => {
+            let at = put_word(line, end, cause_word(*cause).as_bytes());
+            put_word(line, at, b"drop ")
+        }
+        Outcome::Restarted { lost } => {
+            let at = put_u64(line, end, *lost);
+            put_word(line, at, b"restarted ")
+        }
+        Outcome::Refused(reason) => {
+            let at = put_word(line, end, reason_word(*reason).as_bytes());
+            put_word(line, at, b"refused ")
         }
     }
+}
+
+// A whole line, at the end of the array. Gives where it starts.
+fn put_line(line: &mut [u8; ROOM], number: u64, event: &Event, outcome: &Outcome) -> usize
+    ensures start { result ≤ 128 }
+    ensures written { drop result line.new ≡ line_of number event.now outcome.now }
+    ensures ascii { IsAscii (line_of number event.now outcome.now) }
+{
+    let at = put_word(line, ROOM, b"\n");
+    let at = put_outcome(line, at, outcome);
+    let at = put_word(line, at, b": ");
+    let at = put_event(line, at, event);
+    let at = put_word(line, at, b" ");
+    put_u64(line, at, number)
 }
 
 /// Puts the line of an event after a text: `K EVENT: OUTCOME`, where K is the event's number.
@@ -75,7 +106,7 @@ pub fn push_line(
 ) -> Result<(), AllocError>
     ensures { OnOk result (string_bytes text.new ≡ string_bytes text.old ++ line_of number event.now outcome.now) }
 {
-    let event = EventText(*event);
-    let outcome = OutcomeText(*outcome);
-    write!(text, "{number} {event}: {outcome}\n")
+    let mut line = [0; ROOM];
+    let start = put_line(&mut line, number, event, outcome);
+    text.push_str(str::from_utf8(&line[start..]).unwrap())
 }

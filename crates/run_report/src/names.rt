@@ -1,14 +1,13 @@
 //! The names of causes and reasons.
+ghost use Rattle.std.specs.Prelude.{◌≡◌, ◌≤◌, length, IsAscii};
+ghost use Rattle.run_report.specs.Names.{cause_name, reason_name};
+
 use cluster_node::{Cause, Reason};
 use std::fmt;
 
 /// A cause of a drop, printed by its name.
 #[derive(Clone, Copy, Debug)]
 pub struct CauseText(pub Cause);
-
-// Why an event was refused, printed by its name.
-#[derive(Clone, Copy)]
-pub(crate) struct ReasonText(pub(crate) Reason);
 
 impl fmt::Display for CauseText {
     ghost use Rattle.std.specs.Prelude.{Some};
@@ -17,39 +16,46 @@ impl fmt::Display for CauseText {
     ghost output = { λ c. Some (cause_name c.0) };
 
     fn fmt<W: fmt::Write>(&self, f: &mut fmt::Formatter<W>) -> fmt::Result {
-        match self.0 {
-            Cause::NotIpv4 => f.write_str("NotIpv4"),
-            Cause::Truncated => f.write_str("Truncated"),
-            Cause::BadHeader => f.write_str("BadHeader"),
-            Cause::BadChecksum => f.write_str("BadChecksum"),
-            Cause::Fragment => f.write_str("Fragment"),
-            Cause::NotTcpUdp => f.write_str("NotTcpUdp"),
-            Cause::BadTransport => f.write_str("BadTransport"),
-            Cause::TooLarge => f.write_str("TooLarge"),
-            Cause::NoService => f.write_str("NoService"),
-            Cause::NoBackend => f.write_str("NoBackend"),
-            Cause::NoVersion => f.write_str("NoVersion"),
-            Cause::RingsFull => f.write_str("RingsFull"),
-            Cause::LostAtRestart => f.write_str("LostAtRestart"),
-        }
+        f.write_str(cause_word(self.0))
     }
 }
 
-impl fmt::Display for ReasonText {
-    ghost use Rattle.std.specs.Prelude.{Some};
-    ghost use Rattle.run_report.specs.Names.{reason_name};
+// The name of a cause, of up to 13 letters.
+pub(crate) fn cause_word(cause: Cause) -> &'static str
+    ensures name { result.now ≡ cause_name cause }
+    ensures short { length (cause_name cause) ≤ 13 }
+    ensures ascii { IsAscii (cause_name cause) }
+{
+    match cause {
+        Cause::NotIpv4 => "NotIpv4",
+        Cause::Truncated => "Truncated",
+        Cause::BadHeader => "BadHeader",
+        Cause::BadChecksum => "BadChecksum",
+        Cause::Fragment => "Fragment",
+        Cause::NotTcpUdp => "NotTcpUdp",
+        Cause::BadTransport => "BadTransport",
+        Cause::TooLarge => "TooLarge",
+        Cause::NoService => "NoService",
+        Cause::NoBackend => "NoBackend",
+        Cause::NoVersion => "NoVersion",
+        Cause::RingsFull => "RingsFull",
+        Cause::LostAtRestart => "LostAtRestart",
+    }
+}
 
-    ghost output = { λ r. Some (reason_name r.0) };
-
-    fn fmt<W: fmt::Write>(&self, f: &mut fmt::Formatter<W>) -> fmt::Result {
-        match self.0 {
-            Reason::NoNode => f.write_str("NoNode"),
-            Reason::NoWorker => f.write_str("NoWorker"),
-            Reason::NoPacket => f.write_str("NoPacket"),
-            Reason::UnknownVersion => f.write_str("UnknownVersion"),
-            Reason::NotNewer => f.write_str("NotNewer"),
-            Reason::Idle => f.write_str("Idle"),
-            Reason::VersionRange => f.write_str("VersionRange"),
-        }
+// The name of a reason, of up to 14 letters.
+pub(crate) fn reason_word(reason: Reason) -> &'static str
+    ensures name { result.now ≡ reason_name reason }
+    ensures short { length (reason_name reason) ≤ 14 }
+    ensures ascii { IsAscii (reason_name reason) }
+{
+    match reason {
+        Reason::NoNode => "NoNode",
+        Reason::NoWorker => "NoWorker",
+        Reason::NoPacket => "NoPacket",
+        Reason::UnknownVersion => "UnknownVersion",
+        Reason::NotNewer => "NotNewer",
+        Reason::Idle => "Idle",
+        Reason::VersionRange => "VersionRange",
     }
 }
