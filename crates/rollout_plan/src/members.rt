@@ -58,8 +58,11 @@ fn members_gone(
 ) -> Result<Vec<Member>, AllocError>
     ensures { IfOk result (λ v. v.items ≡ members_gone before.now after.now) }
 {
-    let others = backends_in_order(alloc, after)?;
     let mut gone = Vec::new(alloc);
+    if before.is_empty() {
+        return Ok(gone);
+    }
+    let others = backends_in_order(alloc, after)?;
     for member in before {
         if !is_among(others.as_slice(), &member.backend) {
             gone.push(*member)?;
