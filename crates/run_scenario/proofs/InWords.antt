@@ -1,10 +1,9 @@
 -- What is told of a run, in the scenario's own words.
-use Rattle.std.proofs.Common.{◌≡◌, ◌≤◌, ℕ, List, length, map, ap, sym, ◌∙◌, subst, Result}
+use Rattle.std.proofs.Common.{◌≡◌, ◌≤◌, ℕ, List, length, ap, sym, ◌∙◌, subst, Result}
 use Rattle.std.specs.Prelude.{IfOk}
 use Rattle.std.proofs.lemmas.List.{length-map}
 use Rattle.ip_headers.specs.declared.Link.{Link}
-use Rattle.pcap_file.specs.declared.format.Frame.{Frame}
-use Rattle.pcap_file.specs.Format.{Record, packet}
+use Rattle.pcap_file.specs.Format.{Record}
 use Rattle.cluster_node.specs.Rules.{Rules}
 use Rattle.cluster_node.specs.declared.packets.Packet.{Packet}
 use Rattle.cluster_node.specs.declared.outcomes.Outcome.{Outcome}
@@ -35,25 +34,23 @@ same_orders r cs choice choice' packets steps steps' n n' e f h o =
     (subst (λ (x : List ScenarioStep). IfOk r (λ o. cs o ≡ orders_of choice' packets x n)) f
     (subst (λ (x : Choice). IfOk r (λ o. cs o ≡ orders_of x packets steps n)) e o))
 
-pub packets_are : (s : Scenario) (w : Wire) (link : Link) (fs fs' : List Frame) → w.link ≡ link → w.check ≡ s.check → fs ≡ fs' → packets_of w.link w.check (map packet fs) ≡ packets_in s link (map packet fs')
-packets_are s w link fs fs' e f h =
-    ap (λ (l : Link). packets_of l w.check (map packet fs)) e
-    ∙ ap (λ b. packets_of link b (map packet fs)) f
-    ∙ ap (λ (l : List Frame). packets_of link s.check (map packet l)) h
+pub packets_are : (s : Scenario) (w : Wire) (link : Link) (records : List Record) → w.link ≡ link → w.check ≡ s.check → packets_of w.link w.check records ≡ packets_in s link records
+packets_are s w link records e f =
+    ap (λ (l : Link). packets_of l w.check records) e
+    ∙ ap (λ b. packets_of link b records) f
 
 pub tally_is : (s : Scenario) (link : Link) (records : List Record) (ps : List Packet) → ps ≡ packets_in s link records → tally_of (length ps) (plan_of (choice_in s) ps s.steps.items (length s.nodes.items)) ≡ tally_in s link records
 tally_is s link records ps e =
     ap (λ (l : List Packet). tally_of (length l) (plan_of (choice_in s) l s.steps.items (length s.nodes.items))) e
     ∙ ap (λ (n : ℕ). tally_of n (plan_of (choice_in s) (packets_in s link records) s.steps.items (length s.nodes.items))) (length-map records _)
 
-pub same_sends : (s : Scenario) (w : Wire) (link : Link) (fs fs' : List Frame) (ns ns' : List NodeRecord) → w.nodes.now ≡ s.nodes.items → w.link ≡ link → w.check ≡ s.check → fs ≡ fs' → ns ≡ ns'
-    → sent_by_nodes (traffic w (map packet fs)) ns ≡ sent_by_nodes (traffic_of (plan_in s) link (map packet fs')) ns'
-same_sends s w link fs fs' ns ns' d e f h k =
-    ap (λ (l : List ℕ). sent_by_nodes (record { nodes = l; link = w.link; check = w.check; records = map packet fs }) ns) d
-    ∙ ap (λ (l : Link). sent_by_nodes (record { nodes = s.nodes.items; link = l; check = w.check; records = map packet fs }) ns) e
-    ∙ ap (λ b. sent_by_nodes (record { nodes = s.nodes.items; link = link; check = b; records = map packet fs }) ns) f
-    ∙ ap (λ (l : List Frame). sent_by_nodes (traffic_of (plan_in s) link (map packet l)) ns) h
-    ∙ ap (λ (l : List NodeRecord). sent_by_nodes (traffic_of (plan_in s) link (map packet fs')) l) k
+pub same_sends : (s : Scenario) (w : Wire) (link : Link) (records : List Record) (ns ns' : List NodeRecord) → w.nodes.now ≡ s.nodes.items → w.link ≡ link → w.check ≡ s.check → ns ≡ ns'
+    → sent_by_nodes (traffic w records) ns ≡ sent_by_nodes (traffic_of (plan_in s) link records) ns'
+same_sends s w link records ns ns' d e f k =
+    ap (λ (l : List ℕ). sent_by_nodes (record { nodes = l; link = w.link; check = w.check; records = records }) ns) d
+    ∙ ap (λ (l : Link). sent_by_nodes (record { nodes = s.nodes.items; link = l; check = w.check; records = records }) ns) e
+    ∙ ap (λ b. sent_by_nodes (record { nodes = s.nodes.items; link = link; check = b; records = records }) ns) f
+    ∙ ap (λ (l : List NodeRecord). sent_by_nodes (traffic_of (plan_in s) link records) l) k
 
 pub balanced : (rules : Rules) (packets : List Packet) (nodes : List NodeRecord) (history : History) (os : List Outcome) → WereRead packets → JoinsRuns rules packets nodes history → os ≡ history.outcomes.items → went_all os ≤ came_all os
 balanced rules packets nodes history os read joined e = subst (λ (l : List Outcome). went_all l ≤ came_all l) (sym (e ∙ joined.told)) (lists_balance rules packets history.events.items read)

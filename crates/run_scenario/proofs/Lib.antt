@@ -1,4 +1,5 @@
 pub mod Walks
+pub mod Stores
 pub mod Ruled
 pub mod InWords
 pub mod Halts

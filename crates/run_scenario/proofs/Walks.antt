@@ -1,13 +1,12 @@
 -- What is sent of a list, item by item, and the packets of a list of records.
-use Rattle.std.proofs.Common.{◌≡◌, ◌<◌, ◌≤◌, ℕ, ◌+◌, Bool, zero, suc, List, [], ◌∷◌, ◌++◌, length, map, take, drop, get_or, Option, sym, ap, ◌∙◌, subst, append-nil, take-append-drop}
-use Rattle.std.specs.List.{flat_map}
+use Rattle.std.proofs.Common.{◌≡◌, ◌<◌, ◌≤◌, ℕ, ◌+◌, Bool, zero, suc, List, [], ◌∷◌, ◌++◌, length, take, drop, get_or, Option, Some, sym, ap, ◌∙◌, subst, append-nil, take-append-drop}
+use Rattle.std.specs.List.{flat_map, slice_get}
 use Rattle.std.proofs.lemmas.List.{take_more, take_all, map_push}
 use Rattle.std.proofs.lemmas.List.Concat.{flat_map-append}
-use Rattle.std.proofs.lemmas.Option.{none-some}
+use Rattle.std.proofs.lemmas.Option.{none-some, get_or_from_slice_get}
 use Rattle.ip_headers.specs.declared.Link.{Link}
-use Rattle.pcap_file.specs.declared.format.Frame.{Frame}
 use Rattle.pcap_file.specs.Device.{Tape}
-use Rattle.pcap_file.specs.Format.{Record, packet}
+use Rattle.pcap_file.specs.Format.{Record}
 use Rattle.cluster_node.specs.declared.packets.Packet.{Packet}
 use Rattle.cluster_node.specs.Records.{WasRead}
 use Rattle.cluster_core.proofs.Frames.{was_read}
@@ -38,11 +37,10 @@ pub wrote_all : {X : Type 0} (f : X → List Sending) (xs : List X) (i : ℕ) (a
 wrote_all {X} f xs i a b le h = subst (λ (l : List X). Wrote a b (flat_map f l)) (take_all i xs le) h
 
 -- the packet of one record more
-pub packets_more : (link : Link) (check : Bool) (fs : List Frame) (i : ℕ) (x : Frame) → i < length fs → x ≡ get_or fs i x → packets_of link check (map packet (take (i + 1) fs)) ≡ packets_of link check (map packet (take i fs)) ++ packet_in link check (packet x) ∷ []
-packets_more link check fs i x lt is =
-    ap (λ (l : List Frame). packets_of link check (map packet l)) (take_more fs i x lt ∙ ap (λ (y : Frame). take i fs ++ y ∷ []) (sym is))
-    ∙ ap (λ (l : List Record). packets_of link check l) (map_push packet (take i fs) x)
-    ∙ map_push (packet_in link check) (map packet (take i fs)) (packet x)
+pub packets_more : (link : Link) (check : Bool) (rs : List Record) (i : ℕ) (r : Record) → i < length rs → slice_get rs i ≡ Some r → packets_of link check (take (i + 1) rs) ≡ packets_of link check (take i rs) ++ packet_in link check r ∷ []
+packets_more link check rs i r lt is =
+    ap (λ (l : List Record). packets_of link check l) (take_more rs i r lt ∙ ap (λ (q : Record). take i rs ++ q ∷ []) (get_or_from_slice_get rs i r r is))
+    ∙ map_push (packet_in link check) (take i rs) r
 
 pub all_read : (link : Link) (check : Bool) (rs : List Record) → WereRead (packets_of link check rs)
 all_read link check [] k p e = absurd (none-some p e)

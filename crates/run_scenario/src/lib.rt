@@ -5,6 +5,7 @@
 mod failure;
 mod orders;
 mod reading;
+mod records;
 mod report;
 mod running;
 mod sending;

@@ -1,21 +1,61 @@
 //! A capture is read whole.
-ghost use Rattle.std.specs.Prelude.{◌≡◌, ◌≤◌, IfOk, IfErr, length, map};
-ghost use Rattle.pcap_file.specs.Format.{packet, max_records};
+ghost use Rattle.std.specs.Prelude.{◌≡◌, ◌≤◌, IfOk, IfErr, OnOk, length, vec_capacity};
+ghost use Rattle.pcap_file.specs.Device.{Unfailed};
+ghost use Rattle.pcap_file.specs.Format.{max_records};
+ghost use Rattle.pcap_file.specs.Text.{IsTold, AllRefused};
 ghost use Rattle.cluster_core.specs.Cluster.{WereRead};
 ghost use Rattle.simulation.specs.Sent.{packets_of};
 ghost use Rattle.run_scenario.specs.Inputs.{IsReadWhole, ReadingFails};
+ghost use Rattle.run_scenario.specs.PrivateStore.{Fits};
 
+use crate::records::Records;
 use cluster_node::Packet;
-use pcap_file::{Frame, Head, InputEnd, Source, read_records, read_start};
+use pcap_file::{Ending, Frame, Head, InputEnd, PcapFault, Source, read_record_into, read_start};
 use simulation::{SimulationFault, Wire};
 use std::alloc::{AllocError, Global};
 
-/// A capture's header, its records, and whether it ends inside a further one.
+/// A capture's header, its records, and whether it ends inside a further one. The frame has room for each of the records.
 #[derive(Drop)]
 pub(crate) struct Captured {
     pub(crate) head: Head,
-    pub(crate) frames: Vec<Frame>,
+    pub(crate) records: Records,
+    pub(crate) frame: Frame,
     pub(crate) ending: InputEnd,
+}
+
+// Reads the records after a header to the input's end. One frame takes them all, one after another, and a second gets room
+// for each of them, for whoever goes over them later.
+fn read_records<I: Source>(
+    alloc: Global,
+    input: &mut I,
+    head: Head,
+) -> Result<(Records, Frame, InputEnd), PcapFault>
+    ensures few { IfOk result (λ all. length all.0 ≤ max_records) }
+    ensures fits { IfOk result (λ all. Fits all.0 (vec_capacity all.1.bytes)) }
+    ensures told { IfOk result (λ all. IsTold head (I.tape input.old).bytes all.0 all.2) }
+    ensures unfailed { OnOk result (Unfailed (I.tape input.old) (I.tape input.new)) }
+    ensures refused { IfErr result (AllRefused head (I.tape input.old) (I.tape input.new)) }
+{
+    let mut records = Records::new(alloc);
+    let mut next = Frame::empty(alloc);
+    let mut frame = Frame::empty(alloc);
+    let mut given = 0;
+    loop {
+        match read_record_into(input, head, given, &mut next) {
+            Ok(()) => {
+                let Ok(()) = records.push(&next) else {
+                    return Err(PcapFault::Memory);
+                };
+                let Ok(()) = records.make_room(&mut frame) else {
+                    return Err(PcapFault::Memory);
+                };
+                given += 1;
+            }
+            Err(Ending::End) => return Ok((records, frame, InputEnd::End)),
+            Err(Ending::Cut) => return Ok((records, frame, InputEnd::Cut)),
+            Err(Ending::Failed(fault)) => return Err(fault),
+        }
+    }
 }
 
 /// Reads a capture to its end.
@@ -23,8 +63,9 @@ pub(crate) fn read_whole<I: Source>(
     alloc: Global,
     input: &mut I,
 ) -> Result<Captured, SimulationFault>
-    ensures whole { IfOk result (λ c. IsReadWhole (I.tape input.old) (I.tape input.new) c.head (map packet c.frames.items) c.ending) }
-    ensures few { IfOk result (λ c. length c.frames.items ≤ max_records) }
+    ensures whole { IfOk result (λ c. IsReadWhole (I.tape input.old) (I.tape input.new) c.head c.records c.ending) }
+    ensures few { IfOk result (λ c. length c.records ≤ max_records) }
+    ensures fits { IfOk result (λ c. Fits c.records (vec_capacity c.frame.bytes)) }
     ensures fails { IfErr result (λ fault. ReadingFails fault (I.tape input.old) (I.tape input.new)) }
 {
     let head = match read_start(input) {
@@ -32,9 +73,10 @@ pub(crate) fn read_whole<I: Source>(
         Err(fault) => return Err(SimulationFault::Capture(fault)),
     };
     match read_records(alloc, input, head) {
-        Ok((frames, ending)) => Ok(Captured {
+        Ok((records, frame, ending)) => Ok(Captured {
             head,
-            frames,
+            records,
+            frame,
             ending,
         }),
         Err(fault) => Err(SimulationFault::Capture(fault)),
@@ -45,15 +87,18 @@ pub(crate) fn read_whole<I: Source>(
 pub(crate) fn packets_of(
     alloc: Global,
     wire: &Wire<'_>,
-    frames: &[Frame],
+    records: &Records,
 ) -> Result<Vec<Packet>, AllocError>
-    ensures packets { IfOk result (λ v. v.items ≡ packets_of wire.now.link wire.now.check (map packet frames.now)) }
+    ensures packets { IfOk result (λ v. v.items ≡ packets_of wire.now.link wire.now.check records.now) }
     ensures read { IfOk result (λ v. WereRead v.items) }
-    ensures count { IfOk result (λ v. length v.items ≡ length frames.now) }
+    ensures count { IfOk result (λ v. length v.items ≡ length records.now) }
 {
-    let mut packets = Vec::with_capacity(alloc, frames.len())?;
-    for frame in frames {
-        packets.push(wire.packet(frame))?;
+    let mut packets = Vec::with_capacity(alloc, records.len())?;
+    let mut frame = Frame::empty(alloc);
+    records.make_room(&mut frame)?;
+    for at in 0..records.len() {
+        records.load(at, &mut frame);
+        packets.push(wire.packet(&frame))?;
     }
     Ok(packets)
 }

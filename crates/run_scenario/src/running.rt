@@ -1,6 +1,6 @@
 //! A scenario's cluster runs on threads over a capture.
-ghost use Rattle.std.specs.Prelude.{◌≡◌, ◌≤◌, ◌++◌, ℕ, length, map, Some, Err, IfOk, IfErr, string_bytes, true};
-ghost use Rattle.pcap_file.specs.Format.{packet, max_records};
+ghost use Rattle.std.specs.Prelude.{◌≡◌, ◌≤◌, ◌++◌, ℕ, length, Some, Err, IfOk, IfErr, string_bytes, true};
+ghost use Rattle.pcap_file.specs.Format.{max_records};
 ghost use Rattle.driver_commands.specs.Knowing.{first_unsupported_of};
 ghost use Rattle.scenario.specs.Meaning.{HasLimits};
 ghost use Rattle.simulate_scenario.specs.Answers.{totals_in, is_cut};
@@ -56,13 +56,13 @@ fn run_over<R: Threads + Wait + Sync>(
 ) -> Result<Done, RunFailure>
     requires limits { HasLimits scenario.now }
     requires size { scenario.now.catalogue.size ≡ scenario.now.size }
-    requires few { length captured.now.frames.items ≤ max_records }
-    ensures run { IfOk result (λ d. AreOfRun scenario.now captured.now.head.link (map packet captured.now.frames.items) d.run.nodes.items d.run.history) }
-    ensures report { IfOk result (λ d. string_bytes d.text ≡ splits_if splits scenario.now d.run.history ++ audited_report (tally_in scenario.now captured.now.head.link (map packet captured.now.frames.items)) (totals_in d.run.history.outcomes.items) (is_cut captured.now.ending) true) }
+    requires few { length captured.now.records ≤ max_records }
+    ensures run { IfOk result (λ d. AreOfRun scenario.now captured.now.head.link captured.now.records d.run.nodes.items d.run.history) }
+    ensures report { IfOk result (λ d. string_bytes d.text ≡ splits_if splits scenario.now d.run.history ++ audited_report (tally_in scenario.now captured.now.head.link captured.now.records) (totals_in d.run.history.outcomes.items) (is_cut captured.now.ending) true) }
     ensures stopped { IfErr result IsOfThreads }
 {
     let wire = wire_of(scenario, captured.head.link);
-    let packets = packets_of(alloc, &wire, captured.frames.as_slice())?;
+    let packets = packets_of(alloc, &wire, &captured.records)?;
     let orders = orders_of(alloc, scenario, packets.as_slice())?;
     let audited = run_named(
         rt,
@@ -132,9 +132,10 @@ pub fn run_scenario<R: Threads + Wait + Sync, I: Source, O: Sink>(
     let captured = read_whole(alloc, input)?;
     let done = run_over(rt, alloc, key, scenario, &captured, splits)?;
     let wire = wire_of(scenario, captured.head.link);
-    let frames = captured.frames.as_slice();
     let nodes = done.run.nodes.as_slice();
-    match write_capture(alloc, output, &wire, frames, nodes) {
+    let mut frame = captured.frame;
+    let records = &captured.records;
+    match write_capture(alloc, output, &wire, records, &mut frame, nodes) {
         Ok(()) => Ok(done.text),
         Err(fault) => Err(RunFailure::Simulation(fault)),
     }

@@ -1,13 +1,14 @@
 //! What the nodes sent is written.
-ghost use Rattle.std.specs.Prelude.{◌≡◌, OnOk, IfErr, map};
+ghost use Rattle.std.specs.Prelude.{OnOk, IfErr, vec_capacity};
 ghost use Rattle.std.specs.Io.KnownBytes.{Appends};
 ghost use Rattle.pcap_file.specs.Device.{Unfailed};
-ghost use Rattle.pcap_file.specs.Format.{packet};
 ghost use Rattle.simulation.specs.Sent.{sent_by, capture_text, Wrote, WroteUntil};
 ghost use Rattle.simulation.specs.Simulated.{IsOfRun, CaptureUntil};
 ghost use Rattle.simulation.specs.Wires.{traffic};
+ghost use Rattle.run_scenario.specs.PrivateStore.{Fits};
 ghost use Rattle.run_scenario.specs.Sends.{sent_of, sent_by_lives, sent_by_nodes};
 
+use crate::records::Records;
 use cluster_node::Outcome;
 use pcap_file::{Frame, Sink, write_head};
 use simulation::{SimulationFault, Wire};
@@ -18,14 +19,17 @@ use thread_records::NodeRecord;
 #[tactic(auto, unfolding(simulation::specs::Sent::sent_by))]
 fn send_outcome<O: Sink>(
     room: &mut Vec<u8>,
+    frame: &mut Frame,
     output: &mut O,
     wire: &Wire<'_>,
-    frames: &[Frame],
+    records: &Records,
     outcome: &Outcome,
 ) -> Result<(), SimulationFault>
-    ensures ok { OnOk result (Wrote (O.tape output.old) (O.tape output.new) (sent_by (traffic wire.now (map packet frames.now)) outcome.now)) }
+    requires fits { Fits records.now (vec_capacity frame.old.bytes) }
+    ensures fits { Fits records.now (vec_capacity frame.new.bytes) }
+    ensures ok { OnOk result (Wrote (O.tape output.old) (O.tape output.new) (sent_by (traffic wire.now records.now) outcome.now)) }
     ensures named { IfErr result IsOfRun }
-    ensures cut { IfErr result (λ fault. WroteUntil fault (O.tape output.old) (O.tape output.new) (sent_by (traffic wire.now (map packet frames.now)) outcome.now)) }
+    ensures cut { IfErr result (λ fault. WroteUntil fault (O.tape output.old) (O.tape output.new) (sent_by (traffic wire.now records.now) outcome.now)) }
 {
     match outcome {
         Outcome::Forward {
@@ -34,9 +38,11 @@ fn send_outcome<O: Sink>(
             backend,
             ..
         } => {
-            let Some(frame) = frames.get(*packet as usize) else {
+            let at = *packet as usize;
+            if at >= records.len() {
                 return Ok(());
-            };
+            }
+            records.load(at, frame);
             let read = wire.packet(frame);
             wire.send_record(room, output, *node, backend, frame, &read)
         }
@@ -47,17 +53,20 @@ fn send_outcome<O: Sink>(
 // Sends what was sent in one life.
 fn send_life<O: Sink>(
     room: &mut Vec<u8>,
+    frame: &mut Frame,
     output: &mut O,
     wire: &Wire<'_>,
-    frames: &[Frame],
+    records: &Records,
     life: &[Outcome],
 ) -> Result<(), SimulationFault>
-    ensures ok { OnOk result (Wrote (O.tape output.old) (O.tape output.new) (sent_of (traffic wire.now (map packet frames.now)) life.now)) }
+    requires fits { Fits records.now (vec_capacity frame.old.bytes) }
+    ensures fits { Fits records.now (vec_capacity frame.new.bytes) }
+    ensures ok { OnOk result (Wrote (O.tape output.old) (O.tape output.new) (sent_of (traffic wire.now records.now) life.now)) }
     ensures named { IfErr result IsOfRun }
-    ensures cut { IfErr result (λ fault. WroteUntil fault (O.tape output.old) (O.tape output.new) (sent_of (traffic wire.now (map packet frames.now)) life.now)) }
+    ensures cut { IfErr result (λ fault. WroteUntil fault (O.tape output.old) (O.tape output.new) (sent_of (traffic wire.now records.now) life.now)) }
 {
     for outcome in life {
-        send_outcome(room, output, wire, frames, outcome)?;
+        send_outcome(room, frame, output, wire, records, outcome)?;
     }
     Ok(())
 }
@@ -65,17 +74,20 @@ fn send_life<O: Sink>(
 // Sends what a node sent, life by life.
 fn send_lives<O: Sink>(
     room: &mut Vec<u8>,
+    frame: &mut Frame,
     output: &mut O,
     wire: &Wire<'_>,
-    frames: &[Frame],
+    records: &Records,
     lives: &[Vec<Outcome>],
 ) -> Result<(), SimulationFault>
-    ensures ok { OnOk result (Wrote (O.tape output.old) (O.tape output.new) (sent_by_lives (traffic wire.now (map packet frames.now)) lives.now)) }
+    requires fits { Fits records.now (vec_capacity frame.old.bytes) }
+    ensures fits { Fits records.now (vec_capacity frame.new.bytes) }
+    ensures ok { OnOk result (Wrote (O.tape output.old) (O.tape output.new) (sent_by_lives (traffic wire.now records.now) lives.now)) }
     ensures named { IfErr result IsOfRun }
-    ensures cut { IfErr result (λ fault. WroteUntil fault (O.tape output.old) (O.tape output.new) (sent_by_lives (traffic wire.now (map packet frames.now)) lives.now)) }
+    ensures cut { IfErr result (λ fault. WroteUntil fault (O.tape output.old) (O.tape output.new) (sent_by_lives (traffic wire.now records.now) lives.now)) }
 {
     for life in lives {
-        send_life(room, output, wire, frames, life.as_slice())?;
+        send_life(room, frame, output, wire, records, life.as_slice())?;
     }
     Ok(())
 }
@@ -83,17 +95,20 @@ fn send_lives<O: Sink>(
 // Sends what the nodes sent, node by node.
 fn send_nodes<O: Sink>(
     room: &mut Vec<u8>,
+    frame: &mut Frame,
     output: &mut O,
     wire: &Wire<'_>,
-    frames: &[Frame],
+    records: &Records,
     nodes: &[NodeRecord],
 ) -> Result<(), SimulationFault>
-    ensures ok { OnOk result (Wrote (O.tape output.old) (O.tape output.new) (sent_by_nodes (traffic wire.now (map packet frames.now)) nodes.now)) }
+    requires fits { Fits records.now (vec_capacity frame.old.bytes) }
+    ensures fits { Fits records.now (vec_capacity frame.new.bytes) }
+    ensures ok { OnOk result (Wrote (O.tape output.old) (O.tape output.new) (sent_by_nodes (traffic wire.now records.now) nodes.now)) }
     ensures named { IfErr result IsOfRun }
-    ensures cut { IfErr result (λ fault. WroteUntil fault (O.tape output.old) (O.tape output.new) (sent_by_nodes (traffic wire.now (map packet frames.now)) nodes.now)) }
+    ensures cut { IfErr result (λ fault. WroteUntil fault (O.tape output.old) (O.tape output.new) (sent_by_nodes (traffic wire.now records.now) nodes.now)) }
 {
     for node in nodes {
-        send_lives(room, output, wire, frames, node.sent.as_slice())?;
+        send_lives(room, frame, output, wire, records, node.sent.as_slice())?;
     }
     Ok(())
 }
@@ -104,19 +119,21 @@ pub(crate) fn write_capture<O: Sink>(
     alloc: Global,
     output: &mut O,
     wire: &Wire<'_>,
-    frames: &[Frame],
+    records: &Records,
+    frame: &mut Frame,
     nodes: &[NodeRecord],
 ) -> Result<(), SimulationFault>
-    ensures written { OnOk result (Appends (O.tape output.old).bytes (O.tape output.new).bytes (capture_text (sent_by_nodes (traffic wire.now (map packet frames.now)) nodes.now)) × Unfailed (O.tape output.old) (O.tape output.new)) }
+    requires fits { Fits records.now (vec_capacity frame.old.bytes) }
+    ensures written { OnOk result (Appends (O.tape output.old).bytes (O.tape output.new).bytes (capture_text (sent_by_nodes (traffic wire.now records.now) nodes.now)) × Unfailed (O.tape output.old) (O.tape output.new)) }
     ensures named { IfErr result IsOfRun }
-    ensures cut { IfErr result (λ fault. CaptureUntil fault (O.tape output.old) (O.tape output.new) (sent_by_nodes (traffic wire.now (map packet frames.now)) nodes.now)) }
+    ensures cut { IfErr result (λ fault. CaptureUntil fault (O.tape output.old) (O.tape output.new) (sent_by_nodes (traffic wire.now records.now) nodes.now)) }
 {
     match write_head(output) {
         Ok(()) => {}
         Err(_) => return Err(SimulationFault::Write),
     }
     let mut room = Vec::new(alloc);
-    match send_nodes(&mut room, output, wire, frames, nodes) {
+    match send_nodes(&mut room, frame, output, wire, records, nodes) {
         Ok(()) => Ok(()),
         Err(fault) => Err(fault),
     }

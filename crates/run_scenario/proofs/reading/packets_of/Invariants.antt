@@ -1,7 +1,10 @@
-use Rattle.std.proofs.Common.{◌≡◌, map, take}
-use Rattle.pcap_file.specs.Format.{packet}
+use Rattle.std.proofs.Common.{◌≡◌, take, vec_capacity}
 use Rattle.simulation.specs.Sent.{packets_of}
+use Rattle.run_scenario.specs.PrivateStore.{Fits}
 use Rattle.run_scenario.proofs.reading.packets_of.Given as goal
 
-abbrev pub invariant-loop-frame : goal.invariant-loop-frame
-invariant-loop-frame l = l.packets.items ≡ packets_of l.wire.link l.wire.check (map packet (take l.frame-index l.frames))
+abbrev pub invariant-loop-at : goal.invariant-loop-at
+invariant-loop-at l = record {
+  packets : l.packets.items ≡ packets_of l.wire.link l.wire.check (take l.at l.records);
+  fits : Fits l.records (vec_capacity l.frame.bytes);
+}

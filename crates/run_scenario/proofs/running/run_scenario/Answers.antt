@@ -9,8 +9,8 @@ use Rattle.run_scenario.proofs.running.run_scenario.Goals as goal
 
 pub returns-in-Ok-clause-ok : goal.returns-in-Ok-clause-ok
 returns-in-Ok-clause-ok g c =
-    let same = same_sends c.args.scenario.now c.wire_of-wire.result c.in_ok-captured.captured.head.link c.as_slice-frames.result.now c.in_ok-captured.captured.frames.items c.as_slice-nodes.result.now c.in_ok-done.done.run.nodes.items
-    c.wire_of-wire.ensures.nodes c.wire_of-wire.ensures.link c.wire_of-wire.ensures.check c.as_slice-frames.ensures.value c.as_slice-nodes.ensures.value in
+    let same = same_sends c.args.scenario.now c.wire_of-wire.result c.in_ok-captured.captured.head.link c.in_ok-captured.captured.records c.as_slice-nodes.result.now c.in_ok-done.done.run.nodes.items
+    c.wire_of-wire.ensures.nodes c.wire_of-wire.ensures.link c.wire_of-wire.ensures.check c.as_slice-nodes.ensures.value in
     record {
       known = ap (λ l. first_unsupported_of l) (sym c.as_slice.ensures.value) ∙ sym c.in-None.ensures;
       head = c.in_ok-captured.captured.head;
@@ -30,8 +30,8 @@ returns-in-Ok-clause-kept g c = λ ran. keeps c.args.scenario.now ran.head.link 
 
 pub returns-clause-stopped : goal.returns-clause-stopped
 returns-clause-stopped g c =
-    let same = same_sends c.args.scenario.now c.wire_of-wire.result c.in_ok-captured.captured.head.link c.as_slice-frames.result.now c.in_ok-captured.captured.frames.items c.as_slice-nodes.result.now c.in_ok-done.done.run.nodes.items
-    c.wire_of-wire.ensures.nodes c.wire_of-wire.ensures.link c.wire_of-wire.ensures.check c.as_slice-frames.ensures.value c.as_slice-nodes.ensures.value in
+    let same = same_sends c.args.scenario.now c.wire_of-wire.result c.in_ok-captured.captured.head.link c.in_ok-captured.captured.records c.as_slice-nodes.result.now c.in_ok-done.done.run.nodes.items
+    c.wire_of-wire.ensures.nodes c.wire_of-wire.ensures.link c.wire_of-wire.ensures.check c.as_slice-nodes.ensures.value in
     inr (inr (record {
       head = c.in_ok-captured.captured.head;
       records = _;
