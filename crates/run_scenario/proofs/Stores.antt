@@ -11,7 +11,7 @@ use Rattle.pcap_file.specs.Text.{Passed, AllRefused}
 use Rattle.pcap_file.specs.Format.{Record}
 use Rattle.pcap_file.proofs.Texts.{passed-push}
 use Rattle.run_scenario.specs.declared.records.Entry.{Entry}
-use Rattle.run_scenario.specs.PrivateStore.{record_at, IsHeld, Fits}
+use Rattle.run_scenario.specs.Store.{record_at, IsHeld, Fits}
 
 -- there is room for each record where there is room for the longest
 pub room_for_all : (bytes : List ℕ) (longest room : ℕ) (es : List Entry) → All (IsHeld (length bytes) longest) es → longest ≤ room → Fits (map (record_at bytes) es) room

@@ -3,4 +3,4 @@ pub mod Inputs
 pub mod Runs
 pub mod Kept
 pub mod PrivateFailures
-pub mod PrivateStore
+pub mod Store

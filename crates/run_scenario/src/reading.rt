@@ -6,7 +6,7 @@ ghost use Rattle.pcap_file.specs.Text.{IsTold, AllRefused};
 ghost use Rattle.cluster_core.specs.Cluster.{WereRead};
 ghost use Rattle.simulation.specs.Sent.{packets_of};
 ghost use Rattle.run_scenario.specs.Inputs.{IsReadWhole, ReadingFails};
-ghost use Rattle.run_scenario.specs.PrivateStore.{Fits};
+ghost use Rattle.run_scenario.specs.Store.{Fits};
 
 use crate::records::Records;
 use cluster_node::Packet;

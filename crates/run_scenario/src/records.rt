@@ -1,7 +1,7 @@
 //! The records of a capture, in one store.
 ghost use Rattle.std.specs.Prelude.{◌≡◌, ◌<◌, ◌≤◌, ◌++◌, ◌∷◌, [], length, OnOk, OnErr, Some, slice_get, vec_capacity};
 ghost use Rattle.pcap_file.specs.Format.{packet};
-ghost use Rattle.run_scenario.specs.PrivateStore.{Fits};
+ghost use Rattle.run_scenario.specs.Store.{Fits};
 
 use pcap_file::Frame;
 use std::alloc::{AllocError, Global};
@@ -33,7 +33,7 @@ impl Model for Records {
     ghost Value = { List Record };
 
     ghost use Rattle.std.specs.Prelude.{map, All, length};
-    ghost use Rattle.run_scenario.specs.PrivateStore.{record_at, IsHeld};
+    ghost use Rattle.run_scenario.specs.Store.{record_at, IsHeld};
 
     ghost view = { λ s. map (record_at s.bytes.items) s.entries.items };
 

@@ -5,7 +5,7 @@ ghost use Rattle.pcap_file.specs.Device.{Unfailed};
 ghost use Rattle.simulation.specs.Sent.{sent_by, capture_text, Wrote, WroteUntil};
 ghost use Rattle.simulation.specs.Simulated.{IsOfRun, CaptureUntil};
 ghost use Rattle.simulation.specs.Wires.{traffic};
-ghost use Rattle.run_scenario.specs.PrivateStore.{Fits};
+ghost use Rattle.run_scenario.specs.Store.{Fits};
 ghost use Rattle.run_scenario.specs.Sends.{sent_of, sent_by_lives, sent_by_nodes};
 
 use crate::records::Records;

@@ -1,6 +1,6 @@
 use Rattle.std.proofs.Common.{◌≡◌, take, vec_capacity}
 use Rattle.simulation.specs.Sent.{packets_of}
-use Rattle.run_scenario.specs.PrivateStore.{Fits}
+use Rattle.run_scenario.specs.Store.{Fits}
 use Rattle.run_scenario.proofs.reading.packets_of.Given as goal
 
 abbrev pub invariant-loop-at : goal.invariant-loop-at

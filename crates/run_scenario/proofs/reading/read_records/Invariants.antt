@@ -2,7 +2,7 @@ use Rattle.std.proofs.Common.{◌≡◌, ◌-◌, ◌≤◌, length, vec_capacit
 use Rattle.pcap_file.specs.Device.{Unfailed, CallsAtMost}
 use Rattle.pcap_file.specs.Format.{max_records}
 use Rattle.pcap_file.specs.Text.{Passed, calls_for}
-use Rattle.run_scenario.specs.PrivateStore.{Fits}
+use Rattle.run_scenario.specs.Store.{Fits}
 use Rattle.run_scenario.proofs.reading.read_records.Given as goal
 
 abbrev pub invariant-loop-records : goal.invariant-loop-records

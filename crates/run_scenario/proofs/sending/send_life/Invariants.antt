@@ -2,7 +2,7 @@ use Rattle.std.proofs.Common.{take, vec_capacity}
 use Rattle.std.specs.List.{flat_map}
 use Rattle.simulation.specs.Sent.{sent_by, Wrote}
 use Rattle.simulation.specs.Wires.{traffic}
-use Rattle.run_scenario.specs.PrivateStore.{Fits}
+use Rattle.run_scenario.specs.Store.{Fits}
 use Rattle.run_scenario.proofs.sending.send_life.Given as goal
 
 abbrev pub invariant-loop-outcome : goal.invariant-loop-outcome

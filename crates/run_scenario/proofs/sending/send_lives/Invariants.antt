@@ -3,7 +3,7 @@ use Rattle.std.specs.List.{flat_map}
 use Rattle.simulation.specs.Sent.{Wrote}
 use Rattle.simulation.specs.Wires.{traffic}
 use Rattle.run_scenario.specs.Sends.{sent_of}
-use Rattle.run_scenario.specs.PrivateStore.{Fits}
+use Rattle.run_scenario.specs.Store.{Fits}
 use Rattle.run_scenario.proofs.sending.send_lives.Given as goal
 
 abbrev pub invariant-loop-life : goal.invariant-loop-life

@@ -2,7 +2,7 @@ use Rattle.std.proofs.Common.{◌≡◌, ◌++◌, ◌∷◌, [], ℕ, List, len
 use Rattle.std.proofs.lemmas.Result.{err_from_is_err_and}
 use Rattle.pcap_file.specs.Format.{Record}
 use Rattle.run_scenario.specs.declared.records.Entry.{Entry}
-use Rattle.run_scenario.specs.PrivateStore.{record_at}
+use Rattle.run_scenario.specs.Store.{record_at}
 use Rattle.run_scenario.proofs.Stores.{same_records, one_more}
 use Rattle.run_scenario.proofs.records.Records.push.Goals as goal
 
