@@ -84,3 +84,19 @@ fn causes_in_their_order(rt: HostRuntime) {
         "nothing waits any more",
     );
 }
+
+// They lie in another order than they are printed in.
+#[test]
+fn counts_are_printed_in_their_order(rt: HostRuntime) {
+    let alloc = rt.alloc();
+    let mut stats = Stats::new();
+    for _ in 0..5 {
+        holds(&rt, stats.receive(), "it came");
+    }
+    holds(&rt, stats.forwarded_one(), "it was sent");
+    holds(&rt, stats.dropped_one(Cause::Fragment), "it was dropped");
+    let line = format!(in alloc; "{stats:?}").expect(&rt, "memory");
+    let wanted =
+        "Stats { received: 5, forwarded: 1, dropped: [0, 0, 0, 0, 1, 0, 0, 0, 0, 0, 0, 0, 0], waiting: 3 }";
+    holds(&rt, line.as_str() == wanted, "a line");
+}
