@@ -1,7 +1,8 @@
 #!/usr/bin/env bash
 # chosen.sh [FLOWS PACKETS]: times `simulate`, also with `--splits`, over packets of flows that were chosen to fall into one
 # bucket of a table and one group of a map by the key that everybody knows, beside as many of common flows, and prints the ratio
-# of the best runs; then how evenly such flows, and others in patterns, are spread over both under 200 drawn keys. Choosing 65,536 flows takes some seconds.
+# of the best runs; then how evenly such flows, and others in patterns, are spread over both under 200 drawn keys. Choosing
+# 65,536 flows takes some seconds.
 source "$(dirname "$(readlink -f "${BASH_SOURCE[0]}")")/common.sh"
 flows=${1:-65536} packets=${2:-200000}
 . "$top/bin/program.sh"
