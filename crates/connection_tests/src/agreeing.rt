@@ -6,18 +6,14 @@ use backend_names::Name;
 use connection_table::{ConnTable, Entry, LruTable, PlainTable, Renewed};
 use five_tuple::Flow;
 use pool_versions::Backend;
+use rand_core::{Rng, SeedableRng};
+use rand_xoshiro::SplitMix64;
 use std::alloc::Global;
 use std::process::Abort;
 
-// Numbers that look random: those of Numerical Recipes' linear generator.
-#[derive(Clone, Copy)]
-struct Dice(u32);
-
-impl Dice {
-    fn below(&mut self, limit: u32) -> u32 {
-        self.0 = self.0.wrapping_mul(1_664_525).wrapping_add(1_013_904_223);
-        (self.0 >> 8) % limit.max(1)
-    }
+// A number below a limit.
+fn below(dice: &mut SplitMix64, limit: u32) -> u32 {
+    (dice.next_u64() % u64::from(limit.max(1))) as u32
 }
 
 fn flow(number: u32) -> Flow {
@@ -47,7 +43,8 @@ fn told(renewed: Renewed) -> (Entry, bool, bool) {
     }
 }
 
-// One operation on a table, and what it says. Each eighth entry isn't kept.
+// One operation on a table, and what it says: an entry, whether it was there, and whether it was stored. A renewal keeps seven
+// of eight addresses.
 fn operate<T: ConnTable>(
     table: &mut T,
     kind: u32,
@@ -63,7 +60,7 @@ fn operate<T: ConnTable>(
             .touch(&flow, new.last)
             .map(|entry| (entry, true, false)),
         2 => table.look(&flow).map(|entry| (entry, true, false)),
-        3 => table.peek(&flow).map(|entry| (entry, false, false)),
+        3 => table.peek(&flow).map(|entry| (entry, true, false)),
         _ => {
             let keeps = |held: &Entry| held.backend.addr % 8 != 0;
             Some(told(table.renew(flow, new.last, keeps, || *new)))
@@ -78,11 +75,11 @@ fn agree(rt: &impl Abort, alloc: Global, limit: u32, flows: u32, turns: u32)
 {
     let mut one = LruTable::make(alloc, limit).expect(rt, "a table");
     let mut other = PlainTable::make(alloc, limit).expect(rt, "a table");
-    let mut dice = Dice(limit);
+    let mut dice = SplitMix64::seed_from_u64(u64::from(limit));
     for turn in 0..turns {
-        let flow = flow(dice.below(flows));
-        let kind = dice.below(12);
-        let new = entry(rt, dice.below(100), u64::from(turn / 3));
+        let flow = flow(below(&mut dice, flows));
+        let kind = below(&mut dice, 12);
+        let new = entry(rt, below(&mut dice, 100), u64::from(turn / 3));
         assert_eq!(rt;
             operate(&mut one, kind, flow, &new),
             operate(&mut other, kind, flow, &new)
