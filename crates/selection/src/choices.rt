@@ -20,7 +20,7 @@ pub(crate) struct Choices<S: Scheme> {
     size: TableSize,
     ups: Vec<Backend>,
     weights: Vec<Weight>,
-    // Where a backend is looked for first, by its address.
+    // The cells in which a backend is looked for first, by its address.
     places: Vec<u32>,
     prepared: S::Prepared,
 }
@@ -79,28 +79,78 @@ fn weigh_the_same(weights: &[Weight], others: &[Weight]) -> bool
 // of Computer Programming, 6.4).
 const SPREAD: u32 = 0x9E37_79B1;
 
-// The cell of an address among so many, a power of two. It takes no division.
-fn cell_of(addr: u32, cells: usize) -> usize {
+// What a cell has that is nobody's. No list has a place of this number.
+const NOBODY: u32 = u32::MAX;
+
+// How many cells an address has beside its first.
+const FURTHER: usize = 4;
+
+// The number's highest bits: a cell of so many, a power of two. It takes no division.
+#[inline(always)]
+fn highest(number: u32, cells: usize) -> usize {
     let shift = cells.leading_zeros().wrapping_add(1);
-    (addr.wrapping_mul(SPREAD) as u64)
-        .wrapping_shl(32)
-        .wrapping_shr(shift) as usize
+    (number as u64).wrapping_shl(32).wrapping_shr(shift) as usize
 }
 
-// For each cell the place of the last backend whose address falls into it. There are two to four cells a backend, so that
-// few share one. Nothing rests on it.
+// The cell in which an address is looked for first. Consecutive addresses have cells of their own.
+#[inline(always)]
+fn first_cell(addr: u32, cells: usize) -> usize {
+    highest(addr.wrapping_mul(SPREAD), cells)
+}
+
+// The bits of an address, mixed, so that addresses of which many have one first cell fall apart (after MurmurHash3's finish).
+#[inline(always)]
+fn mixed(addr: u32) -> u32 {
+    let bits = (addr ^ (addr >> 16)).wrapping_mul(0x85EB_CA6B);
+    let bits = (bits ^ (bits >> 13)).wrapping_mul(0xC2B2_AE35);
+    bits ^ (bits >> 16)
+}
+
+// One of the further cells of an address: they follow one another.
+#[inline(always)]
+fn further_cell(addr: u32, cells: usize, nth: usize) -> usize {
+    highest(mixed(addr), cells).wrapping_add(nth) & cells.wrapping_sub(1)
+}
+
+fn is_free(places: &[u32], cell: usize) -> bool {
+    matches!(places.get(cell), Some(&NOBODY))
+}
+
+// The cell of an address that is still free, if there is one.
+fn free_cell(places: &[u32], addr: u32) -> Option<usize> {
+    let first = first_cell(addr, places.len());
+    if is_free(places, first) {
+        return Some(first);
+    }
+    for nth in 0..FURTHER {
+        let cell = further_cell(addr, places.len(), nth);
+        if is_free(places, cell) {
+            return Some(cell);
+        }
+    }
+    None
+}
+
+// Puts a place into a free cell of its address.
+fn expect(places: &mut [u32], addr: u32, place: usize) {
+    if let (Some(cell), Ok(place)) = (free_cell(places, addr), u32::try_from(place)) {
+        if let Some(held) = places.get_mut(cell) {
+            *held = place;
+        }
+    }
+}
+
+// Cells that have the places of backends by their addresses, two to four for each. Nearly all find a cell of their own: of
+// consecutive addresses each its first one. Nothing rests on them.
 fn likely_places(alloc: Global, ups: &[Backend]) -> Result<Vec<u32>, AllocError> {
     let cells = match ups.len() {
         0 => 0,
         count => count.saturating_mul(2).next_power_of_two(),
     };
     let mut places = Vec::new(alloc);
-    places.resize_with(cells, || 0)?;
+    places.resize_with(cells, || NOBODY)?;
     for (place, backend) in ups.iter().enumerate() {
-        let cell = places.get_mut(cell_of(backend.addr, cells));
-        if let (Some(cell), Ok(place)) = (cell, u32::try_from(place)) {
-            *cell = place;
-        }
+        expect(places.as_mut_slice(), backend.addr, place);
     }
     Ok(places)
 }
@@ -169,11 +219,11 @@ impl<S: Scheme> Choices<S> {
         self.ups.as_slice()
     }
 
-    /// Whether a backend is where its address lets expect it. If it isn't, it may be elsewhere.
-    pub(crate) fn is_where_expected(&self, backend: &Backend) -> bool
+    // Whether a cell has this backend.
+    #[inline(always)]
+    fn is_in_cell(&self, cell: usize, backend: &Backend) -> bool
         ensures { IsTrue result → Contains self.now.ups.backends backend.now }
     {
-        let cell = cell_of(backend.addr, self.places.len());
         let Some(place) = self.places.get(cell) else {
             return false;
         };
@@ -181,6 +231,33 @@ impl<S: Scheme> Choices<S> {
             Some(other) => is_same(backend, other),
             None => false,
         }
+    }
+
+    // Whether a backend is in one of the further cells of its address. They are filled in their order, so that none comes
+    // behind a free one.
+    fn is_further(&self, backend: &Backend) -> bool
+        ensures { IsTrue result → Contains self.now.ups.backends backend.now }
+    {
+        let cells = self.places.len();
+        for nth in 0..FURTHER {
+            let cell = further_cell(backend.addr, cells, nth);
+            if self.is_in_cell(cell, backend) {
+                return true;
+            }
+            if is_free(self.places.as_slice(), cell) {
+                return false;
+            }
+        }
+        false
+    }
+
+    /// Whether a backend is where its address lets expect it. If it isn't, it may be elsewhere.
+    #[inline(always)]
+    pub(crate) fn is_where_expected(&self, backend: &Backend) -> bool
+        ensures { IsTrue result → Contains self.now.ups.backends backend.now }
+    {
+        let first = first_cell(backend.addr, self.places.len());
+        self.is_in_cell(first, backend) || self.is_further(backend)
     }
 
     /// What the scheme prepared.

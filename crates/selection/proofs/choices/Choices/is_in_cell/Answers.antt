@@ -2,7 +2,7 @@ use Rattle.std.proofs.Common.{Contains, List, subst}
 use Rattle.pool_versions.specs.declared.backend.Backend.{Backend}
 use Rattle.selection.specs.Shared.{Chosen}
 use Rattle.selection.proofs.Among.{is_item}
-use Rattle.selection.proofs.choices.Choices.is_where_expected.Goals as goal
+use Rattle.selection.proofs.choices.Choices.is_in_cell.Goals as goal
 
 pub returns-in-Some-get : goal.returns-in-Some-get
 returns-in-Some-get g c is =
