@@ -42,6 +42,14 @@ fn next_in_pass(weights: &[Weight], place: Turn) -> usize
     weights.len()
 }
 
+// Whether there is a list at a place, and it has a turn there.
+#[inline(always)]
+fn has_turn(weights: &[Weight], place: Turn) -> bool
+    ensures { result ≡ true → (place.who < length weights.now) × (has_turn weights.now place.pass place.who ≡ true) }
+{
+    place.who < weights.len() && weights[place.who].turns() >= place.pass
+}
+
 /// The first turn from a place of a round on, if there is one.
 fn turn_from(weights: &[Weight], most: u8, place: Turn) -> Option<Turn>
     requires most { All (λ w. (1 ≤ w) × (w ≤ most)) weights.now }
@@ -83,6 +91,10 @@ pub(crate) fn turn_after(weights: &[Weight], most: u8, turn: Turn) -> Turn
         pass: turn.pass,
         who: turn.who + 1,
     };
+    // Mostly the next list has a turn too: then no round is walked.
+    if has_turn(weights, behind) {
+        return behind;
+    }
     match turn_from(weights, most, behind) {
         Some(next) => next,
         None => Turn { pass: 1, who: 0 },

@@ -1,5 +1,5 @@
-use Rattle.std.proofs.Common.{length, ◌∙◌, ap, sym}
-use Rattle.maglev_table.specs.Weights.{or_next_round}
+use Rattle.std.proofs.Common.{length, ◌+◌, ◌∙◌, ap, sym}
+use Rattle.maglev_table.specs.Weights.{or_next_round, IsTurn}
 use Rattle.maglev_table.proofs.Passes.{next_round_not, round_is}
 use Rattle.maglev_table.proofs.rounds.turn_after.Goals as goal
 use Rattle.std.proofs.Common.{arith}
@@ -19,3 +19,9 @@ returns-in-Some-clause-turn c = grind (arith, common_steps)
 
 pub returns-in-None-clause-turn : goal.returns-in-None-clause-turn
 returns-in-None-clause-turn c = grind (arith, common_steps)
+
+pub returns-then-has_turn-clause-next : goal.returns-then-has_turn-clause-next
+returns-then-has_turn-clause-next c =
+    let has = c.has_turn.ensures c.if-has_turn.true in
+    let turn : IsTurn (length c.args.weights.now) c.args.weights.now c.args.turn.pass (c.args.turn.who + 1) = record { first = c.requires.turn.first; last = c.requires.turn.last; named = has.0; has = has.1 } in
+    next_round_not (length c.args.weights.now) c.args.weights.now c.args.turn.pass (c.args.turn.who + 1) turn
