@@ -1,13 +1,13 @@
 //! Whether a record agrees with a replay of its events.
-ghost use Rattle.std.specs.Prelude.{◌≡◌, ◌↔◌, [], ℕ, Some, IfOk, IsTrue, slice_get};
+ghost use Rattle.std.specs.Prelude.{◌≡◌, ◌↔◌, [], ℕ, Some, IfOk, IsTrue, slice_get, option_copied};
 ghost use Rattle.cluster_node.specs.declared.packets.Packet.{Packet};
 ghost use Rattle.cluster_node.specs.Records.{WasRead};
 ghost use Rattle.cluster_core.specs.Setups.{Fixed, rules_for};
-ghost use Rattle.cluster_core.specs.Runs.{verdicts};
+ghost use Rattle.cluster_core.specs.Runs.{packet_of, verdicts};
 
 use crate::merging::is_same;
 use crate::nodes::{History, NodeRecord};
-use cluster_core::{Setup, replay};
+use cluster_core::{Run, Setup};
 use cluster_node::{Event, Outcome, Packet};
 use connection_table::ConnTable;
 use hash_laws::FlowHash;
@@ -15,22 +15,27 @@ use pool_versions::Catalogue;
 use selection::Scheme;
 use std::alloc::{AllocError, Global};
 
-// Whether the outcomes are those that were recorded.
-fn are_told(told: &[Outcome], outcomes: &[Outcome]) -> bool
-    ensures { IsTrue result ↔ (outcomes.now ≡ told.now) }
+// The packet that an event names.
+fn packet_at<'a>(packets: &'a [Packet], event: &Event) -> Option<&'a Packet>
+    ensures { option_copied result ≡ packet_of packets.now event.now }
 {
-    if told.len() != outcomes.len() {
-        return false;
+    match *event {
+        Event::Arrive { packet, .. } => packets.get(packet as usize),
+        _ => None,
     }
-    for at in 0..told.len() {
-        if !is_same(&outcomes[at], &told[at]) {
-            return false;
-        }
-    }
-    true
 }
 
-// Whether a replay of the events gives these outcomes.
+// Whether the outcome at a place is this one.
+fn is_at(outcomes: &[Outcome], at: usize, outcome: &Outcome) -> bool
+    ensures { IsTrue result ↔ (slice_get outcomes.now at ≡ Some outcome.now) }
+{
+    match outcomes.get(at) {
+        Some(other) => is_same(other, outcome),
+        None => false,
+    }
+}
+
+// Whether a replay of the events gives these outcomes. Each is compared as it comes, so that no second list is made.
 fn agrees<S: Scheme, H: FlowHash, T: ConnTable>(
     alloc: Global,
     setup: &Setup<S, H>,
@@ -44,8 +49,15 @@ fn agrees<S: Scheme, H: FlowHash, T: ConnTable>(
     ensures { let rules = rules_for (λ s z. S.pick s z) (λ h. H.plain h) setup.now catalogue.now in
         IfOk result (λ b. IsTrue b ↔ (outcomes.now ≡ verdicts rules [] packets.now events.now)) }
 {
-    let told = replay::<S, H, T>(alloc, setup, catalogue, packets, events)?;
-    Ok(are_told(told.as_slice(), outcomes))
+    let mut run: Run<S, T> = Run::make(alloc, setup)?;
+    let many = events.len();
+    let mut agree = many == outcomes.len();
+    for at in 0..many {
+        let event = &events[at];
+        let outcome = run.step(setup, catalogue, event, packet_at(packets, event))?;
+        agree = agree & is_at(outcomes, at, &outcome);
+    }
+    Ok(agree)
 }
 
 impl NodeRecord {
