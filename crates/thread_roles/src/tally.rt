@@ -111,7 +111,9 @@ impl<B: Names> ThreadShares<B> {
         }
     }
 
-    /// A packet was served, with this choice. The answer is a copy of the counts, taken before the lock is given back.
+    /// A packet was served, with this choice. The answer is a copy of the counts, taken before the lock is given back. It is
+    /// inlined, so that no copy is made for a gate that doesn't look at it.
+    #[inline(always)]
     pub fn serve_one<R: Wait>(
         &mut self,
         rt: &R,
