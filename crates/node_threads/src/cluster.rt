@@ -8,6 +8,7 @@ ghost use Rattle.cluster_core.specs.Runs.{verdicts};
 ghost use Rattle.cluster_node.specs.declared.packets.Packet.{Packet};
 ghost use Rattle.cluster_node.specs.Records.{WasRead};
 ghost use Rattle.thread_records.specs.declared.nodes.NodeRecord.{NodeRecord};
+ghost use Rattle.thread_records.specs.Joins.{all_outcomes};
 ghost use Rattle.thread_records.specs.Runs.{AreRuns, JoinsRuns};
 ghost use Rattle.thread_roles.specs.Counts.{AreRead, AreTotals, counted, plus};
 ghost use Rattle.thread_roles.specs.Faults.{IsRefusal};
@@ -40,6 +41,15 @@ use thread_roles::{Gate, RunFault};
 
 // Parts of the counts for 64 drivers and 16 workers of each, and one more.
 const PARTS: u64 = 64 * 17 + 1;
+
+/// What the nodes of a cluster did, each for itself.
+#[derive(Debug, Drop)]
+pub struct NodesRun {
+    /// Each node's own record, in the order of the nodes.
+    pub nodes: Vec<NodeRecord>,
+    /// The counts of the run.
+    pub stats: Stats,
+}
 
 /// What the nodes of a cluster did.
 #[derive(Debug, Drop)]
@@ -356,15 +366,15 @@ fn run_booked<
     alloc: Global,
     order: ClusterOrder<'_, S, H, G>,
     blanks: Blanks,
-) -> Result<ClusterRun, RunFault>
+) -> Result<NodesRun, RunFault>
 where
     S::Prepared: Send + Sync,
     requires names { (n : ℕ) → slice_index blanks.names n ≡ B.names n }
     requires parts { (blanks.parts ≡ B.parts) × (64 * 17 < B.parts) }
     ensures runs { let all = order.entry in
         let rules = rules_for (λ s z. S.pick s z) (λ h. H.plain h) all.setup all.catalogue in
-        IfOk result (λ run. AreRuns rules all.packets all.ring 0 all.commands run.nodes.items × JoinsRuns rules all.packets run.nodes.items run.history) }
-    ensures stats { AreRead order.entry.packets → IfOk result (λ run. AreTotals run.stats run.history.outcomes.items) }
+        IfOk result (λ run. AreRuns rules all.packets all.ring 0 all.commands run.nodes.items) }
+    ensures stats { AreRead order.entry.packets → IfOk result (λ run. AreTotals run.stats (all_outcomes run.nodes.items)) }
     ensures told { let all = order.entry in
         let rules = rules_for (λ s z. S.pick s z) (λ h. H.plain h) all.setup all.catalogue in
         IfErr result (λ fault. ClusterTells (λ a b. S.eq a b) rules all fault) }
@@ -378,15 +388,56 @@ where
     };
     let gathered = run_nodes::<S, H, T, G, B, R>(rt, alloc, order, supply)?;
     let Gathered { nodes, shares } = gathered;
-    let history = join_runs(alloc, nodes.as_slice())?;
     let mut book = book.into_inner();
     let mut shares = shares;
     book.audit(&mut shares);
-    Ok(ClusterRun {
+    Ok(NodesRun {
         nodes,
-        history,
         stats: book.stats(),
     })
+}
+
+/// The runs of all nodes of a cluster at once, as in [`run_cluster`], without the one history of all of them. That is a copy
+/// of all events and outcomes, which is made on one thread: who goes over the nodes' records one after another needs none.
+pub fn run_each<
+    S: Scheme + Send + Sync,
+    H: FlowHash + Send + Sync,
+    T: ConnTable + Send,
+    G: Gate + Sync,
+    R: Threads + Wait + Sync,
+>(
+    rt: &R,
+    alloc: Global,
+    setup: &Setup<S, H>,
+    catalogue: &Catalogue,
+    packets: &[Packet],
+    commands: &[Vec<Command>],
+    ring: u32,
+    gate: &G,
+) -> Result<NodesRun, RunFault>
+where
+    S::Prepared: Send + Sync,
+    requires nodes { length commands.now ≡ length setup.now.nodes }
+    requires some { 0 < ring }
+    requires limit { ring ≤ 65536 }
+    ensures runs { let rules = rules_for (λ s z. S.pick s z) (λ h. H.plain h) setup.now catalogue.now in
+        IfOk result (λ run. AreRuns rules packets.now ring 0 (map (λ c. c.items) commands.now) run.nodes.items) }
+    // where all packets were read, the counts are the totals of the nodes' outcomes, and nothing waits
+    ensures stats { AreRead packets.now → IfOk result (λ run. AreTotals run.stats (all_outcomes run.nodes.items)) }
+    ensures told { let all = asked_all setup.now catalogue.now packets.now ring (map (λ c. c.items) commands.now) in
+        let rules = rules_for (λ s z. S.pick s z) (λ h. H.plain h) all.setup all.catalogue in
+        IfErr result (λ fault. ClusterTells (λ a b. S.eq a b) rules all fault) }
+{
+    let order = ClusterOrder {
+        setup,
+        catalogue,
+        packets,
+        lists: commands,
+        gate,
+        ring,
+    };
+    let blanks = Blanks::new(PARTS);
+    run_booked::<S, H, T, G, Brand, R>(rt, alloc, order, blanks)
 }
 
 /// The runs of all nodes of a cluster at once, each as `run_node` does it, with its driver in a thread of its own. There is
@@ -434,14 +485,14 @@ where
         let rules = rules_for (λ s z. S.pick s z) (λ h. H.plain h) all.setup all.catalogue in
         IfErr result (λ fault. ClusterTells (λ a b. S.eq a b) rules all fault) }
 {
-    let order = ClusterOrder {
-        setup,
-        catalogue,
-        packets,
-        lists: commands,
-        gate,
-        ring,
-    };
-    let blanks = Blanks::new(PARTS);
-    run_booked::<S, H, T, G, Brand, R>(rt, alloc, order, blanks)
+    let run = run_each::<S, H, T, G, R>(
+        rt, alloc, setup, catalogue, packets, commands, ring, gate,
+    )?;
+    let NodesRun { nodes, stats } = run;
+    let history = join_runs(alloc, nodes.as_slice())?;
+    Ok(ClusterRun {
+        nodes,
+        history,
+        stats,
+    })
 }

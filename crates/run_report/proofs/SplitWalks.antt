@@ -86,3 +86,8 @@ pub said_end : (past : List LogEntry) (es : List Event) (os : List Outcome) (who
 said_end past es os whole none h =
     let all : reverse past ≡ whole = sym (append-nil (reverse past)) ∙ ap (λ (l : List LogEntry). reverse past ++ l) (sym (none_said es os none)) ∙ h in
     sym (reverse-reverse past) ∙ ap reverse all
+
+-- the same behind the events before
+pub said_behind : (first past : List LogEntry) (es : List Event) (os : List Outcome) (more : List LogEntry) → (es ≡ []) ⊎ (os ≡ []) → reverse past ++ said_of es os ≡ reverse first ++ more → past ≡ reverse more ++ first
+said_behind first past es os more none h =
+    said_end past es os (reverse first ++ more) none h ∙ reverse-append (reverse first) more ∙ ap (λ (l : List LogEntry). reverse more ++ l) (reverse-reverse first)

@@ -113,6 +113,17 @@ impl SplitBook {
         }
     }
 
+    /// Events more, one after another, each with its outcome, as far as both lists go. So a history in parts needn't be put
+    /// together. Where memory is refused nothing more is known of the book.
+    pub fn note_all(&mut self, events: &[Event], outcomes: &[Outcome]) -> Result<(), AllocError>
+        ensures { (past : List LogEntry) → IsBookOf past self.old → OnOk result (IsBookOf (reverse (said_of events.now outcomes.now) ++ past) self.new) }
+    {
+        for (event, outcome) in events.iter().zip(outcomes.iter()) {
+            self.note(event, outcome)?;
+        }
+        Ok(())
+    }
+
     /// The book of a history: its events with their outcomes, as far as both lists go.
     pub fn of_history(
         alloc: Global,
@@ -123,9 +134,7 @@ impl SplitBook {
         ensures { IfOk result (λ b. IsBookOf (reverse (said_of events.now outcomes.now)) b) }
     {
         let mut book = SplitBook::new(alloc, key);
-        for (event, outcome) in events.iter().zip(outcomes.iter()) {
-            book.note(event, outcome)?;
-        }
+        book.note_all(events, outcomes)?;
         Ok(book)
     }
 

@@ -5,3 +5,4 @@ pub mod InWords
 pub mod Halts
 pub mod Audited
 pub mod Known
+pub mod OneByOne

@@ -4,3 +4,4 @@ pub mod Runs
 pub mod Kept
 pub mod PrivateFailures
 pub mod Store
+pub mod PrivateHistories

@@ -3,6 +3,7 @@
 #![tactic(auto)]
 
 mod failure;
+mod histories;
 mod orders;
 mod reading;
 mod records;

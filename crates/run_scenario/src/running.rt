@@ -1,34 +1,35 @@
 //! A scenario's cluster runs on threads over a capture.
-ghost use Rattle.std.specs.Prelude.{◌≡◌, ◌≤◌, ◌++◌, ℕ, length, Some, Err, IfOk, IfErr, string_bytes, true};
+ghost use Rattle.std.specs.Prelude.{◌≡◌, ◌≤◌, ℕ, length, Some, Err, IfOk, IfErr, string_bytes};
 ghost use Rattle.pcap_file.specs.Format.{max_records};
 ghost use Rattle.driver_commands.specs.Knowing.{first_unsupported_of};
 ghost use Rattle.scenario.specs.Meaning.{HasLimits};
-ghost use Rattle.simulate_scenario.specs.Answers.{totals_in, is_cut};
-ghost use Rattle.run_scenario.specs.Runs.{AreOfRun, Ran, Halted, tally_in, splits_if, audited_report};
+ghost use Rattle.run_scenario.specs.Runs.{Ran, Halted};
 ghost use Rattle.run_scenario.specs.Kept.{KeepsPromises};
 ghost use Rattle.run_scenario.specs.PrivateFailures.{IsOfThreads};
+ghost use Rattle.run_scenario.specs.PrivateHistories.{RanOver};
 
 use crate::failure::RunFailure;
+use crate::histories::totals_of;
 use crate::orders::orders_of;
 use crate::reading::{Captured, packets_of, read_whole};
-use crate::report::{audited_report, splits_told};
+use crate::report::audited_report;
 use crate::sending::write_capture;
 use crate::threads::run_named;
 use connection_table::TableKey;
 use driver_commands::first_unsupported_step;
 use ip_headers::Link;
-use node_threads::ClusterRun;
 use pcap_file::{Sink, Source};
 use scenario::Scenario;
 use simulation::Wire;
 use std::alloc::Global;
 use std::sync::Wait;
 use std::thread::Threads;
+use thread_records::NodeRecord;
 
 // What the nodes did, and the report.
 #[derive(Drop)]
 struct Done {
-    run: ClusterRun,
+    nodes: Vec<NodeRecord>,
     text: String,
 }
 
@@ -57,8 +58,7 @@ fn run_over<R: Threads + Wait + Sync>(
     requires limits { HasLimits scenario.now }
     requires size { scenario.now.catalogue.size ≡ scenario.now.size }
     requires few { length captured.now.records ≤ max_records }
-    ensures run { IfOk result (λ d. AreOfRun scenario.now captured.now.head.link captured.now.records d.run.nodes.items d.run.history) }
-    ensures report { IfOk result (λ d. string_bytes d.text ≡ splits_if splits scenario.now d.run.history ++ audited_report (tally_in scenario.now captured.now.head.link captured.now.records) (totals_in d.run.history.outcomes.items) (is_cut captured.now.ending) true) }
+    ensures over { IfOk result (λ d. RanOver scenario.now splits captured.now.head.link captured.now.records captured.now.ending d.nodes.items (string_bytes d.text)) }
     ensures stopped { IfErr result IsOfThreads }
 {
     let wire = wire_of(scenario, captured.head.link);
@@ -71,19 +71,20 @@ fn run_over<R: Threads + Wait + Sync>(
         scenario,
         packets.as_slice(),
         orders.commands.as_slice(),
+        splits,
     )?;
-    let outcomes = audited.run.outcomes();
-    let mut text = splits_told(alloc, key, scenario, &audited.run, splits)?;
+    let totals = totals_of(&audited.run);
     let report = audited_report(
         alloc,
         orders.tally,
-        outcomes,
+        &totals,
         captured.ending,
         audited.agrees,
     )?;
+    let mut text = audited.splits;
     text.push_str(report.as_str())?;
     Ok(Done {
-        run: audited.run,
+        nodes: audited.run.nodes,
         text,
     })
 }
@@ -132,7 +133,7 @@ pub fn run_scenario<R: Threads + Wait + Sync, I: Source, O: Sink>(
     let captured = read_whole(alloc, input)?;
     let done = run_over(rt, alloc, key, scenario, &captured, splits)?;
     let wire = wire_of(scenario, captured.head.link);
-    let nodes = done.run.nodes.as_slice();
+    let nodes = done.nodes.as_slice();
     let mut frame = captured.frame;
     let records = &captured.records;
     match write_capture(alloc, output, &wire, records, &mut frame, nodes) {

@@ -1,30 +1,83 @@
 //! The cluster of a scenario runs on threads.
-ghost use Rattle.std.specs.Prelude.{◌≡◌, true, length, map, IfOk, IfErr};
+ghost use Rattle.std.specs.Prelude.{◌≡◌, ◌<◌, ◌^◌, ◌↔◌, [], true, length, map, All, IfOk, IfErr, IsTrue, string_bytes};
 ghost use Rattle.hash_laws.specs.Any.{plain_of};
 ghost use Rattle.cluster_core.specs.Cluster.{WereRead};
-ghost use Rattle.thread_records.specs.Runs.{AreRuns, JoinsRuns};
+ghost use Rattle.cluster_core.specs.Runs.{verdicts};
+ghost use Rattle.cluster_core.specs.Setups.{rules_for};
+ghost use Rattle.thread_records.specs.Joins.{all_outcomes};
+ghost use Rattle.thread_records.specs.Runs.{AreRuns};
+ghost use Rattle.thread_roles.specs.Counts.{AreTotals};
 ghost use Rattle.scenario.specs.Meaning.{HasLimits};
 ghost use Rattle.simulate_scenario.specs.Described.{pick_by, rules_in};
 ghost use Rattle.run_scenario.specs.PrivateFailures.{IsOfThreads};
+ghost use Rattle.run_scenario.specs.PrivateHistories.{AreEven, splits_over};
 
 use crate::failure::RunFailure;
+use crate::histories::{outcome_count, splits_told};
 use cluster_core::Setup;
 use cluster_node::Packet;
 use connection_table::{LruTable, TableKey};
 use hash_laws::AnyHash;
-use node_threads::{ClusterRun, OpenGate, run_cluster};
+use node_threads::{NodesRun, OpenGate, RunFault, audit_nodes, run_each};
 use scenario::{Scenario, SchemeKind};
 use selection::{Maglev, PlainHash, RoundRobin, Scheme};
-use std::alloc::Global;
+use std::alloc::{AllocError, Global};
 use std::sync::Wait;
+use std::thread;
 use std::thread::Threads;
-use thread_records::Command;
+use thread_records::{Command, NodeRecord};
 
-/// A run, and whether its history agrees with its replay.
+/// A run, whether each node's history agrees with its replay, and what is reported of the splits.
 #[derive(Drop)]
 pub(crate) struct Audited {
-    pub(crate) run: ClusterRun,
+    pub(crate) run: NodesRun,
     pub(crate) agrees: bool,
+    pub(crate) splits: String,
+}
+
+// Whether each node's history agrees with its replay, and what is reported of the splits: both at once, since neither waits
+// for the other.
+fn judged<S: Scheme + Send + Sync, R: Threads + Sync>(
+    rt: &R,
+    alloc: Global,
+    key: TableKey,
+    setup: &Setup<S, AnyHash>,
+    scenario: &Scenario,
+    packets: &[Packet],
+    nodes: &[NodeRecord],
+    splits: bool,
+) -> (Result<bool, AllocError>, Result<String, AllocError>)
+where
+    S::Prepared: Send + Sync,
+    requires size { scenario.now.catalogue.size ≡ scenario.now.size }
+    requires sized { setup.now.size ≡ scenario.now.size }
+    requires read { WereRead packets.now }
+    requires even { AreEven nodes.now }
+    ensures audit { let rules = rules_for (λ s z. S.pick s z) (λ h. plain_of h) setup.now scenario.now.catalogue in
+        IfOk result.0 (λ b. IsTrue b ↔ All (λ r. r.outcomes.items ≡ verdicts rules [] packets.now r.events.items) nodes.now) }
+    ensures splits { IfOk result.1 (λ s. string_bytes s ≡ splits_over splits scenario.now nodes.now) }
+{
+    thread::join(
+        rt,
+        || -> Result<bool, AllocError>
+            requires { (scenario.now.catalogue.size ≡ setup.now.size) × WereRead packets.now }
+            ensures { let rules = rules_for (λ s z. S.pick s z) (λ h. plain_of h) setup.entry.now scenario.entry.now.catalogue in
+                IfOk result (λ b. IsTrue b ↔ All (λ r. r.outcomes.items ≡ verdicts rules [] packets.entry.now r.events.items) nodes.entry.now) }
+        {
+            audit_nodes::<S, AnyHash, LruTable, R>(
+                rt,
+                alloc,
+                nodes,
+                setup,
+                &scenario.catalogue,
+                packets,
+            )
+        },
+        || -> Result<String, AllocError>
+            requires { (scenario.now.catalogue.size ≡ scenario.now.size) × AreEven nodes.now }
+            ensures { IfOk result (λ s. string_bytes s ≡ splits_over splits scenario.entry.now nodes.entry.now) }
+        { splits_told(alloc, key, scenario, nodes, splits) },
+    )
 }
 
 // Runs the cluster with this scheme.
@@ -36,6 +89,7 @@ fn run_by<S: Scheme + Send + Sync, R: Threads + Wait + Sync>(
     scenario: &Scenario,
     packets: &[Packet],
     commands: &[Vec<Command>],
+    splits: bool,
 ) -> Result<Audited, RunFailure>
 where
     S::Prepared: Send + Sync,
@@ -44,8 +98,11 @@ where
     requires picks { S.pick scheme scenario.now.size ≡ pick_by scenario.now.scheme (plain_of scenario.now.hash) scenario.now.size }
     requires nodes { length commands.now ≡ length scenario.now.nodes.items }
     requires read { WereRead packets.now }
-    ensures runs { IfOk result (λ a. AreRuns (rules_in scenario.now) packets.now scenario.now.ring 0 (map (λ c. c.items) commands.now) a.run.nodes.items × JoinsRuns (rules_in scenario.now) packets.now a.run.nodes.items a.run.history) }
+    ensures runs { IfOk result (λ a. AreRuns (rules_in scenario.now) packets.now scenario.now.ring 0 (map (λ c. c.items) commands.now) a.run.nodes.items) }
+    ensures counts { IfOk result (λ a. AreTotals a.run.stats (all_outcomes a.run.nodes.items)) }
+    ensures few { IfOk result (λ a. length (all_outcomes a.run.nodes.items) < 2 ^ 63) }
     ensures audit { IfOk result (λ a. a.agrees ≡ true) }
+    ensures splits { IfOk result (λ a. string_bytes a.splits ≡ splits_over splits scenario.now a.run.nodes.items) }
     ensures stopped { IfErr result IsOfThreads }
 {
     let nodes = Vec::from_slice(alloc, scenario.nodes.as_slice())?;
@@ -61,7 +118,7 @@ where
         unreachable!()
     };
     let setup = setup.keyed(key);
-    let run = run_cluster::<S, AnyHash, LruTable, OpenGate, R>(
+    let run = run_each::<S, AnyHash, LruTable, OpenGate, R>(
         rt,
         alloc,
         &setup,
@@ -71,17 +128,28 @@ where
         scenario.ring,
         &OpenGate,
     )?;
-    let agrees = run.audit_nodes::<S, AnyHash, LruTable, R>(
+    let Some(_) = outcome_count(run.nodes.as_slice()) else {
+        return Err(RunFailure::Threads(RunFault::Memory));
+    };
+    let (agrees, splits) = judged(
         rt,
         alloc,
+        key,
         &setup,
-        &scenario.catalogue,
+        scenario,
         packets,
-    )?;
-    Ok(Audited { run, agrees })
+        run.nodes.as_slice(),
+        splits,
+    );
+    Ok(Audited {
+        run,
+        agrees: agrees?,
+        splits: splits?,
+    })
 }
 
-/// Runs the cluster with the scheme that the scenario names, each node by its list of commands, and replays the history.
+/// Runs the cluster with the scheme that the scenario names, each node by its list of commands, and replays its history. What
+/// is reported of the splits is made meanwhile.
 pub(crate) fn run_named<R: Threads + Wait + Sync>(
     rt: &R,
     alloc: Global,
@@ -89,18 +157,31 @@ pub(crate) fn run_named<R: Threads + Wait + Sync>(
     scenario: &Scenario,
     packets: &[Packet],
     commands: &[Vec<Command>],
+    splits: bool,
 ) -> Result<Audited, RunFailure>
     requires limits { HasLimits scenario.now }
     requires size { scenario.now.catalogue.size ≡ scenario.now.size }
     requires nodes { length commands.now ≡ length scenario.now.nodes.items }
     requires read { WereRead packets.now }
-    ensures runs { IfOk result (λ a. AreRuns (rules_in scenario.now) packets.now scenario.now.ring 0 (map (λ c. c.items) commands.now) a.run.nodes.items × JoinsRuns (rules_in scenario.now) packets.now a.run.nodes.items a.run.history) }
+    ensures runs { IfOk result (λ a. AreRuns (rules_in scenario.now) packets.now scenario.now.ring 0 (map (λ c. c.items) commands.now) a.run.nodes.items) }
+    ensures counts { IfOk result (λ a. AreTotals a.run.stats (all_outcomes a.run.nodes.items)) }
+    ensures few { IfOk result (λ a. length (all_outcomes a.run.nodes.items) < 2 ^ 63) }
     ensures audit { IfOk result (λ a. a.agrees ≡ true) }
+    ensures splits { IfOk result (λ a. string_bytes a.splits ≡ splits_over splits scenario.now a.run.nodes.items) }
     ensures stopped { IfErr result IsOfThreads }
 {
     let hash = scenario.hash;
     match scenario.scheme {
-        SchemeKind::Maglev => run_by(rt, alloc, key, Maglev { hash }, scenario, packets, commands),
+        SchemeKind::Maglev => run_by(
+            rt,
+            alloc,
+            key,
+            Maglev { hash },
+            scenario,
+            packets,
+            commands,
+            splits,
+        ),
         SchemeKind::Plain => run_by(
             rt,
             alloc,
@@ -109,7 +190,10 @@ pub(crate) fn run_named<R: Threads + Wait + Sync>(
             scenario,
             packets,
             commands,
+            splits,
         ),
-        SchemeKind::Round => run_by(rt, alloc, key, RoundRobin, scenario, packets, commands),
+        SchemeKind::Round => run_by(
+            rt, alloc, key, RoundRobin, scenario, packets, commands, splits,
+        ),
     }
 }

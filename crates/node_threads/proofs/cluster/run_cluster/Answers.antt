@@ -1,29 +1,49 @@
 use Rattle.std.proofs.Common.{◌≡◌, [], List, map, sym, subst}
-use Rattle.std.proofs.lemmas.Result.{IfOk-weaker}
 use Rattle.cluster_node.specs.Rules.{Rules}
 use Rattle.cluster_node.specs.declared.outcomes.Outcome.{Outcome}
 use Rattle.cluster_core.specs.Setups.{rules_for}
 use Rattle.cluster_core.specs.Headline.{Agreement, Keeping}
-use Rattle.cluster_core.specs.Histories.{IsSteady}
 use Rattle.cluster_core.proofs.Sends.{agreement}
 use Rattle.cluster_core.proofs.Keeps.{keeping}
+use Rattle.thread_records.specs.declared.nodes.NodeRecord.{NodeRecord}
 use Rattle.thread_records.specs.Runs.{AreRuns, JoinsRuns}
+use Rattle.thread_roles.specs.Counts.{AreTotals}
+use Rattle.thread_roles.specs.declared.fault.RunFault.TheVariants.{Memory}
+use Rattle.node_threads.specs.Orders.{asked_all}
+use Rattle.node_threads.proofs.Reporting.{refused}
+use Rattle.node_threads.proofs.Telling.{err_exit}
 use Rattle.node_threads.proofs.cluster.run_cluster.Goals as goal
 
-pub returns-clause-agreement : goal.returns-clause-agreement
-returns-clause-agreement g c =
+pub returns-clause-runs : goal.returns-clause-runs
+returns-clause-runs g c =
     let rules : Rules = rules_for (λ s z. g.S.Scheme.pick s z) (λ h. g.H.FlowHash.plain h) c.args.setup.now c.args.catalogue.now in
-    IfOk-weaker c.run_booked.result
-    (λ run. AreRuns rules c.args.packets.now c.args.ring 0 (map (λ l. l.items) c.args.commands.now) run.nodes.items × JoinsRuns rules c.args.packets.now run.nodes.items run.history)
-    (λ run. IsSteady rules → Agreement rules run.history.outcomes.items)
-    (λ run h steady. subst (λ (os : List Outcome). Agreement rules os) (sym h.1.told) (agreement rules steady c.args.packets.now run.history.events.items))
-    c.run_booked.ensures.runs
+    let commands = map (λ l. l.items) c.args.commands.now in
+    let nodes = c.in_ok-run.run'.nodes.items in
+    let runs : AreRuns rules c.args.packets.now c.args.ring 0 commands nodes = c.in_ok-run.ensures.runs in
+    let slice : AreRuns rules c.args.packets.now c.args.ring 0 commands c.as_slice.result.now = subst (λ (ns : List NodeRecord). AreRuns rules c.args.packets.now c.args.ring 0 commands ns) (sym c.as_slice.ensures.value) runs in
+    (runs, subst (λ (ns : List NodeRecord). JoinsRuns rules c.args.packets.now ns c.in_ok-history.history) c.as_slice.ensures.value (c.in_ok-history.ensures rules c.args.packets.now c.args.ring commands slice))
+
+pub returns-clause-agreement : goal.returns-clause-agreement
+returns-clause-agreement g c = λ steady.
+    let rules : Rules = rules_for (λ s z. g.S.Scheme.pick s z) (λ h. g.H.FlowHash.plain h) c.args.setup.now c.args.catalogue.now in
+    let joined = (returns-clause-runs g c).1 in
+    subst (λ (os : List Outcome). Agreement rules os) (sym joined.told) (agreement rules steady c.args.packets.now c.in_ok-history.history.events.items)
 
 pub returns-clause-keeping : goal.returns-clause-keeping
 returns-clause-keeping g c =
     let rules : Rules = rules_for (λ s z. g.S.Scheme.pick s z) (λ h. g.H.FlowHash.plain h) c.args.setup.now c.args.catalogue.now in
-    IfOk-weaker c.run_booked.result
-    (λ run. AreRuns rules c.args.packets.now c.args.ring 0 (map (λ l. l.items) c.args.commands.now) run.nodes.items × JoinsRuns rules c.args.packets.now run.nodes.items run.history)
-    (λ run. Keeping rules [] c.args.packets.now run.history.events.items run.history.outcomes.items)
-    (λ run h. subst (λ (os : List Outcome). Keeping rules [] c.args.packets.now run.history.events.items os) (sym h.1.told) (keeping rules [] c.args.packets.now run.history.events.items))
-    c.run_booked.ensures.runs
+    let joined = (returns-clause-runs g c).1 in
+    subst (λ (os : List Outcome). Keeping rules [] c.args.packets.now c.in_ok-history.history.events.items os) (sym joined.told) (keeping rules [] c.args.packets.now c.in_ok-history.history.events.items)
+
+pub returns-clause-stats : goal.returns-clause-stats
+returns-clause-stats g c = λ read.
+    let joined = (returns-clause-runs g c).1 in
+    subst (λ (os : List Outcome). AreTotals c.in_ok-run.run'.stats os) (sym joined.outcomes) (c.in_ok-run.ensures.stats read)
+
+pub returns-in_err-run-clause-told : goal.returns-in_err-run-clause-told
+returns-in_err-run-clause-told g c = err_exit _ c.from_residual.result c.in_err-run.field-0.0 c.from_residual.ensures.1 c.in_err-run.ensures.told
+
+pub returns-in_err-history-clause-told : goal.returns-in_err-history-clause-told
+returns-in_err-history-clause-told g c =
+    let all = asked_all c.args.setup.now c.args.catalogue.now c.args.packets.now c.args.ring (map (λ l. l.items) c.args.commands.now) in
+    err_exit _ c.from_residual-in_err-history.result Memory c.from_residual-in_err-history.ensures.1 (refused (λ x y. g.S.PartialEq.eq x y) (rules_for (λ s z. g.S.Scheme.pick s z) (λ h. g.H.FlowHash.plain h) all.setup all.catalogue) all Memory tt)

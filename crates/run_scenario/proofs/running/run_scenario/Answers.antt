@@ -9,7 +9,7 @@ use Rattle.run_scenario.proofs.running.run_scenario.Goals as goal
 
 pub returns-in-Ok-clause-ok : goal.returns-in-Ok-clause-ok
 returns-in-Ok-clause-ok g c =
-    let same = same_sends c.args.scenario.now c.wire_of-wire.result c.in_ok-captured.captured.head.link c.in_ok-captured.captured.records c.as_slice-nodes.result.now c.in_ok-done.done.run.nodes.items
+    let same = same_sends c.args.scenario.now c.wire_of-wire.result c.in_ok-captured.captured.head.link c.in_ok-captured.captured.records c.as_slice-nodes.result.now c.in_ok-done.done.nodes.items
     c.wire_of-wire.ensures.nodes c.wire_of-wire.ensures.link c.wire_of-wire.ensures.check c.as_slice-nodes.ensures.value in
     record {
       known = ap (λ l. first_unsupported_of l) (sym c.as_slice.ensures.value) ∙ sym c.in-None.ensures;
@@ -17,12 +17,12 @@ returns-in-Ok-clause-ok g c =
       records = _;
       ending = c.in_ok-captured.captured.ending;
       read = c.in_ok-captured.ensures.whole;
-      nodes = c.in_ok-done.done.run.nodes.items;
-      history = c.in_ok-done.done.run.history;
-      run = c.in_ok-done.ensures.run;
+      nodes = c.in_ok-done.done.nodes.items;
+      history = c.in_ok-done.ensures.over.history;
+      run = c.in_ok-done.ensures.over.run;
       written = subst (λ (l : List Sending). Appends (g.O.Sink.tape c.args.output.now).bytes (g.O.Sink.tape c.write_capture.new.output).bytes (capture_text l)) same c.in-Ok.ensures.written.0;
       unfailed = c.in-Ok.ensures.written.1;
-      report = c.in_ok-done.ensures.report;
+      report = c.in_ok-done.ensures.over.report;
     }
 
 pub returns-in-Ok-clause-kept : goal.returns-in-Ok-clause-kept
@@ -30,16 +30,16 @@ returns-in-Ok-clause-kept g c = λ ran. keeps c.args.scenario.now ran.head.link 
 
 pub returns-clause-stopped : goal.returns-clause-stopped
 returns-clause-stopped g c =
-    let same = same_sends c.args.scenario.now c.wire_of-wire.result c.in_ok-captured.captured.head.link c.in_ok-captured.captured.records c.as_slice-nodes.result.now c.in_ok-done.done.run.nodes.items
+    let same = same_sends c.args.scenario.now c.wire_of-wire.result c.in_ok-captured.captured.head.link c.in_ok-captured.captured.records c.as_slice-nodes.result.now c.in_ok-done.done.nodes.items
     c.wire_of-wire.ensures.nodes c.wire_of-wire.ensures.link c.wire_of-wire.ensures.check c.as_slice-nodes.ensures.value in
     inr (inr (record {
       head = c.in_ok-captured.captured.head;
       records = _;
       ending = c.in_ok-captured.captured.ending;
       read = c.in_ok-captured.ensures.whole;
-      nodes = c.in_ok-done.done.run.nodes.items;
-      history = c.in_ok-done.done.run.history;
-      run = c.in_ok-done.ensures.run;
+      nodes = c.in_ok-done.done.nodes.items;
+      history = c.in_ok-done.ensures.over.history;
+      run = c.in_ok-done.ensures.over.run;
       not_reading = c.in-Err.ensures.named;
       wrote = subst (λ (l : List Sending). CaptureUntil c.in-Err.fault (g.O.Sink.tape c.args.output.now) (g.O.Sink.tape c.write_capture.new.output) l) same c.in-Err.ensures.cut;
     }))

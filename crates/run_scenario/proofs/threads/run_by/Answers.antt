@@ -1,18 +1,33 @@
-use Rattle.std.proofs.Common.{◌∙◌, map, subst}
+use Rattle.std.proofs.Common.{◌≡◌, ◌↔◌, List, map, [], sym, ◌∙◌, subst}
+use Rattle.std.specs.Prelude.{All, IfOk, IsTrue}
 use Rattle.hash_laws.specs.Any.{plain_of}
+use Rattle.cluster_core.specs.Runs.{verdicts}
 use Rattle.cluster_core.specs.Setups.{rules_for}
 use Rattle.cluster_node.specs.Rules.{Rules}
-use Rattle.thread_records.specs.Runs.{AreRuns, JoinsRuns}
+use Rattle.thread_records.specs.declared.nodes.NodeRecord.{NodeRecord}
+use Rattle.thread_records.specs.Runs.{AreRuns}
+use Rattle.run_scenario.specs.PrivateHistories.{AreEven}
 use Rattle.run_scenario.proofs.Audited.{all_told}
+use Rattle.run_scenario.proofs.OneByOne.{are_even}
 use Rattle.run_scenario.proofs.Ruled.{same_rules, same_fixed}
 use Rattle.run_scenario.proofs.threads.run_by.Goals as goal
 
-pub returns-clause-runs : goal.returns-clause-runs
-returns-clause-runs g c =
-    let is = same_rules (λ s z. g.S.Scheme.pick s z) c.args.scheme c.args.scenario.now c.keyed-setup.result c.requires.picks (c.keyed-setup.ensures ∙ c.in-Ok.ensures.1 ∙ same_fixed c.args.scheme c.args.scenario.now c.in_ok-nodes.nodes.items (c.in_ok-nodes.ensures.items ∙ c.as_slice.ensures.value)) in
-    subst (λ (rules : Rules). AreRuns rules c.args.packets.now c.args.scenario.now.ring 0 (map (λ l. l.items) c.args.commands.now) c.in_ok-run.run'.nodes.items × JoinsRuns rules c.args.packets.now c.in_ok-run.run'.nodes.items c.in_ok-run.run'.history) is c.in_ok-run.ensures.runs
+pub judged-agrees-requires-clause-even : goal.judged-agrees-requires-clause-even
+judged-agrees-requires-clause-even g c κs within =
+    let rules : Rules = rules_for (λ s z. g.S.Scheme.pick s z) (λ h. plain_of h) c.keyed-setup.result c.args.scenario.now.catalogue in
+    subst (λ (ns : List NodeRecord). AreEven ns) (sym c.as_slice-3.ensures.value)
+    (are_even rules c.args.packets.now c.args.scenario.now.ring 0 (map (λ l. l.items) c.args.commands.now) c.in_ok-run.run'.nodes.items c.in_ok-run.ensures.runs)
 
 pub returns-clause-audit : goal.returns-clause-audit
 returns-clause-audit g c =
     let rules : Rules = rules_for (λ s z. g.S.Scheme.pick s z) (λ h. plain_of h) c.keyed-setup.result c.args.scenario.now.catalogue in
-    c.in_ok-agrees.ensures.1 (all_told rules c.args.packets.now c.args.scenario.now.ring 0 (map (λ l. l.items) c.args.commands.now) c.in_ok-run.run'.nodes.items c.in_ok-run.ensures.runs.0)
+    let Agrees : NodeRecord → Type 0 = λ r. r.outcomes.items ≡ verdicts rules [] c.args.packets.now r.events.items in
+    let told = all_told rules c.args.packets.now c.args.scenario.now.ring 0 (map (λ l. l.items) c.args.commands.now) c.in_ok-run.run'.nodes.items c.in_ok-run.ensures.runs in
+    let judged : IsTrue c.in_ok-agrees.field-0 ↔ All Agrees c.as_slice-3.result.now =
+    subst (λ r. IfOk r (λ b. IsTrue b ↔ All Agrees c.as_slice-3.result.now)) c.in_ok-agrees.was c.judged-agrees.ensures.audit in
+    judged.1 (subst (λ (ns : List NodeRecord). All Agrees ns) (sym c.as_slice-3.ensures.value) told)
+
+pub returns-clause-runs : goal.returns-clause-runs
+returns-clause-runs g c =
+    let is = same_rules (λ s z. g.S.Scheme.pick s z) c.args.scheme c.args.scenario.now c.keyed-setup.result c.requires.picks (c.keyed-setup.ensures ∙ c.in-Ok.ensures.1 ∙ same_fixed c.args.scheme c.args.scenario.now c.in_ok-nodes.nodes.items (c.in_ok-nodes.ensures.items ∙ c.as_slice.ensures.value)) in
+    subst (λ (rules : Rules). AreRuns rules c.args.packets.now c.args.scenario.now.ring 0 (map (λ l. l.items) c.args.commands.now) c.in_ok-run.run'.nodes.items) is c.in_ok-run.ensures.runs

@@ -1,30 +1,9 @@
-use Rattle.std.proofs.Common.{◌≡◌, List, [], ◌∷◌, None, ap, ◌∙◌, subst}
-use Rattle.std.specs.Iterator.Adapters.{zip_first, zip_second}
-use Rattle.std.specs.Slice.Iter.{iter_rest}
-use Rattle.std.proofs.lemmas.Slice.Zip.{either_empty_from_Zip}
-use Rattle.cluster_node.specs.declared.events.Event.{Event}
+use Rattle.std.proofs.Common.{[], List, subst, reverse}
+use Rattle.std.proofs.lemmas.List.{append-nil}
 use Rattle.cluster_node.specs.declared.events.LogEntry.{LogEntry}
-use Rattle.cluster_node.specs.declared.outcomes.Outcome.{Outcome}
 use Rattle.run_report.specs.Splits.{said_of}
 use Rattle.run_report.specs.Books.{IsBookOf}
-use Rattle.run_report.proofs.SplitWalks.{said_more, said_end}
 use Rattle.run_report.proofs.book.SplitBook.of_history.Goals as goal
 
-pub loop-event-init : goal.loop-event-init
-loop-event-init c =
-    let first : iter_rest (zip_first c.into_iter-event-iterator.result) ≡ c.args.events.now = cc in
-    let second : iter_rest (zip_second c.into_iter-event-iterator.result) ≡ c.args.outcomes.now = cc in
-    ([], c.new-book.ensures, ap (λ (es : List Event). said_of es (iter_rest (zip_second c.into_iter-event-iterator.result))) first ∙ ap (λ (os : List Outcome). said_of c.args.events.now os) second)
-
-pub loop-event-preserved : goal.loop-event-preserved
-loop-event-preserved c = (
-  record { event = c.in-Some.event.now; packet = None; outcome = c.in-Some.outcome.now } ∷ c.loop-event.invariant.0,
-  c.in_ok-note.ensures c.loop-event.invariant.0 None c.loop-event.invariant.1,
-  said_more c.loop-event.invariant.0 _ _ _ _ _ _ _ c.in-Some.ensures.steps.0 c.in-Some.ensures.steps.1 c.loop-event.invariant.2,
-)
-
 pub returns : goal.returns
-returns c =
-    subst (λ (past : List LogEntry). IsBookOf past c.loop-event.book)
-    (said_end c.loop-event.invariant.0 _ _ _ (either_empty_from_Zip c.loop-event.event-iterator c.next.new.self c.next.result c.in-None.is c.next.ensures.steps) c.loop-event.invariant.2)
-    c.loop-event.invariant.1
+returns c = subst (λ (past : List LogEntry). IsBookOf past c.note_all.new.self) (append-nil (reverse (said_of c.args.events.now c.args.outcomes.now))) (c.in_ok-note_all.ensures [] c.new-book.ensures)

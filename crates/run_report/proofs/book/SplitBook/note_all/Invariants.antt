@@ -4,8 +4,9 @@ use Rattle.std.specs.Slice.Iter.{iter_rest}
 use Rattle.cluster_node.specs.declared.events.LogEntry.{LogEntry}
 use Rattle.run_report.specs.Splits.{said_of}
 use Rattle.run_report.specs.Books.{IsBookOf}
-use Rattle.run_report.proofs.book.SplitBook.of_history.Given as goal
+use Rattle.run_report.proofs.book.SplitBook.note_all.Given as goal
 
 abbrev pub invariant-loop-event : goal.invariant-loop-event
 invariant-loop-event l =
-    (past : List LogEntry) × IsBookOf past l.book × (reverse past ++ said_of (iter_rest (zip_first l.event-iterator)) (iter_rest (zip_second l.event-iterator)) ≡ said_of l.events l.outcomes)
+    (first : List LogEntry) → IsBookOf first l.initial.self →
+    (past : List LogEntry) × IsBookOf past l.self × (reverse past ++ said_of (iter_rest (zip_first l.event-iterator)) (iter_rest (zip_second l.event-iterator)) ≡ reverse first ++ said_of l.events l.outcomes)
