@@ -1,10 +1,12 @@
 //! What changes from one table to another, counted.
-ghost use Rattle.std.specs.Prelude.{◌≡◌, ◌+◌, ◌<◌, ◌≤◌, Some, None};
+ghost use Rattle.std.specs.Prelude.{◌≡◌, ◌+◌, ◌<◌, ◌≤◌, Some, None, IfOk, map};
+ghost use Rattle.selection.specs.Picks.{NamedTable};
 ghost use Rattle.table_commands.specs.Compare.{name_alike, is_moved, named_at};
-ghost use Rattle.rollout_plan.specs.Counts.{stays_up, changed, down, moved, least, slots_lost};
+ghost use Rattle.rollout_plan.specs.Counts.{is_up, stays_up, changed, down, moved, least, slots_lost};
 
 use crate::slots::SlotTable;
 use pool_versions::Backend;
+use std::alloc::{AllocError, Global};
 
 /// The slots that name somebody else, by cause.
 #[derive(Clone, Copy)]
@@ -36,37 +38,54 @@ fn is_moved(before: &SlotTable, after: &SlotTable, slot: u32) -> bool
     !name_alike(before.backend_at(slot), after.backend_at(slot))
 }
 
-// Whether a slot names a backend that is up in the second table too.
-fn stays_up(before: &SlotTable, after: &SlotTable, slot: u32) -> bool
-    requires { slot < before.now.size }
-    ensures { result ≡ stays_up after.now (named_at before.now slot) }
+// For each up backend of the first table whether it is up in the second too. So each is sought once, and not for each of its
+// slots.
+fn staying(alloc: Global, before: &SlotTable, after: &SlotTable) -> Result<Vec<bool>, AllocError>
+    ensures { IfOk result (λ v. v.items ≡ map (λ b. is_up after.now b) before.now.ups) }
 {
-    match before.backend_at(slot) {
+    before
+        .ups()
+        .iter()
+        .map(|backend| after.is_up(backend))
+        .collect(alloc)
+}
+
+// Whether a slot names a backend that is among those that stay up.
+fn stays_up(before: &SlotTable, staying: &[bool], slot: u32) -> bool
+    requires { slot < before.now.size }
+    ensures { (after : NamedTable) → staying.now ≡ map (λ b. is_up after b) before.now.ups → result ≡ stays_up after (named_at before.now slot) }
+{
+    match before.place_at(slot) {
         None => false,
-        Some(backend) => after.is_up(&backend),
+        Some(place) => staying.get(place).copied().unwrap_or(false),
     }
 }
 
 /// How many slots of two tables of one size name somebody else, by cause.
-pub(crate) fn causes_of(before: &SlotTable, after: &SlotTable) -> Causes
+pub(crate) fn causes_of(
+    alloc: Global,
+    before: &SlotTable,
+    after: &SlotTable,
+) -> Result<Causes, AllocError>
     requires { before.now.size ≡ after.now.size }
-    ensures down { result.down ≡ down before.now after.now }
-    ensures moved { result.moved ≡ moved before.now after.now }
-    ensures changed { result.down + result.moved ≡ changed before.now after.now }
-    ensures few { result.down + result.moved ≤ 65537 }
+    ensures down { IfOk result (λ c. c.down ≡ down before.now after.now) }
+    ensures moved { IfOk result (λ c. c.moved ≡ moved before.now after.now) }
+    ensures changed { IfOk result (λ c. c.down + c.moved ≡ changed before.now after.now) }
+    ensures few { IfOk result (λ c. c.down + c.moved ≤ 65537) }
 {
+    let staying = staying(alloc, before, after)?;
     let mut down = 0u32;
     let mut moved = 0u32;
     for slot in 0..before.size() {
         if is_moved(before, after, slot) {
-            if stays_up(before, after, slot) {
+            if stays_up(before, staying.as_slice(), slot) {
                 moved += 1;
             } else {
                 down += 1;
             }
         }
     }
-    Causes { down, moved }
+    Ok(Causes { down, moved })
 }
 
 // How many slots fewer name a backend in the second table.

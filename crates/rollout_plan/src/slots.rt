@@ -1,5 +1,5 @@
 //! Tables of slots whose backends' slots are counted.
-ghost use Rattle.std.specs.Prelude.{◌≡◌, ◌<◌, ◌≤◌, [], All, length, map, IfOk, OnOk, Some, None, slice_index};
+ghost use Rattle.std.specs.Prelude.{◌≡◌, ◌<◌, ◌≤◌, [], All, length, map, IfOk, OnOk, Some, None, slice_index, MatchOption};
 ghost use Rattle.hash_laws.specs.Any.{plain_of};
 ghost use Rattle.maglev_table.specs.Turns.{all_slots_of};
 ghost use Rattle.pool_versions.specs.Pool.{ranked, AscendsByName};
@@ -215,6 +215,17 @@ impl SlotTable {
             return None;
         }
         self.ups.get(self.owners[slot as usize] as usize).copied()
+    }
+
+    /// The place of the backend that a slot names, None where nobody is up. Slots begin at 0.
+    pub(crate) fn place_at(&self, slot: u32) -> Option<usize>
+        requires { slot < self.now.size }
+        ensures { MatchOption result (self.now.ups ≡ []) (λ place. place ≡ slice_index self.now.owners slot) }
+    {
+        if self.ups.is_empty() {
+            return None;
+        }
+        Some(self.owners[slot as usize] as usize)
     }
 
     /// Whether a backend is up. It is sought by halves.

@@ -59,6 +59,7 @@ fn push_service_line(text: &mut String, key: ServiceKey) -> Result<(), AllocErro
 
 #[tactic(auto, unfolding(crate::specs::Text::counts_line))]
 fn push_counts_line(
+    alloc: Global,
     text: &mut String,
     before: &SlotTable,
     after: &SlotTable,
@@ -67,7 +68,7 @@ fn push_counts_line(
     ensures { OnOk result (string_bytes text.new ≡ string_bytes text.old ++ counts_line before.now after.now) }
 {
     let slots = before.size();
-    let Causes { down, moved } = causes_of(before, after);
+    let Causes { down, moved } = causes_of(alloc, before, after)?;
     let changed = down + moved;
     let least = least(before, after);
     write!(
@@ -126,7 +127,7 @@ fn push_change(
     let new = rule.table(alloc, after)?;
     let members = members_of_both(alloc, before, after)?;
     push_service_line(text, key)?;
-    push_counts_line(text, &old, &new)?;
+    push_counts_line(alloc, text, &old, &new)?;
     push_change_lines(text, &old, &new, members.as_slice())
 }
 

@@ -12,7 +12,7 @@ loop-slot-preserved c =
     elim c.if-is_moved.branch [
       | then-is_moved+then-stays_up w ↦
           let m : is_moved c.args.before.now c.args.after.now c.loop-slot.slot ≡ true = sym c.is_moved.ensures ∙ w.if-is_moved.true in
-          let s : stays_up c.args.after.now (named_at c.args.before.now c.loop-slot.slot) ≡ true = sym w.stays_up.ensures ∙ w.if-stays_up.true in
+          let s : stays_up c.args.after.now (named_at c.args.before.now c.loop-slot.slot) ≡ true = sym (w.stays_up.ensures c.args.after.now (w.as_slice.ensures.value ∙ c.in_ok-staying.ensures)) ∙ w.if-stays_up.true in
           record {
             down = rw w.down-is (count_no fell c.loop-slot.slot c.loop-slot.down (rw (m, s) refl) c.loop-slot.invariant.down);
             moved = rw w.moved-is (count_yes went c.loop-slot.slot c.loop-slot.moved (rw (m, s) refl) c.loop-slot.invariant.moved);
@@ -20,7 +20,7 @@ loop-slot-preserved c =
           }
       | then-is_moved+else-stays_up w ↦
           let m : is_moved c.args.before.now c.args.after.now c.loop-slot.slot ≡ true = sym c.is_moved.ensures ∙ w.if-is_moved.true in
-          let s : stays_up c.args.after.now (named_at c.args.before.now c.loop-slot.slot) ≡ false = sym w.stays_up.ensures ∙ w.if-stays_up.false in
+          let s : stays_up c.args.after.now (named_at c.args.before.now c.loop-slot.slot) ≡ false = sym (w.stays_up.ensures c.args.after.now (w.as_slice.ensures.value ∙ c.in_ok-staying.ensures)) ∙ w.if-stays_up.false in
           record {
             down = rw w.down-is (count_yes fell c.loop-slot.slot c.loop-slot.down (rw (m, s) refl) c.loop-slot.invariant.down);
             moved = rw w.moved-is (count_no went c.loop-slot.slot c.loop-slot.moved (rw (m, s) refl) c.loop-slot.invariant.moved);
