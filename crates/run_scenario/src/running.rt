@@ -14,7 +14,7 @@ use crate::orders::orders_of;
 use crate::reading::{Captured, packets_of, read_whole};
 use crate::report::audited_report;
 use crate::sending::write_capture;
-use crate::threads::run_named;
+use crate::threads::{Task, run_named};
 use connection_table::TableKey;
 use driver_commands::first_unsupported_step;
 use ip_headers::Link;
@@ -64,15 +64,14 @@ fn run_over<R: Threads + Wait + Sync>(
     let wire = wire_of(scenario, captured.head.link);
     let packets = packets_of(alloc, &wire, &captured.records)?;
     let orders = orders_of(alloc, scenario, packets.as_slice())?;
-    let audited = run_named(
-        rt,
-        alloc,
+    let task = Task {
         key,
         scenario,
-        packets.as_slice(),
-        orders.commands.as_slice(),
+        packets: packets.as_slice(),
+        commands: orders.commands.as_slice(),
         splits,
-    )?;
+    };
+    let audited = run_named(rt, alloc, &task)?;
     let totals = totals_of(&audited.run);
     let report = audited_report(
         alloc,

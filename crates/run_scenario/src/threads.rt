@@ -27,6 +27,17 @@ use std::thread;
 use std::thread::Threads;
 use thread_records::{Command, NodeRecord};
 
+/// What is to be run: a scenario's cluster over packets that were read, each node by its list of commands. The tables and the
+/// book of splits hash by the key.
+#[derive(Clone, Copy)]
+pub(crate) struct Task<'a> {
+    pub(crate) key: TableKey,
+    pub(crate) scenario: &'a Scenario,
+    pub(crate) packets: &'a [Packet],
+    pub(crate) commands: &'a [Vec<Command>],
+    pub(crate) splits: bool,
+}
+
 /// A run, whether each node's history agrees with its replay, and what is reported of the splits.
 #[derive(Drop)]
 pub(crate) struct Audited {
@@ -40,23 +51,27 @@ pub(crate) struct Audited {
 fn judged<S: Scheme + Send + Sync, R: Threads + Sync>(
     rt: &R,
     alloc: Global,
-    key: TableKey,
     setup: &Setup<S, AnyHash>,
-    scenario: &Scenario,
-    packets: &[Packet],
+    task: &Task<'_>,
     nodes: &[NodeRecord],
-    splits: bool,
 ) -> (Result<bool, AllocError>, Result<String, AllocError>)
 where
     S::Prepared: Send + Sync,
-    requires size { scenario.now.catalogue.size ≡ scenario.now.size }
-    requires sized { setup.now.size ≡ scenario.now.size }
-    requires read { WereRead packets.now }
+    requires size { task.now.scenario.now.catalogue.size ≡ task.now.scenario.now.size }
+    requires sized { setup.now.size ≡ task.now.scenario.now.size }
+    requires read { WereRead task.now.packets.now }
     requires even { AreEven nodes.now }
-    ensures audit { let rules = rules_for (λ s z. S.pick s z) (λ h. plain_of h) setup.now scenario.now.catalogue in
-        IfOk result.0 (λ b. IsTrue b ↔ All (λ r. r.outcomes.items ≡ verdicts rules [] packets.now r.events.items) nodes.now) }
-    ensures splits { IfOk result.1 (λ s. string_bytes s ≡ splits_over splits scenario.now nodes.now) }
+    ensures audit { let rules = rules_for (λ s z. S.pick s z) (λ h. plain_of h) setup.now task.now.scenario.now.catalogue in
+        IfOk result.0 (λ b. IsTrue b ↔ All (λ r. r.outcomes.items ≡ verdicts rules [] task.now.packets.now r.events.items) nodes.now) }
+    ensures splits { IfOk result.1 (λ s. string_bytes s ≡ splits_over task.now.splits task.now.scenario.now nodes.now) }
 {
+    let Task {
+        key,
+        scenario,
+        packets,
+        splits,
+        ..
+    } = *task;
     thread::join(
         rt,
         || -> Result<bool, AllocError>
@@ -84,27 +99,24 @@ where
 fn run_by<S: Scheme + Send + Sync, R: Threads + Wait + Sync>(
     rt: &R,
     alloc: Global,
-    key: TableKey,
     scheme: S,
-    scenario: &Scenario,
-    packets: &[Packet],
-    commands: &[Vec<Command>],
-    splits: bool,
+    task: &Task<'_>,
 ) -> Result<Audited, RunFailure>
 where
     S::Prepared: Send + Sync,
-    requires limits { HasLimits scenario.now }
-    requires size { scenario.now.catalogue.size ≡ scenario.now.size }
-    requires picks { S.pick scheme scenario.now.size ≡ pick_by scenario.now.scheme (plain_of scenario.now.hash) scenario.now.size }
-    requires nodes { length commands.now ≡ length scenario.now.nodes.items }
-    requires read { WereRead packets.now }
-    ensures runs { IfOk result (λ a. AreRuns (rules_in scenario.now) packets.now scenario.now.ring 0 (map (λ c. c.items) commands.now) a.run.nodes.items) }
+    requires limits { HasLimits task.now.scenario.now }
+    requires size { task.now.scenario.now.catalogue.size ≡ task.now.scenario.now.size }
+    requires picks { S.pick scheme task.now.scenario.now.size ≡ pick_by task.now.scenario.now.scheme (plain_of task.now.scenario.now.hash) task.now.scenario.now.size }
+    requires nodes { length task.now.commands.now ≡ length task.now.scenario.now.nodes.items }
+    requires read { WereRead task.now.packets.now }
+    ensures runs { IfOk result (λ a. AreRuns (rules_in task.now.scenario.now) task.now.packets.now task.now.scenario.now.ring 0 (map (λ c. c.items) task.now.commands.now) a.run.nodes.items) }
     ensures counts { IfOk result (λ a. AreTotals a.run.stats (all_outcomes a.run.nodes.items)) }
     ensures few { IfOk result (λ a. length (all_outcomes a.run.nodes.items) < 2 ^ 63) }
     ensures audit { IfOk result (λ a. a.agrees ≡ true) }
-    ensures splits { IfOk result (λ a. string_bytes a.splits ≡ splits_over splits scenario.now a.run.nodes.items) }
+    ensures splits { IfOk result (λ a. string_bytes a.splits ≡ splits_over task.now.splits task.now.scenario.now a.run.nodes.items) }
     ensures stopped { IfErr result IsOfThreads }
 {
+    let scenario = task.scenario;
     let nodes = Vec::from_slice(alloc, scenario.nodes.as_slice())?;
     let Ok(setup) = Setup::new(
         scenario.hash,
@@ -117,30 +129,21 @@ where
     ) else {
         unreachable!()
     };
-    let setup = setup.keyed(key);
+    let setup = setup.keyed(task.key);
     let run = run_each::<S, AnyHash, LruTable, OpenGate, R>(
         rt,
         alloc,
         &setup,
         &scenario.catalogue,
-        packets,
-        commands,
+        task.packets,
+        task.commands,
         scenario.ring,
         &OpenGate,
     )?;
     let Some(_) = outcome_count(run.nodes.as_slice()) else {
         return Err(RunFailure::Threads(RunFault::Memory));
     };
-    let (agrees, splits) = judged(
-        rt,
-        alloc,
-        key,
-        &setup,
-        scenario,
-        packets,
-        run.nodes.as_slice(),
-        splits,
-    );
+    let (agrees, splits) = judged(rt, alloc, &setup, task, run.nodes.as_slice());
     Ok(Audited {
         run,
         agrees: agrees?,
@@ -153,47 +156,23 @@ where
 pub(crate) fn run_named<R: Threads + Wait + Sync>(
     rt: &R,
     alloc: Global,
-    key: TableKey,
-    scenario: &Scenario,
-    packets: &[Packet],
-    commands: &[Vec<Command>],
-    splits: bool,
+    task: &Task<'_>,
 ) -> Result<Audited, RunFailure>
-    requires limits { HasLimits scenario.now }
-    requires size { scenario.now.catalogue.size ≡ scenario.now.size }
-    requires nodes { length commands.now ≡ length scenario.now.nodes.items }
-    requires read { WereRead packets.now }
-    ensures runs { IfOk result (λ a. AreRuns (rules_in scenario.now) packets.now scenario.now.ring 0 (map (λ c. c.items) commands.now) a.run.nodes.items) }
+    requires limits { HasLimits task.now.scenario.now }
+    requires size { task.now.scenario.now.catalogue.size ≡ task.now.scenario.now.size }
+    requires nodes { length task.now.commands.now ≡ length task.now.scenario.now.nodes.items }
+    requires read { WereRead task.now.packets.now }
+    ensures runs { IfOk result (λ a. AreRuns (rules_in task.now.scenario.now) task.now.packets.now task.now.scenario.now.ring 0 (map (λ c. c.items) task.now.commands.now) a.run.nodes.items) }
     ensures counts { IfOk result (λ a. AreTotals a.run.stats (all_outcomes a.run.nodes.items)) }
     ensures few { IfOk result (λ a. length (all_outcomes a.run.nodes.items) < 2 ^ 63) }
     ensures audit { IfOk result (λ a. a.agrees ≡ true) }
-    ensures splits { IfOk result (λ a. string_bytes a.splits ≡ splits_over splits scenario.now a.run.nodes.items) }
+    ensures splits { IfOk result (λ a. string_bytes a.splits ≡ splits_over task.now.splits task.now.scenario.now a.run.nodes.items) }
     ensures stopped { IfErr result IsOfThreads }
 {
-    let hash = scenario.hash;
-    match scenario.scheme {
-        SchemeKind::Maglev => run_by(
-            rt,
-            alloc,
-            key,
-            Maglev { hash },
-            scenario,
-            packets,
-            commands,
-            splits,
-        ),
-        SchemeKind::Plain => run_by(
-            rt,
-            alloc,
-            key,
-            PlainHash { hash },
-            scenario,
-            packets,
-            commands,
-            splits,
-        ),
-        SchemeKind::Round => run_by(
-            rt, alloc, key, RoundRobin, scenario, packets, commands, splits,
-        ),
+    let hash = task.scenario.hash;
+    match task.scenario.scheme {
+        SchemeKind::Maglev => run_by(rt, alloc, Maglev { hash }, task),
+        SchemeKind::Plain => run_by(rt, alloc, PlainHash { hash }, task),
+        SchemeKind::Round => run_by(rt, alloc, RoundRobin, task),
     }
 }

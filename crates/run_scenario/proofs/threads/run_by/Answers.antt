@@ -14,20 +14,20 @@ use Rattle.run_scenario.proofs.threads.run_by.Goals as goal
 
 pub judged-agrees-requires-clause-even : goal.judged-agrees-requires-clause-even
 judged-agrees-requires-clause-even g c κs within =
-    let rules : Rules = rules_for (λ s z. g.S.Scheme.pick s z) (λ h. plain_of h) c.keyed-setup.result c.args.scenario.now.catalogue in
+    let rules : Rules = rules_for (λ s z. g.S.Scheme.pick s z) (λ h. plain_of h) c.keyed-setup.result c.args.task.now.scenario.now.catalogue in
     subst (λ (ns : List NodeRecord). AreEven ns) (sym c.as_slice-3.ensures.value)
-    (are_even rules c.args.packets.now c.args.scenario.now.ring 0 (map (λ l. l.items) c.args.commands.now) c.in_ok-run.run'.nodes.items c.in_ok-run.ensures.runs)
+    (are_even rules c.args.task.now.packets.now c.args.task.now.scenario.now.ring 0 (map (λ l. l.items) c.args.task.now.commands.now) c.in_ok-run.run'.nodes.items c.in_ok-run.ensures.runs)
 
 pub returns-clause-audit : goal.returns-clause-audit
 returns-clause-audit g c =
-    let rules : Rules = rules_for (λ s z. g.S.Scheme.pick s z) (λ h. plain_of h) c.keyed-setup.result c.args.scenario.now.catalogue in
-    let Agrees : NodeRecord → Type 0 = λ r. r.outcomes.items ≡ verdicts rules [] c.args.packets.now r.events.items in
-    let told = all_told rules c.args.packets.now c.args.scenario.now.ring 0 (map (λ l. l.items) c.args.commands.now) c.in_ok-run.run'.nodes.items c.in_ok-run.ensures.runs in
+    let rules : Rules = rules_for (λ s z. g.S.Scheme.pick s z) (λ h. plain_of h) c.keyed-setup.result c.args.task.now.scenario.now.catalogue in
+    let Agrees : NodeRecord → Type 0 = λ r. r.outcomes.items ≡ verdicts rules [] c.args.task.now.packets.now r.events.items in
+    let told = all_told rules c.args.task.now.packets.now c.args.task.now.scenario.now.ring 0 (map (λ l. l.items) c.args.task.now.commands.now) c.in_ok-run.run'.nodes.items c.in_ok-run.ensures.runs in
     let judged : IsTrue c.in_ok-agrees.field-0 ↔ All Agrees c.as_slice-3.result.now =
     subst (λ r. IfOk r (λ b. IsTrue b ↔ All Agrees c.as_slice-3.result.now)) c.in_ok-agrees.was c.judged-agrees.ensures.audit in
     judged.1 (subst (λ (ns : List NodeRecord). All Agrees ns) (sym c.as_slice-3.ensures.value) told)
 
 pub returns-clause-runs : goal.returns-clause-runs
 returns-clause-runs g c =
-    let is = same_rules (λ s z. g.S.Scheme.pick s z) c.args.scheme c.args.scenario.now c.keyed-setup.result c.requires.picks (c.keyed-setup.ensures ∙ c.in-Ok.ensures.1 ∙ same_fixed c.args.scheme c.args.scenario.now c.in_ok-nodes.nodes.items (c.in_ok-nodes.ensures.items ∙ c.as_slice.ensures.value)) in
-    subst (λ (rules : Rules). AreRuns rules c.args.packets.now c.args.scenario.now.ring 0 (map (λ l. l.items) c.args.commands.now) c.in_ok-run.run'.nodes.items) is c.in_ok-run.ensures.runs
+    let is = same_rules (λ s z. g.S.Scheme.pick s z) c.args.scheme c.args.task.now.scenario.now c.keyed-setup.result c.requires.picks (c.keyed-setup.ensures ∙ c.in-Ok.ensures.1 ∙ same_fixed c.args.scheme c.args.task.now.scenario.now c.in_ok-nodes.nodes.items (c.in_ok-nodes.ensures.items ∙ c.as_slice.ensures.value)) in
+    subst (λ (rules : Rules). AreRuns rules c.args.task.now.packets.now c.args.task.now.scenario.now.ring 0 (map (λ l. l.items) c.args.task.now.commands.now) c.in_ok-run.run'.nodes.items) is c.in_ok-run.ensures.runs
