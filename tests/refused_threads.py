@@ -2,10 +2,11 @@
 """Refuses each thread of a run in turn, and each growth of a node's memory, and compares what the program then says.
 
 The program `example_node` runs a node of two workers through two lives, on threads; `maglev run` runs two such nodes, of which
-one has two lives. They print their whole answer, or why there is none, alone: `fault: ThreadLost` where a thread couldn't be
-started, and `fault: Memory` where memory was refused, which comes first where both were. A thread of the audit may be refused: its node is then audited by the
-caller's thread, and the run says what it always says. `refuse_thread.c` refuses threads, and `refused_growths.py` has how
-growths are refused. A growth that the system refuses while it starts a thread loses the thread.
+one has two lives, and with `--splits` two of a worker. They print their whole answer, or why there is none, alone:
+`fault: ThreadLost` where a thread couldn't be started, and `fault: Memory` where memory was refused, which comes first where
+both were. A thread of the audit may be refused: the caller's thread then audits that node, or tells the splits, and the run
+says what it always says. `refuse_thread.c` refuses threads, and `refused_growths.py` has how growths are refused. A growth that
+the system refuses while it starts a thread loses the thread.
 
 The last line is 'N passed, N failed', which counts runs.
 """
@@ -24,8 +25,11 @@ NODE_THREADS = 6
 CLUSTER = growths.Case(["run", "s.toml", "in.pcap", "out.pcap"], growths.RESTARTED, files=growths.CLUSTER)
 # Those of three lives, and the nodes' drivers.
 CLUSTER_THREADS = 11
-# Those of its audit, at most: one for each node.
-AUDIT_THREADS = 2
+# Those of its audit, at most: one for each node, and one beside the splits.
+AUDIT_THREADS = 3
+# Two nodes of a worker, each with one life, and what is told of the splits.
+SPLIT = growths.Case(["run", "--splits", "s.toml", "in.pcap", "out.pcap"], growths.FLOW.format("2 5") + growths.TWO + "audit agrees\n", files=growths.SPLIT)
+SPLIT_THREADS = 6
 LOST = growths.LOST
 # The thread that is refused, and what is said where the first growth of any thread but the first one is refused too. An 'r' in
 # front tells that one was. Where the first driver isn't started no other thread is; where the second one isn't, the first is
@@ -92,6 +96,7 @@ def main():
         library = growths.compiled(folder, "refuse_thread.c")
         counts = [refuse_threads(library, [growths.PROGRAM], NODE, NODE_THREADS)]
         counts.append(refuse_threads(library, [program, *CLUSTER.arguments], CLUSTER, CLUSTER_THREADS, AUDIT_THREADS))
+        counts.append(refuse_threads(library, [program, *SPLIT.arguments], SPLIT, SPLIT_THREADS, AUDIT_THREADS))
         counts.append(explains_why(library, program))
         counts.append(refuse_both([library, growths.compiled(folder)], program))
         counts.append(growths.refuse_all(folder, [NODE]))

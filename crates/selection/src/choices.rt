@@ -92,7 +92,7 @@ fn highest(number: u32, cells: usize) -> usize {
     (number as u64).wrapping_shl(32).wrapping_shr(shift) as usize
 }
 
-// The cell in which an address is looked for first. Consecutive addresses have cells of their own.
+// The cell in which an address is looked for first. Nearly all consecutive addresses have one of their own.
 #[inline(always)]
 fn first_cell(addr: u32, cells: usize) -> usize {
     highest(addr.wrapping_mul(SPREAD), cells)
@@ -140,8 +140,8 @@ fn expect(places: &mut [u32], addr: u32, place: usize) {
     }
 }
 
-// Cells that have the places of backends by their addresses, two to four for each. Nearly all find a cell of their own: of
-// consecutive addresses each its first one. Nothing rests on them.
+// Cells that have the places of backends by their addresses, two to four for each. Nearly all find a cell of their own, and
+// consecutive addresses mostly their first one. Nothing rests on them.
 fn likely_places(alloc: Global, ups: &[Backend]) -> Result<Vec<u32>, AllocError> {
     let cells = match ups.len() {
         0 => 0,
