@@ -206,17 +206,6 @@ impl SlotTable {
         self.ups.as_slice()
     }
 
-    /// The backend that a slot names, None where nobody is up. Slots begin at 0.
-    pub(crate) fn backend_at(&self, slot: u32) -> Option<Backend>
-        requires { slot < self.now.size }
-        ensures { result ≡ slot_names self.now.ups self.now.owners slot }
-    {
-        if self.ups.is_empty() {
-            return None;
-        }
-        self.ups.get(self.owners[slot as usize] as usize).copied()
-    }
-
     /// The place of the backend that a slot names, None where nobody is up. Slots begin at 0.
     pub(crate) fn place_at(&self, slot: u32) -> Option<usize>
         requires { slot < self.now.size }
@@ -226,6 +215,15 @@ impl SlotTable {
             return None;
         }
         Some(self.owners[slot as usize] as usize)
+    }
+
+    /// The backend that a slot names, None where nobody is up. Slots begin at 0.
+    pub(crate) fn backend_at(&self, slot: u32) -> Option<Backend>
+        requires { slot < self.now.size }
+        ensures { result ≡ slot_names self.now.ups self.now.owners slot }
+    {
+        let place = self.place_at(slot)?;
+        self.ups.get(place).copied()
     }
 
     /// Whether a backend is up. It is sought by halves.
