@@ -32,5 +32,5 @@ pub use laws::{
     servings_follow_packets, servings_stand_apart,
 };
 pub use reading::read_packet;
-pub use replaying::replay;
+pub use replaying::{packet_at, replay};
 pub use running::{Run, prepare_newer};

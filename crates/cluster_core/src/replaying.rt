@@ -18,8 +18,8 @@ use pool_versions::Catalogue;
 use selection::Scheme;
 use std::alloc::{AllocError, Global};
 
-// The packet that an event names.
-fn packet_at<'a>(packets: &'a [Packet], event: &Event) -> Option<&'a Packet>
+/// The packet that an arrival names, if it is among these. Other events name none.
+pub fn packet_at<'a>(packets: &'a [Packet], event: &Event) -> Option<&'a Packet>
     ensures { option_copied result ≡ packet_of packets.now event.now }
 {
     match *event {

@@ -1,29 +1,19 @@
 //! Whether a record agrees with a replay of its events.
-ghost use Rattle.std.specs.Prelude.{◌≡◌, ◌↔◌, [], ℕ, Some, IfOk, IsTrue, slice_get, option_copied};
+ghost use Rattle.std.specs.Prelude.{◌≡◌, ◌↔◌, [], ℕ, Some, IfOk, IsTrue, slice_get};
 ghost use Rattle.cluster_node.specs.declared.packets.Packet.{Packet};
 ghost use Rattle.cluster_node.specs.Records.{WasRead};
 ghost use Rattle.cluster_core.specs.Setups.{Fixed, rules_for};
-ghost use Rattle.cluster_core.specs.Runs.{packet_of, verdicts};
+ghost use Rattle.cluster_core.specs.Runs.{verdicts};
 
 use crate::merging::is_same;
 use crate::nodes::{History, NodeRecord};
-use cluster_core::{Run, Setup};
+use cluster_core::{Run, Setup, packet_at};
 use cluster_node::{Event, Outcome, Packet};
 use connection_table::ConnTable;
 use hash_laws::FlowHash;
 use pool_versions::Catalogue;
 use selection::Scheme;
 use std::alloc::{AllocError, Global};
-
-// The packet that an event names.
-fn packet_at<'a>(packets: &'a [Packet], event: &Event) -> Option<&'a Packet>
-    ensures { option_copied result ≡ packet_of packets.now event.now }
-{
-    match *event {
-        Event::Arrive { packet, .. } => packets.get(packet as usize),
-        _ => None,
-    }
-}
 
 // Whether the outcome at a place is this one.
 fn is_at(outcomes: &[Outcome], at: usize, outcome: &Outcome) -> bool
