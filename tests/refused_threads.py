@@ -25,7 +25,7 @@ NODE_THREADS = 6
 CLUSTER = growths.Case(["run", "s.toml", "in.pcap", "out.pcap"], growths.RESTARTED, files=growths.CLUSTER)
 # Those of three lives, and the nodes' drivers.
 CLUSTER_THREADS = 11
-# Those of its audit, at most: one for each node, and one beside the splits.
+# Those of its audit, at most: one for each node, and where splits are told one for these.
 AUDIT_THREADS = 3
 # Two nodes of a worker, each with one life, and what is told of the splits.
 SPLIT = growths.Case(["run", "--splits", "s.toml", "in.pcap", "out.pcap"], growths.FLOW.format("2 5") + growths.TWO + "audit agrees\n", files=growths.SPLIT)

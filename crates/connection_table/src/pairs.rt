@@ -78,9 +78,9 @@ impl Pairs {
         self.pairs[place as usize - 1].1
     }
 
-    /// Renews the entry at a flow's place, which becomes the newest: where `keeps` holds of it, it is touched at a clock, and
-    /// otherwise the one that `makes` answers is written. Since the place is moved to the front either way, that comes first:
-    /// so the processor waits for the links while it judges the entry.
+    /// Renews the entry at a flow's place, which becomes the newest. Where `keeps` holds of it, it is touched at a clock.
+    /// Otherwise the one that `makes` answers is written. The place moves to the front either way, so that comes first: the
+    /// links are fetched while the entry is judged.
     #[inline(always)]
     pub(crate) fn renew<K: FnOnce(&Entry) -> bool, M: FnOnce() -> Entry>(
         &mut self,

@@ -89,7 +89,8 @@ where
     )
 }
 
-// The same. Where nothing is reported of splits no thread is started for them.
+// Whether each node's history agrees with its replay, and what is reported of the splits. Where that isn't asked for, no
+// thread is started for it.
 fn judged<S: Scheme + Send + Sync, R: Threads + Sync>(
     rt: &R,
     alloc: Global,
@@ -119,7 +120,8 @@ where
         catalogue,
         task.packets,
     );
-    (agrees, Ok(String::new(alloc)))
+    let splits = splits_told(alloc, task.key, task.scenario, nodes, task.splits);
+    (agrees, splits)
 }
 
 // Runs the cluster with this scheme.
