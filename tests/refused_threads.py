@@ -4,8 +4,8 @@
 The program `example_node` runs a node of two workers through two lives, on threads; `maglev run` runs two such nodes, of which
 one has two lives, and with `--splits` two of a worker. They print their whole answer, or why there is none, alone:
 `fault: ThreadLost` where a thread couldn't be started, and `fault: Memory` where memory was refused, which comes first where
-both were. A thread of the audit may be refused: the caller's thread then audits that node, or tells the splits, and the run
-says what it always says. `refuse_thread.c` refuses threads, and `refused_growths.py` has how growths are refused. A growth that
+both were. A thread of the audit may be refused: the caller's thread then audits that node, or all of them, and the run says
+what it always says. `refuse_thread.c` refuses threads, and `refused_growths.py` has how growths are refused. A growth that
 the system refuses while it starts a thread loses the thread.
 
 The last line is 'N passed, N failed', which counts runs.
@@ -25,7 +25,7 @@ NODE_THREADS = 6
 CLUSTER = growths.Case(["run", "s.toml", "in.pcap", "out.pcap"], growths.RESTARTED, files=growths.CLUSTER)
 # Those of three lives, and the nodes' drivers.
 CLUSTER_THREADS = 11
-# Those of its audit, at most: one for each node, and where splits are told one for these.
+# Those of its audit, at most: one for each node, and where splits are told one that audits them.
 AUDIT_THREADS = 3
 # Two nodes of a worker, each with one life, and what is told of the splits.
 SPLIT = growths.Case(["run", "--splits", "s.toml", "in.pcap", "out.pcap"], growths.FLOW.format("2 5") + growths.TWO + "audit agrees\n", files=growths.SPLIT)
