@@ -103,7 +103,18 @@ impl ConnTable for LruTable {
             let stored = self.insert(flow, *lent).is_ok();
             return Renewed::Made { entry, stored };
         };
-        self.pairs.renew(place, flow, clock, keeps, makes)
+        let entry = self.pairs.entry_at(place);
+        if keeps(&entry) {
+            self.pairs.retouch(place, flow, clock);
+            return Renewed::Kept(entry);
+        }
+        let entry = makes();
+        let lent = &entry;
+        self.pairs.write(place, flow, *lent);
+        Renewed::Made {
+            entry,
+            stored: true,
+        }
     }
 
     // The memory of the places is given back.

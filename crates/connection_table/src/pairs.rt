@@ -1,13 +1,12 @@
 //! Flows with their entries, in the order of their last use.
-ghost use Rattle.std.specs.Fn.{FnOnceReturnsAt};
-ghost use Rattle.std.specs.Prelude.{ℕ, ◌≡◌, ◌<◌, ◌≤◌, ◌+◌, ◌-◌, ◌∷◌, [], length, take, IfOk, OnOk, OnErr, MatchOption, None, slice_get, slice_index};
+ghost use Rattle.std.specs.Prelude.{◌≡◌, ◌<◌, ◌≤◌, ◌+◌, ◌-◌, ◌∷◌, [], length, take, IfOk, OnOk, OnErr, MatchOption, None, slice_get, slice_index};
 ghost use Rattle.connection_table.specs.Picked.{pair_at};
-ghost use Rattle.connection_table.specs.Renewal.{IsRenewed};
+ghost use Rattle.connection_table.specs.Recency.{retouched};
 ghost use Rattle.connection_table.specs.Tied.{AreTied, IsPlaceOf, is_of, touches_of};
 ghost use Rattle.connection_table.specs.Touches.{last_touch, without};
 
 use crate::key::TableKey;
-use crate::table::{Entry, Renewed};
+use crate::table::Entry;
 use five_tuple::Flow;
 use place_buckets::Buckets;
 use recent_order::RecentOrder;
@@ -78,41 +77,19 @@ impl Pairs {
         self.pairs[place as usize - 1].1
     }
 
-    /// Renews the entry at a flow's place, which becomes the newest. Where `keeps` holds of it, it is touched at a clock.
-    /// Otherwise the one that `makes` answers is written. The place moves to the front either way, so that comes first: the
-    /// links are fetched while the entry is judged.
+    /// Touches the pair at a flow's place at a clock.
     #[inline(always)]
-    pub(crate) fn renew<K: FnOnce(&Entry) -> bool, M: FnOnce() -> Entry>(
-        &mut self,
-        place: u32,
-        flow: Flow,
-        clock: u64,
-        keeps: K,
-        makes: M,
-    ) -> Renewed
+    pub(crate) fn retouch(&mut self, place: u32, flow: Flow, clock: u64)
         requires tied { AreTied self.old }
         requires place { IsPlaceOf flow self.old place }
-        requires keeps { K.IsAlwaysCallable keeps }
-        requires makes { M.pre makes }
         ensures tied { AreTied self.new }
-        ensures renewed { (capacity : ℕ) → IsRenewed (FnOnceReturnsAt K.FnOnce keeps) (M.post makes) capacity clock flow result (touches_of self.old) (touches_of self.new) }
+        ensures touches { touches_of self.new ≡ retouched clock flow (touches_of self.old) }
         ensures many { length self.new.pairs.items ≡ length self.old.pairs.items }
     {
         self.order.are_places();
         self.order.promote(place);
-        let entry = self.entry_at(place);
-        if keeps(&entry) {
-            let pair = &mut self.pairs[place as usize - 1];
-            pair.1.last = clock;
-            return Renewed::Kept(entry);
-        }
-        let entry = makes();
-        let lent = &entry;
-        self.pairs[place as usize - 1] = (flow, *lent);
-        Renewed::Made {
-            entry,
-            stored: true,
-        }
+        let pair = &mut self.pairs[place as usize - 1];
+        pair.1.last = clock;
     }
 
     /// Writes the entry at a flow's place, which becomes the newest.
