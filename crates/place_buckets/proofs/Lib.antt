@@ -2,3 +2,4 @@ pub mod Walks
 pub mod Removal
 pub mod Chaining
 pub mod Seeking
+pub mod Backs
