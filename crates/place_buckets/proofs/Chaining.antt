@@ -1,10 +1,10 @@
 -- What the chains of all buckets become.
 use Rattle.std.proofs.Common.{◌≡◌, ℕ, ◌+◌, ◌-◌, ◌<◌, ◌≤◌, ◌⊎◌, inl, inr, ⊎_elim, refl, sym, ◌∙◌, ap, subst, arith, List, [], ◌∷◌, ◌++◌, length, map, get_or, set, replicate, Option, Some, None, IfSome, IfNone, slice_index}
 use Rattle.std.proofs.lemmas.Bool.{cases_eq}
-use Rattle.std.proofs.lemmas.List.{length-set, length-replicate, get_or-set_same, get_or-set_other, get_or-replicate, get_or_append_left, length-map, map-set, set-get_or, get_or-map}
+use Rattle.std.proofs.lemmas.List.{length-set, length-replicate, get_or-set_same, get_or-set_other, get_or-replicate, get_or_append_left, get_or_push, length_push, length-map, map-set, set-get_or, get_or-map}
 use Rattle.place_buckets.specs.declared.chains.Link.{Link}
-use Rattle.place_buckets.specs.Chains.{nothing, hash_of, next_at, hash_at, bucket_of, home_of, IsAmong, Linked, Chain, AreChained, AreChainedBut}
-use Rattle.place_buckets.proofs.Walks.{frame, above}
+use Rattle.place_buckets.specs.Chains.{nothing, hash_of, next_at, hash_at, bucket_of, home_of, IsAmong, Linked, Inside, Chain, AreChained, AreChainedBut}
+use Rattle.place_buckets.proofs.Walks.{frame, above, same_walk}
 use Rattle.place_buckets.proofs.Removal.{Without, from_front, from_inside}
 
 -- a chain whose places keep their links
@@ -52,11 +52,11 @@ taken next then home after old bucket first start place homes c w = record {
 }
 
 -- links after a write
-pub next_same : (links : List Link) (place : ℕ) (x : Link) → 0 < place → place ≤ length links → next_at (set links (place - 1) x) place ≡ x.next
+next_same : (links : List Link) (place : ℕ) (x : Link) → 0 < place → place ≤ length links → next_at (set links (place - 1) x) place ≡ x.next
 unfolding next_at
 next_same links place x pos low = ap (λ (l : Link). l.next) (get_or-set_same links (place - 1) x nothing (omega arith))
 
-pub next_other : (links : List Link) (place p : ℕ) (x : Link) → 0 < place → 0 < p → (p ≡ place → ⊥) → next_at (set links (place - 1) x) p ≡ next_at links p
+next_other : (links : List Link) (place p : ℕ) (x : Link) → 0 < place → 0 < p → (p ≡ place → ⊥) → next_at (set links (place - 1) x) p ≡ next_at links p
 unfolding next_at
 next_other links place p x pos low other = ap (λ (l : Link). l.next) (get_or-set_other links (place - 1) (p - 1) x nothing (λ e. other (omega arith)))
 
@@ -64,21 +64,21 @@ hash_same : (links : List Link) (place : ℕ) (x : Link) → 0 < place → place
 unfolding hash_at
 hash_same links place x pos low = ap (λ (l : Link). l.hash) (get_or-set_same links (place - 1) x nothing (omega arith))
 
-pub hash_other : (links : List Link) (place p : ℕ) (x : Link) → 0 < place → 0 < p → (p ≡ place → ⊥) → hash_at (set links (place - 1) x) p ≡ hash_at links p
+hash_other : (links : List Link) (place p : ℕ) (x : Link) → 0 < place → 0 < p → (p ≡ place → ⊥) → hash_at (set links (place - 1) x) p ≡ hash_at links p
 unfolding hash_at
 hash_other links place p x pos low other = ap (λ (l : Link). l.hash) (get_or-set_other links (place - 1) (p - 1) x nothing (λ e. other (omega arith)))
 
-pub hash_kept : (links : List Link) (place p : ℕ) (x : Link) → 0 < place → place ≤ length links → x.hash ≡ hash_at links place → 0 < p → hash_at (set links (place - 1) x) p ≡ hash_at links p
+hash_kept : (links : List Link) (place p : ℕ) (x : Link) → 0 < place → place ≤ length links → x.hash ≡ hash_at links place → 0 < p → hash_at (set links (place - 1) x) p ≡ hash_at links p
 hash_kept links place p x pos low kept here =
     ⊎_elim (λ (e : p ≡ place). subst (λ (q : ℕ). hash_at (set links (place - 1) x) q ≡ hash_at links q) (sym e) (hash_same links place x pos low ∙ kept))
     (λ (other : p ≡ place → ⊥). hash_other links place p x pos here other)
     (cases_eq p place)
 
-pub home_kept : (count : ℕ) (links then : List Link) (p : ℕ) → hash_at then p ≡ hash_at links p → home_of count then p ≡ home_of count links p
+home_kept : (count : ℕ) (links then : List Link) (p : ℕ) → hash_at then p ≡ hash_at links p → home_of count then p ≡ home_of count links p
 unfolding home_of
 home_kept count links then p e = ap (bucket_of count) e
 
-pub home_sized : (count counted : ℕ) (links then : List Link) (p : ℕ) → counted ≡ count → hash_at then p ≡ hash_at links p → home_of counted then p ≡ home_of count links p
+home_sized : (count counted : ℕ) (links then : List Link) (p : ℕ) → counted ≡ count → hash_at then p ≡ hash_at links p → home_of counted then p ≡ home_of count links p
 home_sized count counted links then p size e = ap (λ (n : ℕ). home_of n then p) size ∙ home_kept count links then p e
 
 -- the hashes of all places stay
@@ -123,6 +123,14 @@ linked_first heads links place n bucket x pos low few within value kept to old =
       (cases_eq c bucket);
 }
 
+-- the chain of a place, as a walk
+pub inside_of : (heads : List ℕ) (links : List Link) (place n bucket : ℕ) → 0 < place → place ≤ n → bucket < length heads
+    → bucket ≡ bucket_of (length heads) (hash_at links place) → AreChained heads links n → Inside (next_at links) n place (get_or heads bucket 0)
+unfolding home_of
+inside_of heads links place n bucket pos few within value old =
+    let c = old.chain bucket within in
+    record { places = c.places; linked = c.linked; low = c.among; there = c.whole place pos few (sym value) }
+
 -- the first place of a chain taken out
 pub unlinked_front : (heads : List ℕ) (links : List Link) (place n bucket y : ℕ) → 0 < place → place ≤ n → bucket < length heads
     → bucket ≡ bucket_of (length heads) (hash_at links place) → get_or heads bucket 0 ≡ place → y ≡ next_at links place
@@ -158,18 +166,19 @@ unlinked_front heads links place n bucket y pos few within value first to old = 
 
 -- a place behind another taken out
 pub unlinked_inside : (heads : List ℕ) (links : List Link) (place before n bucket : ℕ) (x : Link) → 0 < place → place ≤ n → 0 < before → before ≤ length links → bucket < length heads
-    → bucket ≡ bucket_of (length heads) (hash_at links place) → next_at links before ≡ place → before ≤ n → bucket ≡ bucket_of (length heads) (hash_at links before)
+    → bucket ≡ bucket_of (length heads) (hash_at links place) → next_at links before ≡ place → Inside (next_at links) n before (get_or heads bucket 0)
     → x.hash ≡ hash_at links before → x.next ≡ next_at links place
     → AreChained heads links n → AreChainedBut heads (set links (before - 1) x) n place
 unfolding home_of
-unlinked_inside heads links place before n bucket x pos few some low within value behind less beside kept to old = record {
+unlinked_inside heads links place before n bucket x pos few some low within value behind inside kept to old = record {
   chain = λ c under.
       let then : List Link = set links (before - 1) x in
       let homes : (p : ℕ) → 0 < p → p ≤ n → home_of (length heads) then p ≡ home_of (length heads) links p
       = λ p here o. home_kept (length heads) links then p (hash_kept links before p x some low kept here) in
       let at : home_of (length heads) links place ≡ bucket = sym value in
       let b = old.chain bucket within in
-      let there : IsAmong before b.places = b.whole before some less (sym beside) in
+      let same : inside.places ≡ b.places = same_walk (next_at links) (get_or heads bucket 0) inside.places b.places inside.linked b.linked in
+      let there : IsAmong before b.places = subst (λ (ps : List ℕ). IsAmong before ps) same inside.there in
       let by : home_of (length heads) links before ≡ bucket = b.within before there in
       ⊎_elim
       (λ (e : c ≡ bucket).
@@ -202,10 +211,6 @@ other_hash heads links place n x pos low kept old = record {
       (λ p here o e. o) (λ p here o e. o) (old.chain c under);
 }
 
--- what is below the last
-pub at_most : (p k n : ℕ) → k + 1 ≡ n → p ≤ n → (p ≡ n → ⊥) → p ≤ k
-at_most p k n is low other = omega arith
-
 -- the next place of all, in no chain so far
 pub but_last : (heads : List ℕ) (links : List Link) (k n : ℕ) → k + 1 ≡ n → AreChained heads links k → AreChainedBut heads links n n
 but_last heads links k n is old = record {
@@ -215,9 +220,12 @@ but_last heads links k n is old = record {
       (λ p here o e. refl) (λ p here o. refl) (λ p here o e. (omega arith, λ (z : p ≡ n). let l : p ≤ k = o in omega arith))
       (λ p here o e. at_most p k n is o.0 o.1) (old.chain c under);
 }
+  where
+    at_most : (p k n : ℕ) → k + 1 ≡ n → p ≤ n → (p ≡ n → ⊥) → p ≤ k
+    at_most p k n is low other = omega arith
 
 -- a place behind all others, in no chain so far
-pub pushed_last : (heads : List ℕ) (links : List Link) (x : Link) (n : ℕ) → length links + 1 ≡ n → AreChained heads links (length links) → AreChainedBut heads (links ++ x ∷ []) n n
+pushed_last : (heads : List ℕ) (links : List Link) (x : Link) (n : ℕ) → length links + 1 ≡ n → AreChained heads links (length links) → AreChainedBut heads (links ++ x ∷ []) n n
 unfolding next_at hash_at
 pushed_last heads links x n is old =
     let held : AreChained heads (links ++ x ∷ []) (length links) = record {
@@ -229,6 +237,21 @@ pushed_last heads links x n is old =
           (λ p here o e. o) (λ p here o e. o) (old.chain c under);
     } in
     but_last heads (links ++ x ∷ []) (length links) n is held
+
+-- a place behind all others, put in front of its bucket's chain
+pub pushed_first : (heads : List ℕ) (links then : List Link) (bucket n : ℕ) (x : Link) → length links + 1 ≡ n → bucket < length heads → bucket ≡ bucket_of (length heads) x.hash
+    → x.next ≡ get_or heads bucket 0 → then ≡ links ++ x ∷ [] → AreChained heads links (length links) → AreChained (set heads bucket n) then (length then)
+unfolding hash_at
+pushed_first heads links then bucket n x is within value to made old =
+    let long : length (links ++ x ∷ []) ≡ n = length_push links x ∙ is in
+    let at : n - 1 ≡ length links = omega arith in
+    let read : get_or (links ++ x ∷ []) (n - 1) nothing ≡ x = get_or_push links x nothing (n - 1) (sym at) in
+    let hashed : x.hash ≡ hash_at (links ++ x ∷ []) n = sym (ap (λ (l : Link). l.hash) read) in
+    let put : AreChained (set heads bucket n) (set (links ++ x ∷ []) (n - 1) x) n
+    = linked_first heads (links ++ x ∷ []) n n bucket x (omega arith) (omega arith) (omega arith) within (value ∙ ap (bucket_of (length heads)) hashed) hashed to (pushed_last heads links x n is old) in
+    let same : set (links ++ x ∷ []) (n - 1) x ≡ links ++ x ∷ [] = ap (λ (l : Link). set (links ++ x ∷ []) (n - 1) l) (sym read) ∙ set-get_or (links ++ x ∷ []) (n - 1) nothing in
+    let there : AreChained (set heads bucket n) then n = subst (λ (ls : List Link). AreChained (set heads bucket n) ls n) (same ∙ sym made) put in
+    subst (λ (k : ℕ). AreChained (set heads bucket n) then k) (sym (ap length made ∙ long)) there
 
 -- empty buckets have no places
 pub none_chained : (heads : List ℕ) (links : List Link) (count : ℕ) → heads ≡ replicate count 0 → AreChained heads links 0

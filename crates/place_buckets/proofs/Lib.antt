@@ -2,4 +2,3 @@ pub mod Walks
 pub mod Removal
 pub mod Chaining
 pub mod Seeking
-pub mod Backs

@@ -1,7 +1,7 @@
--- The loop that walks along a chain.
+-- The loops that walk along a chain.
 use Rattle.std.proofs.Common.{◌≡◌, ℕ, ◌+◌, ◌<◌, ◌≤◌, ◌⊎◌, inl, inr, ⊎_elim, refl, sym, ◌∙◌, subst, arith, List, [], ◌∷◌}
-use Rattle.place_buckets.specs.Chains.{IsAmong, Linked, Chain, steps}
-use Rattle.place_buckets.proofs.Walks.{falls}
+use Rattle.place_buckets.specs.Chains.{IsAmong, Linked, Inside, Chain, steps}
+use Rattle.place_buckets.proofs.Walks.{falls, next_among}
 
 -- What is left of a chain that is searched: a place with the hash was passed and isn't sought, or is left.
 pub record Left (next hash : ℕ → ℕ) (n sought : ℕ) (IsOther : ℕ → Type 0) (at : ℕ) : Type 0 where
@@ -53,3 +53,53 @@ left_none next hash n sought IsOther at l none = go l.rest l.linked l.passed
     go : (ps : List ℕ) → Linked next at ps → ((p : ℕ) → 0 < p → p ≤ n → hash p ≡ sought → IsOther p ⊎ IsAmong p ps) → (p : ℕ) → 0 < p → p ≤ n → hash p ≡ sought → IsOther p
     go [] h passed p pos low is = ⊎_elim (λ (o : IsOther p). o) (λ (m : IsAmong p []). absurd m) (passed p pos low is)
     go (q ∷ qs) h passed p pos low is = absurd (omega (arith, h.0, h.1))
+
+-- The walk to a place has come to one before it.
+pub record Nearing (next : ℕ → ℕ) (n place first at : ℕ) : Type 0 where
+  pub inside : Inside next n at first
+  pub rest : List ℕ
+  pub linked : Linked next at (at ∷ rest)
+  pub low : (p : ℕ) → IsAmong p (at ∷ rest) → p ≤ n
+  pub there : IsAmong place rest
+
+pub nearing_first : (next : ℕ → ℕ) (n place first : ℕ) → Inside next n place first → (first ≡ place → ⊥) → Nearing next n place first first
+nearing_first next n place first i other = go i.places i.linked i.low i.there
+  where
+    go : (ps : List ℕ) → Linked next first ps → ((p : ℕ) → IsAmong p ps → p ≤ n) → IsAmong place ps → Nearing next n place first first
+    go [] h low m = absurd m
+    go (p ∷ ps) h low m =
+        let whole : Linked next first (first ∷ ps) = (refl, subst (λ (y : ℕ). 0 < y) (sym h.0) h.1, subst (λ (y : ℕ). Linked next (next y) ps) (sym h.0) h.2) in
+        record {
+          inside = record { places = p ∷ ps; linked = h; low = low; there = inl h.0 };
+          rest = ps;
+          linked = whole;
+          low = subst (λ (y : ℕ). (q : ℕ) → IsAmong q (y ∷ ps) → q ≤ n) (sym h.0) low;
+          there = ⊎_elim (λ (e : place ≡ p). absurd (other (h.0 ∙ sym e))) (λ (k : IsAmong place ps). k) m;
+        }
+
+pub nearing_above : (next : ℕ → ℕ) (n place first at : ℕ) → Nearing next n place first at → 0 < at
+nearing_above next n place first at l = l.linked.1
+
+pub nearing_low : (next : ℕ → ℕ) (n place first at : ℕ) → Nearing next n place first at → at ≤ n
+nearing_low next n place first at l = l.low at (inl refl)
+
+pub nearing_falls : (next : ℕ → ℕ) (n place first at : ℕ) → Nearing next n place first at → steps (n + 1) next (next at) < steps (n + 1) next at
+nearing_falls next n place first at l = falls next n at at l.rest l.linked l.low
+
+pub nearing_more : (next : ℕ → ℕ) (n place first at : ℕ) → Nearing next n place first at → (next at ≡ place → ⊥) → Nearing next n place first (next at)
+nearing_more next n place first at l other = go l.rest l.linked l.low l.there
+  where
+    go : (ps : List ℕ) → Linked next at (at ∷ ps) → ((p : ℕ) → IsAmong p (at ∷ ps) → p ≤ n) → IsAmong place ps → Nearing next n place first (next at)
+    go [] h low m = absurd m
+    go (p ∷ ps) h low m =
+        let is : next at ≡ p = h.2.0 in
+        let pos : 0 < next at = subst (λ (y : ℕ). 0 < y) (sym is) h.2.1 in
+        let i = l.inside in
+        let inside : Inside next n (next at) first = record { places = i.places; linked = i.linked; low = i.low; there = next_among next first at i.places i.linked i.there pos } in
+        record {
+          inside = inside;
+          rest = ps;
+          linked = (refl, pos, subst (λ (y : ℕ). Linked next (next y) ps) (sym is) h.2.2);
+          low = λ q k. low q (inr (subst (λ (y : ℕ). IsAmong q (y ∷ ps)) is k));
+          there = ⊎_elim (λ (e : place ≡ p). absurd (other (is ∙ sym e))) (λ (k : IsAmong place ps). k) m;
+        }

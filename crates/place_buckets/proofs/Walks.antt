@@ -47,18 +47,17 @@ once next place ps h m =
     let s : length r.rest < length ps = r.shorter in
     omega arith
 
--- a walk begins with its first place
-pub starts : (next : ℕ → ℕ) (first : ℕ) (ps : List ℕ) → Linked next first ps → 0 < first → IsAmong first ps
-starts next first [] h pos = absurd (omega arith)
-starts next first (p ∷ ps) h pos = inl h.0
-
 -- the place after one of a walk's places is passed too
 pub next_among : (next : ℕ → ℕ) (first place : ℕ) (ps : List ℕ) → Linked next first ps → IsAmong place ps → 0 < next place → IsAmong (next place) ps
 next_among next first place [] h m pos = absurd m
 next_among next first place (p ∷ ps) h m pos =
-    ⊎_elim (λ (e : place ≡ p). inr (starts next (next place) ps (subst (λ (x : ℕ). Linked next (next x) ps) (sym e) h.2) pos))
+    ⊎_elim (λ (e : place ≡ p). inr (begins next (next place) ps (subst (λ (x : ℕ). Linked next (next x) ps) (sym e) h.2) pos))
     (λ (n : IsAmong place ps). inr (next_among next (next p) place ps h.2 n pos))
     m
+  where
+    begins : (next : ℕ → ℕ) (first : ℕ) (ps : List ℕ) → Linked next first ps → 0 < first → IsAmong first ps
+    begins next first [] h pos = absurd (omega arith)
+    begins next first (p ∷ ps) h pos = inl h.0
 
 -- a walk's places are above 0
 pub above : (next : ℕ → ℕ) (first place : ℕ) (ps : List ℕ) → Linked next first ps → IsAmong place ps → 0 < place

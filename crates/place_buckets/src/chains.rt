@@ -1,6 +1,6 @@
-//! Chains of places in three slices: the first place of each bucket, the next of each place, and the one before it.
-ghost use Rattle.std.specs.Prelude.{◌≡◌, ◌<◌, ◌≤◌, ◌-◌, ◌^◌, ℕ, [], ◌∷◌, ◌++◌, map, length, slice_set, true, false, IfSome, IfNone, IfOk, OnOk, OnErr, vec_len, vec_capacity};
-ghost use Rattle.place_buckets.specs.Chains.{hash_of, hash_at, bucket_of, before_at, AreChained, AreChainedBut, AreBacked, AreBackedBut};
+//! Chains of places in two slices: the first place of each bucket, and the next of each place.
+ghost use Rattle.std.specs.Prelude.{◌≡◌, ◌<◌, ◌≤◌, ◌-◌, ◌^◌, ℕ, [], ◌∷◌, ◌++◌, map, length, slice_set, true, false, IfSome, IfNone, IfOk, OnOk, OnErr};
+ghost use Rattle.place_buckets.specs.Chains.{hash_of, hash_at, next_at, bucket_of, Inside, AreChained, AreChainedBut};
 
 use std::alloc::{AllocError, Global};
 
@@ -50,94 +50,84 @@ pub(crate) fn find<F: Fn(u32) -> bool>(
     None
 }
 
-/// Writes which place is before a place, where there is such a place.
-#[inline(always)]
-fn put_before(befores: &mut [u32], place: u32, before: u32)
-    requires within { place ≤ length befores.old }
-    ensures there { 0 < place → before_at befores.new place ≡ before }
-    ensures others { (p : ℕ) → 0 < p → (p ≡ place → ⊥) → before_at befores.new p ≡ before_at befores.old p }
-{
-    if place != 0 {
-        befores[place as usize - 1] = before;
-    }
-}
-
 /// Puts a place in front of its bucket's chain.
-pub(crate) fn link_first(heads: &mut [u32], links: &mut [Link], befores: &mut [u32], place: u32)
+pub(crate) fn link_first(heads: &mut [u32], links: &mut [Link], place: u32)
     requires buckets { 0 < length heads.old }
     requires some { 0 < place }
     requires within { place ≤ length links.old }
-    requires beside { length befores.old ≡ length links.old }
-    requires chained { (n : ℕ) × (n ≤ length links.old) × AreChainedBut heads.old links.old n place }
     ensures chained { (n : ℕ) → place ≤ n → AreChainedBut heads.old links.old n place → AreChained heads.new links.new n }
-    ensures backed { (n : ℕ) → place ≤ n → n ≤ length links.old → AreChainedBut heads.old links.old n place → AreBackedBut heads.old links.old befores.old n place → AreBacked heads.new links.new befores.new n }
     ensures hashes { map hash_of links.new ≡ map hash_of links.old }
 {
     let link = &mut links[place as usize - 1];
     let head = &mut heads[bucket(link.hash, heads.len())];
-    let first = *head;
-    link.next = first;
+    link.next = *head;
     *head = place;
-    put_before(befores, place, 0);
-    put_before(befores, first, place);
 }
 
-/// Takes a place out of its bucket's chain, without a walk to the place before it.
-pub(crate) fn unlink(heads: &mut [u32], links: &mut [Link], befores: &mut [u32], place: u32)
+/// The place before a place, in the chain from the first one.
+fn place_before(links: &[Link], first: u32, place: u32) -> u32
+    requires inside { Inside (next_at links.now) (length links.now) place first }
+    requires behind { first ≡ place → ⊥ }
+    ensures next { next_at links.now result ≡ place }
+    ensures some { 0 < result }
+    ensures within { result ≤ length links.now }
+    ensures among { Inside (next_at links.now) (length links.now) result first }
+{
+    let mut before = first;
+    loop {
+        let next = links[before as usize - 1].next;
+        if next == place {
+            return before;
+        }
+        before = next;
+    }
+}
+
+/// Takes a place out of its bucket's chain.
+pub(crate) fn unlink(heads: &mut [u32], links: &mut [Link], place: u32)
     requires buckets { 0 < length heads.old }
     requires some { 0 < place }
     requires within { place ≤ length links.old }
-    requires beside { length befores.old ≡ length links.old }
     requires chained { AreChained heads.old links.old (length links.old) }
-    requires backed { AreBacked heads.old links.old befores.old (length links.old) }
     ensures chained { AreChainedBut heads.new links.new (length links.old) place }
-    ensures backed { AreBackedBut heads.new links.new befores.new (length links.old) place }
     ensures hashes { map hash_of links.new ≡ map hash_of links.old }
 {
     let link = links[place as usize - 1];
     let home = bucket(link.hash, heads.len());
-    let before = befores[place as usize - 1];
-    put_before(befores, link.next, before);
-    if before == 0 {
+    let first = heads[home];
+    if first == place {
         heads[home] = link.next;
     } else {
-        links[before as usize - 1].next = link.next;
+        let before = place_before(links, first, place);
+        let last = &mut links[before as usize - 1];
+        last.next = link.next;
     }
 }
 
 /// Chains all places anew, into buckets that are empty.
-fn refill(heads: &mut [u32], links: &mut [Link], befores: &mut [u32])
+fn refill(heads: &mut [u32], links: &mut [Link])
     requires buckets { 0 < length heads.old }
     requires few { length links.old < 2 ^ 32 }
-    requires beside { length befores.old ≡ length links.old }
     requires chained { AreChained heads.old links.old 0 }
     ensures chained { AreChained heads.new links.new (length links.old) }
-    ensures backed { AreBacked heads.new links.new befores.new (length links.old) }
     ensures hashes { map hash_of links.new ≡ map hash_of links.old }
 {
     for i in 0..links.len() {
-        link_first(heads, links, befores, i as u32 + 1);
+        link_first(heads, links, i as u32 + 1);
     }
 }
 
 /// So many new buckets, with all places.
-fn grown(
-    alloc: Global,
-    links: &mut [Link],
-    befores: &mut [u32],
-    count: usize,
-) -> Result<Vec<u32>, AllocError>
+fn grown(alloc: Global, links: &mut [Link], count: usize) -> Result<Vec<u32>, AllocError>
     requires some { 0 < count }
     requires few { length links.old < 2 ^ 32 }
-    requires beside { length befores.old ≡ length links.old }
     ensures chained { IfOk result (λ heads. AreChained heads.items links.new (length links.old)) }
-    ensures backed { IfOk result (λ heads. AreBacked heads.items links.new befores.new (length links.old)) }
     ensures count { IfOk result (λ heads. length heads.items ≡ count) }
     ensures hashes { map hash_of links.new ≡ map hash_of links.old }
-    ensures err { OnErr result ((links.new ≡ links.old) × (befores.new ≡ befores.old)) }
+    ensures err { OnErr result (links.new ≡ links.old) }
 {
     let mut heads = vec![in alloc; 0u32; count]?;
-    refill(heads.as_mut_slice(), links, befores);
+    refill(heads.as_mut_slice(), links);
     Ok(heads)
 }
 
@@ -146,15 +136,11 @@ pub(crate) fn make_room(
     alloc: Global,
     heads: &mut Vec<u32>,
     links: &mut [Link],
-    befores: &mut [u32],
 ) -> Result<(), AllocError>
     requires few { length links.old < 2 ^ 31 }
     requires room { length links.old ≤ length heads.old.items }
-    requires beside { length befores.old ≡ length links.old }
     requires chained { AreChained heads.old.items links.old (length links.old) }
-    requires backed { AreBacked heads.old.items links.old befores.old (length links.old) }
     ensures chained { AreChained heads.new.items links.new (length links.old) }
-    ensures backed { AreBacked heads.new.items links.new befores.new (length links.old) }
     ensures hashes { map hash_of links.new ≡ map hash_of links.old }
     ensures room { length links.old ≤ length heads.new.items }
     ensures more { OnOk result (length links.old < length heads.new.items) }
@@ -163,49 +149,41 @@ pub(crate) fn make_room(
     if links.len() < count {
         return Ok(());
     }
-    *heads = grown(alloc, links, befores, (2 * count).max(8))?;
+    *heads = grown(alloc, links, (2 * count).max(8))?;
     Ok(())
 }
 
-/// One more place, with this hash, for which the columns have room.
-pub(crate) fn push(heads: &mut [u32], links: &mut Vec<Link>, befores: &mut Vec<u32>, hash: u32)
+/// One more place, with this hash.
+pub(crate) fn push(heads: &mut [u32], links: &mut Vec<Link>, hash: u32) -> Result<(), AllocError>
     requires few { length links.old.items < 2 ^ 31 }
     requires room { length links.old.items < length heads.old }
-    requires reserved { (vec_len links.old < vec_capacity links.old) × (vec_len befores.old < vec_capacity befores.old) }
-    requires beside { length befores.old.items ≡ length links.old.items }
     requires chained { AreChained heads.old links.old.items (length links.old.items) }
-    requires backed { AreBacked heads.old links.old.items befores.old.items (length links.old.items) }
     ensures chained { AreChained heads.new links.new.items (length links.new.items) }
-    ensures backed { AreBacked heads.new links.new.items befores.new.items (length links.new.items) }
-    ensures beside { length befores.new.items ≡ length links.new.items }
-    ensures hashes { map hash_of links.new.items ≡ map hash_of links.old.items ++ hash ∷ [] }
+    ensures room { length links.new.items ≤ length heads.new }
+    ensures ok { OnOk result (map hash_of links.new.items ≡ map hash_of links.old.items ++ hash ∷ []) }
+    ensures err { OnErr result (map hash_of links.new.items ≡ map hash_of links.old.items) }
 {
     let place = links.len() as u32 + 1;
-    links.push_reserved(Link { hash, next: 0 });
-    befores.push_reserved(0);
-    link_first(heads, links.as_mut_slice(), befores.as_mut_slice(), place);
+    let home = bucket(hash, heads.len());
+    let next = heads[home];
+    let Ok(()) = links.push(Link { hash, next }) else {
+        return Err(AllocError);
+    };
+    heads[home] = place;
+    Ok(())
 }
 
 /// Gives a place another hash.
-pub(crate) fn rehash(
-    heads: &mut [u32],
-    links: &mut [Link],
-    befores: &mut [u32],
-    place: u32,
-    hash: u32,
-)
+pub(crate) fn rehash(heads: &mut [u32], links: &mut [Link], place: u32, hash: u32)
     requires buckets { 0 < length heads.old }
     requires some { 0 < place }
     requires within { place ≤ length links.old }
-    requires beside { length befores.old ≡ length links.old }
     requires chained { AreChained heads.old links.old (length links.old) }
-    requires backed { AreBacked heads.old links.old befores.old (length links.old) }
     ensures chained { AreChained heads.new links.new (length links.new) }
-    ensures backed { AreBacked heads.new links.new befores.new (length links.new) }
     ensures hashes { map hash_of links.new ≡ slice_set (map hash_of links.old) (place - 1) hash }
 {
-    unlink(heads, links, befores, place);
+    unlink(heads, links, place);
     let link = &mut links[place as usize - 1];
     link.hash = hash;
-    link_first(heads, links, befores, place);
+    link_first(heads, links, place);
 }

@@ -14,21 +14,18 @@ pub struct Buckets {
     heads: Vec<u32>,
     // Of each place, that of place 1 in front.
     links: Vec<Link>,
-    // Of each place the one before it in its bucket's chain, 0 where it is the first. So a place is taken out of its chain
-    // without a walk. This column stands apart, since a search reads links alone.
-    befores: Vec<u32>,
 }
 
 impl Model for Buckets {
-    ghost use Rattle.std.specs.Prelude.{ℕ, List, ◌≡◌, ◌≤◌, map, length};
-    ghost use Rattle.place_buckets.specs.Chains.{hash_of, AreChained, AreBacked};
+    ghost use Rattle.std.specs.Prelude.{ℕ, List, ◌≤◌, map, length};
+    ghost use Rattle.place_buckets.specs.Chains.{hash_of, AreChained};
 
     // the places' hashes, that of place 1 in front
     ghost Value = { List ℕ };
 
     ghost view = { λ t. map hash_of t.links.items };
 
-    ghost invariant = { λ t. (length t.links.items ≤ length t.heads.items) × (length t.befores.items ≡ length t.links.items) × AreChained t.heads.items t.links.items (length t.links.items) × AreBacked t.heads.items t.links.items t.befores.items (length t.links.items) };
+    ghost invariant = { λ t. (length t.links.items ≤ length t.heads.items) × AreChained t.heads.items t.links.items (length t.links.items) };
 }
 
 impl fmt::Debug for Buckets {
@@ -48,7 +45,6 @@ impl Buckets {
             alloc,
             heads: Vec::new(alloc),
             links: Vec::new(alloc),
-            befores: Vec::new(alloc),
         }
     }
 
@@ -80,21 +76,8 @@ impl Buckets {
         ensures ok { OnOk result (self.new ≡ self.old ++ hash ∷ []) }
         ensures err { OnErr result (self.new ≡ self.old) }
     {
-        self.befores.reserve(1)?;
-        self.links.reserve(1)?;
-        make_room(
-            self.alloc,
-            &mut self.heads,
-            self.links.as_mut_slice(),
-            self.befores.as_mut_slice(),
-        )?;
-        push(
-            self.heads.as_mut_slice(),
-            &mut self.links,
-            &mut self.befores,
-            hash,
-        );
-        Ok(())
+        make_room(self.alloc, &mut self.heads, self.links.as_mut_slice())?;
+        push(self.heads.as_mut_slice(), &mut self.links, hash)
     }
 
     /// Gives a place another hash. This takes no memory.
@@ -106,7 +89,6 @@ impl Buckets {
         rehash(
             self.heads.as_mut_slice(),
             self.links.as_mut_slice(),
-            self.befores.as_mut_slice(),
             place,
             hash,
         );

@@ -1,24 +1,11 @@
 use Rattle.std.proofs.Common.{◌<◌, ◌-◌, refl, arith, length}
 use Rattle.place_buckets.specs.Chains.{hash_at}
 use Rattle.place_buckets.proofs.Chaining.{linked_first, same_hashes}
-use Rattle.place_buckets.proofs.Backs.{first_low, backed_first}
 use Rattle.place_buckets.proofs.chains.link_first.Goals as goal
-
-pub put_before-requires-2 : goal.put_before-requires-2
-put_before-requires-2 c =
-    let low = first_low _ _ _ _ _ c.bucket.ensures.within c.requires.chained.2 in
-    let many = c.requires.chained.1 in
-    record { within = omega (arith, low, many, c.requires.beside) }
 
 pub returns-clause-chained : goal.returns-clause-chained
 unfolding hash_at
 returns-clause-chained c = λ n few old. linked_first _ _ _ _ _ _ c.requires.some c.requires.within few c.bucket.ensures.within c.bucket.ensures.value refl refl old
-
-pub returns-clause-backed : goal.returns-clause-backed
-unfolding hash_at
-returns-clause-backed c = λ n few many chained old.
-    backed_first _ _ _ _ _ _ _ _ _ c.requires.some c.requires.within few c.bucket.ensures.within c.bucket.ensures.value refl refl
-    c.put_before.ensures.there c.put_before.ensures.others c.put_before-2.ensures.there c.put_before-2.ensures.others chained old
 
 pub returns-clause-hashes : goal.returns-clause-hashes
 returns-clause-hashes c =

@@ -1,16 +1,9 @@
 use Rattle.std.proofs.Common.{◌≡◌, ◌≤◌, ◌-◌, ◌∙◌, List, ℕ, length, refl, ap, sym, subst, arith, set}
 use Rattle.std.proofs.lemmas.List.{length-set, map-set}
 use Rattle.place_buckets.specs.declared.chains.Link.{Link}
-use Rattle.place_buckets.specs.Chains.{next_at, hash_of, AreChained, AreBacked}
+use Rattle.place_buckets.specs.Chains.{next_at, hash_of, AreChained}
 use Rattle.place_buckets.proofs.Chaining.{other_hash}
-use Rattle.place_buckets.proofs.Backs.{backed_hash}
 use Rattle.place_buckets.proofs.chains.rehash.Goals as goal
-
-pub link_first-requires-clause-chained : goal.link_first-requires-clause-chained
-unfolding next_at
-link_first-requires-clause-chained c =
-    let low : c.args.place ≤ length c.unlink.new.links = omega arith in
-    (length c.args.links.now, omega (arith, length-set {A = Link}), other_hash _ _ _ _ _ c.requires.some low refl c.unlink.ensures.chained)
 
 pub returns-clause-chained : goal.returns-clause-chained
 unfolding next_at
@@ -19,15 +12,6 @@ returns-clause-chained c =
     let long : length c.link_first.new.links ≡ length c.args.links.now = omega (arith, length-set {A = Link}) in
     let held = c.link_first.ensures.chained (length c.args.links.now) c.requires.within (other_hash _ _ _ _ _ c.requires.some low refl c.unlink.ensures.chained) in
     subst (λ (n : ℕ). AreChained c.link_first.new.heads c.link_first.new.links n) (sym long) held
-
-pub returns-clause-backed : goal.returns-clause-backed
-unfolding next_at
-returns-clause-backed c =
-    let low : c.args.place ≤ length c.unlink.new.links = omega arith in
-    let long : length c.link_first.new.links ≡ length c.args.links.now = omega (arith, length-set {A = Link}) in
-    let chained = other_hash _ _ _ _ _ c.requires.some low refl c.unlink.ensures.chained in
-    let held = c.link_first.ensures.backed (length c.args.links.now) c.requires.within (omega (arith, length-set {A = Link})) chained (backed_hash _ _ _ _ _ _ c.requires.some c.unlink.ensures.backed) in
-    subst (λ (n : ℕ). AreBacked c.link_first.new.heads c.link_first.new.links c.link_first.new.befores n) (sym long) held
 
 pub returns-clause-hashes : goal.returns-clause-hashes
 returns-clause-hashes c =
