@@ -1,8 +1,8 @@
 #!/usr/bin/env bash
 # chosen.sh [FLOWS PACKETS]: times `simulate`, also with `--splits`, over packets of flows that were chosen to fall into one
 # bucket of a table and one group of a map by the key that everybody knows, beside as many of common flows, and prints the ratio
-# of the best runs; then how evenly such flows, and others in patterns, are spread over both under 200 drawn keys. Choosing
-# 65,536 flows takes some seconds.
+# of the best runs; then how evenly such flows, and others in patterns, are spread over 8,192 of them under 200 drawn keys.
+# Choosing 65,536 flows takes some seconds.
 source "$(dirname "$(readlink -f "${BASH_SOURCE[0]}")")/common.sh"
 flows=${1:-65536} packets=${2:-200000}
 . "$top/bin/program.sh"
@@ -20,4 +20,4 @@ for words in "" --splits; do
         'BEGIN { printf "%d packets of %d flows, simulate %s: chosen %.3f s, common %.3f s, ratio %.2f\n", p, f, w, a, b, a / b }'
 done
 cc -O2 -o "$work/loads" "$top/bench/key_loads.c"
-for groups in 8192 65536; do echo "$groups groups:" && "$work/loads" 200 "$groups"; done
+"$work/loads" 200

@@ -1,5 +1,5 @@
-/* key_loads KEYS [GROUPS]: how evenly 65,536 flows are spread by a drawn key over so many groups: 8,192 of a map, or 65,536
- * buckets of a connection table. So are random flows, and flows that follow a pattern or were chosen for the key that everybody
+/* key_loads KEYS [GROUPS]: how evenly 65,536 flows are spread by a drawn key over so many groups, 8,192 as a map or a connection
+ * table of so many flows has. So are random flows, and flows that follow a pattern or were chosen for the key that everybody
  * knows: of each kind the fullest group under any of so many keys, and how many others a flow shares its group with on an
  * average, at most. */
 #include <stdio.h>

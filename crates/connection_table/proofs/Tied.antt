@@ -141,9 +141,9 @@ absent_place t x places tied miss = none_picked t.pairs.items x t.order (λ p in
 -- what a search by the flow's hash finds
 pub sought : (t : Pairs) (x : Flow) (Post : ℕ → Bool → Type 0) (o : Option ℕ) (hash : ℕ) → ArePlaces (length t.order) t.order → AreTied t → hash ≡ flow_hash t.key x →
     ((p : ℕ) (b : Bool) → Post p b → b ≡ is_of x (slice_get t.pairs.items (p - 1))) →
-    IfSome o (λ p. (0 < p) × (p ≤ length t.buckets) × (slice_index t.buckets (p - 1) ≡ hash) × Post p true) →
+    IfSome o (λ p. (0 < p) × (p ≤ length t.buckets) × Post p true) →
     IfNone o ((p : ℕ) → 0 < p → p ≤ length t.buckets → slice_index t.buckets (p - 1) ≡ hash → Post p false) →
     MatchOption o (last_touch x (touches_of t) ≡ None) (λ p. IsPlaceOf x t p)
 sought t x Post None hash places tied own means found absent =
     absent_place t x places tied (λ p some low same. means p false (absent p some low (same ∙ sym own)))
-sought t x Post (Some p) hash places tied own means found absent = found_place t x p places tied found.0 (means p true found.3)
+sought t x Post (Some p) hash places tied own means found absent = found_place t x p places tied found.0 (means p true found.2)

@@ -12,8 +12,8 @@ use place_buckets::Buckets;
 use recent_order::RecentOrder;
 use std::alloc::{AllocError, Global};
 
-/// Flows with their entries. Each pair has a place, from 1 on, and stays there. A call follows links between places, which are
-/// numbers in vectors: so it touches few lines of the cache, and takes no memory for a pair but its place.
+/// Flows with their entries. Each pair has a place, from 1 on, and stays there. What orders and finds the places are numbers in
+/// vectors: so a call touches few lines of the cache, and takes no memory for a pair but its place.
 #[derive(Drop)]
 pub(crate) struct Pairs {
     pub(crate) key: TableKey,

@@ -1,6 +1,6 @@
 -- A place is taken out of a walk.
 use Rattle.std.proofs.Common.{◌≡◌, ℕ, ◌<◌, inl, inr, ⊎_elim, refl, sym, ◌∙◌, subst, arith, List, [], ◌∷◌}
-use Rattle.place_buckets.specs.Chains.{IsAmong, Linked}
+use Rattle.place_buckets.specs.Groups.{IsAmong, Linked}
 use Rattle.place_buckets.proofs.Walks.{frame, once, next_among}
 
 -- A walk passes the places of a list without one of them.

@@ -3,7 +3,7 @@ use Rattle.std.proofs.Common.{◌≡◌, ℕ, zero, suc, ◌+◌, ◌<◌, ◌�
 use Rattle.std.specs.List.{IsDistinct, AllByRecursion, list_any}
 use Rattle.std.proofs.lemmas.Bool.Decides.{eqb_tells}
 use Rattle.std.proofs.lemmas.Map.Steps.{length-le_from_distinct_below}
-use Rattle.place_buckets.specs.Chains.{IsAmong, Linked, steps}
+use Rattle.place_buckets.specs.Groups.{IsAmong, Linked, steps}
 
 -- a walk whose places keep their next is the same
 pub frame : (next then : ℕ → ℕ) (first : ℕ) (ps : List ℕ) → ((p : ℕ) → 0 < p → IsAmong p ps → then p ≡ next p) → Linked next first ps → Linked then first ps

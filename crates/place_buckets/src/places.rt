@@ -1,7 +1,7 @@
 //! Places that are found by their hash.
 ghost use Rattle.std.specs.Prelude.{◌≡◌, ◌<◌, ◌≤◌, ◌-◌, ◌^◌, ℕ, [], ◌∷◌, ◌++◌, length, slice_index, slice_set, true, false, IfSome, IfNone, OnOk, OnErr};
 
-use crate::chains::{Link, find, make_room, push, rehash};
+use crate::groups::{Group, Link, find, make_room, push, rehash};
 use std::alloc::{AllocError, Global};
 use std::fmt;
 use std::marker::Model;
@@ -10,22 +10,22 @@ use std::marker::Model;
 #[derive(Drop)]
 pub struct Buckets {
     alloc: Global,
-    // Of each bucket the first place, 0 where there is none. Their number is 0 or a power of two.
-    heads: Vec<u32>,
+    // A group for each bucket. There are none, or a power of two.
+    groups: Vec<Group>,
     // Of each place, that of place 1 in front.
     links: Vec<Link>,
 }
 
 impl Model for Buckets {
-    ghost use Rattle.std.specs.Prelude.{ℕ, List, ◌≤◌, map, length};
-    ghost use Rattle.place_buckets.specs.Chains.{hash_of, AreChained};
+    ghost use Rattle.std.specs.Prelude.{ℕ, List, ◌≤◌, ◌*◌, map, length};
+    ghost use Rattle.place_buckets.specs.Groups.{hash_of, AreGrouped};
 
     // the places' hashes, that of place 1 in front
     ghost Value = { List ℕ };
 
     ghost view = { λ t. map hash_of t.links.items };
 
-    ghost invariant = { λ t. (length t.links.items ≤ length t.heads.items) × AreChained t.heads.items t.links.items (length t.links.items) };
+    ghost invariant = { λ t. (length t.links.items ≤ 8 * length t.groups.items) × AreGrouped t.groups.items t.links.items (length t.links.items) };
 }
 
 impl fmt::Debug for Buckets {
@@ -43,7 +43,7 @@ impl Buckets {
     {
         Buckets {
             alloc,
-            heads: Vec::new(alloc),
+            groups: Vec::new(alloc),
             links: Vec::new(alloc),
         }
     }
@@ -55,15 +55,15 @@ impl Buckets {
         self.links.len()
     }
 
-    /// A place of this hash of which `is_sought` holds.
+    /// A place of which `is_sought` holds. It is asked of the places of this hash, and perhaps of some others, until it holds.
     #[inline(always)]
     pub fn find<F: Fn(u32) -> bool>(&self, hash: u32, is_sought: F) -> Option<u32>
         requires callable { (p : ℕ) → 0 < p → p ≤ length self.now → F.pre is_sought p }
-        ensures found { IfSome result (λ p. (0 < p) × (p ≤ length self.now) × (slice_index self.now (p - 1) ≡ hash) × F.post is_sought p true) }
+        ensures found { IfSome result (λ p. (0 < p) × (p ≤ length self.now) × F.post is_sought p true) }
         ensures absent { IfNone result ((p : ℕ) → 0 < p → p ≤ length self.now → slice_index self.now (p - 1) ≡ hash → F.post is_sought p false) }
     {
         find(
-            self.heads.as_slice(),
+            self.groups.as_slice(),
             self.links.as_slice(),
             hash,
             is_sought,
@@ -76,8 +76,8 @@ impl Buckets {
         ensures ok { OnOk result (self.new ≡ self.old ++ hash ∷ []) }
         ensures err { OnErr result (self.new ≡ self.old) }
     {
-        make_room(self.alloc, &mut self.heads, self.links.as_mut_slice())?;
-        push(self.heads.as_mut_slice(), &mut self.links, hash)
+        make_room(self.alloc, &mut self.groups, self.links.as_mut_slice())?;
+        push(self.groups.as_mut_slice(), &mut self.links, hash)
     }
 
     /// Gives a place another hash. This takes no memory.
@@ -87,7 +87,7 @@ impl Buckets {
         ensures { self.new ≡ slice_set self.old (place - 1) hash }
     {
         rehash(
-            self.heads.as_mut_slice(),
+            self.groups.as_mut_slice(),
             self.links.as_mut_slice(),
             place,
             hash,

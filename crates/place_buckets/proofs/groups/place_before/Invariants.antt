@@ -1,7 +1,7 @@
 use Rattle.std.proofs.Common.{◌+◌, length}
-use Rattle.place_buckets.specs.Chains.{next_at, steps}
+use Rattle.place_buckets.specs.Groups.{next_at, steps}
 use Rattle.place_buckets.proofs.Seeking.{Nearing}
-use Rattle.place_buckets.proofs.chains.place_before.Given as goal
+use Rattle.place_buckets.proofs.groups.place_before.Given as goal
 
 abbrev pub invariant-loop-first : goal.invariant-loop-first
 invariant-loop-first l = Nearing (next_at l.links) (length l.links) l.place l.first l.before

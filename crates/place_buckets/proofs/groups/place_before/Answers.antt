@@ -1,7 +1,7 @@
 use Rattle.std.proofs.Common.{◌<◌, ◌≤◌, arith, length}
-use Rattle.place_buckets.specs.Chains.{next_at}
+use Rattle.place_buckets.specs.Groups.{next_at}
 use Rattle.place_buckets.proofs.Seeking.{nearing_first, nearing_above, nearing_low, nearing_falls, nearing_more}
-use Rattle.place_buckets.proofs.chains.place_before.Goals as goal
+use Rattle.place_buckets.proofs.groups.place_before.Goals as goal
 
 pub loop-first-init : goal.loop-first-init
 loop-first-init c = nearing_first _ _ _ _ c.requires.inside c.requires.behind

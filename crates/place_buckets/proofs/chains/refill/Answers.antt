@@ -1,6 +1,0 @@
-use Rattle.std.proofs.Common.{◌+◌, ◌∙◌, refl, arith}
-use Rattle.place_buckets.proofs.Chaining.{but_last}
-use Rattle.place_buckets.proofs.chains.refill.Goals as goal
-
-pub loop-i-preserved : goal.loop-i-preserved
-loop-i-preserved c = (c.link_first.ensures.chained (c.loop-i.i + 1) (omega arith) (but_last _ _ _ _ refl c.loop-i.invariant.0), c.link_first.ensures.hashes ∙ c.loop-i.invariant.1)
