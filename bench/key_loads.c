@@ -1,18 +1,16 @@
-/* key_loads KEYS [GROUPS]: how evenly 65,536 flows are spread by a drawn key over so many groups, 8,192 as a map or a connection
- * table of so many flows has. So are random flows, and flows that follow a pattern or were chosen for the key that everybody
- * knows: of each kind the fullest group under any of so many keys, and how many others a flow shares its group with on an
- * average, at most. */
+/* key_loads KEYS: how evenly 65,536 flows are spread by a drawn key over 8,192 groups, which a map or a connection table of so
+ * many flows has. So are random flows, and flows that follow a pattern or were chosen for the key that everybody knows: of each
+ * kind the fullest group under any of so many keys, and how many others a flow shares its group with on an average, at most. */
 #include <stdio.h>
 #include <stdlib.h>
 #include <string.h>
 #include "flow_hash.h"
 
 #define FLOWS 65536
-#define MOST_GROUPS 65536
+#define GROUPS 8192
 
 static struct { uint32_t client; uint16_t port; } flows[FLOWS];
 static FILE *source;
-static int groups = 8192;
 
 static uint64_t drawn(void) {
     uint64_t number;
@@ -21,15 +19,15 @@ static uint64_t drawn(void) {
 }
 
 static void judge(const char *kind, int keys) {
-    static uint32_t loads[MOST_GROUPS];
+    static uint32_t loads[GROUPS];
     uint32_t fullest = 0;
     double shared = 0;
     for (int key = 0; key < keys; key++) {
         uint64_t state = after(KNOWN_STATE, drawn(), drawn());
         double squares = 0;
         memset(loads, 0, sizeof loads);
-        for (int i = 0; i < FLOWS; i++) loads[index_of(state, flows[i].client, flows[i].port) % groups]++;
-        for (int i = 0; i < groups; i++) {
+        for (int i = 0; i < FLOWS; i++) loads[index_of(state, flows[i].client, flows[i].port) % GROUPS]++;
+        for (int i = 0; i < GROUPS; i++) {
             if (loads[i] > fullest) fullest = loads[i];
             squares += (double)loads[i] * loads[i];
         }
@@ -45,8 +43,6 @@ static void set(uint32_t i, uint32_t client, uint32_t port) {
 
 int main(int count, char **words) {
     int keys = count > 1 ? atoi(words[1]) : 200;
-    if (count > 2) groups = atoi(words[2]);
-    if (groups < 1 || groups > MOST_GROUPS) return 2;
     source = fopen("/dev/urandom", "rb");
     if (!source) return 1;
     for (uint32_t i = 0; i < FLOWS; i++) set(i, (uint32_t)drawn(), (uint32_t)drawn());
@@ -60,13 +56,13 @@ int main(int count, char **words) {
     for (uint32_t i = 0; i < FLOWS; i++) set(i, 0x0a000001 + (i >> 8), i & 255);
     judge("256 addresses of 256 ports", keys);
     for (uint32_t i = 0, at = 0; i < FLOWS; at++)
-        if (index_of(KNOWN_STATE, 0x0a000001 + (at >> 16), (uint16_t)at) % groups == 0) {
+        if (index_of(KNOWN_STATE, 0x0a000001 + (at >> 16), (uint16_t)at) % GROUPS == 0) {
             set(i, 0x0a000001 + (at >> 16), at);
             i++;
         }
     judge("chosen, of many ports", keys);
     for (uint32_t i = 0, at = 0; i < FLOWS; at++)
-        if (index_of(KNOWN_STATE, at, 1234) % groups == 0) set(i++, at, 1234);
+        if (index_of(KNOWN_STATE, at, 1234) % GROUPS == 0) set(i++, at, 1234);
     judge("chosen, of one port", keys);
     return 0;
 }
