@@ -121,7 +121,7 @@ less_next count n next then hash after overflow overflows old bucket before plac
   chain = λ b low.
       let homes : (p : ℕ) → 0 < p → old p → home_in count after p ≡ home_in count hash p = λ p here o. ap (bucket_of count) (hashes p here) in
       let k = c.chain bucket within in
-      let same : inside.places ≡ k.places = same_walk next (overflow bucket) inside.places k.places inside.linked k.linked in
+      let same : inside.chain.places ≡ k.places = same_walk next (overflow bucket) inside.chain.places k.places inside.chain.linked k.linked in
       let there : IsAmong before k.places = subst (λ (ps : List ℕ). IsAmong before ps) same inside.there in
       subst (λ (x : ℕ). Chain then (home_in count after) (λ p. old p × (p ≡ place → ⊥)) b x) (sym (firsts b low))
       (⊎_elim

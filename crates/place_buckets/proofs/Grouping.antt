@@ -4,7 +4,8 @@ use Rattle.std.proofs.lemmas.Bool.{cases_eq, cases_lt}
 use Rattle.std.proofs.lemmas.List.{length-set, length-replicate, length-map, get_or-set_same, get_or-set_other, get_or-replicate, get_or_past, get_or_append_left, get_or-map, map-set, set-get_or}
 use Rattle.place_buckets.specs.declared.groups.Group.{Group}
 use Rattle.place_buckets.specs.declared.groups.Link.{Link}
-use Rattle.place_buckets.specs.Groups.{nothing, no_group, hash_of, next_at, hash_at, overflow_at, lane_at, tag_at, bucket_of, tag_of, home_in, IsAmong, IsInLane, Inside, IsChain, Chained, Grouped, AreGrouped, AreGroupedBut}
+use Rattle.place_buckets.specs.declared.lanes.TheConstants.{LANES}
+use Rattle.place_buckets.specs.Groups.{nothing, no_group, hash_of, next_at, hash_at, overflow_at, lane_at, tag_at, bucket_of, tag_of, home_in, IsInLane, Inside, IsChain, Chained, Grouped, AreGrouped, AreGroupedBut}
 use Rattle.place_buckets.proofs.Chaining.{kept, fronted, less_first, less_next, none}
 use Rattle.place_buckets.proofs.Laning.{IsLane, which, decide, same_lanes, put, freed, all_free}
 
@@ -31,72 +32,30 @@ hash_kept links place p x pos low same here =
     (λ (other : p ≡ place → ⊥). hash_other links place p x pos here other)
     (cases_eq p place)
 
--- groups after a write
-overflow_same : (groups : List Group) (b : ℕ) (g : Group) → b < length groups → overflow_at (set groups b g) b ≡ g.overflow
-unfolding overflow_at
-overflow_same groups b g low = ap (λ (x : Group). x.overflow) (get_or-set_same groups b g no_group low)
+-- Groups after a write, by what is read of a group. Here that stays.
+read_stays : {A : Type 0} (read : Group → A) (groups : List Group) (b : ℕ) (g : Group) → b < length groups → read g ≡ read (get_or groups b no_group) → (c : ℕ) → read (get_or (set groups b g) c no_group) ≡ read (get_or groups c no_group)
+read_stays read groups b g low is c =
+    ⊎_elim (λ (e : c ≡ b). ap (λ (x : ℕ). read (get_or (set groups b g) x no_group)) e ∙ ap read (get_or-set_same groups b g no_group low) ∙ is ∙ ap (λ (x : ℕ). read (get_or groups x no_group)) (sym e))
+    (λ (other : c ≡ b → ⊥). ap read (get_or-set_other groups b c g no_group other)) (cases_eq c b)
 
-overflow_other : (groups : List Group) (b c : ℕ) (g : Group) → (c ≡ b → ⊥) → overflow_at (set groups b g) c ≡ overflow_at groups c
-unfolding overflow_at
-overflow_other groups b c g other = ap (λ (x : Group). x.overflow) (get_or-set_other groups b c g no_group other)
+-- the lanes or the tags stay
+all_stay : (read : Group → List ℕ) (groups : List Group) (b : ℕ) (g : Group) → b < length groups → read g ≡ read (get_or groups b no_group)
+    → (c i : ℕ) → get_or (read (get_or (set groups b g) c no_group)) i 0 ≡ get_or (read (get_or groups c no_group)) i 0
+all_stay read groups b g low is c i = ap (λ (xs : List ℕ). get_or xs i 0) (read_stays read groups b g low is c)
 
-lane_same : (groups : List Group) (b i : ℕ) (g : Group) → b < length groups → lane_at (set groups b g) b i ≡ get_or g.places i 0
-unfolding lane_at
-lane_same groups b i g low = ap (λ (x : Group). get_or x.places i 0) (get_or-set_same groups b g no_group low)
+-- where one lane or its tag changes
+one_written : (read : Group → List ℕ) (groups : List Group) (b i y : ℕ) (g : Group) → b < length groups → i < length (read (get_or groups b no_group)) → read g ≡ set (read (get_or groups b no_group)) i y
+    → get_or (read (get_or (set groups b g) b no_group)) i 0 ≡ y
+one_written read groups b i y g low few is =
+    ap (λ (xs : List ℕ). get_or xs i 0) (ap read (get_or-set_same groups b g no_group low) ∙ is) ∙ get_or-set_same (read (get_or groups b no_group)) i y 0 few
 
-lane_other : (groups : List Group) (b c i : ℕ) (g : Group) → (c ≡ b → ⊥) → lane_at (set groups b g) c i ≡ lane_at groups c i
-unfolding lane_at
-lane_other groups b c i g other = ap (λ (x : Group). get_or x.places i 0) (get_or-set_other groups b c g no_group other)
-
-tag_same : (groups : List Group) (b i : ℕ) (g : Group) → b < length groups → tag_at (set groups b g) b i ≡ get_or g.tags i 0
-unfolding tag_at
-tag_same groups b i g low = ap (λ (x : Group). get_or x.tags i 0) (get_or-set_same groups b g no_group low)
-
-tag_other : (groups : List Group) (b c i : ℕ) (g : Group) → (c ≡ b → ⊥) → tag_at (set groups b g) c i ≡ tag_at groups c i
-unfolding tag_at
-tag_other groups b c i g other = ap (λ (x : Group). get_or x.tags i 0) (get_or-set_other groups b c g no_group other)
-
--- where the lanes, the tags or the chain stay
-lanes_stay : (groups : List Group) (b : ℕ) (g : Group) → b < length groups → g.places ≡ (get_or groups b no_group).places → (c i : ℕ) → lane_at (set groups b g) c i ≡ lane_at groups c i
-unfolding lane_at
-lanes_stay groups b g low is c i =
-    ⊎_elim (λ (e : c ≡ b). subst (λ (x : ℕ). lane_at (set groups b g) x i ≡ lane_at groups x i) (sym e) (lane_same groups b i g low ∙ ap (λ (xs : List ℕ). get_or xs i 0) is))
-    (λ (other : c ≡ b → ⊥). lane_other groups b c i g other) (cases_eq c b)
-
-tags_stay : (groups : List Group) (b : ℕ) (g : Group) → b < length groups → g.tags ≡ (get_or groups b no_group).tags → (c i : ℕ) → tag_at (set groups b g) c i ≡ tag_at groups c i
-unfolding tag_at
-tags_stay groups b g low is c i =
-    ⊎_elim (λ (e : c ≡ b). subst (λ (x : ℕ). tag_at (set groups b g) x i ≡ tag_at groups x i) (sym e) (tag_same groups b i g low ∙ ap (λ (xs : List ℕ). get_or xs i 0) is))
-    (λ (other : c ≡ b → ⊥). tag_other groups b c i g other) (cases_eq c b)
-
-overflows_stay : (groups : List Group) (b : ℕ) (g : Group) → b < length groups → g.overflow ≡ (get_or groups b no_group).overflow → (c : ℕ) → overflow_at (set groups b g) c ≡ overflow_at groups c
-unfolding overflow_at
-overflows_stay groups b g low is c =
-    ⊎_elim (λ (e : c ≡ b). subst (λ (x : ℕ). overflow_at (set groups b g) x ≡ overflow_at groups x) (sym e) (overflow_same groups b g low ∙ is))
-    (λ (other : c ≡ b → ⊥). overflow_other groups b c g other) (cases_eq c b)
-
--- where one lane changes
-lane_written : (groups : List Group) (b i y : ℕ) (g : Group) → b < length groups → i < length (get_or groups b no_group).places → g.places ≡ set (get_or groups b no_group).places i y → lane_at (set groups b g) b i ≡ y
-lane_written groups b i y g low few is = lane_same groups b i g low ∙ ap (λ (xs : List ℕ). get_or xs i 0) is ∙ get_or-set_same (get_or groups b no_group).places i y 0 few
-
-lanes_else : (groups : List Group) (b i y : ℕ) (g : Group) → b < length groups → g.places ≡ set (get_or groups b no_group).places i y → (c j : ℕ) → (IsLane b i c j → ⊥) → lane_at (set groups b g) c j ≡ lane_at groups c j
-unfolding lane_at
-lanes_else groups b i y g low is c j other =
+others_stay : (read : Group → List ℕ) (groups : List Group) (b i y : ℕ) (g : Group) → b < length groups → read g ≡ set (read (get_or groups b no_group)) i y
+    → (c j : ℕ) → (IsLane b i c j → ⊥) → get_or (read (get_or (set groups b g) c no_group)) j 0 ≡ get_or (read (get_or groups c no_group)) j 0
+others_stay read groups b i y g low is c j other =
     ⊎_elim (λ (e : c ≡ b).
-    subst (λ (x : ℕ). lane_at (set groups b g) x j ≡ lane_at groups x j) (sym e)
-    (lane_same groups b j g low ∙ ap (λ (xs : List ℕ). get_or xs j 0) is ∙ get_or-set_other (get_or groups b no_group).places i j y 0 (λ k. other (e, k))))
-    (λ (apart : c ≡ b → ⊥). lane_other groups b c j g apart) (cases_eq c b)
-
-tag_written : (groups : List Group) (b i y : ℕ) (g : Group) → b < length groups → i < length (get_or groups b no_group).tags → g.tags ≡ set (get_or groups b no_group).tags i y → tag_at (set groups b g) b i ≡ y
-tag_written groups b i y g low few is = tag_same groups b i g low ∙ ap (λ (xs : List ℕ). get_or xs i 0) is ∙ get_or-set_same (get_or groups b no_group).tags i y 0 few
-
-tags_else : (groups : List Group) (b i y : ℕ) (g : Group) → b < length groups → g.tags ≡ set (get_or groups b no_group).tags i y → (c j : ℕ) → (IsLane b i c j → ⊥) → tag_at (set groups b g) c j ≡ tag_at groups c j
-unfolding tag_at
-tags_else groups b i y g low is c j other =
-    ⊎_elim (λ (e : c ≡ b).
-    subst (λ (x : ℕ). tag_at (set groups b g) x j ≡ tag_at groups x j) (sym e)
-    (tag_same groups b j g low ∙ ap (λ (xs : List ℕ). get_or xs j 0) is ∙ get_or-set_other (get_or groups b no_group).tags i j y 0 (λ k. other (e, k))))
-    (λ (apart : c ≡ b → ⊥). tag_other groups b c j g apart) (cases_eq c b)
+    subst (λ (x : ℕ). get_or (read (get_or (set groups b g) x no_group)) j 0 ≡ get_or (read (get_or groups x no_group)) j 0) (sym e)
+    (ap (λ (xs : List ℕ). get_or xs j 0) (ap read (get_or-set_same groups b g no_group low) ∙ is) ∙ get_or-set_other (read (get_or groups b no_group)) i j y 0 (λ k. other (e, k))))
+    (λ (apart : c ≡ b → ⊥). ap (λ (x : Group). get_or (read x) j 0) (get_or-set_other groups b c g no_group apart)) (cases_eq c b)
 
 -- the number of groups stays
 sized : (groups : List Group) (b : ℕ) (g : Group) (next hash : ℕ → ℕ) (lane tag : ℕ → ℕ → ℕ) (overflow : ℕ → ℕ) (there : ℕ → Type 0)
@@ -119,33 +78,33 @@ regrouped count next then hash after lane tag overflow old new links hashes more
   laned = same_lanes count hash after lane lane tag tag old new (λ b i low. refl) (λ b i low. refl) hashes (λ p pos o m. more p pos o) g.laned;
   chained = kept count next then hash after overflow overflow (λ p. old p × (IsInLane count hash lane p → ⊥)) (λ p. new p × (IsInLane count after lane p → ⊥))
       (λ b low. refl) (λ p pos o. links p pos o.0) (λ p pos o. hashes p pos o.0)
-      (λ p pos o. (more p pos o.0, λ (m : IsInLane count after lane p). o.1 (subst (λ (h : ℕ). (i : ℕ) × (i < 12) × (lane (bucket_of count h) i ≡ p)) (hashes p pos o.0) m)))
+      (λ p pos o. (more p pos o.0, λ (m : IsInLane count after lane p). o.1 (subst (λ (h : ℕ). (i : ℕ) × (i < LANES) × (lane (bucket_of count h) i ≡ p)) (hashes p pos o.0) m)))
       (λ p pos n.
       let o : old p = fewer p pos n.0 in
-      (o, λ (m : IsInLane count hash lane p). n.1 (subst (λ (h : ℕ). (i : ℕ) × (i < 12) × (lane (bucket_of count h) i ≡ p)) (sym (hashes p pos o)) m)))
+      (o, λ (m : IsInLane count hash lane p). n.1 (subst (λ (h : ℕ). (i : ℕ) × (i < LANES) × (lane (bucket_of count h) i ≡ p)) (sym (hashes p pos o)) m)))
       g.chained;
 }
 
 -- a place put in a lane of its bucket
 pub linked_in_lane : (groups : List Group) (links late : List Link) (place n bucket i : ℕ) (g : Group) → late ≡ links → place ≤ n → bucket < length groups → bucket ≡ bucket_of (length groups) (hash_at links place)
-    → i < 12 → i < length (get_or groups bucket no_group).places → i < length (get_or groups bucket no_group).tags → get_or (get_or groups bucket no_group).places i 0 ≡ 0
+    → i < LANES → i < length (get_or groups bucket no_group).places → i < length (get_or groups bucket no_group).tags → get_or (get_or groups bucket no_group).places i 0 ≡ 0
     → g.places ≡ set (get_or groups bucket no_group).places i place → g.tags ≡ set (get_or groups bucket no_group).tags i (tag_of (hash_at links place)) → g.overflow ≡ (get_or groups bucket no_group).overflow
     → AreGroupedBut groups links n place → AreGrouped (set groups bucket g) late n
-unfolding lane_at
+unfolding lane_at tag_at overflow_at
 linked_in_lane groups links late place n bucket i g same few within value small wide long free places tags overflow old =
     let count : ℕ = length groups in
     let then : List Group = set groups bucket g in
-    let written : lane_at then bucket i ≡ place = lane_written groups bucket i place g within wide places in
-    let others : (b j : ℕ) → (IsLane bucket i b j → ⊥) → lane_at then b j ≡ lane_at groups b j = lanes_else groups bucket i place g within places in
+    let written : lane_at then bucket i ≡ place = one_written (λ (x : Group). x.places) groups bucket i place g within wide places in
+    let others : (b j : ℕ) → (IsLane bucket i b j → ⊥) → lane_at then b j ≡ lane_at groups b j = others_stay (λ (x : Group). x.places) groups bucket i place g within places in
     subst (λ (ls : List Link). AreGrouped then ls n) (sym same)
     (sized groups bucket g (next_at links) (hash_at links) (lane_at then) (tag_at then) (overflow_at then) (λ p. p ≤ n)
     (record {
       laned = put count (hash_at links) (lane_at groups) (lane_at then) (tag_at groups) (tag_at then) (λ p. (p ≤ n) × (p ≡ place → ⊥)) (λ p. p ≤ n) bucket i place
-          (sym value) written (tag_written groups bucket i (tag_of (hash_at links place)) g within long tags) others (tags_else groups bucket i (tag_of (hash_at links place)) g within tags)
+          (sym value) written (one_written (λ (x : Group). x.tags) groups bucket i (tag_of (hash_at links place)) g within long tags) others (others_stay (λ (x : Group). x.tags) groups bucket i (tag_of (hash_at links place)) g within tags)
           (λ o. o.1 refl) few (λ p o. o.0) old.laned;
       chained = kept count (next_at links) (next_at links) (hash_at links) (hash_at links) (overflow_at groups) (overflow_at then)
           (λ p. ((p ≤ n) × (p ≡ place → ⊥)) × (IsInLane count (hash_at links) (lane_at groups) p → ⊥)) (λ p. (p ≤ n) × (IsInLane count (hash_at links) (lane_at then) p → ⊥))
-          (λ b low. overflows_stay groups bucket g within overflow b) (λ p here o. refl) (λ p here o. refl)
+          (λ b low. read_stays (λ (x : Group). x.overflow) groups bucket g within overflow b) (λ p here o. refl) (λ p here o. refl)
           (λ p here o. (
             o.0.0,
             λ (m : IsInLane count (hash_at links) (lane_at then) p).
@@ -170,11 +129,12 @@ pub linked_in_chain : (groups : List Group) (links : List Link) (place n bucket 
     → g.places ≡ (get_or groups bucket no_group).places → g.tags ≡ (get_or groups bucket no_group).tags → g.overflow ≡ place
     → x.hash ≡ hash_at links place → x.next ≡ overflow_at groups bucket
     → AreGroupedBut groups links n place → AreGrouped (set groups bucket g) (set links (place - 1) x) n
+unfolding lane_at tag_at overflow_at
 linked_in_chain groups links place n bucket g x pos low few within value places tags overflow same to old =
     let count : ℕ = length groups in
     let then : List Group = set groups bucket g in
     let late : List Link = set links (place - 1) x in
-    let lanes : (b j : ℕ) → lane_at then b j ≡ lane_at groups b j = lanes_stay groups bucket g within places in
+    let lanes : (b j : ℕ) → lane_at then b j ≡ lane_at groups b j = all_stay (λ (x : Group). x.places) groups bucket g within places in
     let hashes : (p : ℕ) → 0 < p → hash_at late p ≡ hash_at links p = λ p here. hash_kept links place p x pos low same here in
     let at : home_in count (hash_at late) place ≡ bucket = ap (bucket_of count) (hashes place pos) ∙ sym value in
     let was : (p : ℕ) → 0 < p → IsInLane count (hash_at late) (lane_at then) p → IsInLane count (hash_at links) (lane_at groups) p
@@ -188,11 +148,11 @@ linked_in_chain groups links place n bucket g x pos low few within value places 
     sized groups bucket g (next_at late) (hash_at late) (lane_at then) (tag_at then) (overflow_at then) (λ p. p ≤ n)
     (record {
       laned = same_lanes count (hash_at links) (hash_at late) (lane_at groups) (lane_at then) (tag_at groups) (tag_at then) (λ p. (p ≤ n) × (p ≡ place → ⊥)) (λ p. p ≤ n)
-          (λ b i under. lanes b i) (λ b i under. tags_stay groups bucket g within tags b i) (λ p here o. hashes p here) (λ p here o m. o.0) old.laned;
+          (λ b i under. lanes b i) (λ b i under. all_stay (λ (x : Group). x.tags) groups bucket g within tags b i) (λ p here o. hashes p here) (λ p here o m. o.0) old.laned;
       chained = fronted count (next_at links) (next_at late) (hash_at links) (hash_at late) (overflow_at groups) (overflow_at then)
           (λ p. ((p ≤ n) × (p ≡ place → ⊥)) × (IsInLane count (hash_at links) (lane_at groups) p → ⊥)) (λ p. (p ≤ n) × (IsInLane count (hash_at late) (lane_at then) p → ⊥)) bucket place
-          pos (few, outside) at (next_same links place x pos low ∙ to) (overflow_same groups bucket g within ∙ overflow)
-          (λ b other. overflow_other groups bucket b g other)
+          pos (few, outside) at (next_same links place x pos low ∙ to) (ap (λ (x : Group). x.overflow) (get_or-set_same groups bucket g no_group within) ∙ overflow)
+          (λ b other. ap (λ (x : Group). x.overflow) (get_or-set_other groups bucket b g no_group other))
           (λ p here o. next_other links place p x pos here o.0.1) (λ p here o. hashes p here)
           (λ p here o. (o.0.0, λ (m : IsInLane count (hash_at late) (lane_at then) p). o.1 (was p here m)))
           (λ p here m. ⊎_elim (λ (e : p ≡ place). inl e) (λ (e : p ≡ place → ⊥). inr ((m.0, e), λ (k : IsInLane count (hash_at links) (lane_at groups) p). m.1 (is p here k))) (cases_eq p place))
@@ -201,22 +161,22 @@ linked_in_chain groups links place n bucket g x pos low few within value places 
 
 -- a place taken out of its lane
 pub unlinked_lane : (groups : List Group) (links : List Link) (place n bucket i : ℕ) (g : Group) → 0 < place → bucket < length groups → bucket ≡ bucket_of (length groups) (hash_at links place)
-    → i < 12 → i < length (get_or groups bucket no_group).places → get_or (get_or groups bucket no_group).places i 0 ≡ place
+    → i < LANES → i < length (get_or groups bucket no_group).places → get_or (get_or groups bucket no_group).places i 0 ≡ place
     → g.places ≡ set (get_or groups bucket no_group).places i 0 → g.tags ≡ (get_or groups bucket no_group).tags → g.overflow ≡ (get_or groups bucket no_group).overflow
     → AreGrouped groups links n → AreGroupedBut (set groups bucket g) links n place
-unfolding lane_at
+unfolding lane_at tag_at overflow_at
 unlinked_lane groups links place n bucket i g pos within value small wide is places tags overflow old =
     let count : ℕ = length groups in
     let then : List Group = set groups bucket g in
-    let written : lane_at then bucket i ≡ 0 = lane_written groups bucket i 0 g within wide places in
-    let others : (b j : ℕ) → (IsLane bucket i b j → ⊥) → lane_at then b j ≡ lane_at groups b j = lanes_else groups bucket i 0 g within places in
+    let written : lane_at then bucket i ≡ 0 = one_written (λ (x : Group). x.places) groups bucket i 0 g within wide places in
+    let others : (b j : ℕ) → (IsLane bucket i b j → ⊥) → lane_at then b j ≡ lane_at groups b j = others_stay (λ (x : Group). x.places) groups bucket i 0 g within places in
     sized groups bucket g (next_at links) (hash_at links) (lane_at then) (tag_at then) (overflow_at then) (λ p. (p ≤ n) × (p ≡ place → ⊥))
     (record {
       laned = freed count (hash_at links) (lane_at groups) (lane_at then) (tag_at groups) (tag_at then) (λ p. p ≤ n) bucket i place
-          pos within small is written others (λ b j low. tags_stay groups bucket g within tags b j) old.laned;
+          pos within small is written others (λ b j low. all_stay (λ (x : Group). x.tags) groups bucket g within tags b j) old.laned;
       chained = kept count (next_at links) (next_at links) (hash_at links) (hash_at links) (overflow_at groups) (overflow_at then)
           (λ p. (p ≤ n) × (IsInLane count (hash_at links) (lane_at groups) p → ⊥)) (λ p. ((p ≤ n) × (p ≡ place → ⊥)) × (IsInLane count (hash_at links) (lane_at then) p → ⊥))
-          (λ b low. overflows_stay groups bucket g within overflow b) (λ p here o. refl) (λ p here o. refl)
+          (λ b low. read_stays (λ (x : Group). x.overflow) groups bucket g within overflow b) (λ p here o. refl) (λ p here o. refl)
           (λ p here o. (
             (o.0, λ (e : p ≡ place). o.1 (subst (λ (q : ℕ). IsInLane count (hash_at links) (lane_at groups) q) (sym e) (i, small, ap (λ (b : ℕ). lane_at groups b i) (sym value) ∙ is))),
             λ (m : IsInLane count (hash_at links) (lane_at then) p).
@@ -238,7 +198,7 @@ unlinked_lane groups links place n bucket i g pos within value small wide is pla
 
 -- a place that was in no lane is in its chain no more
 without : (groups then : List Group) (links late : List Link) (place n bucket : ℕ) → bucket ≡ bucket_of (length groups) (hash_at links place)
-    → ((i : ℕ) → i < 12 → lane_at groups bucket i ≡ place → ⊥)
+    → ((i : ℕ) → i < LANES → lane_at groups bucket i ≡ place → ⊥)
     → ((b i : ℕ) → lane_at then b i ≡ lane_at groups b i) → ((b i : ℕ) → tag_at then b i ≡ tag_at groups b i)
     → ((p : ℕ) → 0 < p → hash_at late p ≡ hash_at links p)
     → Chained (length groups) (next_at late) (hash_at late) (overflow_at then) (λ p. ((p ≤ n) × (IsInLane (length groups) (hash_at links) (lane_at groups) p → ⊥)) × (p ≡ place → ⊥))
@@ -277,21 +237,21 @@ without groups then links late place n bucket value absent lanes tags hashes cha
 
 -- the first place of a chain taken out
 pub unlinked_first : (groups : List Group) (links : List Link) (place n bucket : ℕ) (g : Group) → 0 < place → bucket < length groups → bucket ≡ bucket_of (length groups) (hash_at links place)
-    → ((i : ℕ) → i < 12 → get_or (get_or groups bucket no_group).places i 0 ≡ place → ⊥) → overflow_at groups bucket ≡ place
+    → ((i : ℕ) → i < LANES → get_or (get_or groups bucket no_group).places i 0 ≡ place → ⊥) → overflow_at groups bucket ≡ place
     → g.places ≡ (get_or groups bucket no_group).places → g.tags ≡ (get_or groups bucket no_group).tags → g.overflow ≡ next_at links place
     → AreGrouped groups links n → AreGroupedBut (set groups bucket g) links n place
-unfolding lane_at
+unfolding lane_at tag_at overflow_at
 unlinked_first groups links place n bucket g pos within value absent is places tags overflow old =
     let then : List Group = set groups bucket g in
     sized groups bucket g (next_at links) (hash_at links) (lane_at then) (tag_at then) (overflow_at then) (λ p. (p ≤ n) × (p ≡ place → ⊥))
-    (without groups then links links place n bucket value absent (lanes_stay groups bucket g within places) (tags_stay groups bucket g within tags) (λ p here. refl)
+    (without groups then links links place n bucket value absent (all_stay (λ (x : Group). x.places) groups bucket g within places) (all_stay (λ (x : Group). x.tags) groups bucket g within tags) (λ p here. refl)
     (less_first (length groups) (next_at links) (hash_at links) (overflow_at groups) (overflow_at then) (λ p. (p ≤ n) × (IsInLane (length groups) (hash_at links) (lane_at groups) p → ⊥)) bucket place
-    pos (sym value) is (overflow_same groups bucket g within ∙ overflow) (λ b other. overflow_other groups bucket b g other) old.chained)
+    pos (sym value) is (ap (λ (x : Group). x.overflow) (get_or-set_same groups bucket g no_group within) ∙ overflow) (λ b other. ap (λ (x : Group). x.overflow) (get_or-set_other groups bucket b g no_group other)) old.chained)
     old)
 
 -- a place behind another taken out
 pub unlinked_next : (groups then : List Group) (links : List Link) (place before n bucket : ℕ) (x : Link) → then ≡ groups → 0 < place → 0 < before → before ≤ length links → bucket < length groups → bucket ≡ bucket_of (length groups) (hash_at links place)
-    → ((i : ℕ) → i < 12 → get_or (get_or groups bucket no_group).places i 0 ≡ place → ⊥) → next_at links before ≡ place → Inside (next_at links) n before (overflow_at groups bucket)
+    → ((i : ℕ) → i < LANES → get_or (get_or groups bucket no_group).places i 0 ≡ place → ⊥) → next_at links before ≡ place → Inside (next_at links) n before (overflow_at groups bucket)
     → x.hash ≡ hash_at links before → x.next ≡ next_at links place
     → AreGrouped groups links n → AreGroupedBut then (set links (before - 1) x) n place
 unfolding lane_at
@@ -304,17 +264,20 @@ unlinked_next groups then links place before n bucket x stay pos some low within
     (λ p here other. next_other links before p x some here other) (λ p here. hash_kept links before p x some low same here) old.chained)
     old)
 
+-- a bucket's chain, as a walk
+pub chain_of : (groups : List Group) (links : List Link) (n bucket : ℕ) → bucket < length groups → AreGrouped groups links n → IsChain (next_at links) n (overflow_at groups bucket)
+chain_of groups links n bucket within old =
+    let c = old.chained.chain bucket within in
+    record { places = c.places; linked = c.linked; low = λ p m. (c.among p m).0 }
+
 -- the chain of a place that is in no lane, as a walk
 pub inside_of : (groups : List Group) (links : List Link) (place n bucket : ℕ) → 0 < place → place ≤ n → bucket < length groups → bucket ≡ bucket_of (length groups) (hash_at links place)
-    → ((i : ℕ) → i < 12 → get_or (get_or groups bucket no_group).places i 0 ≡ place → ⊥) → AreGrouped groups links n → Inside (next_at links) n place (overflow_at groups bucket)
-unfolding lane_at
+    → ((i : ℕ) → i < LANES → get_or (get_or groups bucket no_group).places i 0 ≡ place → ⊥) → AreGrouped groups links n → Inside (next_at links) n place (overflow_at groups bucket)
+unfolding lane_at chain_of
 inside_of groups links place n bucket pos few within value absent old =
-    let c = old.chained.chain bucket within in
     record {
-      places = c.places;
-      linked = c.linked;
-      low = λ p m. (c.among p m).0;
-      there = c.whole place pos (few, λ (m : IsInLane (length groups) (hash_at links) (lane_at groups) place). absent m.0 m.1 (ap (λ (b : ℕ). lane_at groups b m.0) value ∙ m.2)) (sym value);
+      chain = chain_of groups links n bucket within old;
+      there = (old.chained.chain bucket within).whole place pos (few, λ (m : IsInLane (length groups) (hash_at links) (lane_at groups) place). absent m.0 m.1 (ap (λ (b : ℕ). lane_at groups b m.0) value ∙ m.2)) (sym value);
     }
 
 -- a hash written to a place that is nowhere
@@ -367,31 +330,21 @@ none_grouped groups links count lanes is =
           (λ b low. ap (λ (g : Group). g.overflow) (read b low)) (λ p pos m. let low : p ≤ 0 = m.0 in omega arith);
     }
 
--- a bucket's chain, as a walk
-pub chain_of : (groups : List Group) (links : List Link) (n bucket : ℕ) → bucket < length groups → AreGrouped groups links n → IsChain (next_at links) n (overflow_at groups bucket)
-chain_of groups links n bucket within old =
-    let c = old.chained.chain bucket within in
-    record { places = c.places; linked = c.linked; low = λ p m. (c.among p m).0 }
-
 -- where neither lanes nor chain have a place that is sought, none of the hash is
 pub nowhere : (groups : List Group) (links : List Link) (n bucket hash : ℕ) (IsOther : ℕ → Type 0) → bucket < length groups → bucket ≡ bucket_of (length groups) hash
-    → ((i : ℕ) → i < 12 → get_or (get_or groups bucket no_group).tags i 0 ≡ tag_of hash → 0 < get_or (get_or groups bucket no_group).places i 0 → IsOther (get_or (get_or groups bucket no_group).places i 0))
+    → ((i : ℕ) → i < LANES → get_or (get_or groups bucket no_group).tags i 0 ≡ tag_of hash → 0 < get_or (get_or groups bucket no_group).places i 0 → IsOther (get_or (get_or groups bucket no_group).places i 0))
     → ((p : ℕ) → Inside (next_at links) n p (overflow_at groups bucket) → hash_at links p ≡ hash → IsOther p)
     → AreGrouped groups links n → (p : ℕ) → 0 < p → p ≤ n → hash_at links p ≡ hash → IsOther p
 unfolding lane_at tag_at
 nowhere groups links n bucket hash IsOther within value lanes chain old p pos low is =
     let home : home_in (length groups) (hash_at links) p ≡ bucket = ap (bucket_of (length groups)) is ∙ sym value in
     ⊎_elim
-    (λ (f : (i : ℕ) × (i < 12) × (lane_at groups bucket i ≡ p)).
+    (λ (f : (i : ℕ) × (i < LANES) × (lane_at groups bucket i ≡ p)).
     let some : 0 < lane_at groups bucket f.0 = subst (λ (q : ℕ). 0 < q) (sym f.2) pos in
     let tagged : tag_at groups bucket f.0 ≡ tag_of hash = old.laned.tagged bucket f.0 within f.1 some ∙ ap (λ (q : ℕ). tag_of (hash_at links q)) f.2 ∙ ap tag_of is in
     subst IsOther f.2 (lanes f.0 f.1 tagged some))
-    (λ (no : (i : ℕ) → i < 12 → lane_at groups bucket i ≡ p → ⊥).
-    let c = old.chained.chain bucket within in
-    let there : IsAmong p c.places
-    = c.whole p pos (low, λ (m : IsInLane (length groups) (hash_at links) (lane_at groups) p). no m.0 m.1 (ap (λ (b : ℕ). lane_at groups b m.0) (sym home) ∙ m.2)) home in
-    chain p (record { places = c.places; linked = c.linked; low = λ q m. (c.among q m).0; there = there }) is)
-    (decide (lane_at groups bucket) 12 p)
+    (λ (no : (i : ℕ) → i < LANES → lane_at groups bucket i ≡ p → ⊥). chain p (inside_of groups links p n bucket pos low within (sym home) no old) is)
+    (decide (lane_at groups bucket) LANES p)
 
 -- what follows where nothing was found
 pub none_then : {A B : Type 0} (o : Option ℕ) → (A → B) → IfNone o A → IfNone o B

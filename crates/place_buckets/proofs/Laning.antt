@@ -1,6 +1,7 @@
 -- What the lanes of all buckets become.
 use Rattle.std.proofs.Common.{◌≡◌, ℕ, zero, suc, ◌<◌, ◌⊎◌, inl, inr, ⊎_elim, sym, ◌∙◌, ap, subst, arith}
 use Rattle.std.proofs.lemmas.Bool.{cases_eq}
+use Rattle.place_buckets.specs.declared.lanes.TheConstants.{LANES}
 use Rattle.place_buckets.specs.Groups.{bucket_of, tag_of, home_in, IsInLane, Laned}
 
 -- it is the lane, or another one
@@ -32,9 +33,9 @@ pub same_lanes : (count : ℕ) (hash after : ℕ → ℕ) (lane lanes tag tags :
     → Laned count hash lane tag old → Laned count after lanes tags new
 same_lanes count hash after lane lanes tag tags old new same signs hashes more l =
     let was : (b i : ℕ) → b < count → 0 < lanes b i → 0 < lane b i = λ b i low pos. subst (λ (x : ℕ). 0 < x) (same b i low) pos in
-    let there : (b i : ℕ) → b < count → i < 12 → 0 < lane b i → new (lane b i)
+    let there : (b i : ℕ) → b < count → i < LANES → 0 < lane b i → new (lane b i)
     = λ b i low few pos. more (lane b i) pos (l.among b i low few pos) (i, few, ap (λ (x : ℕ). lane x i) (l.within b i low few pos)) in
-    let hashed : (b i : ℕ) → b < count → i < 12 → 0 < lane b i → after (lanes b i) ≡ hash (lane b i)
+    let hashed : (b i : ℕ) → b < count → i < LANES → 0 < lane b i → after (lanes b i) ≡ hash (lane b i)
     = λ b i low few pos. ap after (same b i low) ∙ hashes (lane b i) pos (l.among b i low few pos) in
     record {
       among = λ b i low few pos. subst new (sym (same b i low)) (there b i low few (was b i low pos));
@@ -53,7 +54,7 @@ pub put : (count : ℕ) (hash : ℕ → ℕ) (lane lanes tag tags : ℕ → ℕ 
 put count hash lane lanes tag tags old new bucket i place at is sign others signs absent there more l =
     let here : (b j : ℕ) → IsLane bucket i b j → lanes b j ≡ place = λ b j k. ap (λ (x : ℕ). lanes x j) k.0 ∙ ap (lanes bucket) k.1 ∙ is in
     let was : (b j : ℕ) → (IsLane bucket i b j → ⊥) → 0 < lanes b j → 0 < lane b j = λ b j k some. subst (λ (x : ℕ). 0 < x) (others b j k) some in
-    let apart : (b j : ℕ) → b < count → j < 12 → (IsLane bucket i b j → ⊥) → 0 < lanes b j → lanes b j ≡ place → ⊥
+    let apart : (b j : ℕ) → b < count → j < LANES → (IsLane bucket i b j → ⊥) → 0 < lanes b j → lanes b j ≡ place → ⊥
     = λ b j low few k some e. absent (subst old (sym (others b j k) ∙ e) (l.among b j low few (was b j k some))) in
     record {
       among = λ b j low few some. ⊎_elim (λ (k : IsLane bucket i b j). subst new (sym (here b j k)) there)
@@ -73,7 +74,7 @@ put count hash lane lanes tag tags old new bucket i place at is sign others sign
 
 -- a lane that is free from now on
 pub freed : (count : ℕ) (hash : ℕ → ℕ) (lane lanes tag tags : ℕ → ℕ → ℕ) (old : ℕ → Type 0) (bucket i place : ℕ)
-    → 0 < place → bucket < count → i < 12 → lane bucket i ≡ place → lanes bucket i ≡ 0
+    → 0 < place → bucket < count → i < LANES → lane bucket i ≡ place → lanes bucket i ≡ 0
     → ((b j : ℕ) → (IsLane bucket i b j → ⊥) → lanes b j ≡ lane b j)
     → ((b j : ℕ) → b < count → tags b j ≡ tag b j)
     → Laned count hash lane tag old → Laned count hash lanes tags (λ p. old p × (p ≡ place → ⊥))
@@ -83,7 +84,7 @@ freed count hash lane lanes tag tags old bucket i place pos within small is free
     let same : (b j : ℕ) → 0 < lanes b j → lanes b j ≡ lane b j = λ b j some. others b j (other b j some) in
     let was : (b j : ℕ) → 0 < lanes b j → 0 < lane b j = λ b j some. subst (λ (x : ℕ). 0 < x) (same b j some) some in
     let there : 0 < lane bucket i = subst (λ (x : ℕ). 0 < x) (sym is) pos in
-    let apart : (b j : ℕ) → b < count → j < 12 → 0 < lanes b j → lanes b j ≡ place → ⊥
+    let apart : (b j : ℕ) → b < count → j < LANES → 0 < lanes b j → lanes b j ≡ place → ⊥
     = λ b j low few some e.
     let k : lane b j ≡ place = sym (same b j some) ∙ e in
     let home : b ≡ bucket = sym (l.within b j low few (was b j some)) ∙ ap (home_in count hash) (k ∙ sym is) ∙ l.within bucket i within small there in

@@ -4,3 +4,4 @@ pub mod Chaining
 pub mod Laning
 pub mod Grouping
 pub mod Seeking
+pub mod Comparing

@@ -15,7 +15,7 @@ left_first next hash n sought IsOther first c = record {
   rest = c.places;
   linked = c.linked;
   low = c.low;
-  passed = λ p m. inr (subst (λ (ps : List ℕ). IsAmong p ps) (same_walk next first m.1.places c.places m.1.linked c.linked) m.1.there);
+  passed = λ p m. inr (subst (λ (ps : List ℕ). IsAmong p ps) (same_walk next first m.1.chain.places c.places m.1.chain.linked c.linked) m.1.there);
 }
 
 -- a place that is passed
@@ -61,14 +61,14 @@ pub record Nearing (next : ℕ → ℕ) (n place first at : ℕ) : Type 0 where
   pub there : IsAmong place rest
 
 pub nearing_first : (next : ℕ → ℕ) (n place first : ℕ) → Inside next n place first → (first ≡ place → ⊥) → Nearing next n place first first
-nearing_first next n place first i other = go i.places i.linked i.low i.there
+nearing_first next n place first i other = go i.chain.places i.chain.linked i.chain.low i.there
   where
     go : (ps : List ℕ) → Linked next first ps → ((p : ℕ) → IsAmong p ps → p ≤ n) → IsAmong place ps → Nearing next n place first first
     go [] h low m = absurd m
     go (p ∷ ps) h low m =
         let whole : Linked next first (first ∷ ps) = (refl, subst (λ (y : ℕ). 0 < y) (sym h.0) h.1, subst (λ (y : ℕ). Linked next (next y) ps) (sym h.0) h.2) in
         record {
-          inside = record { places = p ∷ ps; linked = h; low = low; there = inl h.0 };
+          inside = record { chain = record { places = p ∷ ps; linked = h; low = low }; there = inl h.0 };
           rest = ps;
           linked = whole;
           low = subst (λ (y : ℕ). (q : ℕ) → IsAmong q (y ∷ ps) → q ≤ n) (sym h.0) low;
@@ -93,7 +93,7 @@ nearing_more next n place first at l other = go l.rest l.linked l.low l.there
         let is : next at ≡ p = h.2.0 in
         let pos : 0 < next at = subst (λ (y : ℕ). 0 < y) (sym is) h.2.1 in
         let i = l.inside in
-        let inside : Inside next n (next at) first = record { places = i.places; linked = i.linked; low = i.low; there = next_among next first at i.places i.linked i.there pos } in
+        let inside : Inside next n (next at) first = record { chain = i.chain; there = next_among next first at i.chain.places i.chain.linked i.there pos } in
         record {
           inside = inside;
           rest = ps;

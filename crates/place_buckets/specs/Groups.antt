@@ -2,6 +2,7 @@
 use Rattle.std.specs.Prelude.{◌≡◌, ℕ, zero, suc, ◌-◌, ◌<◌, ◌≤◌, ◌/◌, ◌^◌, ◌⊎◌, List, [], ◌∷◌, length, get_or, slice_index_or, bit_and}
 use Rattle.place_buckets.specs.declared.groups.Group.{Group}
 use Rattle.place_buckets.specs.declared.groups.Link.{Link}
+use Rattle.place_buckets.specs.declared.lanes.TheConstants.{LANES}
 
 -- what a place that is none has
 abbrev pub nothing : Link
@@ -52,18 +53,16 @@ abbrev pub Linked : (ℕ → ℕ) → ℕ → List ℕ → Type 0
 Linked next first [] = first ≡ 0
 Linked next first (p ∷ ps) = (first ≡ p) × (0 < p) × Linked next (next p) ps
 
--- A walk from the first place passes the place, and none above n.
-pub record Inside (next : ℕ → ℕ) (n place first : ℕ) : Type 0 where
-  pub places : List ℕ
-  pub linked : Linked next first places
-  pub low : (p : ℕ) → IsAmong p places → p ≤ n
-  pub there : IsAmong place places
-
 -- A walk from the first place passes none above n, and ends.
 pub record IsChain (next : ℕ → ℕ) (n first : ℕ) : Type 0 where
   pub places : List ℕ
   pub linked : Linked next first places
   pub low : (p : ℕ) → IsAmong p places → p ≤ n
+
+-- Such a walk passes the place.
+pub record Inside (next : ℕ → ℕ) (n place first : ℕ) : Type 0 where
+  pub chain : IsChain next n first
+  pub there : IsAmong place chain.places
 
 -- A walk from the first place passes the places of a bucket among those that are chained, and no others.
 pub record Chain (next home : ℕ → ℕ) (chained : ℕ → Type 0) (bucket first : ℕ) : Type 0 where
@@ -83,14 +82,14 @@ pub record Chained (count : ℕ) (next hash overflow : ℕ → ℕ) (chained : �
 
 -- a lane of the place's bucket has the place
 abbrev pub IsInLane : ℕ → (ℕ → ℕ) → (ℕ → ℕ → ℕ) → ℕ → Type 0
-IsInLane count hash lane p = (i : ℕ) × (i < 12) × (lane (home_in count hash p) i ≡ p)
+IsInLane count hash lane p = (i : ℕ) × (i < LANES) × (lane (home_in count hash p) i ≡ p)
 
 -- A place in a lane is among those that are there. It is in its bucket's group beside its tag, and in no two lanes.
 pub record Laned (count : ℕ) (hash : ℕ → ℕ) (lane tag : ℕ → ℕ → ℕ) (there : ℕ → Type 0) : Type 0 where
-  pub among : (b i : ℕ) → b < count → i < 12 → 0 < lane b i → there (lane b i)
-  pub within : (b i : ℕ) → b < count → i < 12 → 0 < lane b i → home_in count hash (lane b i) ≡ b
-  pub tagged : (b i : ℕ) → b < count → i < 12 → 0 < lane b i → tag b i ≡ tag_of (hash (lane b i))
-  pub once : (b i j : ℕ) → b < count → i < 12 → j < 12 → 0 < lane b i → lane b i ≡ lane b j → i ≡ j
+  pub among : (b i : ℕ) → b < count → i < LANES → 0 < lane b i → there (lane b i)
+  pub within : (b i : ℕ) → b < count → i < LANES → 0 < lane b i → home_in count hash (lane b i) ≡ b
+  pub tagged : (b i : ℕ) → b < count → i < LANES → 0 < lane b i → tag b i ≡ tag_of (hash (lane b i))
+  pub once : (b i j : ℕ) → b < count → i < LANES → j < LANES → 0 < lane b i → lane b i ≡ lane b j → i ≡ j
 
 -- All places that are there are in lanes or in chains.
 pub record Grouped (count : ℕ) (next hash : ℕ → ℕ) (lane tag : ℕ → ℕ → ℕ) (overflow : ℕ → ℕ) (there : ℕ → Type 0) : Type 0 where

@@ -2,10 +2,8 @@
 ghost use Rattle.std.specs.Prelude.{◌≡◌, ◌<◌, ◌≤◌, ◌-◌, ◌^◌, ◌*◌, ℕ, [], ◌∷◌, ◌++◌, map, length, get_or, slice_set, true, false, IfSome, IfNone, IfOk, OnOk, OnErr};
 ghost use Rattle.place_buckets.specs.Groups.{hash_of, hash_at, next_at, bucket_of, tag_of, Inside, IsChain, AreGrouped, AreGroupedBut};
 
+use crate::lanes::{LANES, free_lane, lane_of, lane_with};
 use std::alloc::{AllocError, Global};
-
-/// How many places a group has lanes for.
-const LANES: usize = 12;
 
 /// How many places come to a group before there are twice as many groups: few of them find all lanes taken.
 const LOAD: usize = 8;
@@ -49,14 +47,13 @@ fn tag(hash: u32) -> u8
     (hash >> 24) as u8
 }
 
-/// A place in a lane with this tag of which `is_sought` holds.
-#[inline(always)]
-fn find_in_lanes<F: Fn(u32) -> bool>(group: &Group, tag: u8, is_sought: &F) -> Option<u32>
-    requires callable { (i : ℕ) → i < 12 → 0 < get_or group.now.places i 0 → F.pre is_sought.now (get_or group.now.places i 0) }
-    ensures found { IfSome result (λ p. (i : ℕ) × (i < 12) × (p ≡ get_or group.now.places i 0) × (0 < p) × F.post is_sought.now p true) }
-    ensures absent { IfNone result ((i : ℕ) → i < 12 → get_or group.now.tags i 0 ≡ tag → 0 < get_or group.now.places i 0 → F.post is_sought.now (get_or group.now.places i 0) false) }
+/// A place in a lane from this one on, with this tag, of which `is_sought` holds.
+fn find_from<F: Fn(u32) -> bool>(group: &Group, from: usize, tag: u8, is_sought: &F) -> Option<u32>
+    requires callable { (i : ℕ) → i < LANES → 0 < get_or group.now.places i 0 → F.pre is_sought.now (get_or group.now.places i 0) }
+    ensures found { IfSome result (λ p. (i : ℕ) × (i < LANES) × (p ≡ get_or group.now.places i 0) × (0 < p) × F.post is_sought.now p true) }
+    ensures absent { IfNone result ((i : ℕ) → from ≤ i → i < LANES → get_or group.now.tags i 0 ≡ tag → 0 < get_or group.now.places i 0 → F.post is_sought.now (get_or group.now.places i 0) false) }
 {
-    for lane in 0..LANES {
+    for lane in from..LANES {
         if group.tags[lane] == tag {
             let place = group.places[lane];
             if place != 0 && is_sought(place) {
@@ -65,6 +62,24 @@ fn find_in_lanes<F: Fn(u32) -> bool>(group: &Group, tag: u8, is_sought: &F) -> O
         }
     }
     None
+}
+
+/// A place in a lane with this tag of which `is_sought` holds. Mostly it is in the first lane with the tag, or in none.
+#[inline(always)]
+fn find_in_lanes<F: Fn(u32) -> bool>(group: &Group, tag: u8, is_sought: &F) -> Option<u32>
+    requires callable { (i : ℕ) → i < LANES → 0 < get_or group.now.places i 0 → F.pre is_sought.now (get_or group.now.places i 0) }
+    ensures found { IfSome result (λ p. (i : ℕ) × (i < LANES) × (p ≡ get_or group.now.places i 0) × (0 < p) × F.post is_sought.now p true) }
+    ensures absent { IfNone result ((i : ℕ) → i < LANES → get_or group.now.tags i 0 ≡ tag → 0 < get_or group.now.places i 0 → F.post is_sought.now (get_or group.now.places i 0) false) }
+{
+    let lane = lane_with(&group.tags, tag);
+    if lane == LANES {
+        return None;
+    }
+    let place = group.places[lane];
+    if place != 0 && is_sought(place) {
+        return Some(place);
+    }
+    find_from(group, lane + 1, tag, is_sought)
 }
 
 /// A place of this hash in the chain from the first one of which `is_sought` holds.
@@ -99,7 +114,7 @@ pub(crate) fn find<F: Fn(u32) -> bool>(
     hash: u32,
     is_sought: F,
 ) -> Option<u32>
-    requires room { length links.now ≤ 8 * length groups.now }
+    requires room { length links.now ≤ LOAD * length groups.now }
     requires grouped { AreGrouped groups.now links.now (length links.now) }
     requires callable { (p : ℕ) → 0 < p → p ≤ length links.now → F.pre is_sought p }
     ensures found { IfSome result (λ p. (0 < p) × (p ≤ length links.now) × F.post is_sought p true) }
@@ -115,15 +130,6 @@ pub(crate) fn find<F: Fn(u32) -> bool>(
     find_in_chain(links, group.overflow, hash, &is_sought)
 }
 
-/// The lane of a place, or for 0 the first that is free.
-#[inline(always)]
-fn lane_of(places: &[u32; LANES], place: u32) -> Option<usize>
-    ensures found { IfSome result (λ i. (i < 12) × (get_or places.now i 0 ≡ place)) }
-    ensures absent { IfNone result ((i : ℕ) → i < 12 → get_or places.now i 0 ≡ place → ⊥) }
-{
-    places.iter().position(|other| *other == place)
-}
-
 /// Puts a place into its bucket: in a lane, or in front of the chain where all lanes are taken.
 fn put(groups: &mut [Group], links: &mut [Link], place: u32)
     requires buckets { 0 < length groups.old }
@@ -134,7 +140,7 @@ fn put(groups: &mut [Group], links: &mut [Link], place: u32)
 {
     let link = &mut links[place as usize - 1];
     let group = &mut groups[bucket(link.hash, groups.len())];
-    match lane_of(&group.places, 0) {
+    match free_lane(&group.places) {
         Some(lane) => {
             group.tags[lane] = tag(link.hash);
             group.places[lane] = place;
@@ -176,7 +182,7 @@ fn unlink(groups: &mut [Group], links: &mut [Link], place: u32)
 {
     let link = links[place as usize - 1];
     let group = &mut groups[bucket(link.hash, groups.len())];
-    if let Some(lane) = lane_of(&group.places, place) {
+    if let Some(lane) = lane_of(&group.tags, &group.places, tag(link.hash), place) {
         group.places[lane] = 0;
     } else if group.overflow == place {
         group.overflow = link.next;
@@ -224,12 +230,12 @@ pub(crate) fn make_room(
     links: &mut [Link],
 ) -> Result<(), AllocError>
     requires few { length links.old < 2 ^ 31 }
-    requires room { length links.old ≤ 8 * length groups.old.items }
+    requires room { length links.old ≤ LOAD * length groups.old.items }
     requires grouped { AreGrouped groups.old.items links.old (length links.old) }
     ensures grouped { AreGrouped groups.new.items links.new (length links.old) }
     ensures hashes { map hash_of links.new ≡ map hash_of links.old }
-    ensures room { length links.old ≤ 8 * length groups.new.items }
-    ensures more { OnOk result (length links.old < 8 * length groups.new.items) }
+    ensures room { length links.old ≤ LOAD * length groups.new.items }
+    ensures more { OnOk result (length links.old < LOAD * length groups.new.items) }
 {
     let count = groups.len();
     if links.len() / LOAD < count {
@@ -242,10 +248,10 @@ pub(crate) fn make_room(
 /// One more place, with this hash.
 pub(crate) fn push(groups: &mut [Group], links: &mut Vec<Link>, hash: u32) -> Result<(), AllocError>
     requires few { length links.old.items < 2 ^ 31 }
-    requires room { length links.old.items < 8 * length groups.old }
+    requires room { length links.old.items < LOAD * length groups.old }
     requires grouped { AreGrouped groups.old links.old.items (length links.old.items) }
     ensures grouped { AreGrouped groups.new links.new.items (length links.new.items) }
-    ensures room { length links.new.items ≤ 8 * length groups.new }
+    ensures room { length links.new.items ≤ LOAD * length groups.new }
     ensures ok { OnOk result (map hash_of links.new.items ≡ map hash_of links.old.items ++ hash ∷ []) }
     ensures err { OnErr result (map hash_of links.new.items ≡ map hash_of links.old.items) }
 {

@@ -5,6 +5,7 @@
 #![tactic(auto)]
 
 mod groups;
+mod lanes;
 mod places;
 
 pub use places::Buckets;

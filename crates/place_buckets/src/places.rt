@@ -19,13 +19,14 @@ pub struct Buckets {
 impl Model for Buckets {
     ghost use Rattle.std.specs.Prelude.{ℕ, List, ◌≤◌, ◌*◌, map, length};
     ghost use Rattle.place_buckets.specs.Groups.{hash_of, AreGrouped};
+    ghost use Rattle.place_buckets.specs.declared.groups.TheConstants.{LOAD};
 
     // the places' hashes, that of place 1 in front
     ghost Value = { List ℕ };
 
     ghost view = { λ t. map hash_of t.links.items };
 
-    ghost invariant = { λ t. (length t.links.items ≤ 8 * length t.groups.items) × AreGrouped t.groups.items t.links.items (length t.links.items) };
+    ghost invariant = { λ t. (length t.links.items ≤ LOAD * length t.groups.items) × AreGrouped t.groups.items t.links.items (length t.links.items) };
 }
 
 impl fmt::Debug for Buckets {

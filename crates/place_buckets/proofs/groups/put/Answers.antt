@@ -1,5 +1,6 @@
 use Rattle.std.proofs.Common.{rules, ◌≡◌, ◌<◌, ◌-◌, refl, ap, arith, length, get_or, set}
 use Rattle.std.proofs.lemmas.List.{set-get_or}
+use Rattle.place_buckets.specs.declared.lanes.TheConstants.{LANES}
 use Rattle.place_buckets.specs.Groups.{nothing, no_group, hash_at, overflow_at}
 use Rattle.place_buckets.proofs.Grouping.{linked_in_lane, linked_in_chain, same_hashes}
 use Rattle.place_buckets.proofs.groups.put.Goals as goal
@@ -7,10 +8,10 @@ use Rattle.place_buckets.proofs.groups.put.Goals as goal
 pub returns-in-Some-clause-grouped : goal.returns-in-Some-clause-grouped
 unfolding hash_at
 returns-in-Some-clause-grouped c = λ n few old.
-    let long : length (get_or c.args.groups.now c.bucket.result no_group).tags ≡ 12 = search rules in
-    let wide : length (get_or c.args.groups.now c.bucket.result no_group).places ≡ 12 = search rules in
+    let long : length (get_or c.args.groups.now c.bucket.result no_group).tags ≡ LANES = search rules in
+    let wide : length (get_or c.args.groups.now c.bucket.result no_group).places ≡ LANES = search rules in
     let found = c.in-Some.ensures.found in
-    let small : c.in-Some.lane < 12 = found.0 in
+    let small : c.in-Some.lane < LANES = found.0 in
     linked_in_lane _ _ _ _ _ _ _ _ (set-get_or c.args.links.now (c.args.place - 1) nothing) few c.bucket.ensures.within c.bucket.ensures.value small (omega arith) (omega arith) found.1 refl
     (ap (set _ c.in-Some.lane) c.tag.ensures) refl old
 

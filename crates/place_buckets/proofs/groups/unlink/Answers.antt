@@ -1,5 +1,6 @@
 use Rattle.std.proofs.Common.{rules, ◌≡◌, ◌<◌, ◌-◌, length, get_or, refl, arith}
 use Rattle.std.proofs.lemmas.List.{set-get_or}
+use Rattle.place_buckets.specs.declared.lanes.TheConstants.{LANES}
 use Rattle.place_buckets.specs.Groups.{no_group, next_at, hash_at, overflow_at}
 use Rattle.place_buckets.proofs.Grouping.{inside_of, unlinked_lane, unlinked_first, unlinked_next, same_hashes}
 use Rattle.place_buckets.proofs.groups.unlink.Goals as goal
@@ -12,9 +13,9 @@ place_before-before-requires-clause-inside c =
 pub returns-in-Some-clause-grouped : goal.returns-in-Some-clause-grouped
 unfolding hash_at
 returns-in-Some-clause-grouped c =
-    let wide : length (get_or c.args.groups.now c.bucket.result no_group).places ≡ 12 = search rules in
+    let wide : length (get_or c.args.groups.now c.bucket.result no_group).places ≡ LANES = search rules in
     let found = c.in-Some.ensures.found in
-    let small : c.in-Some.lane < 12 = found.0 in
+    let small : c.in-Some.lane < LANES = found.0 in
     unlinked_lane _ _ _ _ _ _ _ c.requires.some c.bucket.ensures.within c.bucket.ensures.value small (omega arith) found.1 refl refl refl c.requires.grouped
 
 pub returns-then-group-place-clause-grouped : goal.returns-then-group-place-clause-grouped
