@@ -8,7 +8,7 @@ use Rattle.std.proofs.lemmas.Simd.{length-chunk, bitmask_splat, first_set_mask_l
 use lib.Lanes.{chunk, zip2, mask_l, top}
 use Rattle.place_buckets.specs.Lanes.{first_set, IsFirst}
 
--- which of n items from a place on is the first that is y
+-- which of n items from an index on is the first that is y
 pub compared : (w : Width) (xs : List ℕ) (i n r y : ℕ) → i + n ≤ length xs → n ≤ 64
     → r ≡ first_set (mask_l (map (top (hbits w)) (zip2 (λ a b. cond (eqb a b) (2 ^ bits w - 1) 0) (chunk i n xs) (replicate n y))) % 2 ^ 64) n
     → IsFirst xs i n y r

@@ -1,11 +1,11 @@
-//! Places by their hashes in two slices: a group for each bucket, and the hash of each place.
+//! Places by their hashes in two slices: a group for each bucket, and a link for each place, with its hash.
 ghost use Rattle.std.specs.Prelude.{◌≡◌, ◌<◌, ◌≤◌, ◌-◌, ◌^◌, ◌*◌, ℕ, [], ◌∷◌, ◌++◌, map, length, get_or, slice_set, true, false, IfSome, IfNone, IfOk, OnOk, OnErr};
 ghost use Rattle.place_buckets.specs.Groups.{hash_of, hash_at, next_at, bucket_of, tag_of, Inside, IsChain, AreGrouped, AreGroupedBut};
 
 use crate::lanes::{LANES, free_lane, lane_of, lane_with};
 use std::alloc::{AllocError, Global};
 
-/// How many places come to a group before there are twice as many groups: few of them find all lanes taken.
+/// How many places come to a group on an average before there are twice as many groups. So few of them find all lanes taken.
 const LOAD: usize = 8;
 
 /// The places of a bucket: some in lanes, the others in a chain. A group has 64 bytes. A search for a place that isn't there

@@ -1,5 +1,5 @@
-//! Where something stands in a group's lanes. Several lanes are compared at once, and no branch asks each of them: which lane it
-//! is can't be foretold, and a processor that guesses wrong loses more than the comparisons take.
+//! Where something stands in a group's lanes. Several lanes are compared at once, and mostly no branch asks each of them: which
+//! lane it is can't be foretold, and a processor that guesses wrong loses more than the comparisons take.
 ghost use Rattle.std.specs.Prelude.{◌≡◌, ◌<◌, ◌≤◌, ◌+◌, ℕ, length, get_or, IfSome, IfNone};
 ghost use Rattle.place_buckets.specs.Lanes.{first_set, IsFirst};
 
@@ -8,7 +8,7 @@ use std::simd::prelude::*;
 /// How many places a group has lanes for.
 pub(crate) const LANES: usize = 12;
 
-/// The place of the lowest bit that is set, and `lanes` where none is.
+/// The number of the lowest bit that is set, and `lanes` where none is.
 #[inline(always)]
 fn first_set(mask: u64, lanes: usize) -> usize
     ensures { result ≡ first_set mask lanes }
