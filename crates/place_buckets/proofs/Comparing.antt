@@ -6,7 +6,7 @@ use Rattle.std.specs.List.{prefix_len}
 use Rattle.std.proofs.lemmas.Bool.{cases_lt, eq-eqb, eqb-true, true≢false}
 use Rattle.std.proofs.lemmas.Simd.{length-chunk, bitmask_splat, first_set_mask_l, run_in_chunk_le, run_in_chunk_fails, run_in_chunk_stops}
 use lib.Lanes.{chunk, zip2, mask_l, top}
-use Rattle.place_buckets.specs.Lanes.{first_set, IsFirst}
+use Rattle.place_buckets.specs.PrivateLanes.{first_set, IsFirst}
 
 -- which of n items from an index on is the first that is y
 pub compared : (w : Width) (xs : List ℕ) (i n r y : ℕ) → i + n ≤ length xs → n ≤ 64

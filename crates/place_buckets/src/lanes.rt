@@ -1,7 +1,7 @@
 //! Where something stands in a group's lanes. Several lanes are compared at once, and mostly no branch asks each of them: which
 //! lane it is can't be foretold, and a processor that guesses wrong loses more than the comparisons take.
 ghost use Rattle.std.specs.Prelude.{◌≡◌, ◌<◌, ◌≤◌, ◌+◌, ℕ, length, get_or, IfSome, IfNone};
-ghost use Rattle.place_buckets.specs.Lanes.{first_set, IsFirst};
+ghost use Rattle.place_buckets.specs.PrivateLanes.{first_set, IsFirst};
 
 use std::simd::prelude::*;
 
