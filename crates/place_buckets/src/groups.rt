@@ -1,5 +1,5 @@
 //! Places by their hashes in two slices: a group for each bucket, and a link for each place, with its hash.
-ghost use Rattle.std.specs.Prelude.{◌≡◌, ◌<◌, ◌≤◌, ◌-◌, ◌^◌, ◌*◌, ℕ, [], ◌∷◌, ◌++◌, map, length, get_or, slice_set, true, false, IfSome, IfNone, IfOk, OnOk, OnErr};
+ghost use Rattle.std.specs.Prelude.{◌≡◌, ◌<◌, ◌≤◌, ◌-◌, ◌^◌, ◌*◌, ◌⊎◌, max, ℕ, [], ◌∷◌, ◌++◌, map, length, get_or, slice_set, true, false, IfSome, IfNone, IfOk, OnOk, OnErr};
 ghost use Rattle.place_buckets.specs.Groups.{hash_of, hash_at, next_at, bucket_of, tag_of, Inside, IsChain, AreGrouped, AreGroupedBut};
 
 use crate::lanes::{LANES, free_lane, lane_of, lane_with};
@@ -223,7 +223,7 @@ fn grown(alloc: Global, links: &mut [Link], count: usize) -> Result<Vec<Group>, 
     Ok(groups)
 }
 
-/// Makes the groups twice as many where `LOAD` places have come to each.
+/// Makes the groups twice as many where `LOAD` places have come to each. So their number stays a power of two, as `bucket` wants.
 pub(crate) fn make_room(
     alloc: Global,
     groups: &mut Vec<Group>,
@@ -236,6 +236,7 @@ pub(crate) fn make_room(
     ensures hashes { map hash_of links.new ≡ map hash_of links.old }
     ensures room { length links.old ≤ LOAD * length groups.new.items }
     ensures more { OnOk result (length links.old < LOAD * length groups.new.items) }
+    ensures doubled { (length groups.new.items ≡ length groups.old.items) ⊎ (length groups.new.items ≡ max (2 * length groups.old.items) 1) }
 {
     let count = groups.len();
     if links.len() / LOAD < count {
