@@ -12,8 +12,8 @@ use std::fmt;
 use std::marker::Model;
 
 /// A table whose entries stand at places. A call hashes the flow, looks into its bucket's group and changes some links, so that
-/// its time doesn't grow with the number of entries, but where the places grow. `renew` finds the flow once, and a full table gives a new flow the place of
-/// the entry that was used longest ago.
+/// its time doesn't grow with the number of entries, but where the places grow. `renew` finds the flow once, and a full table
+/// gives a new flow the place of the entry that was used longest ago.
 #[derive(Drop)]
 pub struct LruTable {
     alloc: Global,

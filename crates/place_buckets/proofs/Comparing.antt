@@ -1,9 +1,9 @@
 -- From the mask of a comparison of several items to the first that is the one sought.
-use Rattle.std.proofs.Common.{◌≡◌, ℕ, ◌+◌, ◌-◌, ◌%◌, ◌^◌, ◌<◌, ◌≤◌, eqb, cond, not, List, map, length, get_or, replicate, sym, ap, subst, ◌∙◌, arith, ⊎_elim}
+use Rattle.std.proofs.Common.{◌≡◌, ℕ, ◌+◌, ◌-◌, ◌%◌, ◌^◌, ◌≤◌, eqb, cond, not, List, map, length, replicate, sym, ap, ◌∙◌}
 use mir.Syntax.{Width}
 use mir.Val.{bits, hbits}
 use Rattle.std.specs.List.{prefix_len}
-use Rattle.std.proofs.lemmas.Bool.{cases_lt, eq-eqb, eqb-true, true≢false}
+use Rattle.std.proofs.lemmas.Bool.{eq-eqb, eqb-true, true≢false}
 use Rattle.std.proofs.lemmas.Simd.{length-chunk, bitmask_splat, first_set_mask_l, run_in_chunk_le, run_in_chunk_fails, run_in_chunk_stops}
 use lib.Lanes.{chunk, zip2, mask_l, top}
 use Rattle.place_buckets.specs.PrivateLanes.{first_set, IsFirst}
@@ -21,15 +21,3 @@ compared w xs i n r y room few is =
       before = λ k low high e. true≢false (sym (eq-eqb _ _ e) ∙ run_in_chunk_fails (λ x. eqb x y) xs i n r 0 room counted k low high);
       here = λ short. eqb-true _ _ (run_in_chunk_stops (λ x. eqb x y) xs i n r 0 room counted short);
     }
-
--- the first of some items is the first of more
-pub first_of_more : (xs : List ℕ) (i n m y r : ℕ) → n ≤ m → r < n → IsFirst xs i n y r → IsFirst xs i m y r
-first_of_more xs i n m y r more short f = record { within = omega arith; before = f.before; here = λ _. f.here short }
-
--- where none of n items is y, the first of m behind some of them is the first of all
-pub first_behind : (xs : List ℕ) (i n k m all y r : ℕ) → k ≤ n → k + m ≡ all → IsFirst xs i n y n → IsFirst xs (i + k) m y r → IsFirst xs i all y (k + r)
-first_behind xs i n k m all y r near is none f = record {
-  within = omega (arith, f.within);
-  before = λ j low high e. ⊎_elim (λ (early : j < i + n). none.before j low early e) (λ (late : i + n ≤ j). f.before j (omega arith) (omega arith) e) (cases_lt j (i + n));
-  here = λ short. let there : i + k + r ≡ i + (k + r) = omega arith in subst (λ (j : ℕ). get_or xs j 0 ≡ y) there (f.here (omega arith));
-}
