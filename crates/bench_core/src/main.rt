@@ -1,11 +1,11 @@
 //! A benchmark: one node of the cluster judges packets of many flows, one event after another. `bench/core.sh` and
 //! `bench/versions.sh` time it.
 //!
-//! Arguments: how many packets, flows and versions, how many services a version has, how many members a service has, and 1
-//! or 0. With 1 each version has other addresses in one service than the version before; with 0 all versions are alike.
-//! Without arguments: 1000, 100, 1, 1, 100 and 0. All versions are installed on another node, the first one on the node that
-//! judges: so it is the one that was prepared longest ago. Each packet is two events, its arrival and its serving. Prints
-//! how many packets were forwarded: all of them.
+//! Arguments: how many packets, flows and versions, how many services a version has, how many members a service has, 1 or 0,
+//! and tables. With 1 each version has other addresses in one service than the version before; with 0 all versions are alike.
+//! Without arguments: 1000, 100, 1, 1, 100, 0 and `place`. All versions are installed on another node, the first one on the
+//! node that judges: so it is the one that was prepared longest ago. Each packet is two events, its arrival and its serving.
+//! A table is `place`, `lru` or `plain`. Prints a row for each: how many packets were forwarded, all of them.
 #![tactic(auto)]
 
 ghost use Rattle.std.specs.Prelude.{◌≡◌, IfOk, Some};
@@ -13,7 +13,7 @@ ghost use Rattle.cluster_node.specs.Records.{WasRead};
 
 use backend_names::{Name, TableSize, Weight};
 use cluster_core::{Event, Outcome, Packet, Run, Setup};
-use connection_table::LruTable;
+use connection_table::{ConnTable, LruTable, PlaceTable, PlainTable};
 use five_tuple::Flow;
 use hash_laws::Fnv;
 use pool_versions::{Backend, Catalogue, Member, Service, Version};
@@ -110,8 +110,8 @@ fn packet_of(number: u32, services: u32) -> Packet
 type Cluster = Setup<Maglev<Fnv>, Fnv>;
 
 /// One packet arrives and is served. Whether it was forwarded.
-fn judge(
-    run: &mut Run<Maglev<Fnv>, LruTable>,
+fn judge<T: ConnTable>(
+    run: &mut Run<Maglev<Fnv>, T>,
     setup: &Cluster,
     catalogue: &Catalogue,
     number: u32,
@@ -139,8 +139,8 @@ fn judge(
 }
 
 /// Installs all versions on the node 1, and the first one on the node 0.
-fn install(
-    run: &mut Run<Maglev<Fnv>, LruTable>,
+fn install<T: ConnTable>(
+    run: &mut Run<Maglev<Fnv>, T>,
     setup: &Cluster,
     catalogue: &Catalogue,
     versions: u32,
@@ -163,7 +163,7 @@ fn install(
 }
 
 /// How many of the packets are forwarded.
-fn forwarded(
+fn forwarded<T: ConnTable>(
     alloc: Global,
     setup: &Cluster,
     catalogue: &Catalogue,
@@ -171,7 +171,7 @@ fn forwarded(
 ) -> Result<u64, AllocError>
     requires { catalogue.now.size ≡ setup.now.size }
 {
-    let mut run: Run<Maglev<Fnv>, LruTable> = Run::make(alloc, setup)?;
+    let mut run: Run<Maglev<Fnv>, T> = Run::make(alloc, setup)?;
     install(&mut run, setup, catalogue, load.versions)?;
     let mut count = 0u64;
     for packet in 0..load.packets {
@@ -196,7 +196,7 @@ fn number_at(words: &[String], place: usize, default: u32) -> u32 {
 }
 
 /// Judges the packets on a cluster of two nodes with one worker each.
-fn bench(alloc: Global, load: Load) -> Result<u64, AllocError> {
+fn bench<T: ConnTable>(alloc: Global, load: Load) -> Result<u64, AllocError> {
     let Some(size) = TableSize::new(65537) else {
         return Ok(0);
     };
@@ -205,8 +205,17 @@ fn bench(alloc: Global, load: Load) -> Result<u64, AllocError> {
     nodes.push(0x0a09_0001)?;
     nodes.push(0x0a09_0002)?;
     match Setup::new(Fnv, Maglev { hash: Fnv }, size, nodes, 1, 65536, None) {
-        Ok(setup) => forwarded(alloc, &setup, &catalogue, load),
+        Ok(setup) => forwarded::<T>(alloc, &setup, &catalogue, load),
         Err(_) => Ok(0),
+    }
+}
+
+/// The same with the table of this name.
+fn bench_on(alloc: Global, load: Load, table: &str) -> Result<u64, AllocError> {
+    match table {
+        "plain" => bench::<PlainTable>(alloc, load),
+        "lru" => bench::<LruTable>(alloc, load),
+        _ => bench::<PlaceTable>(alloc, load),
     }
 }
 
@@ -221,7 +230,11 @@ fn main(rt: HostRuntime) -> anyhow::Result<()> {
         members: number_at(words.as_slice(), 5, 100),
         is_changing: number_at(words.as_slice(), 6, 0) == 1,
     };
-    let count = bench(alloc, load)?;
-    println!(rt; "{count}")?;
+    if words.len() < 8 {
+        println!(rt; "place {}", bench_on(alloc, load, "place")?)?;
+    }
+    for table in words.iter().skip(7) {
+        println!(rt; "{table} {}", bench_on(alloc, load, table.as_str())?)?;
+    }
     Ok(())
 }

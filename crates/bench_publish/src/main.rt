@@ -12,7 +12,7 @@ ghost use Rattle.std.specs.Prelude.{◌≡◌, ◌<◌, IfOk, length};
 
 use backend_names::TableSize;
 use cluster_core::Setup;
-use connection_table::LruTable;
+use connection_table::PlaceTable;
 use hash_laws::Fnv;
 use node_threads::run_node;
 use selection::Maglev;
@@ -69,7 +69,7 @@ fn main(rt: HostRuntime) -> anyhow::Result<()> {
     let packets = packets(alloc, load)?;
     let commands = commands(alloc, load)?;
     let gate = Timed::new(&rt);
-    let run = run_node::<_, _, LruTable, _, _>(
+    let run = run_node::<_, _, PlaceTable, _, _>(
         &rt,
         alloc,
         &setup,

@@ -11,7 +11,7 @@ ghost use Rattle.cluster_node.specs.Records.{WasRead};
 use backend_names::{Name, TableSize, Weight};
 use cluster_core::{Run, Setup};
 use cluster_node::{Event, Outcome, Packet};
-use connection_table::LruTable;
+use connection_table::PlaceTable;
 use five_tuple::Flow;
 use hash_laws::Fnv;
 use node_threads::{NodeRun, OpenGate, run_node};
@@ -124,7 +124,7 @@ fn judged(
 ) -> Result<u64, AllocError>
     requires { catalogue.now.size ≡ setup.now.size }
 {
-    let mut run: Run<Maglev<Fnv>, LruTable> = Run::make(alloc, setup)?;
+    let mut run: Run<Maglev<Fnv>, PlaceTable> = Run::make(alloc, setup)?;
     let mut sent = 0u64;
     for event in events {
         let outcome = match *event {
@@ -153,7 +153,7 @@ fn threaded<R: Threads + Wait + Sync>(
 {
     let packets = packets(alloc, flows)?;
     let commands = commands(alloc, offers, flows)?;
-    let run = run_node::<_, _, LruTable, _, _>(
+    let run = run_node::<_, _, PlaceTable, _, _>(
         rt,
         alloc,
         setup,

@@ -2,5 +2,6 @@ pub mod Touches
 pub mod Recency
 pub mod Renewal
 pub mod Tables
+pub mod Slots
 pub mod Tied
 pub mod Picked

@@ -1,58 +1,44 @@
-//! A table whose entries stand at places, with links between them.
-ghost use Rattle.std.specs.Prelude.{◌≡◌, ◌<◌, ◌≤◌, length, OnOk, OnErr, None};
-ghost use Rattle.connection_table.specs.Recency.{Recency, stored};
-ghost use Rattle.connection_table.specs.Touches.{last_touch};
+//! A table that keeps its entries in a hash map with links.
+ghost use Rattle.std.specs.Prelude.{◌≡◌, ◌<◌, true};
 
 use crate::key::TableKey;
-use crate::pairs::Pairs;
+use crate::slot::{Slot, before, entry_in, slot_of};
 use crate::table::{ConnTable, Entry, Renewed};
+use backend_names::Name;
 use five_tuple::Flow;
+use lru::LruCache;
+use pool_versions::Backend;
 use std::alloc::{AllocError, Global};
 use std::fmt;
 use std::marker::Model;
+use std::num::NonZeroUsize;
 
-/// A table whose entries stand at places. A call hashes the flow, looks into its bucket's group and changes some links, so that
-/// its time doesn't grow with the number of entries, but where the places grow. `renew` finds the flow once, and a full table
-/// gives a new flow the place of the entry that was used longest ago.
+/// A table over a cache by least recent use. A call hashes the flow and follows links, so that its time doesn't grow with the
+/// number of entries, but where the map grows. `renew` finds the flow once.
 #[derive(Drop)]
 pub struct LruTable {
-    alloc: Global,
-    limit: u32,
-    pairs: Pairs,
+    cache: LruCache<Flow, Slot, TableKey>,
+    // What a vacant slot has for a backend.
+    nobody: Backend,
 }
 
 impl Model for LruTable {
-    ghost use Rattle.std.specs.Prelude.{◌<◌, ◌≤◌, length};
+    ghost use Rattle.std.specs.Prelude.{◌<◌};
     ghost use Rattle.connection_table.specs.Recency.{Recency};
-    ghost use Rattle.connection_table.specs.Tied.{AreTied, touches_of};
+    ghost use Rattle.connection_table.specs.Slots.{entry_of, shown, AreFull};
 
     ghost Value = { Recency };
 
-    ghost view = { λ t. record { limit = t.limit; pairs = touches_of t.pairs } };
+    ghost view = { λ t. record { limit = t.cache.cap; pairs = shown entry_of t.cache.entries } };
 
-    ghost invariant = { λ t. (0 < t.limit) × (t.limit ≤ 1000000) × (length t.pairs.pairs.items ≤ t.limit) × AreTied t.pairs };
+    ghost invariant = { λ t. (0 < t.cache.cap) × AreFull t.cache.entries };
 }
 
 impl fmt::Debug for LruTable {
     fn fmt<W: fmt::Write>(&self, f: &mut fmt::Formatter<W>) -> fmt::Result {
         f.debug_struct("LruTable")
-            .field("len", &self.pairs.len())
+            .field("len", &self.cache.len())
             .finish_non_exhaustive()
-    }
-}
-
-impl LruTable {
-    // Puts the pair of a flow that has none in front. In a full table the last one goes.
-    fn insert(&mut self, flow: Flow, entry: Entry) -> Result<(), AllocError>
-        requires { last_touch flow self.old.pairs ≡ None }
-        ensures ok { OnOk result (self.new ≡ record self.old { pairs = stored self.old.limit flow entry self.old.pairs }) }
-        ensures err { OnErr result (self.new ≡ self.old) }
-    {
-        if self.pairs.len() == self.limit as usize {
-            self.pairs.replace_oldest(flow, entry);
-            return Ok(());
-        }
-        self.pairs.push(flow, entry)
     }
 }
 
@@ -66,28 +52,29 @@ impl ConnTable for LruTable {
     }
 
     fn keyed(alloc: Global, limit: u32, key: TableKey) -> Result<LruTable, AllocError> {
-        Ok(LruTable {
-            alloc,
-            limit,
-            pairs: Pairs::new(alloc, key),
-        })
+        let Some(name) = Name::new(b"a") else {
+            unreachable!()
+        };
+        let nobody = Backend { name, addr: 0 };
+        let places = NonZeroUsize::new(limit as usize).unwrap();
+        // The kit's `with_hasher` takes room for all places at once.
+        let mut cache = LruCache::unbounded_with_hasher(alloc, key)?;
+        cache.resize(places);
+        Ok(LruTable { cache, nobody })
     }
 
     fn peek(&self, flow: &Flow) -> Option<Entry> {
-        match self.pairs.place_of(flow) {
-            Some(place) => Some(self.pairs.entry_at(place)),
+        match self.cache.peek(flow) {
+            Some(slot) => Some(entry_in(slot)),
             None => None,
         }
     }
 
     fn store(&mut self, flow: Flow, entry: Entry) -> Result<(), AllocError> {
-        match self.pairs.place_of(&flow) {
-            Some(place) => {
-                self.pairs.write(place, flow, entry);
-                Ok(())
-            }
-            None => self.insert(flow, entry),
-        }
+        let Ok(_) = self.cache.put(flow, slot_of(&entry)) else {
+            return Err(AllocError);
+        };
+        Ok(())
     }
 
     fn renew<K: FnOnce(&Entry) -> bool, M: FnOnce() -> Entry>(
@@ -97,33 +84,44 @@ impl ConnTable for LruTable {
         keeps: K,
         makes: M,
     ) -> Renewed {
-        let Some(place) = self.pairs.place_of(&flow) else {
-            let entry = makes();
-            let lent = &entry;
-            let stored = self.insert(flow, *lent).is_ok();
-            return Renewed::Made { entry, stored };
+        let nobody = &self.nobody;
+        let vacant = ||
+            ensures { result.vacant ≡ true }
+        {
+            Slot {
+                backend: *nobody,
+                version: 0,
+                vacant: true,
+                last: 0,
+            }
         };
-        let entry = self.pairs.entry_at(place);
-        if keeps(&entry) {
-            self.pairs.retouch(place, flow, clock);
-            return Renewed::Kept(entry);
+        let Ok(slot) = self.cache.get_or_insert_mut(flow, vacant) else {
+            let entry = makes();
+            return Renewed::Made {
+                entry,
+                stored: false,
+            };
+        };
+        if let Some(entry) = before(slot) {
+            if keeps(&entry) {
+                slot.last = clock;
+                return Renewed::Kept(entry);
+            }
         }
         let entry = makes();
-        let lent = &entry;
-        self.pairs.write(place, flow, *lent);
-        Renewed::Made {
+        let made = Renewed::Made {
             entry,
             stored: true,
-        }
+        };
+        *slot = slot_of(&entry);
+        made
     }
 
-    // The memory of the places is given back.
     fn clear(&mut self) {
-        let key = self.pairs.key;
-        self.pairs = Pairs::new(self.alloc, key);
+        self.cache.clear();
     }
 
     fn len(&self) -> usize {
-        self.pairs.len()
+        self.cache.len()
     }
 }

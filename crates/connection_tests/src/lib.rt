@@ -1,4 +1,4 @@
-//! Tests of connection tables: the key that is drawn for the hash of a table, a flow's entry that is renewed, and two tables
+//! Tests of connection tables: the key that is drawn for the hash of a table, a flow's entry that is renewed, and three tables
 //! that do the same.
 #![tactic(auto)]
 

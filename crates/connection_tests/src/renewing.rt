@@ -1,6 +1,6 @@
 //! A flow's entry is renewed with one look-up: where the caller keeps it, it is touched, otherwise a new one is stored.
 use backend_names::Name;
-use connection_table::{ConnTable, Entry, LruTable, PlainTable, Renewed};
+use connection_table::{ConnTable, Entry, LruTable, PlaceTable, PlainTable, Renewed};
 use five_tuple::Flow;
 use pool_versions::Backend;
 use std::alloc::Global;
@@ -75,4 +75,5 @@ fn renews<T: ConnTable>(rt: &impl Abort, alloc: Global) {
 fn an_entry_is_renewed(rt: HostRuntime) {
     renews::<PlainTable>(&rt, rt.alloc());
     renews::<LruTable>(&rt, rt.alloc());
+    renews::<PlaceTable>(&rt, rt.alloc());
 }

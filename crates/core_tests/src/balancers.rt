@@ -1,11 +1,11 @@
-//! Worked scenarios on balancers with both tables, and what a deployment refuses.
+//! Worked scenarios on balancers with all three tables, and what a deployment refuses.
 ghost use Rattle.std.specs.Prelude.{◌≡◌, ◌<◌, ◌^◌, [], length};
 
 use crate::checks::{OutcomeRow, holds, same_count, same_told};
 use backend_names::{Name, TableSize, Weight};
 use cluster_core::{Deployment, Setup, Totals};
 use cluster_node::{Event, LogEntry, Outcome, Packet};
-use connection_table::{ConnTable, LruTable, PlainTable};
+use connection_table::{ConnTable, LruTable, PlaceTable, PlainTable};
 use event_trace::{Balancers, Core, Counts, Notes, Play, ScenarioStep, Task, all_live};
 use five_tuple::Flow;
 use hash_laws::SumHash;
@@ -324,6 +324,11 @@ fn scenarios_with_a_table_over_links(rt: HostRuntime) {
     plays::<LruTable>(&rt, rt.alloc());
 }
 
+#[test]
+fn scenarios_with_a_table_over_places(rt: HostRuntime) {
+    plays::<PlaceTable>(&rt, rt.alloc());
+}
+
 // Tables of two sizes don't fit.
 #[test]
 fn what_does_not_fit(rt: HostRuntime) {
@@ -347,7 +352,7 @@ fn what_fits(rt: HostRuntime) {
         deployment: deployment(&rt, rt.alloc()),
         asked: (),
     };
-    let workers = <Balancers<Sums, SumHash, LruTable, CountsAlone> as Core>::workers(&task);
+    let workers = <Balancers<Sums, SumHash, PlaceTable, CountsAlone> as Core>::workers(&task);
     holds(&rt, workers == 1, "one worker");
     is_kept(&rt, &task.deployment);
 }

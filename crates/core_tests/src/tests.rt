@@ -1,4 +1,4 @@
-//! The worked examples as lists of events, on both tables.
+//! The worked examples as lists of events, on all three tables.
 mod frames;
 mod idle;
 mod schemes;
@@ -11,7 +11,7 @@ use backend_names::{Name, TableSize, Weight};
 use cluster_core::{
     Cause, Event, Outcome, Packet, Reason, Run, Setup, replay, replay_maglev, totals,
 };
-use connection_table::{ConnTable, LruTable, PlainTable};
+use connection_table::{ConnTable, LruTable, PlaceTable, PlainTable};
 use five_tuple::Flow;
 use hash_laws::SumHash;
 use pool_versions::{Backend, Catalogue, Member, Service, Version};
@@ -418,6 +418,13 @@ fn examples_with_a_table_over_links(rt: HostRuntime) {
     counts::<LruTable>(&rt, rt.alloc());
 }
 
+#[test]
+fn examples_with_a_table_over_places(rt: HostRuntime) {
+    shows_all::<PlaceTable>(&rt, rt.alloc());
+    goes_round::<PlaceTable>(&rt, rt.alloc());
+    counts::<PlaceTable>(&rt, rt.alloc());
+}
+
 // A list of outcomes that no run has: what was received was forwarded, dropped for one of the causes, or waits.
 #[test]
 fn every_drop_is_counted(rt: HostRuntime) {
@@ -474,7 +481,7 @@ fn counts<T: ConnTable>(rt: &impl Abort, alloc: Global) {
 }
 
 // Node 0's newest version, what waits at its worker, and node 1's newest version.
-fn has_state(rt: &impl Abort, run: &Run<Maglev<SumHash>, LruTable>, wanted: (u32, usize, u32)) {
+fn has_state(rt: &impl Abort, run: &Run<Maglev<SumHash>, PlaceTable>, wanted: (u32, usize, u32)) {
     let found = (run.newest(0), run.waiting(0, 0), run.newest(1));
     assert_eq!(rt; found, wanted);
 }
@@ -482,7 +489,7 @@ fn has_state(rt: &impl Abort, run: &Run<Maglev<SumHash>, LruTable>, wanted: (u32
 // What an event results in.
 fn stepped(
     rt: &impl Abort,
-    run: &mut Run<Maglev<SumHash>, LruTable>,
+    run: &mut Run<Maglev<SumHash>, PlaceTable>,
     setup: &Setup<Maglev<SumHash>, SumHash>,
     catalogue: &Catalogue,
     act: Act,
@@ -500,7 +507,7 @@ fn stepped(
 fn a_run_tells_what_waits(rt: HostRuntime) {
     let setup = setup(&rt, rt.alloc(), Maglev { hash: SumHash }, 1);
     let catalogue = catalogue(&rt, rt.alloc());
-    let mut run: Run<Maglev<SumHash>, LruTable> = Run::make(rt.alloc(), &setup).expect(
+    let mut run: Run<Maglev<SumHash>, PlaceTable> = Run::make(rt.alloc(), &setup).expect(
         &rt, "memory",
     );
     has_state(&rt, &run, (0, 0, 0));

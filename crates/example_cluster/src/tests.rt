@@ -3,7 +3,7 @@ ghost use Rattle.std.specs.Prelude.{◌≡◌};
 
 use super::*;
 use backend_names::{Name, TableSize, Weight};
-use connection_table::{Entry, LruTable, PlainTable};
+use connection_table::{Entry, LruTable, PlaceTable, PlainTable};
 use five_tuple::Flow;
 use hash_laws::SumHash;
 use pool_versions::{Backend, Member, Service, Version};
@@ -140,5 +140,6 @@ fn sends<T: ConnTable>(rt: &impl Abort, alloc: Global) {
 fn two_versions_begin_with_two_backends(rt: HostRuntime) {
     sends::<PlainTable>(&rt, rt.alloc());
     sends::<LruTable>(&rt, rt.alloc());
+    sends::<PlaceTable>(&rt, rt.alloc());
     sends::<OwnTable>(&rt, rt.alloc());
 }

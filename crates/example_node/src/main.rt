@@ -8,7 +8,7 @@ ghost use Rattle.std.specs.Prelude.{◌≡◌, ◌<◌, IfOk, length};
 use backend_names::{Name, TableSize, Weight};
 use cluster_core::Setup;
 use cluster_node::{Outcome, Packet};
-use connection_table::LruTable;
+use connection_table::PlaceTable;
 use five_tuple::Flow;
 use hash_laws::SumHash;
 use node_threads::{NodeRun, OpenGate, RunFault, run_node};
@@ -104,7 +104,7 @@ fn run<R: Threads + Wait + Sync>(rt: &R, alloc: Global) -> Result<NodeRun, RunFa
         Command::Offer(1),
         Command::Offer(0),
     ];
-    run_node::<_, _, LruTable, _, _>(
+    run_node::<_, _, PlaceTable, _, _>(
         rt, alloc, &setup, &catalogue, &packets, 0, &commands, 16, &OpenGate,
     )
 }

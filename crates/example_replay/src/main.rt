@@ -1,4 +1,4 @@
-//! Replays a list of events on both connection tables. For each packet that was sent it prints the number of its backend and
+//! Replays a list of events on all three connection tables. For each packet that was sent it prints the number of its backend and
 //! the version under which the backend was chosen. Where memory was refused it prints `fault: Memory` alone, to standard
 //! error. `tests/refused_growths_core.py` refuses each of its allocations in turn.
 #![tactic(auto)]
@@ -8,7 +8,7 @@ ghost use Rattle.cluster_node.specs.Records.{WasRead};
 
 use backend_names::{Name, TableSize, Weight};
 use cluster_core::{Event, Outcome, Packet, Setup, replay_maglev};
-use connection_table::{ConnTable, LruTable, PlainTable};
+use connection_table::{ConnTable, LruTable, PlaceTable, PlainTable};
 use five_tuple::Flow;
 use hash_laws::SumHash;
 use pool_versions::{Backend, Catalogue, Member, Service, Version};
@@ -135,13 +135,16 @@ fn replayed<T: ConnTable>(alloc: Global, size: TableSize) -> Result<Vec<Outcome>
     replay_maglev::<SumHash, T>(alloc, &setup, &catalogue, &packets, events.as_slice())
 }
 
-/// What both tables answer, the plain one first.
-fn both(alloc: Global) -> Result<Vec<Outcome>, AllocError> {
+/// What all tables answer, the plain one first.
+fn all(alloc: Global) -> Result<Vec<Outcome>, AllocError> {
     let Some(size) = TableSize::new(7) else {
         return Err(AllocError);
     };
     let mut outcomes = replayed::<PlainTable>(alloc, size)?;
     for outcome in replayed::<LruTable>(alloc, size)?.as_slice() {
+        outcomes.push(*outcome)?;
+    }
+    for outcome in replayed::<PlaceTable>(alloc, size)?.as_slice() {
         outcomes.push(*outcome)?;
     }
     Ok(outcomes)
@@ -162,7 +165,7 @@ fn print(rt: &HostRuntime, outcomes: &[Outcome]) -> io::Result<()> {
 }
 
 fn main(rt: HostRuntime) -> anyhow::Result<ExitCode> {
-    match both(rt.alloc()) {
+    match all(rt.alloc()) {
         Ok(outcomes) => {
             print(&rt, outcomes.as_slice())?;
             Ok(ExitCode::from(0))

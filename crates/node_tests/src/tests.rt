@@ -6,7 +6,7 @@ ghost use Rattle.cluster_node.specs.Records.{WasRead};
 use backend_names::{Name, TableSize, Weight};
 use cluster_core::Setup;
 use cluster_node::{Cause, Outcome, Packet, Reason};
-use connection_table::{ConnTable, LruTable, PlainTable};
+use connection_table::{ConnTable, PlaceTable, PlainTable};
 use five_tuple::Flow;
 use hash_laws::{FlowHash, SumHash};
 use node_threads::{Gate, NodeRun, OpenGate, run_node};
@@ -300,7 +300,7 @@ static AUDITED: [Command; 3] = [Command::Publish(1), Command::Offer(0), Command:
 #[test]
 fn an_audit_knows_its_run(rt: HostRuntime) {
     let setup = setup(&rt, rt.alloc(), SumHash, 2);
-    let run = run::<LruTable, _, _, _>(&rt, rt.alloc(), &setup, &AUDITED, 16, &OpenGate);
+    let run = run::<PlaceTable, _, _, _>(&rt, rt.alloc(), &setup, &AUDITED, 16, &OpenGate);
     let agreed = agrees::<PlainTable>(&rt, rt.alloc(), &setup, &run, &packets());
     holds(&rt, agreed && run.history().len() == 4, "its packets");
     let agreed = agrees::<PlainTable>(&rt, rt.alloc(), &setup, &run, &[good(1001)]);
@@ -354,7 +354,7 @@ static THREE_LIVES: [Command; 10] = [
 #[test]
 fn every_life_serves_what_was_placed(rt: HostRuntime) {
     let setup = setup(&rt, rt.alloc(), SumHash, 2);
-    let run = run::<LruTable, _, _, _>(&rt, rt.alloc(), &setup, &THREE_LIVES, 1, &OpenGate);
+    let run = run::<PlaceTable, _, _, _>(&rt, rt.alloc(), &setup, &THREE_LIVES, 1, &OpenGate);
     holds(&rt, run.sent().len() == 3, "lives");
     let placed = placed(&run);
     holds(
@@ -444,7 +444,7 @@ static AT_HOME: [Command; 4] = [
 fn rings_of_one_place_refuse(rt: HostRuntime) {
     let setup = setup(&rt, rt.alloc(), SumHash, 2);
     let gate = Meet::new();
-    let run = run::<LruTable, _, _, _>(&rt, rt.alloc(), &setup, &AT_HOME, 1, &gate);
+    let run = run::<PlaceTable, _, _, _>(&rt, rt.alloc(), &setup, &AT_HOME, 1, &gate);
     is(&rt, &gate.missed, 0, "missed");
     let sent = forwarded(&run);
     holds(&rt, sent == 2 || sent == 3, "two or three");

@@ -16,7 +16,7 @@ use crate::failure::RunFailure;
 use crate::histories::{outcome_count, splits_told};
 use cluster_core::Setup;
 use cluster_node::Packet;
-use connection_table::{LruTable, TableKey};
+use connection_table::{PlaceTable, TableKey};
 use hash_laws::AnyHash;
 use node_threads::{NodesRun, OpenGate, RunFault, audit_nodes, run_each};
 use scenario::{Scenario, SchemeKind};
@@ -80,7 +80,7 @@ where
                 IfOk result (λ b. IsTrue b ↔ All (λ r. r.outcomes.items ≡ verdicts rules [] packets.entry.now r.events.items) nodes.entry.now) }
         {
             let catalogue = &scenario.catalogue;
-            audit_nodes::<S, AnyHash, LruTable, R>(rt, alloc, nodes, setup, catalogue, packets)
+            audit_nodes::<S, AnyHash, PlaceTable, R>(rt, alloc, nodes, setup, catalogue, packets)
         },
         || -> Result<String, AllocError>
             requires { (scenario.now.catalogue.size ≡ scenario.now.size) × AreEven nodes.now }
@@ -112,7 +112,7 @@ where
         return judged_at_once(rt, alloc, setup, task, nodes);
     }
     let catalogue = &task.scenario.catalogue;
-    let agrees = audit_nodes::<S, AnyHash, LruTable, R>(
+    let agrees = audit_nodes::<S, AnyHash, PlaceTable, R>(
         rt,
         alloc,
         nodes,
@@ -159,7 +159,7 @@ where
         unreachable!()
     };
     let setup = setup.keyed(task.key);
-    let run = run_each::<S, AnyHash, LruTable, OpenGate, R>(
+    let run = run_each::<S, AnyHash, PlaceTable, OpenGate, R>(
         rt,
         alloc,
         &setup,

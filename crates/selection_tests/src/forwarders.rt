@@ -1,6 +1,6 @@
-//! Packets served one after another, on both tables, with the backends that the worked examples give.
+//! Packets served one after another, on all three tables, with the backends that the worked examples give.
 use crate::checks::{VIP, flow, flow_to, holds, same_count, same_pair, seven, version_of};
-use connection_table::{ConnTable, LruTable, PlainTable};
+use connection_table::{ConnTable, LruTable, PlaceTable, PlainTable};
 use forwarder::{Choice, Forwarder};
 use hash_laws::SumHash;
 use selection::{Maglev, PreparedVersion};
@@ -214,6 +214,11 @@ fn the_examples_with_a_table_over_links(rt: HostRuntime) {
     shows_all::<LruTable>(&rt, rt.alloc());
 }
 
+#[test]
+fn the_examples_with_a_table_over_places(rt: HostRuntime) {
+    shows_all::<PlaceTable>(&rt, rt.alloc());
+}
+
 // A packet in a forwarder's lives, or a restart, where the version is 0: the time in microseconds, the two ports, the
 // version, and whether a new entry is refused. After it: what is wanted of the packet, whether an entry was due and wasn't
 // made, and how many there are.
@@ -312,7 +317,7 @@ static REFUSALS: [PacketRow; 5] = [
 
 fn lives(rt: &impl Abort, alloc: Global, idle: Option<u64>, packets: &[PacketRow]) {
     let versions = versions(rt, alloc);
-    let mut forwarder: Forwarder<Sums, LruTable> = made(rt, alloc, 2, idle);
+    let mut forwarder: Forwarder<Sums, PlaceTable> = made(rt, alloc, 2, idle);
     for (step, packet) in packets.iter().enumerate() {
         match versions.get(packet.version.wrapping_sub(1)) {
             None => forwarder.restart(),
@@ -339,7 +344,7 @@ fn refusals_and_restart(rt: HostRuntime) {
 
 // Serves 100,000 packets of so many flows in turn, from port 1000 on: how many had version 1 as their origin.
 fn flooded(
-    forwarder: &mut Forwarder<Sums, LruTable>,
+    forwarder: &mut Forwarder<Sums, PlaceTable>,
     prepared: &PreparedVersion<Sums>,
     flows: u32,
 ) -> usize {
@@ -358,7 +363,7 @@ fn flooded(
 #[test]
 fn a_flood_keeps_to_the_capacity(rt: HostRuntime) {
     let prepared = version(&rt, rt.alloc(), 1, 0x0a08_0001, [true; 3]);
-    let mut forwarder: Forwarder<Sums, LruTable> = made(&rt, rt.alloc(), 1000, None);
+    let mut forwarder: Forwarder<Sums, PlaceTable> = made(&rt, rt.alloc(), 1000, None);
     for (flows, entries) in [(1, 1), (60_000, 1000)] {
         let by_one = flooded(&mut forwarder, &prepared, flows);
         same_count(&rt, by_one, 100_000, "origins");

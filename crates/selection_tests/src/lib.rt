@@ -1,4 +1,4 @@
-//! Tests of the schemes of selection and of prepared versions, of both connection tables, of a forwarder, of
+//! Tests of the schemes of selection and of prepared versions, of the three connection tables, of a forwarder, of
 //! steerers and of spreaders.
 #![tactic(auto)]
 

@@ -1,6 +1,6 @@
-//! Sequences of touches and stores, on both tables.
+//! Sequences of touches and stores, on all three tables.
 use crate::checks::{backend, flow, holds, same_count, same_pair};
-use connection_table::{ConnTable, Entry, LruTable, PlainTable};
+use connection_table::{ConnTable, Entry, LruTable, PlaceTable, PlainTable};
 use std::alloc::Global;
 use std::process::Abort;
 
@@ -187,4 +187,10 @@ fn plain_table(rt: HostRuntime) {
 fn lru_table(rt: HostRuntime) {
     shows_all::<LruTable>(&rt, rt.alloc());
     shows_touches::<LruTable>(&rt, rt.alloc());
+}
+
+#[test]
+fn place_table(rt: HostRuntime) {
+    shows_all::<PlaceTable>(&rt, rt.alloc());
+    shows_touches::<PlaceTable>(&rt, rt.alloc());
 }

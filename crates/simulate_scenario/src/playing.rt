@@ -15,7 +15,7 @@ use crate::answering::answer;
 use crate::asking::Query;
 use crate::notes::Notebook;
 use cluster_core::{Deployment, Setup};
-use connection_table::{LruTable, TableKey};
+use connection_table::{PlaceTable, TableKey};
 use event_trace::{Balancers, Task, all_live};
 use hash_laws::AnyHash;
 use pcap_file::Source;
@@ -48,7 +48,7 @@ fn play_with<S: Scheme, P: Spread, I: Source, O: Outlet>(
 {
     let deployment = &task.deployment;
     let notes = Notebook::new(alloc, deployment.setup().key());
-    let mut balancers = Balancers::<S, AnyHash, LruTable, Notebook>::make(
+    let mut balancers = Balancers::<S, AnyHash, PlaceTable, Notebook>::make(
         alloc, deployment, notes,
     )?;
     deployment.keep_order();

@@ -1,6 +1,6 @@
 //! A soak program: many short runs of a cluster on threads, each thrown from a seed and judged afterwards.
 //!
-//! Arguments: a seed, and how many runs. Each run's history and each node's record are audited on both connection tables.
+//! Arguments: a seed, and how many runs. Each run's history and each node's record are audited on all three connection tables.
 //! Each node's record is compared with its commands, the counts with the outcomes, and each list of what was sent with what
 //! the workers sent. Prints how many runs and commands there were, how many runs had a fault, and how many weren't what they
 //! should be. The last two are 0.
@@ -22,7 +22,7 @@ use crate::scene::{Throw, catalogue, packets, setup, thrown};
 use backend_names::TableSize;
 use cluster_core::Setup;
 use cluster_node::Packet;
-use connection_table::{ConnTable, LruTable, PlainTable};
+use connection_table::{ConnTable, LruTable, PlaceTable, PlainTable};
 use hash_laws::Fnv;
 use node_threads::{ClusterRun, run_cluster};
 use pool_versions::Catalogue;
@@ -77,7 +77,8 @@ fn agrees<S: Scheme>(
         are_counted(&run.stats(), run.outcomes())
             && are_lived(alloc, run.nodes.as_slice(), commands)?
             && are_audited::<S, PlainTable>(alloc, setup, catalogue, packets, run)?
-            && are_audited::<S, LruTable>(alloc, setup, catalogue, packets, run)?,
+            && are_audited::<S, LruTable>(alloc, setup, catalogue, packets, run)?
+            && are_audited::<S, PlaceTable>(alloc, setup, catalogue, packets, run)?,
     )
 }
 
@@ -121,7 +122,7 @@ where
     Ok(())
 }
 
-// One cluster and one throw, run on both tables.
+// One cluster and one throw, run on the plain table and on that of the programs.
 fn soak<S: Scheme + Send + Sync, R: Threads + Wait + Sync>(
     rt: &R,
     alloc: Global,
@@ -137,7 +138,7 @@ where
     let catalogue = catalogue(alloc, size, dice)?;
     let throw = thrown(alloc, setup.nodes().len(), dice)?;
     soak_on::<S, PlainTable, R>(rt, alloc, &setup, &catalogue, &throw, tally)?;
-    soak_on::<S, LruTable, R>(rt, alloc, &setup, &catalogue, &throw, tally)
+    soak_on::<S, PlaceTable, R>(rt, alloc, &setup, &catalogue, &throw, tally)
 }
 
 fn soak_all<R: Threads + Wait + Sync>(

@@ -5,7 +5,7 @@ use super::stop::{catalogue, packets};
 use super::{cluster, list};
 use crate::checks::holds;
 use cluster_node::Event;
-use connection_table::LruTable;
+use connection_table::PlaceTable;
 use node_threads::{Gate, run_cluster};
 use stats_book::Stats;
 use std::alloc::Global;
@@ -267,7 +267,7 @@ fn a_gate_is_told_who_calls(rt: HostRuntime) {
         shown: Mutex::new(Vec::new(alloc)),
         missed: AtomicU64::new(0),
     };
-    let run = run_cluster::<_, _, LruTable, _, _>(
+    let run = run_cluster::<_, _, PlaceTable, _, _>(
         &rt, alloc, &setup, &catalogue, &packets, &lists, 16, &gate,
     ).expect(&rt, "a run");
     holds(&rt, gate.missed.load(Ordering::SeqCst) == 0, "memory");

@@ -8,7 +8,7 @@ use crate::checks::holds;
 use backend_names::{Name, TableSize, Weight};
 use cluster_core::Setup;
 use cluster_node::{Outcome, Packet};
-use connection_table::{LruTable, PlainTable};
+use connection_table::{PlaceTable, PlainTable};
 use hash_laws::SumHash;
 use node_threads::{ClusterRun, OpenGate, run_cluster};
 use pool_versions::{Backend, Catalogue, Member, Service, Version};
@@ -148,7 +148,7 @@ fn a_node_stops_in_full_traffic(rt: HostRuntime) {
         .expect(&rt, "a run");
         holds(&rt, is_counted(&run), "the counts");
         let agrees = run
-            .audit_nodes::<_, _, LruTable, _>(&rt, alloc, &setup, &catalogue, &packets)
+            .audit_nodes::<_, _, PlaceTable, _>(&rt, alloc, &setup, &catalogue, &packets)
             .expect(&rt, "memory");
         holds(&rt, agrees, "the audit");
     }

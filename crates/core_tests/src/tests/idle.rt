@@ -1,4 +1,4 @@
-//! Entries that no packet touched for too long, on both tables.
+//! Entries that no packet touched for too long, on all three tables.
 ghost use Rattle.std.specs.Prelude.{◌≡◌, ℕ, Some, slice_get};
 ghost use Rattle.cluster_node.specs.declared.packets.Packet.{Packet};
 ghost use Rattle.cluster_node.specs.Records.{WasRead};
@@ -6,7 +6,7 @@ ghost use Rattle.cluster_node.specs.Records.{WasRead};
 use super::schemes::{explained_of, same_explained};
 use super::{Act, EventRow, acts_of, catalogue_of, limited, packet_at, shows_of};
 use cluster_core::{Packet, Setup};
-use connection_table::{ConnTable, LruTable, PlainTable};
+use connection_table::{ConnTable, LruTable, PlaceTable, PlainTable};
 use hash_laws::SumHash;
 use pool_versions::Catalogue;
 use selection::Maglev;
@@ -175,4 +175,10 @@ fn entries_age_in_a_plain_table(rt: HostRuntime) {
 fn entries_age_in_a_table_over_links(rt: HostRuntime) {
     ages::<LruTable>(&rt, rt.alloc());
     splits::<LruTable>(&rt, rt.alloc());
+}
+
+#[test]
+fn entries_age_in_a_table_over_places(rt: HostRuntime) {
+    ages::<PlaceTable>(&rt, rt.alloc());
+    splits::<PlaceTable>(&rt, rt.alloc());
 }

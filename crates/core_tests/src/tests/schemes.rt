@@ -1,10 +1,10 @@
-//! What explaining two outcomes tells, and the other schemes, on both tables.
+//! What explaining two outcomes tells, and the other schemes, on all three tables.
 ghost use Rattle.std.specs.Prelude.{◌≡◌, ℕ, Some, slice_get};
 ghost use Rattle.cluster_node.specs.Records.{WasRead};
 
 use super::{Act, EventRow, FIRST, SECOND, THIRD, catalogue, events_of, packet, setup, shows};
 use cluster_core::{Packet, Setup, Verdict, explain, replay};
-use connection_table::{ConnTable, LruTable, PlainTable};
+use connection_table::{ConnTable, LruTable, PlaceTable, PlainTable};
 use hash_laws::SumHash;
 use pool_versions::Catalogue;
 use selection::{Maglev, PlainHash, RoundRobin, Scheme};
@@ -204,4 +204,9 @@ fn schemes_with_a_plain_table(rt: HostRuntime) {
 #[test]
 fn schemes_with_a_table_over_links(rt: HostRuntime) {
     each_scheme::<LruTable>(&rt, rt.alloc());
+}
+
+#[test]
+fn schemes_with_a_table_over_places(rt: HostRuntime) {
+    each_scheme::<PlaceTable>(&rt, rt.alloc());
 }

@@ -5,7 +5,7 @@ use super::journals::{
 use super::{Row, Sums, catalogue, flow, forward, good, holds, packets, version};
 use backend_names::TableSize;
 use cluster_node::{Item, Outcome};
-use connection_table::{LruTable, PlainTable};
+use connection_table::{PlaceTable, PlainTable};
 use hash_laws::{AnyHash, SumHash};
 use selection::{Maglev, PreparedVersion};
 use std::alloc::Global;
@@ -341,7 +341,7 @@ fn gathered(rt: &impl Abort, alloc: Global, places: &[usize]) -> Vec<Vec<Outcome
 // The fault of a run of one life in which two packets were sent, and these were gathered.
 fn finished(rt: &impl Abort, alloc: Global, places: &[usize]) -> Option<LifeFault> {
     let setup = setup_of(rt, alloc, Maglev { hash: SumHash }, 1, 2);
-    let mut node = fresh_node::<Sums, LruTable>(rt, alloc, &setup, 16);
+    let mut node = fresh_node::<Sums, PlaceTable>(rt, alloc, &setup, 16);
     does(rt, &mut node, &TWO_SERVED);
     node.journal
         .end(node.workers.as_slice(), true)

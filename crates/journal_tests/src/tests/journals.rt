@@ -4,7 +4,7 @@ ghost use Rattle.std.specs.Prelude.{◌≡◌};
 use super::{catalogue, holds, packets, same_outcomes, seven};
 use cluster_core::{Setup, replay};
 use cluster_node::{Cause, Event, Item, Outcome, Reason};
-use connection_table::{ConnTable, LruTable, PlainTable};
+use connection_table::{ConnTable, LruTable, PlaceTable, PlainTable};
 use forwarder::Choice;
 use hash_laws::SumHash;
 use selection::{Maglev, PlainHash, PreparedVersion, RoundRobin, Scheme};
@@ -274,7 +274,7 @@ fn replays_by<S: Scheme, T: ConnTable>(
     same_outcomes(rt, found.expect(rt, "memory").as_slice(), outcomes);
 }
 
-/// A history says what its replay says, with both tables.
+/// A history says what its replay says, with all three tables.
 pub(super) fn replays<S: Scheme>(
     rt: &impl Abort,
     alloc: Global,
@@ -286,6 +286,7 @@ pub(super) fn replays<S: Scheme>(
 {
     replays_by::<S, PlainTable>(rt, alloc, setup, events, outcomes);
     replays_by::<S, LruTable>(rt, alloc, setup, events, outcomes);
+    replays_by::<S, PlaceTable>(rt, alloc, setup, events, outcomes);
 }
 
 // A node of so many workers, with rings of so many places, and what it does.
@@ -466,6 +467,11 @@ fn examples_with_a_table_by_least_recent_use(rt: HostRuntime) {
     plays_all::<LruTable>(&rt, rt.alloc());
 }
 
+#[test]
+fn examples_with_a_table_over_places(rt: HostRuntime) {
+    plays_all::<PlaceTable>(&rt, rt.alloc());
+}
+
 // The plain scheme takes the backends at 629 modulo 3 and 629 modulo 2.
 static BY_PLAIN_HASH: [Example; 2] = [
     Example {
@@ -507,5 +513,5 @@ fn examples_with_other_schemes(rt: HostRuntime) {
         let plain = PlainHash { hash: SumHash };
         plays::<_, PlainTable>(&rt, rt.alloc(), plain, example);
     }
-    plays::<_, LruTable>(&rt, rt.alloc(), RoundRobin, &BY_TURNS);
+    plays::<_, PlaceTable>(&rt, rt.alloc(), RoundRobin, &BY_TURNS);
 }

@@ -5,7 +5,7 @@ use super::journals::{replays, same_told, setup_of, told};
 use super::{Sums, catalogue, holds, packets};
 use cluster_core::Setup;
 use cluster_node::Outcome;
-use connection_table::{ConnTable, LruTable, PlainTable};
+use connection_table::{ConnTable, LruTable, PlaceTable, PlainTable};
 use hash_laws::SumHash;
 use node_rehearsal::rehearse;
 use selection::Maglev;
@@ -118,6 +118,7 @@ fn rehearses<T: ConnTable>(rt: &impl Abort, alloc: Global) {
 fn runs_are_their_replays(rt: HostRuntime) {
     rehearses::<PlainTable>(&rt, rt.alloc());
     rehearses::<LruTable>(&rt, rt.alloc());
+    rehearses::<PlaceTable>(&rt, rt.alloc());
 }
 
 static STOPPED: [Command; 6] = [

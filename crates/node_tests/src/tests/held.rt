@@ -6,7 +6,7 @@ ghost use Rattle.std.specs.Ordering.{on};
 
 use super::{forward, holds, is, placed, run, sends, setup, x_to_a};
 use cluster_node::Outcome;
-use connection_table::LruTable;
+use connection_table::PlaceTable;
 use hash_laws::FlowHash;
 use node_threads::Gate;
 use stats_book::Stats;
@@ -109,7 +109,7 @@ fn a_full_ring_takes_again(rt: HostRuntime) {
         missed: AtomicU64::new(0),
     };
     let setup = setup(&rt, rt.alloc(), Holding { counts: &counts }, 2);
-    let run = run::<LruTable, _, _, _>(&rt, rt.alloc(), &setup, &COMMANDS, 1, &counts);
+    let run = run::<PlaceTable, _, _, _>(&rt, rt.alloc(), &setup, &COMMANDS, 1, &counts);
     is(&rt, &counts.missed, 0, "missed");
     is(&rt, &counts.before, 4, "before");
     is(&rt, &counts.after, 4, "after");

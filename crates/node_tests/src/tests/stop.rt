@@ -1,7 +1,7 @@
 //! A node that stops while a packet is served and others wait.
 use super::{agrees, counts, forward, holds, is, packets, run, same_outcomes, sends, setup};
 use cluster_node::Outcome;
-use connection_table::{LruTable, PlainTable};
+use connection_table::{PlaceTable, PlainTable};
 use hash_laws::SumHash;
 use node_threads::{Gate, NodeRun};
 use stats_book::Stats;
@@ -155,7 +155,7 @@ static FULL: [Command; 7] = [
 fn a_full_ring_holds_no_stop_up(rt: HostRuntime) {
     let setup = setup(&rt, rt.alloc(), SumHash, 1);
     let gate = Stopped::new();
-    let run = run::<LruTable, _, _, _>(&rt, rt.alloc(), &setup, &FULL, 2, &gate);
+    let run = run::<PlaceTable, _, _, _>(&rt, rt.alloc(), &setup, &FULL, 2, &gate);
     expect_two_lost(&rt, &gate, &run);
     same_outcomes(&rt, run.outcomes(), &stopped_full(&rt));
 }

@@ -2,7 +2,7 @@
 use super::live::Held;
 use super::{agrees, forward, holds, is, packets, run, same_outcomes, setup, x_to_a};
 use cluster_node::{Event, Outcome};
-use connection_table::{ConnTable, Entry, LruTable, PlainTable};
+use connection_table::{ConnTable, Entry, LruTable, PlaceTable, PlainTable};
 use five_tuple::Flow;
 use hash_laws::SumHash;
 use std::alloc::{AllocError, Global};
@@ -124,6 +124,7 @@ fn a_refused_entry_is_marked(rt: HostRuntime) {
     same_events(&rt, run.history(), &EVENTS);
     same_outcomes(&rt, run.outcomes(), &expected(&rt));
     let agreed = agrees::<PlainTable>(&rt, rt.alloc(), &setup, &run, &packets())
-        && agrees::<LruTable>(&rt, rt.alloc(), &setup, &run, &packets());
+        && agrees::<LruTable>(&rt, rt.alloc(), &setup, &run, &packets())
+        && agrees::<PlaceTable>(&rt, rt.alloc(), &setup, &run, &packets());
     holds(&rt, agreed, "the audit");
 }
