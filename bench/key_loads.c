@@ -23,10 +23,10 @@ static void judge(const char *kind, int keys) {
     uint32_t fullest = 0;
     double shared = 0;
     for (int key = 0; key < keys; key++) {
-        uint64_t state = after(KNOWN_STATE, drawn(), drawn());
+        uint64_t secret = drawn(), state = drawn();
         double squares = 0;
         memset(loads, 0, sizeof loads);
-        for (int i = 0; i < FLOWS; i++) loads[index_of(state, flows[i].client, flows[i].port) % GROUPS]++;
+        for (int i = 0; i < FLOWS; i++) loads[index_of(secret, state, flows[i].client, flows[i].port) % GROUPS]++;
         for (int i = 0; i < GROUPS; i++) {
             if (loads[i] > fullest) fullest = loads[i];
             squares += (double)loads[i] * loads[i];
@@ -56,13 +56,13 @@ int main(int count, char **words) {
     for (uint32_t i = 0; i < FLOWS; i++) set(i, 0x0a000001 + (i >> 8), i & 255);
     judge("256 addresses of 256 ports", keys);
     for (uint32_t i = 0, at = 0; i < FLOWS; at++)
-        if (index_of(KNOWN_STATE, 0x0a000001 + (at >> 16), (uint16_t)at) % GROUPS == 0) {
+        if (index_of(KNOWN_SECRET, KNOWN_STATE, 0x0a000001 + (at >> 16), (uint16_t)at) % GROUPS == 0) {
             set(i, 0x0a000001 + (at >> 16), at);
             i++;
         }
     judge("chosen, of many ports", keys);
     for (uint32_t i = 0, at = 0; i < FLOWS; at++)
-        if (index_of(KNOWN_STATE, at, 1234) % GROUPS == 0) set(i++, at, 1234);
+        if (index_of(KNOWN_SECRET, KNOWN_STATE, at, 1234) % GROUPS == 0) set(i++, at, 1234);
     judge("chosen, of one port", keys);
     return 0;
 }

@@ -6,7 +6,7 @@ void choose(uint32_t wanted, uint32_t bits, uint32_t *clients, uint16_t *ports) 
     uint32_t mask = (1u << bits) - 1;
     for (uint32_t client = 0x0a000001; wanted > 0; client++) {
         for (uint32_t port = 1024; port < 65536 && wanted > 0; port++) {
-            if ((index_of(KNOWN_STATE, client, (uint16_t)port) & mask) != 0) continue;
+            if ((index_of(KNOWN_SECRET, KNOWN_STATE, client, (uint16_t)port) & mask) != 0) continue;
             wanted--;
             clients[wanted] = client;
             ports[wanted] = (uint16_t)port;

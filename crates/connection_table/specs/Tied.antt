@@ -1,10 +1,10 @@
 -- Pairs at places, which are ordered by their last use and found by their flows' hashes.
 use Rattle.std.specs.Prelude.{◌≡◌, ◌<◌, ◌≤◌, ◌/◌, ◌%◌, ◌^◌, ◌++◌, ◌∷◌, ℕ, Bool, true, false, List, [], length, get_or, slice_index, Option, Some, None, bit_xor}
-use Rattle.std.specs.Hash.FoldHasher.{write, finish}
 use Rattle.five_tuple.specs.declared.Flow.{Flow}
 use Rattle.five_tuple.specs.Flow.{flow_bytes}
 use Rattle.connection_table.specs.declared.key.TableKey.{TableKey}
 use Rattle.connection_table.specs.declared.pairs.Pairs.{Pairs}
+use Rattle.connection_table.specs.Hashing.{finished, written}
 use Rattle.connection_table.specs.Picked.{pair_at, picked}
 use Rattle.connection_table.specs.Tables.{EachFlowOnce}
 use Rattle.connection_table.specs.Touches.{same_flow, Touch, last_touch}
@@ -12,7 +12,7 @@ use Rattle.connection_table.specs.Touches.{same_flow, Touch, last_touch}
 -- the two halves of the hash of a flow's bytes, joined by xor
 unfoldable pub flow_hash : TableKey → Flow → ℕ
 flow_hash key x =
-    let hash = finish (write key.seed (flow_bytes x ++ 0 ∷ 0 ∷ 0 ∷ [])) in
+    let hash = finished (written key.seed (flow_bytes x ++ 0 ∷ 0 ∷ 0 ∷ [])) in
     bit_xor hash (hash / 2 ^ 32) % 2 ^ 32
 
 -- the pair is the flow's

@@ -6,6 +6,7 @@
 //! law, that of `ConnTable`. The programs use `PlaceTable`, the fastest.
 #![tactic(auto)]
 
+mod hasher;
 mod key;
 mod laws;
 mod lru_table;
@@ -15,6 +16,7 @@ mod plain;
 mod slot;
 mod table;
 
+pub use hasher::KeyedHasher;
 pub use key::TableKey;
 pub use laws::tables_stay_tables;
 pub use lru_table::LruTable;
