@@ -2,13 +2,18 @@
 use Rattle.std.proofs.Common.{◌≡◌, ℕ, ◌+◌, ◌-◌, ◌*◌, ◌/◌, ◌%◌, ◌<◌, ◌≤◌, min, zero, suc, List, [], ◌∷◌, ◌++◌, length, get_or, set, refl, sym, ap, ◌∙◌, subst, arith, append_assoc, length-append}
 use Rattle.std.proofs.Math.Nat.{mod-lt, suc-mul, zero-mul}
 use Rattle.std.proofs.lemmas.Nat.{div-add-mod'}
-use Rattle.std.proofs.lemmas.List.{get_or_append_left, get_or-append-add, set-append_left, set-append_right}
+use Rattle.std.proofs.lemmas.List.{get_or_append_left, get_or-append-add, set-append_left, set-append_right, length-set}
 use Rattle.std.specs.Prelude.{Vec, vec_len, vec_capacity}
+use Rattle.block_list.specs.Blocks.{Blocks, with_item}
 use Rattle.block_list.specs.PrivateBlocks.{items_of, room_of, AreBlocks}
 use Rattle.block_list.proofs.Last.{block_low, blocks_set}
 
 first : (size r : ℕ) → r ≡ zero * size + r
 first size r = let none : zero * size ≡ 0 = zero-mul size in omega (arith, none)
+
+-- a list by its fields
+abbrev pub seen : {T : Type 0} → List T → ℕ → Blocks T
+seen items room = record { items = items; room = room }
 
 module _ {T Z : Type 0} where
   -- there are at most so many items
@@ -22,10 +27,10 @@ module _ {T Z : Type 0} where
       let more : suc (length bs) * size ≡ length bs * size + size = suc-mul (length bs) size in
       omega (arith, rest, one, both, more)
 
-  some : (size : ℕ) (bs : List (Vec T Z)) → 0 < length (items_of bs) → 0 < length bs
+  some_block : (size : ℕ) (bs : List (Vec T Z)) → 0 < length (items_of bs) → 0 < length bs
   unfolding items_of
-  some size [] h = h
-  some size (b ∷ bs) h = omega arith
+  some_block size [] h = h
+  some_block size (b ∷ bs) h = omega arith
 
   -- where an item is in a later block, the first one is full
   full_first : (size q r : ℕ) (b : Vec T Z) (bs : List (Vec T Z)) → AreBlocks size (b ∷ bs) → suc q * size + r < length (items_of (b ∷ bs)) → length b.items ≡ size
@@ -35,7 +40,7 @@ module _ {T Z : Type 0} where
       let more : suc q * size ≡ q * size + size = suc-mul q size in
       let one : length b.items ≤ size = all.0 in
       let rest : 0 < length (items_of bs) = omega (arith, both, more, one, low) in
-      all.1 (some size bs rest)
+      all.1 (some_block size bs rest)
 
   behind : (size q r : ℕ) (b : Vec T Z) (bs : List (Vec T Z)) → AreBlocks size (b ∷ bs) → suc q * size + r < length (items_of (b ∷ bs)) → q * size + r < length (items_of bs)
   unfolding items_of
@@ -141,3 +146,11 @@ module _ {T Z : Type 0} where
       → items_of (set bs (at / size) w) ≡ set (items_of bs) at x
   written_at size at v w x bs some all low h e =
       item_written size (at / size) (at % size) v w x bs all (mod-lt at some) (placed size at bs low) h e ∙ ap (λ (n : ℕ). set (items_of bs) n x) (div-add-mod' at size)
+
+  -- what the list is once a block has an item written over
+  pub view_written : (size at : ℕ) (v w : Vec T Z) (x : T) (bs : List (Vec T Z)) → 0 < size → AreBlocks size bs → at < length (items_of bs) → v ≡ get_or bs (at / size) v → w.items ≡ set v.items (at % size) x
+      → vec_capacity w ≡ vec_capacity v → seen (items_of (set bs (at / size) w)) (room_of size (set bs (at / size) w)) ≡ with_item (seen (items_of bs) (room_of size bs)) at x
+  view_written size at v w x bs some all low h e cap =
+      let long : length w.items ≡ length v.items = ap length e ∙ length-set v.items (at % size) x in
+      ap (λ (xs : List T). seen xs (room_of size (set bs (at / size) w))) (written_at size at v w x bs some all low h e)
+      ∙ ap (λ (n : ℕ). seen (set (items_of bs) at x) n) (room_kept size (at / size) v w bs h long cap)

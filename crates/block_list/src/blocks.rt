@@ -135,3 +135,17 @@ impl<T> Index<usize> for Blocks<T> {
         &self.blocks[at / BLOCK][at % BLOCK]
     }
 }
+
+impl<T> IndexMut<usize> for Blocks<T> {
+    ghost use Rattle.block_list.specs.Lends.{lends_item};
+
+    #[inline(always)]
+    fn index_mut(&mut self, at: usize) -> &mut T
+        requires { at < length self.old.items }
+        ensures* writes_back { sem 𝓛 (lends_item T.row self.entry at result) }
+        ensures value { result.now ≡ slice_index_or self.old.items at result.now }
+    {
+        let block = &mut self.blocks[at / BLOCK];
+        &mut block[at % BLOCK]
+    }
+}
