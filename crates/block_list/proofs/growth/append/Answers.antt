@@ -1,4 +1,4 @@
-use Rattle.std.proofs.Common.{◌≡◌, ℕ, ◌+◌, ◌-◌, ◌<◌, ◌≤◌, suc, min, [], ◌∷◌, ◌++◌, length, ap, ◌∙◌, arith, length-append}
+use Rattle.std.proofs.Common.{◌≡◌, ◌+◌, ◌<◌, min, [], ◌∷◌, length, ap, ◌∙◌, arith, length-append}
 use Rattle.std.specs.Prelude.{vec_capacity}
 use Rattle.block_list.specs.declared.growth.TheConstants.{BLOCK}
 use Rattle.block_list.proofs.Last.{at_end, room_some, room_free, room_pushed, items_pushed, blocks_last}

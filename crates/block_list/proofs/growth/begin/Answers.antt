@@ -1,6 +1,5 @@
-use Rattle.std.proofs.Common.{◌≡◌, ℕ, ◌+◌, ◌-◌, ◌<◌, ◌≤◌, suc, [], ◌∷◌, ◌++◌, length, refl, sym, ap, ◌∙◌, subst, arith}
-use Rattle.std.specs.Prelude.{List, Vec}
-use Rattle.block_list.specs.PrivateBlocks.{items_of, AreBlocks, IsOpen}
+use Rattle.std.proofs.Common.{◌≡◌, ◌<◌, length, ap, arith}
+use Rattle.block_list.specs.PrivateBlocks.{IsOpen}
 use Rattle.block_list.specs.declared.growth.TheConstants.{BLOCK}
 use Rattle.block_list.proofs.Last.{at_end, open_is, open_none, is_open, blocks_begun, items_begun, open_begun}
 use Rattle.block_list.proofs.growth.begin.Goals as goal

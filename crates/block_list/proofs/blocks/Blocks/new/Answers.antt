@@ -1,4 +1,4 @@
-use Rattle.std.proofs.Common.{refl, arith, length}
+use Rattle.std.proofs.Common.{refl, arith}
 use Rattle.block_list.specs.PrivateBlocks.{items_of, room_of, AreBlocks}
 use Rattle.block_list.proofs.blocks.Blocks.new.Goals as goal
 

@@ -1,6 +1,6 @@
-use Rattle.std.proofs.Common.{◌≡◌, ℕ, ◌*◌, ◌<◌, ◌≤◌, length, arith}
+use Rattle.std.proofs.Common.{◌*◌, ◌≤◌, length, arith}
 use Rattle.block_list.specs.PrivateBlocks.{items_of}
-use Rattle.block_list.specs.declared.growth.TheConstants.{BLOCK, MOST}
+use Rattle.block_list.specs.declared.growth.TheConstants.{BLOCK}
 use Rattle.block_list.proofs.Places.{counted}
 use Rattle.block_list.proofs.blocks.Blocks.push_reserved.Goals as goal
 

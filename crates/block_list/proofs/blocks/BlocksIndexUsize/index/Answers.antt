@@ -1,4 +1,4 @@
-use Rattle.std.proofs.Common.{◌≡◌, ℕ, ◌<◌, ◌/◌, ◌%◌, length, get_or, sym, ap, ◌∙◌, subst, arith}
+use Rattle.std.proofs.Common.{◌<◌, ◌/◌, ◌%◌, length, get_or, sym, ap, ◌∙◌, subst, arith}
 use Rattle.block_list.specs.PrivateBlocks.{items_of}
 use Rattle.block_list.specs.declared.growth.TheConstants.{BLOCK}
 use Rattle.block_list.proofs.Places.{in_blocks, in_block, read_at}
