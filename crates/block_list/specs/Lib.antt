@@ -1,0 +1,3 @@
+pub mod Blocks
+pub mod Lends
+pub mod PrivateBlocks
