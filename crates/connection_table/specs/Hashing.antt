@@ -1,5 +1,5 @@
 -- What a `KeyedHasher` computes.
-use Rattle.std.specs.Prelude.{ℕ, zero, suc, ◌+◌, ◌-◌, ◌*◌, ◌/◌, ◌%◌, ◌^◌, List, length, drop, ◌++◌, ◌==◌, if◌then◌else◌, bit_xor}
+use Rattle.std.specs.Prelude.{ℕ, zero, suc, ◌-◌, ◌*◌, ◌/◌, ◌%◌, ◌^◌, List, length, drop, ◌++◌, ◌==◌, if◌then◌else◌, bit_xor}
 use Rattle.std.specs.Prelude.{replicate}
 use Rattle.std.specs.Hash.FoldHasher.{folded_multiply}
 use Rattle.byteorder.specs.Endian.{little_number}

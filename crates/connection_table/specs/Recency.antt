@@ -1,6 +1,7 @@
 -- A bounded list of flows with their entries, newest first.
 use Rattle.std.specs.Prelude.{ℕ, List, ◌∷◌, take, Option, Some, None}
 use Rattle.five_tuple.specs.declared.Flow.{Flow}
+use Rattle.connection_table.specs.declared.key.TableKey.{TableKey}
 use Rattle.connection_table.specs.declared.table.Entry.{Entry}
 use Rattle.connection_table.specs.Touches.{Touch, last_touch, without}
 
@@ -8,6 +9,12 @@ use Rattle.connection_table.specs.Touches.{Touch, last_touch, without}
 pub record Recency : Type 0 where
   pub limit : ℕ
   pub pairs : List Touch
+
+-- a table that hashes by a key, as contracts see it
+pub record Keyed : Type 0 where
+  pub limit : ℕ
+  pub pairs : List Touch
+  pub key : TableKey
 
 -- an entry that was found moves to the front, as it is
 abbrev pub in_front : Flow → Option Entry → List Touch → List Touch

@@ -1,5 +1,5 @@
 //! A table that keeps its entries in a hash map with links.
-ghost use Rattle.std.specs.Prelude.{◌≡◌, ◌<◌, true};
+ghost use Rattle.std.specs.Prelude.{◌≡◌, ◌<◌, true, None};
 
 use crate::key::TableKey;
 use crate::slot::{Slot, before, entry_in, slot_of};
@@ -46,6 +46,8 @@ impl ConnTable for LruTable {
     ghost capacity = { λ t. t.limit };
 
     ghost entries = { λ t. t.pairs };
+
+    ghost hashes_by = { λ _. None };
 
     fn make(alloc: Global, limit: u32) -> Result<LruTable, AllocError> {
         LruTable::keyed(alloc, limit, TableKey::fixed())

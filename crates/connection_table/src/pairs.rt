@@ -1,5 +1,5 @@
 //! Flows with their entries, in the order of their last use.
-ghost use Rattle.std.specs.Prelude.{◌≡◌, ◌<◌, ◌≤◌, ◌+◌, ◌-◌, ◌∷◌, [], length, take, IfOk, OnOk, OnErr, MatchOption, None, slice_get, slice_index};
+ghost use Rattle.std.specs.Prelude.{◌≡◌, ◌<◌, ◌≤◌, ◌+◌, ◌-◌, ◌∷◌, [], length, take, IfOk, IsOk, OnOk, OnErr, MatchOption, None, slice_get, slice_index};
 ghost use Rattle.connection_table.specs.Picked.{pair_at};
 ghost use Rattle.connection_table.specs.Recency.{retouched};
 ghost use Rattle.connection_table.specs.Tied.{AreTied, IsPlaceOf, is_of, touches_of};
@@ -7,13 +7,15 @@ ghost use Rattle.connection_table.specs.Touches.{last_touch, without};
 
 use crate::key::TableKey;
 use crate::table::Entry;
+use block_list::Blocks;
 use five_tuple::Flow;
 use place_buckets::Buckets;
 use recent_order::RecentOrder;
 use std::alloc::{AllocError, Global};
 
 /// Flows with their entries. Each pair has a place, from 1 on, and stays there. What orders and finds the places are numbers in
-/// vectors: so a call touches few lines of the cache, and takes no memory for a pair but its place.
+/// vectors: so a call touches few lines of the cache, and takes no memory for a pair but its place. No pair is moved as they
+/// grow.
 #[derive(Drop)]
 pub(crate) struct Pairs {
     pub(crate) key: TableKey,
@@ -22,7 +24,19 @@ pub(crate) struct Pairs {
     // The places by their flows' hashes.
     pub(crate) buckets: Buckets,
     // The pair of place 1 is in front.
-    pub(crate) pairs: Vec<(Flow, Entry)>,
+    pub(crate) pairs: Blocks<(Flow, Entry)>,
+}
+
+// Whether the pair at a place is the flow's. There may be none.
+#[inline(always)]
+fn is_at(pairs: &Blocks<(Flow, Entry)>, place: u32, flow: &Flow) -> bool
+    requires { 0 < place }
+    ensures { result ≡ is_of flow.now (slice_get pairs.now.items (place - 1)) }
+{
+    match pairs.get(place as usize - 1) {
+        Some(pair) => pair.0 == *flow,
+        None => false,
+    }
 }
 
 impl Pairs {
@@ -31,12 +45,13 @@ impl Pairs {
         ensures tied { AreTied result }
         ensures empty { touches_of result ≡ [] }
         ensures none { length result.pairs.items ≡ 0 }
+        ensures key { result.key ≡ key }
     {
         Pairs {
             key,
             order: RecentOrder::new(alloc),
             buckets: Buckets::new(alloc),
-            pairs: Vec::new(alloc),
+            pairs: Blocks::new(alloc),
         }
     }
 
@@ -54,16 +69,11 @@ impl Pairs {
         ensures { MatchOption result (last_touch flow.now (touches_of self.now) ≡ None) (λ p. IsPlaceOf flow.now self.now p) }
     {
         self.order.are_places();
-        let pairs = self.pairs.as_slice();
+        let pairs = &self.pairs;
         let is_its = |place: u32|
             requires { 0 < place }
-            ensures { result ≡ is_of flow.entry.now (slice_get pairs.entry.now (place - 1)) }
-        {
-            match pairs.get(place as usize - 1) {
-                Some(pair) => pair.0 == *flow,
-                None => false,
-            }
-        };
+            ensures { result ≡ is_of flow.entry.now (slice_get pairs.entry.now.items (place - 1)) }
+        { is_at(pairs, place, flow) };
         self.buckets.find(self.key.hash_of(flow), is_its)
     }
 
@@ -85,6 +95,7 @@ impl Pairs {
         ensures tied { AreTied self.new }
         ensures touches { touches_of self.new ≡ retouched clock flow (touches_of self.old) }
         ensures many { length self.new.pairs.items ≡ length self.old.pairs.items }
+        ensures key { self.new.key ≡ self.old.key }
     {
         self.order.are_places();
         self.order.promote(place);
@@ -99,6 +110,7 @@ impl Pairs {
         ensures tied { AreTied self.new }
         ensures touches { touches_of self.new ≡ (flow, entry) ∷ without flow (touches_of self.old) }
         ensures many { length self.new.pairs.items ≡ length self.old.pairs.items }
+        ensures key { self.new.key ≡ self.old.key }
     {
         self.order.are_places();
         self.order.promote(place);
@@ -113,6 +125,7 @@ impl Pairs {
         ensures tied { AreTied self.new }
         ensures touches { touches_of self.new ≡ (flow, entry) ∷ take (length self.old.pairs.items - 1) (touches_of self.old) }
         ensures many { length self.new.pairs.items ≡ length self.old.pairs.items }
+        ensures key { self.new.key ≡ self.old.key }
     {
         self.order.are_places();
         let place = self.order.oldest();
@@ -127,6 +140,7 @@ impl Pairs {
         requires few { length self.old.pairs.items < 1000000 }
         ensures tied { AreTied self.new }
         ensures same { (self.new.key ≡ self.old.key) × (self.new.order ≡ self.old.order) × (self.new.pairs ≡ self.old.pairs) }
+        ensures there { length self.old.pairs.items < length self.old.buckets → IsOk result }
         ensures next { OnOk result ((length self.new.pairs.items < length self.new.buckets) × (slice_index self.new.buckets (length self.new.pairs.items) ≡ hash)) }
     {
         let count = self.pairs.len();
@@ -144,11 +158,12 @@ impl Pairs {
         requires absent { last_touch flow (touches_of self.old) ≡ None }
         ensures tied { AreTied self.new }
         ensures ok { OnOk result ((touches_of self.new ≡ (flow, entry) ∷ touches_of self.old) × (length self.new.pairs.items ≡ length self.old.pairs.items + 1)) }
+        ensures key { self.new.key ≡ self.old.key }
         ensures err { OnErr result ((touches_of self.new ≡ touches_of self.old) × (length self.new.pairs.items ≡ length self.old.pairs.items)) }
     {
         let key = self.key;
         self.order.are_places();
-        self.pairs.reserve(1)?;
+        self.pairs.reserve()?;
         self.hash_next(key.hash_of(&flow))?;
         self.order.add()?;
         self.pairs.push_reserved((flow, entry));

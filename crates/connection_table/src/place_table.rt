@@ -1,6 +1,6 @@
 //! A table whose entries stand at places, with links between them.
-ghost use Rattle.std.specs.Prelude.{◌≡◌, ◌<◌, ◌≤◌, length, OnOk, OnErr, None};
-ghost use Rattle.connection_table.specs.Recency.{Recency, stored};
+ghost use Rattle.std.specs.Prelude.{◌≡◌, ◌<◌, ◌≤◌, [], length, IfOk, IsOk, OnOk, OnErr, Some, None};
+ghost use Rattle.connection_table.specs.Recency.{Keyed, stored};
 ghost use Rattle.connection_table.specs.Touches.{last_touch};
 
 use crate::key::TableKey;
@@ -23,12 +23,12 @@ pub struct PlaceTable {
 
 impl Model for PlaceTable {
     ghost use Rattle.std.specs.Prelude.{◌<◌, ◌≤◌, length};
-    ghost use Rattle.connection_table.specs.Recency.{Recency};
+    ghost use Rattle.connection_table.specs.Recency.{Keyed};
     ghost use Rattle.connection_table.specs.Tied.{AreTied, touches_of};
 
-    ghost Value = { Recency };
+    ghost Value = { Keyed };
 
-    ghost view = { λ t. record { limit = t.limit; pairs = touches_of t.pairs } };
+    ghost view = { λ t. record { limit = t.limit; pairs = touches_of t.pairs; key = t.pairs.key } };
 
     ghost invariant = { λ t. (0 < t.limit) × (t.limit ≤ 1000000) × (length t.pairs.pairs.items ≤ t.limit) × AreTied t.pairs };
 }
@@ -47,6 +47,7 @@ impl PlaceTable {
         requires { last_touch flow self.old.pairs ≡ None }
         ensures ok { OnOk result (self.new ≡ record self.old { pairs = stored self.old.limit flow entry self.old.pairs }) }
         ensures err { OnErr result (self.new ≡ self.old) }
+        ensures full { length self.old.pairs ≡ self.old.limit → IsOk result }
     {
         if self.pairs.len() == self.limit as usize {
             self.pairs.replace_oldest(flow, entry);
@@ -61,11 +62,19 @@ impl ConnTable for PlaceTable {
 
     ghost entries = { λ t. t.pairs };
 
+    ghost hashes_by = { λ t. Some t.key };
+
     fn make(alloc: Global, limit: u32) -> Result<PlaceTable, AllocError> {
         PlaceTable::keyed(alloc, limit, TableKey::fixed())
     }
 
-    fn keyed(alloc: Global, limit: u32, key: TableKey) -> Result<PlaceTable, AllocError> {
+    fn keyed(alloc: Global, limit: u32, key: TableKey) -> Result<PlaceTable, AllocError>
+        requires some { 0 < limit }
+        requires limit { limit ≤ 1000000 }
+        ensures capacity { IfOk result (λ t. t.limit ≡ limit) }
+        ensures empty { IfOk result (λ t. t.pairs ≡ []) }
+        ensures key { IfOk result (λ t. t.key ≡ key) }
+    {
         Ok(PlaceTable {
             alloc,
             limit,

@@ -1,5 +1,5 @@
 //! A table that keeps its entries in a vector.
-ghost use Rattle.std.specs.Prelude.{◌≡◌, ◌≤◌, ◌<◌, [], ℕ, length, position, OnOk, OnErr, IfOk, IsOk, IsSome, vec_len, vec_capacity};
+ghost use Rattle.std.specs.Prelude.{◌≡◌, ◌≤◌, ◌<◌, [], ℕ, length, position, OnOk, OnErr, IfOk, IsOk, IsSome, None, vec_len, vec_capacity};
 ghost use Rattle.connection_table.specs.Touches.{same_flow, last_touch};
 ghost use Rattle.connection_table.specs.Recency.{Recency, stored};
 
@@ -83,6 +83,8 @@ impl ConnTable for PlainTable {
     ghost capacity = { λ t. t.limit };
 
     ghost entries = { λ t. t.pairs };
+
+    ghost hashes_by = { λ _. None };
 
     fn make(alloc: Global, limit: u32) -> Result<Self, AllocError> {
         Ok(PlainTable {

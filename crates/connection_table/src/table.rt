@@ -1,5 +1,5 @@
 //! What a table of connections is.
-ghost use Rattle.std.specs.Prelude.{◌≡◌, ◌≤◌, ◌<◌, ℕ, List, [], length, IfOk, OnOk, OnErr, IsSome, IsOk};
+ghost use Rattle.std.specs.Prelude.{◌≡◌, ◌≤◌, ◌<◌, ℕ, List, [], length, IfOk, OnOk, OnErr, Option, IsSome, IsOk};
 ghost use Rattle.connection_table.specs.Recency.{looked, retouched, stored};
 ghost use Rattle.std.specs.Fn.{FnOnceReturnsAt};
 ghost use Rattle.connection_table.specs.Renewal.{IsRenewed};
@@ -29,11 +29,16 @@ pub enum Renewed {
 
 /// A bounded table of flows with their entries. Each flow is in it once; the most recently used is in front.
 pub trait ConnTable: Drop + Sized {
+    ghost use Rattle.connection_table.specs.declared.key.TableKey.{TableKey};
+
     /// How many entries it keeps.
     ghost capacity: { Self → ℕ };
 
     /// The flows with their entries, the most recently used first.
     ghost entries: { Self → List Touch };
+
+    /// The key that its hash begins with, where it tells one.
+    ghost hashes_by: { Self → Option TableKey };
 
     /// An empty table for 1 to 1,000,000 entries. Nothing of the capacity is reserved.
     fn make(alloc: Global, limit: u32) -> Result<Self, AllocError>
@@ -42,7 +47,8 @@ pub trait ConnTable: Drop + Sized {
         ensures capacity { IfOk result (λ t. capacity t ≡ limit) }
         ensures empty { IfOk result (λ t. entries t ≡ []) };
 
-    /// The same, where the table's hash begins with a key. A table that has no hash leaves this as it is.
+    /// The same, where the table's hash begins with a key. A table that has no hash leaves this as it is; one that tells its key
+    /// says here that it is this one.
     fn keyed(alloc: Global, limit: u32, _key: TableKey) -> Result<Self, AllocError>
         requires some { 0 < limit }
         requires limit { limit ≤ 1000000 }
@@ -62,6 +68,7 @@ pub trait ConnTable: Drop + Sized {
         ensures ok { OnOk result (entries self.new ≡ stored (capacity self.old) flow entry (entries self.old)) }
         ensures err { OnErr result (entries self.new ≡ entries self.old) }
         ensures there { IsSome (last_touch flow (entries self.old)) → IsOk result }
+        ensures key { hashes_by self.new ≡ hashes_by self.old }
         ensures capacity { capacity self.new ≡ capacity self.old };
 
     /// Touches a flow, and answers its entry as it was. From now on the entry is in front and was last touched at this
@@ -69,6 +76,7 @@ pub trait ConnTable: Drop + Sized {
     fn touch(&mut self, flow: &Flow, clock: u64) -> Option<Entry>
         ensures found { result ≡ last_touch flow.now (entries self.old) }
         ensures touched { entries self.new ≡ retouched clock flow.now (entries self.old) }
+        ensures key { hashes_by self.new ≡ hashes_by self.old }
         ensures capacity { capacity self.new ≡ capacity self.old }
     {
         let entry = self.peek(flow)?;
@@ -87,6 +95,7 @@ pub trait ConnTable: Drop + Sized {
     fn look(&mut self, flow: &Flow) -> Option<Entry>
         ensures found { result ≡ last_touch flow.now (entries self.old) }
         ensures moved { entries self.new ≡ looked flow.now (entries self.old) }
+        ensures key { hashes_by self.new ≡ hashes_by self.old }
         ensures capacity { capacity self.new ≡ capacity self.old }
     {
         let entry = self.peek(flow)?;
@@ -106,6 +115,7 @@ pub trait ConnTable: Drop + Sized {
         requires keeps { K.IsAlwaysCallable keeps }
         requires makes { M.pre makes }
         ensures renewed { IsRenewed (FnOnceReturnsAt K.FnOnce keeps) (M.post makes) (capacity self.old) clock flow result (entries self.old) (entries self.new) }
+        ensures key { hashes_by self.new ≡ hashes_by self.old }
         ensures capacity { capacity self.new ≡ capacity self.old }
     {
         if let Some(entry) = self.peek(&flow) {
@@ -123,6 +133,7 @@ pub trait ConnTable: Drop + Sized {
     /// Empties it.
     fn clear(&mut self)
         ensures empty { entries self.new ≡ [] }
+        ensures key { hashes_by self.new ≡ hashes_by self.old }
         ensures capacity { capacity self.new ≡ capacity self.old };
 
     /// How many entries there are.

@@ -1,5 +1,5 @@
 //! The first backend that is up, under two versions, with the tables of `connection_table` and with one of one's own.
-ghost use Rattle.std.specs.Prelude.{◌≡◌};
+ghost use Rattle.std.specs.Prelude.{◌≡◌, None};
 
 use super::*;
 use backend_names::{Name, TableSize, Weight};
@@ -19,6 +19,8 @@ impl ConnTable for OwnTable {
     ghost capacity = { λ t. t.kept.limit };
 
     ghost entries = { λ t. t.kept.pairs };
+
+    ghost hashes_by = { λ _. None };
 
     fn make(alloc: Global, limit: u32) -> Result<OwnTable, AllocError> {
         Ok(OwnTable {

@@ -1,4 +1,6 @@
 //! A worker that is refused the memory for an entry.
+ghost use Rattle.std.specs.Prelude.{None};
+
 use super::live::Held;
 use super::{agrees, forward, holds, is, packets, run, same_outcomes, setup, x_to_a};
 use cluster_node::{Event, Outcome};
@@ -20,6 +22,8 @@ impl ConnTable for ScarceTable {
     ghost capacity = { λ t. t.kept.limit };
 
     ghost entries = { λ t. t.kept.pairs };
+
+    ghost hashes_by = { λ _. None };
 
     fn make(alloc: Global, limit: u32) -> Result<ScarceTable, AllocError> {
         Ok(ScarceTable {

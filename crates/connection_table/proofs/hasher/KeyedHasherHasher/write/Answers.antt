@@ -1,4 +1,4 @@
-use Rattle.std.proofs.Common.{rules, ◌≡◌, ◌≤◌, ℕ, ◌*◌, ◌/◌, ◌-◌, suc, ◌+◌, length, drop, List, ap, sym, ◌∙◌, refl, arith}
+use Rattle.std.proofs.Common.{◌≡◌, ◌≤◌, ℕ, ◌*◌, ◌/◌, ◌-◌, suc, ◌+◌, length, drop, List, ap, sym, ◌∙◌, refl, arith}
 use Rattle.std.proofs.lemmas.List.{length-drop, take_all}
 use Rattle.connection_table.specs.declared.hasher.KeyedHasher.{KeyedHasher}
 use Rattle.connection_table.specs.Hashing.{mixed, mixed_pieces, mixed_rest, written}
