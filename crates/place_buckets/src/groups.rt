@@ -1,5 +1,5 @@
 //! Places by their hashes in two slices: a group for each bucket, and a link for each place, with its hash.
-ghost use Rattle.std.specs.Prelude.{◌≡◌, ◌<◌, ◌≤◌, ◌-◌, ◌^◌, ◌*◌, ◌⊎◌, max, ℕ, [], ◌∷◌, ◌++◌, map, length, get_or, slice_set, true, false, IfSome, IfNone, IfOk, OnOk, OnErr};
+ghost use Rattle.std.specs.Prelude.{◌≡◌, ◌<◌, ◌≤◌, ◌-◌, ◌^◌, ◌*◌, max, ℕ, [], ◌∷◌, ◌++◌, map, length, get_or, slice_set, true, false, IfSome, IfNone, IfOk, IsOk, OnOk, OnErr, vec_capacity};
 ghost use Rattle.place_buckets.specs.Groups.{hash_of, hash_at, next_at, bucket_of, tag_of, Inside, IsChain, AreGrouped, AreGroupedBut};
 
 use crate::lanes::{LANES, free_lane, lane_of, lane_with};
@@ -114,7 +114,7 @@ pub(crate) fn find<F: Fn(u32) -> bool>(
     hash: u32,
     is_sought: F,
 ) -> Option<u32>
-    requires room { length links.now ≤ LOAD * length groups.now }
+    requires some { 0 < length links.now → 0 < length groups.now }
     requires grouped { AreGrouped groups.now links.now (length links.now) }
     requires callable { (p : ℕ) → 0 < p → p ≤ length links.now → F.pre is_sought p }
     ensures found { IfSome result (λ p. (0 < p) × (p ≤ length links.now) × F.post is_sought p true) }
@@ -224,19 +224,15 @@ fn grown(alloc: Global, links: &mut [Link], count: usize) -> Result<Vec<Group>, 
 }
 
 /// Makes the groups twice as many where `LOAD` places have come to each. So their number stays a power of two, as `bucket` wants.
-pub(crate) fn make_room(
-    alloc: Global,
-    groups: &mut Vec<Group>,
-    links: &mut [Link],
-) -> Result<(), AllocError>
+fn make_room(alloc: Global, groups: &mut Vec<Group>, links: &mut [Link]) -> Result<(), AllocError>
     requires few { length links.old < 2 ^ 31 }
-    requires room { length links.old ≤ LOAD * length groups.old.items }
     requires grouped { AreGrouped groups.old.items links.old (length links.old) }
     ensures grouped { AreGrouped groups.new.items links.new (length links.old) }
     ensures hashes { map hash_of links.new ≡ map hash_of links.old }
-    ensures room { length links.old ≤ LOAD * length groups.new.items }
-    ensures more { OnOk result (length links.old < LOAD * length groups.new.items) }
-    ensures doubled { (length groups.new.items ≡ length groups.old.items) ⊎ (length groups.new.items ≡ max (2 * length groups.old.items) 1) }
+    ensures doubled { LOAD * length groups.old.items ≤ length links.old → OnOk result (length groups.new.items ≡ max (2 * length groups.old.items) 1) }
+    ensures kept { length links.old < LOAD * length groups.old.items → groups.new ≡ groups.old }
+    ensures succeeds { length links.old < LOAD * length groups.old.items → IsOk result }
+    ensures err { OnErr result (groups.new ≡ groups.old) }
 {
     let count = groups.len();
     if links.len() / LOAD < count {
@@ -246,22 +242,56 @@ pub(crate) fn make_room(
     Ok(())
 }
 
+/// Room for one more link: for twice as many as there are, or where those are refused for it alone.
+fn reserve_link(links: &mut Vec<Link>) -> Result<(), AllocError>
+    ensures same { links.new.items ≡ links.old.items }
+    ensures ok { OnOk result (length links.new.items < vec_capacity links.new) }
+    ensures succeeds { length links.old.items < vec_capacity links.old → IsOk result }
+{
+    match links.reserve(1) {
+        Ok(()) => Ok(()),
+        Err(_) => links.reserve_exact(1),
+    }
+}
+
 /// One more place, with this hash.
-pub(crate) fn push(groups: &mut [Group], links: &mut Vec<Link>, hash: u32) -> Result<(), AllocError>
+fn push(groups: &mut [Group], links: &mut Vec<Link>, hash: u32) -> Result<(), AllocError>
     requires few { length links.old.items < 2 ^ 31 }
-    requires room { length links.old.items < LOAD * length groups.old }
+    requires buckets { 0 < length groups.old }
     requires grouped { AreGrouped groups.old links.old.items (length links.old.items) }
     ensures grouped { AreGrouped groups.new links.new.items (length links.new.items) }
-    ensures room { length links.new.items ≤ LOAD * length groups.new }
     ensures ok { OnOk result (map hash_of links.new.items ≡ map hash_of links.old.items ++ hash ∷ []) }
     ensures err { OnErr result (map hash_of links.new.items ≡ map hash_of links.old.items) }
+    ensures succeeds { length links.old.items < vec_capacity links.old → IsOk result }
 {
     let place = links.len() as u32 + 1;
-    let Ok(()) = links.push(Link { hash, next: 0 }) else {
-        return Err(AllocError);
-    };
+    reserve_link(links)?;
+    links.push_reserved(Link { hash, next: 0 });
     put(groups, links.as_mut_slice(), place);
     Ok(())
+}
+
+/// One more place, with this hash. Where more groups are refused, those that are there have to do, and their chains grow.
+pub(crate) fn add(
+    alloc: Global,
+    groups: &mut Vec<Group>,
+    links: &mut Vec<Link>,
+    hash: u32,
+) -> Result<(), AllocError>
+    requires few { length links.old.items < 2 ^ 31 }
+    requires some { 0 < length links.old.items → 0 < length groups.old.items }
+    requires grouped { AreGrouped groups.old.items links.old.items (length links.old.items) }
+    ensures some { 0 < length links.new.items → 0 < length groups.new.items }
+    ensures grouped { AreGrouped groups.new.items links.new.items (length links.new.items) }
+    ensures ok { OnOk result (map hash_of links.new.items ≡ map hash_of links.old.items ++ hash ∷ []) }
+    ensures err { OnErr result (map hash_of links.new.items ≡ map hash_of links.old.items) }
+    ensures succeeds { 0 < length groups.old.items → length links.old.items < vec_capacity links.old → IsOk result }
+{
+    let _ = make_room(alloc, groups, links.as_mut_slice());
+    if groups.is_empty() {
+        return Err(AllocError);
+    }
+    push(groups.as_mut_slice(), links, hash)
 }
 
 /// Gives a place another hash.

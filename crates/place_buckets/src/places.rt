@@ -1,7 +1,7 @@
 //! Places that are found by their hash.
 ghost use Rattle.std.specs.Prelude.{◌≡◌, ◌<◌, ◌≤◌, ◌-◌, ◌^◌, ℕ, [], ◌∷◌, ◌++◌, length, slice_index, slice_set, true, false, IfSome, IfNone, OnOk, OnErr};
 
-use crate::groups::{Group, Link, find, make_room, push, rehash};
+use crate::groups::{Group, Link, add, find, rehash};
 use std::alloc::{AllocError, Global};
 use std::fmt;
 use std::marker::Model;
@@ -17,16 +17,15 @@ pub struct Buckets {
 }
 
 impl Model for Buckets {
-    ghost use Rattle.std.specs.Prelude.{ℕ, List, ◌≤◌, ◌*◌, map, length};
+    ghost use Rattle.std.specs.Prelude.{ℕ, List, ◌<◌, map, length};
     ghost use Rattle.place_buckets.specs.Groups.{hash_of, AreGrouped};
-    ghost use Rattle.place_buckets.specs.declared.groups.TheConstants.{LOAD};
 
     // the places' hashes, that of place 1 in front
     ghost Value = { List ℕ };
 
     ghost view = { λ t. map hash_of t.links.items };
 
-    ghost invariant = { λ t. (length t.links.items ≤ LOAD * length t.groups.items) × AreGrouped t.groups.items t.links.items (length t.links.items) };
+    ghost invariant = { λ t. (0 < length t.links.items → 0 < length t.groups.items) × AreGrouped t.groups.items t.links.items (length t.links.items) };
 }
 
 impl fmt::Debug for Buckets {
@@ -77,8 +76,7 @@ impl Buckets {
         ensures ok { OnOk result (self.new ≡ self.old ++ hash ∷ []) }
         ensures err { OnErr result (self.new ≡ self.old) }
     {
-        make_room(self.alloc, &mut self.groups, self.links.as_mut_slice())?;
-        push(self.groups.as_mut_slice(), &mut self.links, hash)
+        add(self.alloc, &mut self.groups, &mut self.links, hash)
     }
 
     /// Gives a place another hash. This takes no memory.

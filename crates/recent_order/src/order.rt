@@ -1,5 +1,5 @@
 //! Places in the order of their last use, as a ring of links.
-ghost use Rattle.std.specs.Prelude.{◌≡◌, ◌+◌, ◌-◌, ◌^◌, ◌<◌, ◌≤◌, [], ◌∷◌, map, length, slice_index, slice_index_or, OnOk, OnErr, IfOk, List, ℕ, vec_len, vec_capacity};
+ghost use Rattle.std.specs.Prelude.{◌≡◌, ◌+◌, ◌-◌, ◌^◌, ◌<◌, ◌≤◌, max, [], ◌∷◌, map, length, slice_index, slice_index_or, IsOk, OnOk, OnErr, IfOk, List, ℕ, vec_len, vec_capacity};
 ghost use Rattle.std.specs.List.{Contains};
 ghost use Rattle.recent_order.specs.Places.{without, ArePlaces};
 ghost use Rattle.recent_order.specs.Sides.{no_links, older_of, newer_of, AreLinkedBy};
@@ -96,6 +96,34 @@ fn extend(links: &mut Vec<Links>, size: usize)
     let _ = links.resize(size, Links { older: 0, newer: 0 });
 }
 
+// Room for so many more links: for twice as many as there are, or where those are refused for these alone.
+fn reserve_links(links: &mut Vec<Links>, more: usize) -> Result<(), AllocError>
+    ensures same { links.new.items ≡ links.old.items }
+    ensures ok { OnOk result (length links.new.items + more ≤ vec_capacity links.new) }
+    ensures succeeds { length links.old.items + more ≤ vec_capacity links.old → IsOk result }
+{
+    match links.reserve(more) {
+        Ok(()) => Ok(()),
+        Err(_) => links.reserve_exact(more),
+    }
+}
+
+// Links for one more place, and for the sentinel where there are none, which read like those past the end.
+fn make_place(links: &mut Vec<Links>) -> Result<u32, AllocError>
+    requires few { length links.old.items + 1 < 2 ^ 32 }
+    ensures place { IfOk result (λ p. p ≡ max (length links.old.items) 1) }
+    ensures len { OnOk result (length links.new.items ≡ max (length links.old.items) 1 + 1) }
+    ensures same { (q : ℕ) → slice_index_or links.new.items q no_links ≡ slice_index_or links.old.items q no_links }
+    ensures err { OnErr result (links.new.items ≡ links.old.items) }
+    ensures succeeds { max (length links.old.items) 1 < vec_capacity links.old → IsOk result }
+{
+    let len = links.len();
+    let place = len.max(1);
+    reserve_links(links, place + 1 - len)?;
+    extend(links, place + 1);
+    Ok(place as u32)
+}
+
 impl RecentOrder {
     /// No places. It takes no memory.
     pub fn new(alloc: Global) -> RecentOrder
@@ -147,11 +175,8 @@ impl RecentOrder {
         ensures after { OnOk result (self.new ≡ (length self.old + 1) ∷ self.old) }
         ensures err { OnErr result (self.new ≡ self.old) }
     {
-        let len = self.links.len();
-        let place = len.max(1);
-        self.links.reserve(place + 1 - len)?;
-        extend(&mut self.links, place + 1);
-        link_first(&mut self.links, place as u32);
-        Ok(place as u32)
+        let place = make_place(&mut self.links)?;
+        link_first(&mut self.links, place);
+        Ok(place)
     }
 }
