@@ -1,8 +1,8 @@
 -- The last block, and what its growth makes of the items.
 use Rattle.std.proofs.Common.{◌≡◌, ℕ, ◌+◌, ◌-◌, ◌<◌, ◌≤◌, min, zero, suc, List, [], ◌∷◌, ◌++◌, length, get_or, set, refl, sym, ap, ◌∙◌, subst, arith, append_assoc, length-append}
-use Rattle.std.proofs.lemmas.List.{append-nil, get_or-set_same}
+use Rattle.std.proofs.lemmas.List.{append-nil, get_or-set_same, get_or-set_other, get_or_append_left, get_or_default}
 use Rattle.std.specs.Prelude.{Vec, vec_len, vec_capacity}
-use Rattle.block_list.specs.PrivateBlocks.{items_of, room_of, AreBlocks, IsOpen}
+use Rattle.block_list.specs.PrivateBlocks.{items_of, room_of, AreBlocks, IsOpen, FullStay}
 
 module _ {T Z : Type 0} where
   -- the room of the last block
@@ -131,3 +131,15 @@ module _ {T Z : Type 0} where
   unfolding IsOpen
   open_none size [] n h = h
   open_none size (b ∷ bs) n h = omega (arith, n)
+
+  -- a block that isn't full is written over
+  pub stay_set : (size k : ℕ) (v w : Vec T Z) (bs : List (Vec T Z)) → k < length bs → v ≡ get_or bs k v → length v.items < size → FullStay size bs (set bs k w)
+  stay_set size k v w bs there is few = λ j u low h full.
+      let apart : j ≡ k → ⊥ = λ e.
+      (let same : u ≡ v = h ∙ ap (λ (i : ℕ). get_or bs i u) e ∙ get_or_default bs k u v there ∙ sym is in
+      let long : length v.items ≡ size = subst (λ (x : Vec T Z). length x.items ≡ size) same full in
+      omega (arith, long, few)) in
+      h ∙ sym (get_or-set_other bs k j w u apart)
+
+  pub stay_begun : (size : ℕ) (w : Vec T Z) (bs : List (Vec T Z)) → FullStay size bs (bs ++ w ∷ [])
+  stay_begun size w bs = λ j u low h full. h ∙ sym (get_or_append_left bs (w ∷ []) u j low)

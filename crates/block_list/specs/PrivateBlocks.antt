@@ -1,5 +1,5 @@
 -- Blocks of items, of which all but the last are full.
-use Rattle.std.specs.Prelude.{◌≡◌, ℕ, ◌-◌, ◌<◌, ◌≤◌, min, List, [], ◌∷◌, ◌++◌, length, Vec, vec_capacity}
+use Rattle.std.specs.Prelude.{◌≡◌, ℕ, ◌-◌, ◌<◌, ◌≤◌, min, List, [], ◌∷◌, ◌++◌, length, slice_index_or, Vec, vec_capacity}
 
 module _ {T Z : Type 0} where
   -- the blocks' items, one block after another
@@ -24,3 +24,8 @@ module _ {T Z : Type 0} where
   IsOpen size [] = ⊥
   IsOpen size (block ∷ []) = length block.items < size
   IsOpen size (block ∷ next ∷ blocks) = IsOpen size (next ∷ blocks)
+
+  -- the blocks that are full stay as they are, where they are
+  abbrev pub FullStay : ℕ → List (Vec T Z) → List (Vec T Z) → Type 0
+  FullStay size old new =
+      (k : ℕ) (v : Vec T Z) → k < length old → v ≡ slice_index_or old k v → length v.items ≡ size → v ≡ slice_index_or new k v

@@ -1,6 +1,6 @@
 //! Blocks of items, and how they grow.
 ghost use Rattle.std.specs.Prelude.{◌≡◌, ◌-◌, ◌<◌, ◌≤◌, [], ◌∷◌, ◌++◌, length, OnOk, vec_capacity};
-ghost use Rattle.block_list.specs.PrivateBlocks.{items_of, room_of, AreBlocks, IsOpen};
+ghost use Rattle.block_list.specs.PrivateBlocks.{items_of, room_of, AreBlocks, IsOpen, FullStay};
 
 use std::alloc::{AllocError, Global};
 
@@ -49,6 +49,8 @@ fn begin<T>(alloc: Global, blocks: &mut Vec<Vec<T>>) -> Result<(), AllocError>
     ensures few { length blocks.new.items ≤ MOST }
     ensures items { items_of blocks.new.items ≡ items_of blocks.old.items }
     ensures open { OnOk result (IsOpen BLOCK blocks.new.items) }
+    ensures more { length blocks.old.items ≤ length blocks.new.items }
+    ensures stay { FullStay BLOCK blocks.old.items blocks.new.items }
 {
     let count = blocks.len();
     if count != 0 && blocks[count - 1].len() < BLOCK {
@@ -70,6 +72,7 @@ fn widen<T>(blocks: &mut Vec<Vec<T>>) -> Result<(), AllocError>
     ensures count { length blocks.new.items ≡ length blocks.old.items }
     ensures items { items_of blocks.new.items ≡ items_of blocks.old.items }
     ensures ok { OnOk result (0 < room_of BLOCK blocks.new.items) }
+    ensures stay { FullStay BLOCK blocks.old.items blocks.new.items }
 {
     let count = blocks.len();
     let block = &mut blocks[count - 1];
@@ -92,6 +95,7 @@ pub(crate) fn grow<T>(alloc: Global, blocks: &mut Vec<Vec<T>>) -> Result<(), All
     ensures few { length blocks.new.items ≤ MOST }
     ensures items { items_of blocks.new.items ≡ items_of blocks.old.items }
     ensures ok { OnOk result (0 < room_of BLOCK blocks.new.items) }
+    ensures stay { FullStay BLOCK blocks.old.items blocks.new.items }
 {
     begin(alloc, blocks)?;
     widen(blocks)
@@ -106,6 +110,7 @@ pub(crate) fn append<T>(blocks: &mut Vec<Vec<T>>, item: T)
     ensures count { length blocks.new.items ≡ length blocks.old.items }
     ensures items { items_of blocks.new.items ≡ items_of blocks.old.items ++ item ∷ [] }
     ensures room { room_of BLOCK blocks.new.items ≡ room_of BLOCK blocks.old.items - 1 }
+    ensures stay { FullStay BLOCK blocks.old.items blocks.new.items }
 {
     let last = blocks.len() - 1;
     let block = &mut blocks[last];

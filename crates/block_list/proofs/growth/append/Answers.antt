@@ -1,7 +1,7 @@
 use Rattle.std.proofs.Common.{◌≡◌, ◌+◌, ◌<◌, min, [], ◌∷◌, length, ap, ◌∙◌, arith, length-append}
 use Rattle.std.specs.Prelude.{vec_capacity}
 use Rattle.block_list.specs.declared.growth.TheConstants.{BLOCK}
-use Rattle.block_list.proofs.Last.{at_end, room_some, room_free, room_pushed, items_pushed, blocks_last}
+use Rattle.block_list.proofs.Last.{at_end, stay_set, room_some, room_free, room_pushed, items_pushed, blocks_last}
 use Rattle.block_list.proofs.growth.append.Goals as goal
 
 pub overflow_sub-last : goal.overflow_sub-last
@@ -40,3 +40,10 @@ returns-clause-room g c =
     let end = at_end c.args.blocks.now c.len-last.result c.len-last.ensures (room_some BLOCK c.args.blocks.now.items c.requires.room) in
     room_pushed BLOCK _ c.index_mut-block.result.now c.push_reserved.new.self c.args.blocks.now.items c.args.item end c.index_mut-block.ensures.value c.push_reserved.ensures.items
     c.push_reserved.ensures.capacity
+
+pub returns-clause-stay : goal.returns-clause-stay
+returns-clause-stay g c =
+    let v = c.index_mut-block.result.now in
+    let end = at_end c.args.blocks.now c.len-last.result c.len-last.ensures (room_some BLOCK c.args.blocks.now.items c.requires.room) in
+    let free : length v.items < min (vec_capacity v) BLOCK = room_free BLOCK _ v c.args.blocks.now.items end c.index_mut-block.ensures.value c.requires.room in
+    stay_set BLOCK _ v c.push_reserved.new.self c.args.blocks.now.items (omega (arith, end)) c.index_mut-block.ensures.value (omega (arith, free))

@@ -1,7 +1,7 @@
 use Rattle.std.proofs.Common.{◌≡◌, ◌<◌, length, ap, arith}
 use Rattle.block_list.specs.PrivateBlocks.{IsOpen}
 use Rattle.block_list.specs.declared.growth.TheConstants.{BLOCK}
-use Rattle.block_list.proofs.Last.{at_end, open_is, open_none, is_open, blocks_begun, items_begun, open_begun}
+use Rattle.block_list.proofs.Last.{at_end, stay_begun, open_is, open_none, is_open, blocks_begun, items_begun, open_begun}
 use Rattle.block_list.proofs.growth.begin.Goals as goal
 use Rattle.block_list.proofs.growth.begin.Goals.{else-count-ne0-via-then-count-ne0+else-len-lt-BLOCK, else-count-ne0-via-else-count-ne0}
 
@@ -35,3 +35,6 @@ pub returns-clause-open : goal.returns-clause-open
 returns-clause-open g c =
     let none : length c.new.result.items ≡ 0 = ap length c.new.ensures.items in
     rw (c.push_reserved.ensures.items, c.in_ok-reserve_some.ensures.same) (open_begun BLOCK c.new.result c.args.blocks.now.items (omega (arith, none)))
+
+pub returns-clause-stay : goal.returns-clause-stay
+returns-clause-stay g c = rw (c.push_reserved.ensures.items, c.in_ok-reserve_some.ensures.same) (stay_begun BLOCK c.new.result c.args.blocks.now.items)

@@ -3,7 +3,7 @@ use Rattle.std.specs.Prelude.{vec_capacity}
 use Rattle.std.proofs.lemmas.Result.{on_ok_weaker}
 use Rattle.block_list.specs.PrivateBlocks.{room_of}
 use Rattle.block_list.specs.declared.growth.TheConstants.{BLOCK}
-use Rattle.block_list.proofs.Last.{at_end, open_some, is_open, room_last, items_kept, blocks_last}
+use Rattle.block_list.proofs.Last.{at_end, stay_set, open_some, is_open, room_last, items_kept, blocks_last}
 use Rattle.block_list.proofs.growth.widen.Goals as goal
 use Rattle.block_list.proofs.growth.widen.Goals.{then-count-eq1, else-count-eq1}
 
@@ -54,3 +54,10 @@ returns-clause-ok g c =
     let same : length w.items ≡ length v.items = ap length c.reserve_some.ensures.same in
     let room : room_of BLOCK (set c.args.blocks.now.items (c.len-count.result - 1) w) ≡ min (vec_capacity w) BLOCK - length w.items = room_last BLOCK (c.len-count.result - 1) w c.args.blocks.now.items end in
     on_ok_weaker c.reserve_some.result (λ more. omega (arith, room, same, free, more, w.ok.0)) c.reserve_some.ensures.ok
+
+pub returns-clause-stay : goal.returns-clause-stay
+returns-clause-stay g c =
+    let v = c.index_mut-block.result.now in
+    let end = at_end c.args.blocks.now c.len-count.result c.len-count.ensures (open_some BLOCK c.args.blocks.now.items c.requires.«open») in
+    let free : length v.items < BLOCK = is_open BLOCK _ v c.args.blocks.now.items end c.index_mut-block.ensures.value c.requires.«open» in
+    stay_set BLOCK _ v c.reserve_some.new.items c.args.blocks.now.items (omega (arith, end)) c.index_mut-block.ensures.value free
