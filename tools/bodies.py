@@ -15,7 +15,7 @@ CRATES = TOP / "crates"
 EDITS = TOP / "edits"
 
 FUNCTION = re.compile(r'^[ ]*(pub(?:\(\w+\))? )?(?:const )?(?:extern "C" )?fn (\w+)', re.M)
-OWNER = re.compile(r"^(?:pub )?(impl|trait)\b(.*)$", re.M)
+OWNER = re.compile(r"^(?:pub(?:\(crate\))? )?(impl|trait)\b(.*)$", re.M)
 TOKEN = re.compile(r'"(?:\\.|[^"\\])*"|\'(?:\\.|[^\'\\])\'|//[^\n]*|\b(?:ensures|requires)\b|[][(){};]')
 # A function that does nothing when it runs: its clauses are a law, and no body can be wrong.
 LAW = re.compile(r"(?:\)|Log<A>)\s+(?:ensures [^\n]*\n\s*)+\{(?:(?:\s*let _\w* = [^;]*;)*|\s*\w+ \{ of: PhantomData \})\s*\}\Z")

@@ -44,6 +44,6 @@ lists_of plain size entrants = map (λ e. preference_of plain e.name size) entra
 abbrev pub owners_of : (List ℕ → ℕ) → ℕ → List Entrant → List ℕ
 owners_of plain size entrants = weighted_maglev (lists_of plain size entrants) (weights_of entrants) size
 
--- how many places of their preference lists are looked at meanwhile
+-- how many places of their preference lists the walks pass or take meanwhile
 abbrev pub probes_of : (List ℕ → ℕ) → ℕ → List Entrant → ℕ
 probes_of plain size entrants = weighted_probes (lists_of plain size entrants) (weights_of entrants) size

@@ -1,7 +1,7 @@
 use Rattle.std.proofs.Common.{◌≡◌, ◌+◌, ◌∙◌, arith, ◌&&◌, false, true, ap, slice_index_or}
 use Rattle.maglev_table.specs.Turns.{preferred}
 use Rattle.maglev_table.proofs.Walks.{place_behind, second_behind, past_two, free_behind}
-use Rattle.maglev_table.proofs.filling.next_free.Goals as goal
+use Rattle.maglev_table.proofs.filling.ByTwoSeek.next_free.Goals as goal
 
 pub loop-walk-init : goal.loop-walk-init
 loop-walk-init c = record {
