@@ -10,7 +10,7 @@ use std::alloc::AllocError;
 // An event's text, of up to 28 bytes, so that it ends at `end`. Gives where it starts.
 fn put_event(line: &mut [u8; ROOM], end: usize, event: &Event) -> usize
     requires room { 28 ≤ end }
-    requires within { end ≤ 128 }
+    requires within { end ≤ ROOM }
     ensures low { end ≤ result + 28 }
     ensures high { result ≤ end }
     ensures written { drop result line.new ≡ event_text event.now ++ drop end line.old }
@@ -46,7 +46,7 @@ fn put_event(line: &mut [u8; ROOM], end: usize, event: &Event) -> usize
 // The same of an outcome's text, of up to 72 bytes.
 fn put_outcome(line: &mut [u8; ROOM], end: usize, outcome: &Outcome) -> usize
     requires room { 72 ≤ end }
-    requires within { end ≤ 128 }
+    requires within { end ≤ ROOM }
     ensures low { end ≤ result + 72 }
     ensures high { result ≤ end }
     ensures written { drop result line.new ≡ outcome_text outcome.now ++ drop end line.old }
@@ -85,7 +85,7 @@ fn put_outcome(line: &mut [u8; ROOM], end: usize, outcome: &Outcome) -> usize
 
 // A whole line, at the end of the array. Gives where it starts.
 fn put_line(line: &mut [u8; ROOM], number: u64, event: &Event, outcome: &Outcome) -> usize
-    ensures start { result ≤ 128 }
+    ensures start { result ≤ ROOM }
     ensures written { drop result line.new ≡ line_of number event.now outcome.now }
     ensures ascii { IsAscii (line_of number event.now outcome.now) }
 {

@@ -16,7 +16,7 @@ pub(crate) const ROOM: usize = 128;
 #[inline(always)]
 pub(crate) fn put_word(line: &mut [u8; ROOM], end: usize, word: &[u8]) -> usize
     requires room { length word.now ≤ end }
-    requires within { end ≤ 128 }
+    requires within { end ≤ ROOM }
     ensures start { result + length word.now ≡ end }
     ensures written { drop result line.new ≡ word.now ++ drop end line.old }
 {
@@ -29,7 +29,7 @@ pub(crate) fn put_word(line: &mut [u8; ROOM], end: usize, word: &[u8]) -> usize
 #[inline(always)]
 fn put_decimal(line: &mut [u8; ROOM], end: usize, number: u64) -> usize
     requires room { length (decimal number) ≤ end }
-    requires within { end ≤ 128 }
+    requires within { end ≤ ROOM }
     ensures start { result + length (decimal number) ≡ end }
     ensures written { drop result line.new ≡ decimal number ++ drop end line.old }
 {
@@ -39,7 +39,7 @@ fn put_decimal(line: &mut [u8; ROOM], end: usize, number: u64) -> usize
 // A number of up to 20 digits.
 pub(crate) fn put_u64(line: &mut [u8; ROOM], end: usize, number: u64) -> usize
     requires room { 20 ≤ end }
-    requires within { end ≤ 128 }
+    requires within { end ≤ ROOM }
     ensures low { end ≤ result + 20 }
     ensures high { result ≤ end }
     ensures written { drop result line.new ≡ decimal number ++ drop end line.old }
@@ -51,7 +51,7 @@ pub(crate) fn put_u64(line: &mut [u8; ROOM], end: usize, number: u64) -> usize
 // A number of up to 10 digits.
 pub(crate) fn put_u32(line: &mut [u8; ROOM], end: usize, number: u32) -> usize
     requires room { 10 ≤ end }
-    requires within { end ≤ 128 }
+    requires within { end ≤ ROOM }
     ensures low { end ≤ result + 10 }
     ensures high { result ≤ end }
     ensures written { drop result line.new ≡ decimal number ++ drop end line.old }
@@ -63,7 +63,7 @@ pub(crate) fn put_u32(line: &mut [u8; ROOM], end: usize, number: u32) -> usize
 // A number of up to 5 digits.
 pub(crate) fn put_u16(line: &mut [u8; ROOM], end: usize, number: u16) -> usize
     requires room { 5 ≤ end }
-    requires within { end ≤ 128 }
+    requires within { end ≤ ROOM }
     ensures low { end ≤ result + 5 }
     ensures high { result ≤ end }
     ensures written { drop result line.new ≡ decimal number ++ drop end line.old }
@@ -75,7 +75,7 @@ pub(crate) fn put_u16(line: &mut [u8; ROOM], end: usize, number: u16) -> usize
 // A number of up to 3 digits.
 fn put_u8(line: &mut [u8; ROOM], end: usize, number: u8) -> usize
     requires room { 3 ≤ end }
-    requires within { end ≤ 128 }
+    requires within { end ≤ ROOM }
     ensures low { end ≤ result + 3 }
     ensures high { result ≤ end }
     ensures written { drop result line.new ≡ decimal number ++ drop end line.old }
@@ -87,7 +87,7 @@ fn put_u8(line: &mut [u8; ROOM], end: usize, number: u8) -> usize
 // A number of up to 5 digits, a space and one of up to 10.
 pub(crate) fn put_two(line: &mut [u8; ROOM], end: usize, first: u16, second: u32) -> usize
     requires room { 16 ≤ end }
-    requires within { end ≤ 128 }
+    requires within { end ≤ ROOM }
     ensures low { end ≤ result + 16 }
     ensures high { result ≤ end }
     ensures written { drop result line.new ≡ decimal first ++ (codes " " ++ decimal second) ++ drop end line.old }
@@ -101,7 +101,7 @@ pub(crate) fn put_two(line: &mut [u8; ROOM], end: usize, first: u16, second: u32
 // Four numbers joined by dots, of up to 15 bytes.
 fn put_address(line: &mut [u8; ROOM], end: usize, addr: u32) -> usize
     requires room { 15 ≤ end }
-    requires within { end ≤ 128 }
+    requires within { end ≤ ROOM }
     ensures low { end ≤ result + 15 }
     ensures high { result ≤ end }
     ensures written { drop result line.new ≡ address_text addr ++ drop end line.old }
@@ -119,7 +119,7 @@ fn put_address(line: &mut [u8; ROOM], end: usize, addr: u32) -> usize
 // `NAME@ADDRESS`, of up to 48 bytes.
 pub(crate) fn put_backend(line: &mut [u8; ROOM], end: usize, backend: &Backend) -> usize
     requires room { 48 ≤ end }
-    requires within { end ≤ 128 }
+    requires within { end ≤ ROOM }
     ensures low { end ≤ result + 48 }
     ensures high { result ≤ end }
     ensures written { drop result line.new ≡ backend_text backend.now ++ drop end line.old }

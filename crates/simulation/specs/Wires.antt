@@ -2,8 +2,13 @@
 use Rattle.std.specs.Prelude.{List, None}
 use Rattle.pcap_file.specs.Device.{Tape}
 use Rattle.pcap_file.specs.Format.{Record}
+use Rattle.simulation.specs.declared.lent.LentRecord.{LentRecord}
 use Rattle.simulation.specs.declared.sending.Wire.{Wire}
 use Rattle.simulation.specs.Sent.{Traffic}
+
+-- a record whose bytes are lent
+abbrev pub lent_record : LentRecord → Record
+lent_record r = record { secs = r.secs; micros = r.micros; original = r.original; bytes = r.bytes.now }
 
 -- what is sent on a wire of these records
 abbrev pub traffic : Wire → List Record → Traffic

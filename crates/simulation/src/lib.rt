@@ -4,6 +4,7 @@
 mod fault;
 mod intake;
 mod keeping;
+mod lent;
 mod outlet;
 mod plan;
 mod playing;
@@ -12,6 +13,7 @@ mod sending;
 mod staging;
 
 pub use fault::SimulationFault;
+pub use lent::LentRecord;
 pub use outlet::{Nowhere, Outlet};
 pub use plan::{Plan, RunContext};
 pub use playing::{Played, play_capture};

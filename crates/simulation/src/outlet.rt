@@ -7,6 +7,7 @@ ghost use Rattle.simulation.specs.Simulated.{Begun, IsOfRun};
 ghost use Rattle.simulation.specs.Wires.{traffic, unkept};
 
 use crate::fault::SimulationFault;
+use crate::lent::LentRecord;
 use crate::sending::Wire;
 use cluster_node::Packet;
 use pcap_file::{Frame, Sink, write_head};
@@ -61,7 +62,7 @@ impl<O: Sink> Outlet for O {
         frame: &Frame,
         read: &Packet,
     ) -> Result<(), SimulationFault> {
-        wire.send_record(room, self, node, backend, frame, read)
+        wire.send_record(room, self, node, backend, LentRecord::of(frame), read)
     }
 }
 

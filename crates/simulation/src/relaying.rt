@@ -14,6 +14,7 @@ ghost use Rattle.simulation.specs.Following.{sent_with, NoArrivals, ArrivesFirst
 
 use crate::fault::SimulationFault;
 use crate::intake::Intake;
+use crate::lent::LentRecord;
 use crate::outlet::Outlet;
 use crate::sending::Wire;
 use cluster_node::{LogEntry, Outcome, Packet, Passed};
@@ -72,7 +73,7 @@ fn send_waited<O: Outlet>(
 {
     match outcome {
         Outcome::Forward { node, backend, .. } => {
-            let read = wire.packet(frame);
+            let read = wire.packet(LentRecord::of(frame));
             output.send(room, wire, *node, backend, frame, &read)
         }
         _ => Ok(()),

@@ -1,17 +1,17 @@
 //! What the cluster sends is wrapped and written.
 ghost use Rattle.std.specs.Prelude.{◌≡◌, ◌≤◌, ◌∷◌, option_map, OnOk, IfErr, IfSome, length, [], Some, None, slice_get};
 ghost use Rattle.ip_headers.specs.Ipv4.{frame_answer};
-ghost use Rattle.pcap_file.specs.Format.{packet};
 ghost use Rattle.simulation.specs.Sent.{packet_in, time_of, cut_to, datagram_in, Sending, wrapped_at, wrapped_as, sent_at, record_text, Wrote, WroteUntil};
 ghost use Rattle.simulation.specs.Simulated.{IsOfRun};
-ghost use Rattle.simulation.specs.Wires.{traffic};
+ghost use Rattle.simulation.specs.Wires.{lent_record, traffic};
 
 use crate::fault::SimulationFault;
+use crate::lent::LentRecord;
 use cluster_core::read_packet;
 use cluster_node::Packet;
 use gre_tunnel::wrap_onto;
 use ip_headers::{Link, read_frame};
-use pcap_file::{Frame, Sink, push_record_head, put_all};
+use pcap_file::{Sink, push_record_head, put_all};
 use pool_versions::Backend;
 use std::alloc::AllocError;
 
@@ -25,22 +25,21 @@ pub struct Wire<'a> {
 
 // A record's time in microseconds.
 #[inline(always)]
-fn time_of(frame: &Frame) -> u64
-    ensures { result ≡ time_of (packet frame.now) }
+fn time_of(lent: LentRecord<'_>) -> u64
+    ensures { result ≡ time_of (lent_record lent.entry) }
 {
-    let secs = frame.secs as u64;
-    let micros = frame.micros as u64;
+    let secs = lent.secs as u64;
+    let micros = lent.micros as u64;
     secs * 1_000_000 + micros
 }
 
 impl<'a> Wire<'a> {
     /// A record as a packet, with the record's time.
     #[inline(always)]
-    pub fn packet(&self, frame: &Frame) -> Packet
-        ensures { result ≡ packet_in self.now.link self.now.check (packet frame.now) }
+    pub fn packet(&self, lent: LentRecord<'_>) -> Packet
+        ensures { result ≡ packet_in self.now.link self.now.check (lent_record lent.entry) }
     {
-        let bytes = frame.bytes.as_slice();
-        read_packet(self.link, bytes, time_of(frame), self.check)
+        read_packet(self.link, lent.bytes, time_of(lent), self.check)
     }
 
     #[inline(always)]
@@ -60,18 +59,18 @@ impl<'a> Wire<'a> {
         output: &mut O,
         node: u16,
         backend: &Backend,
-        frame: &Frame,
+        lent: LentRecord<'_>,
         read: &Packet,
     ) -> Result<(), SimulationFault>
-        requires { read.now ≡ packet_in self.now.link self.now.check (packet frame.now) }
-        ensures ok { let sends = sent_at (traffic self.now []) node backend.entry.now (Some (packet frame.now)) in
+        requires { read.now ≡ packet_in self.now.link self.now.check (lent_record lent) }
+        ensures ok { let sends = sent_at (traffic self.now []) node backend.entry.now (Some (lent_record lent.entry)) in
             OnOk result (Wrote (O.tape output.old) (O.tape output.new) sends) }
         ensures named { IfErr result IsOfRun }
-        ensures cut { let sends = sent_at (traffic self.now []) node backend.entry.now (Some (packet frame.now)) in
+        ensures cut { let sends = sent_at (traffic self.now []) node backend.entry.now (Some (lent_record lent.entry)) in
             IfErr result (λ fault. WroteUntil fault (O.tape output.old) (O.tape output.new) sends) }
     {
-        let inner = datagram(self.link, read, frame.bytes.as_slice());
-        put_wrapped(room, output, self.address(node), backend.addr, frame, inner)
+        let inner = datagram(self.link, read, lent.bytes);
+        put_wrapped(room, output, self.address(node), backend.addr, lent, inner)
     }
 }
 
@@ -89,21 +88,21 @@ fn datagram<'a>(link: Link, packet: &Packet, bytes: &'a [u8]) -> Option<&'a [u8]
     }
 }
 
-// A record whose bytes are a datagram in a tunnel, and which bears the time of the frame: the text of it, in the room.
+// A record whose bytes are a datagram in a tunnel, and which bears the time of another: the text of it, in the room.
 #[inline(always)]
 fn make_record(
     room: &mut Vec<u8>,
-    frame: &Frame,
+    lent: LentRecord<'_>,
     inner: &[u8],
     node: u32,
     backend: u32,
 ) -> Result<(), AllocError>
     requires { length inner.now ≤ 65511 }
-    ensures text { OnOk result (room.new.items ≡ record_text (wrapped_at (packet frame.now) node backend inner.now)) }
+    ensures text { OnOk result (room.new.items ≡ record_text (wrapped_at (lent_record lent.entry) node backend inner.now)) }
     ensures short { OnOk result (length room.new.items ≤ 65551) }
 {
     room.clear();
-    push_record_head(room, frame.secs, frame.micros, inner.len() as u32 + 24)?;
+    push_record_head(room, lent.secs, lent.micros, inner.len() as u32 + 24)?;
     match wrap_onto(inner, node, backend, room) {
         Ok(()) => Ok(()),
         Err(_) => Err(AllocError),
@@ -131,14 +130,14 @@ fn put_wrapped<O: Sink>(
     output: &mut O,
     node: Option<u32>,
     backend: u32,
-    frame: &Frame,
+    lent: LentRecord<'_>,
     inner: Option<&[u8]>,
 ) -> Result<(), SimulationFault>
     requires { IfSome inner (λ d. length d.now ≤ 65511) }
-    ensures ok { let sends = wrapped_as (packet frame.now) node backend (option_map (λ d. d.now) inner.entry) in
+    ensures ok { let sends = wrapped_as (lent_record lent.entry) node backend (option_map (λ d. d.now) inner.entry) in
         OnOk result (Wrote (O.tape output.old) (O.tape output.new) sends) }
     ensures named { IfErr result IsOfRun }
-    ensures cut { let sends = wrapped_as (packet frame.now) node backend (option_map (λ d. d.now) inner.entry) in
+    ensures cut { let sends = wrapped_as (lent_record lent.entry) node backend (option_map (λ d. d.now) inner.entry) in
         IfErr result (λ fault. WroteUntil fault (O.tape output.old) (O.tape output.new) sends) }
 {
     let Some(node) = node else {
@@ -147,6 +146,6 @@ fn put_wrapped<O: Sink>(
     let Some(inner) = inner else {
         return Ok(());
     };
-    make_record(room, frame, inner, node, backend)?;
+    make_record(room, lent, inner, node, backend)?;
     put_record(output, room.as_slice())
 }

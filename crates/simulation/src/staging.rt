@@ -20,6 +20,7 @@ ghost use Rattle.simulation.specs.PrivateStages.{SoundAt, StaysSound, SentUntil,
 use crate::fault::SimulationFault;
 use crate::intake::Intake;
 use crate::keeping::KeptRecords;
+use crate::lent::LentRecord;
 use crate::outlet::Outlet;
 use crate::plan::{Plan, RunContext};
 use crate::playing::Played;
@@ -106,7 +107,8 @@ impl<P: Spread> Stage<P> {
             IfErr result (λ fault. SentUntil fault plan link all (deliver w place p self.old.play.trace) begun (O.tape output.new)) }
     {
         let wire = self.wire(run.plan);
-        let packet = wire.packet(self.intake.frame());
+        let lent = LentRecord::of(self.intake.frame());
+        let packet = wire.packet(lent);
         self.play
             .deliver(core, run.setup, place, &packet, &mut self.delivery)?;
         self.relay

@@ -10,8 +10,8 @@ pub returns-in-Ok-clause-text : goal.returns-in-Ok-clause-text
 unfolding record_text
 returns-in-Ok-clause-text c =
     let inner : List ℕ = c.args.inner.now in
-    let secs : ℕ = c.args.frame.now.secs in
-    let micros : ℕ = c.args.frame.now.micros in
+    let secs : ℕ = c.args.lent.secs in
+    let micros : ℕ = c.args.lent.micros in
     let bytes : List ℕ = wrapped c.args.node c.args.backend inner in
     let size : length inner + 24 ≡ length bytes = omega (arith, length-wrapped c.args.node c.args.backend inner) in
     c.in-Ok.ensures.bytes

@@ -1,5 +1,5 @@
 use Rattle.std.proofs.Common.{◌∙◌, List, Some, refl, sym, subst, ap, OnOk, IfErr, [], reverse}
-use Rattle.pcap_file.specs.Format.{Record, packet}
+use Rattle.pcap_file.specs.Format.{Record}
 use Rattle.cluster_node.specs.declared.events.LogEntry.{LogEntry}
 use Rattle.cluster_node.specs.declared.packets.Packet.{Packet}
 use Rattle.cluster_node.specs.Records.{WasRead}
@@ -12,7 +12,7 @@ use Rattle.simulation.specs.declared.sending.Wire.{Wire}
 use Rattle.simulation.specs.Plans.{planned}
 use Rattle.simulation.specs.Sent.{packet_in, sent, Wrote, WroteUntil}
 use Rattle.simulation.specs.Simulated.{traffic_of}
-use Rattle.simulation.specs.Wires.{traffic}
+use Rattle.simulation.specs.Wires.{lent_record, traffic}
 use Rattle.simulation.specs.PrivateGoing.{onto}
 use Rattle.simulation.specs.Following.{ArrivesFirst}
 use Rattle.simulation.specs.declared.fault.SimulationFault.TheVariants.{Memory}
@@ -61,7 +61,7 @@ returns-clause-cut g c = λ w all begun i j s here.
     let ev = events_behind c0 c.deliver.new.self.trace a.moved es c.in_ok-deliver.ensures.told in
     let can = can_settle k (planned c.args.run.now.plan) link all c0 c.deliver.new.self.trace a.moved es c.args.self.now.relay.waiting begun _ s told ev in
     let first = subst (λ (l : List LogEntry). ArrivesFirst all r l) (sym ev) a.first in
-    let pk = c.packet-packet.ensures ∙ ap (λ (x : Wire). packet_in x.link x.check (packet c.frame.result.now)) c.wire-wire.ensures ∙ ap (λ (x : Record). packet_in link c.args.run.now.plan.check x) c.frame.ensures in
+    let pk = c.packet-packet.ensures ∙ ap (λ (x : Wire). packet_in x.link x.check (lent_record c.of-lent.result)) c.wire-wire.ensures ∙ ap (λ (x : Record). packet_in link c.args.run.now.plan.check x) (c.of-lent.ensures ∙ c.frame.ensures) in
     let is = e ∙ ap (λ (p : Packet). deliver w c.args.place p c0) pk in
     subst (λ (d : Trace). IfErr c.settle_delivered.result (λ fault. WroteUntil fault begun (g.O.Outlet.tape c.settle_delivered.new.output) (sent (traffic_of (planned c.args.run.now.plan) link all) (reverse d.past)))) is
     (cut_after k (planned c.args.run.now.plan) link all c0 c.deliver.new.self.trace a.moved es c.args.self.now.relay.waiting begun _ _ c.settle_delivered.result s ev
