@@ -5,7 +5,8 @@ ghost use Rattle.place_buckets.specs.Groups.{hash_of, hash_at, next_at, bucket_o
 use crate::lanes::{LANES, free_lane, lane_of, lane_with};
 use std::alloc::{AllocError, Global};
 
-/// How many places come to a group on an average before there are twice as many groups. So few of them find all lanes taken.
+/// How many places come to a group on an average before there are twice as many groups. At that load one place in sixty finds
+/// all lanes taken, and one in twenty is in a chain in a full table that evicts, since a place stays where it was put.
 const LOAD: usize = 8;
 
 /// The places of a bucket: some in lanes, the others in a chain. A group has 64 bytes. A search for a place that isn't there
