@@ -5,3 +5,4 @@ pub mod Kept
 pub mod PrivateFailures
 pub mod Store
 pub mod PrivateHistories
+pub mod PrivateSends

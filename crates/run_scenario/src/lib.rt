@@ -2,6 +2,7 @@
 //! capture, node by node. A report says what became of the run, and ends in whether its history is a replay's.
 #![tactic(auto)]
 
+mod blocks;
 mod failure;
 mod histories;
 mod orders;

@@ -1,12 +1,11 @@
 //! A capture is read whole.
-ghost use Rattle.std.specs.Prelude.{◌≡◌, ◌≤◌, IfOk, IfErr, OnOk, length, vec_capacity};
+ghost use Rattle.std.specs.Prelude.{◌≡◌, ◌≤◌, IfOk, IfErr, OnOk, length};
 ghost use Rattle.pcap_file.specs.Device.{Unfailed};
 ghost use Rattle.pcap_file.specs.Format.{max_records};
 ghost use Rattle.pcap_file.specs.Text.{IsTold, AllRefused};
 ghost use Rattle.cluster_core.specs.Cluster.{WereRead};
 ghost use Rattle.simulation.specs.Sent.{packets_of};
 ghost use Rattle.run_scenario.specs.Inputs.{IsReadWhole, ReadingFails};
-ghost use Rattle.run_scenario.specs.Store.{Fits};
 
 use crate::records::Records;
 use cluster_node::Packet;
@@ -14,31 +13,27 @@ use pcap_file::{Ending, Frame, Head, InputEnd, PcapFault, Source, read_record_in
 use simulation::{SimulationFault, Wire};
 use std::alloc::{AllocError, Global};
 
-/// A capture's header, its records, and whether it ends inside a further one. The frame has room for each of the records.
+/// A capture's header, its records, and whether it ends inside a further one.
 #[derive(Drop)]
 pub(crate) struct Captured {
     pub(crate) head: Head,
     pub(crate) records: Records,
-    pub(crate) frame: Frame,
     pub(crate) ending: InputEnd,
 }
 
-// Reads the records after a header to the input's end. One frame takes them all, one after another, and a second gets room
-// for each of them, for whoever goes over them later.
+// Reads the records after a header to the input's end. One frame takes them all, one after another.
 fn read_records<I: Source>(
     alloc: Global,
     input: &mut I,
     head: Head,
-) -> Result<(Records, Frame, InputEnd), PcapFault>
+) -> Result<(Records, InputEnd), PcapFault>
     ensures few { IfOk result (λ all. length all.0 ≤ max_records) }
-    ensures fits { IfOk result (λ all. Fits all.0 (vec_capacity all.1.bytes)) }
-    ensures told { IfOk result (λ all. IsTold head (I.tape input.old).bytes all.0 all.2) }
+    ensures told { IfOk result (λ all. IsTold head (I.tape input.old).bytes all.0 all.1) }
     ensures unfailed { OnOk result (Unfailed (I.tape input.old) (I.tape input.new)) }
     ensures refused { IfErr result (AllRefused head (I.tape input.old) (I.tape input.new)) }
 {
     let mut records = Records::new(alloc);
     let mut next = Frame::empty(alloc);
-    let mut frame = Frame::empty(alloc);
     let mut given = 0;
     loop {
         match read_record_into(input, head, given, &mut next) {
@@ -46,13 +41,10 @@ fn read_records<I: Source>(
                 let Ok(()) = records.push(&next) else {
                     return Err(PcapFault::Memory);
                 };
-                let Ok(()) = records.make_room(&mut frame) else {
-                    return Err(PcapFault::Memory);
-                };
                 given += 1;
             }
-            Err(Ending::End) => return Ok((records, frame, InputEnd::End)),
-            Err(Ending::Cut) => return Ok((records, frame, InputEnd::Cut)),
+            Err(Ending::End) => return Ok((records, InputEnd::End)),
+            Err(Ending::Cut) => return Ok((records, InputEnd::Cut)),
             Err(Ending::Failed(fault)) => return Err(fault),
         }
     }
@@ -65,7 +57,6 @@ pub(crate) fn read_whole<I: Source>(
 ) -> Result<Captured, SimulationFault>
     ensures whole { IfOk result (λ c. IsReadWhole (I.tape input.old) (I.tape input.new) c.head c.records c.ending) }
     ensures few { IfOk result (λ c. length c.records ≤ max_records) }
-    ensures fits { IfOk result (λ c. Fits c.records (vec_capacity c.frame.bytes)) }
     ensures fails { IfErr result (λ fault. ReadingFails fault (I.tape input.old) (I.tape input.new)) }
 {
     let head = match read_start(input) {
@@ -73,10 +64,9 @@ pub(crate) fn read_whole<I: Source>(
         Err(fault) => return Err(SimulationFault::Capture(fault)),
     };
     match read_records(alloc, input, head) {
-        Ok((records, frame, ending)) => Ok(Captured {
+        Ok((records, ending)) => Ok(Captured {
             head,
             records,
-            frame,
             ending,
         }),
         Err(fault) => Err(SimulationFault::Capture(fault)),
@@ -94,11 +84,8 @@ pub(crate) fn packets_of(
     ensures count { IfOk result (λ v. length v.items ≡ length records.now) }
 {
     let mut packets = Vec::with_capacity(alloc, records.len())?;
-    let mut frame = Frame::empty(alloc);
-    records.make_room(&mut frame)?;
     for at in 0..records.len() {
-        records.load(at, &mut frame);
-        packets.push(wire.packet(&frame))?;
+        packets.push(wire.packet(records.at(at)))?;
     }
     Ok(packets)
 }

@@ -1,29 +1,30 @@
 //! The records of a capture, in one store.
-ghost use Rattle.std.specs.Prelude.{◌≡◌, ◌<◌, ◌≤◌, ◌++◌, ◌∷◌, [], length, OnOk, OnErr, Some, slice_get, vec_capacity};
+ghost use Rattle.std.specs.Prelude.{◌≡◌, ◌<◌, ◌++◌, ◌∷◌, [], length, OnOk, OnErr, Some, slice_get};
 ghost use Rattle.pcap_file.specs.Format.{packet};
-ghost use Rattle.run_scenario.specs.Store.{Fits};
+ghost use Rattle.simulation.specs.Wires.{lent_record};
 
+use crate::blocks::{ByteBlocks, Place};
 use pcap_file::Frame;
+use simulation::LentRecord;
 use std::alloc::{AllocError, Global};
 use std::marker::Model;
 
-// A record's numbers, and where its bytes begin and end.
+// A record's numbers, and where its bytes lie.
 #[derive(Clone, Copy, Debug)]
 struct Entry {
     secs: u32,
     micros: u32,
     original: u32,
-    from: usize,
-    to: usize,
+    place: Place,
 }
 
-/// The records of a capture. The bytes of all lie one after another in one vector, so no record has an allocation of its
-/// own: to read them, to go over them and to give them back is fast.
+/// The records of a capture. The bytes of all lie one after another in blocks, so no record has an allocation of its own: to
+/// read them, to go over them and to give them back is fast. They are lent from where they lie.
 #[derive(Drop)]
 pub(crate) struct Records {
-    bytes: Vec<u8>,
+    alloc: Global,
+    blocks: ByteBlocks,
     entries: Vec<Entry>,
-    longest: usize,
 }
 
 impl Model for Records {
@@ -32,12 +33,12 @@ impl Model for Records {
 
     ghost Value = { List Record };
 
-    ghost use Rattle.std.specs.Prelude.{map, All, length};
-    ghost use Rattle.run_scenario.specs.Store.{record_at, IsHeld};
+    ghost use Rattle.std.specs.Prelude.{map, All};
+    ghost use Rattle.run_scenario.specs.Store.{all_blocks, record_at, IsHeld};
 
-    ghost view = { λ s. map (record_at s.bytes.items) s.entries.items };
+    ghost view = { λ s. map (record_at (all_blocks s.blocks)) s.entries.items };
 
-    ghost invariant = { λ s. All (IsHeld (length s.bytes.items) s.longest) s.entries.items };
+    ghost invariant = { λ s. All (IsHeld (all_blocks s.blocks)) s.entries.items };
 }
 
 impl Records {
@@ -46,9 +47,9 @@ impl Records {
         ensures { result ≡ [] }
     {
         Records {
-            bytes: Vec::new(alloc),
+            alloc,
+            blocks: ByteBlocks::new(alloc),
             entries: Vec::new(alloc),
-            longest: 0,
         }
     }
 
@@ -64,40 +65,29 @@ impl Records {
         ensures ok { OnOk result (self.new ≡ self.old ++ packet frame.now ∷ []) }
         ensures err { OnErr result (self.new ≡ self.old) }
     {
-        let from = self.bytes.len();
-        self.bytes.extend_from_slice(frame.bytes.as_slice())?;
+        let place = self.blocks.push(self.alloc, frame.bytes.as_slice())?;
         let entry = Entry {
             secs: frame.secs,
             micros: frame.micros,
             original: frame.original,
-            from,
-            to: self.bytes.len(),
+            place,
         };
         self.entries.push(entry)?;
-        self.longest = self.longest.max(frame.bytes.len());
         Ok(())
     }
 
-    /// Gives a frame room for each record, so that none of them is refused it later.
-    pub(crate) fn make_room(&self, frame: &mut Frame) -> Result<(), AllocError>
-        ensures { OnOk result (Fits self.now (vec_capacity frame.new.bytes)) }
-    {
-        frame.bytes.reserve(self.longest)
-    }
-
-    /// Copies the record at a place into a frame that has room for it. No memory is asked for.
-    pub(crate) fn load(&self, at: usize, frame: &mut Frame)
-        requires there { at < length self.now }
-        requires fits { Fits self.now (vec_capacity frame.old.bytes) }
-        ensures is { slice_get self.now at ≡ Some (packet frame.new) }
-        ensures fits { Fits self.now (vec_capacity frame.new.bytes) }
+    /// The record at a place. Its bytes are lent.
+    #[inline(always)]
+    pub(crate) fn at(&self, at: usize) -> LentRecord<'_>
+        requires { at < length self.now }
+        ensures { slice_get self.now at ≡ Some (lent_record result) }
     {
         let entry = self.entries[at];
-        frame.secs = entry.secs;
-        frame.micros = entry.micros;
-        frame.original = entry.original;
-        frame.bytes.clear();
-        let bytes = &self.bytes[entry.from..entry.to];
-        let _ = frame.bytes.extend_from_slice(bytes);
+        LentRecord {
+            secs: entry.secs,
+            micros: entry.micros,
+            original: entry.original,
+            bytes: self.blocks.at(entry.place),
+        }
     }
 }

@@ -13,7 +13,7 @@ use crate::histories::totals_of;
 use crate::orders::orders_of;
 use crate::reading::{Captured, packets_of, read_whole};
 use crate::report::audited_report;
-use crate::sending::write_capture;
+use crate::sending::{Sender, write_capture};
 use crate::threads::{Task, run_named};
 use connection_table::TableKey;
 use driver_commands::first_unsupported_step;
@@ -133,9 +133,9 @@ pub fn run_scenario<R: Threads + Wait + Sync, I: Source, O: Sink>(
     let done = run_over(rt, alloc, key, scenario, &captured, splits)?;
     let wire = wire_of(scenario, captured.head.link);
     let nodes = done.nodes.as_slice();
-    let mut frame = captured.frame;
     let records = &captured.records;
-    match write_capture(alloc, output, &wire, records, &mut frame, nodes) {
+    let sender = Sender { wire, records };
+    match write_capture(alloc, output, &sender, nodes) {
         Ok(()) => Ok(done.text),
         Err(fault) => Err(RunFailure::Simulation(fault)),
     }

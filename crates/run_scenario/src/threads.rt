@@ -47,8 +47,8 @@ pub(crate) struct Audited {
 }
 
 // Whether each node's history agrees with its replay, and what is reported of the splits: both at once, since neither waits
-// for the other.
-fn judged_at_once<S: Scheme + Send + Sync, R: Threads + Sync>(
+// for the other. Where no splits are asked for, no thread is started for them.
+fn judged<S: Scheme + Send + Sync, R: Threads + Sync>(
     rt: &R,
     alloc: Global,
     setup: &Setup<S, AnyHash>,
@@ -72,56 +72,23 @@ where
         splits,
         ..
     } = *task;
-    thread::join(
-        rt,
-        || -> Result<bool, AllocError>
-            requires { (scenario.now.catalogue.size ≡ setup.now.size) × WereRead packets.now }
-            ensures { let rules = rules_for (λ s z. S.pick s z) (λ h. plain_of h) setup.entry.now scenario.entry.now.catalogue in
-                IfOk result (λ b. IsTrue b ↔ All (λ r. r.outcomes.items ≡ verdicts rules [] packets.entry.now r.events.items) nodes.entry.now) }
-        {
-            let catalogue = &scenario.catalogue;
-            audit_nodes::<S, AnyHash, PlaceTable, R>(rt, alloc, nodes, setup, catalogue, packets)
-        },
-        || -> Result<String, AllocError>
-            requires { (scenario.now.catalogue.size ≡ scenario.now.size) × AreEven nodes.now }
-            ensures { IfOk result (λ s. string_bytes s ≡ splits_over splits scenario.entry.now nodes.entry.now) }
-        { splits_told(alloc, key, scenario, nodes, splits) },
-    )
-}
-
-// Whether each node's history agrees with its replay, and what is reported of the splits. Where that isn't asked for, no
-// thread is started for it.
-fn judged<S: Scheme + Send + Sync, R: Threads + Sync>(
-    rt: &R,
-    alloc: Global,
-    setup: &Setup<S, AnyHash>,
-    task: &Task<'_>,
-    nodes: &[NodeRecord],
-) -> (Result<bool, AllocError>, Result<String, AllocError>)
-where
-    S::Prepared: Send + Sync,
-    requires size { task.now.scenario.now.catalogue.size ≡ task.now.scenario.now.size }
-    requires sized { setup.now.size ≡ task.now.scenario.now.size }
-    requires read { WereRead task.now.packets.now }
-    requires even { AreEven nodes.now }
-    ensures audit { let rules = rules_for (λ s z. S.pick s z) (λ h. plain_of h) setup.now task.now.scenario.now.catalogue in
-        IfOk result.0 (λ b. IsTrue b ↔ All (λ r. r.outcomes.items ≡ verdicts rules [] task.now.packets.now r.events.items) nodes.now) }
-    ensures splits { IfOk result.1 (λ s. string_bytes s ≡ splits_over task.now.splits task.now.scenario.now nodes.now) }
-{
-    if task.splits {
-        return judged_at_once(rt, alloc, setup, task, nodes);
+    let replay = || -> Result<bool, AllocError>
+        requires { (scenario.now.catalogue.size ≡ setup.now.size) × WereRead packets.now }
+        ensures { let rules = rules_for (λ s z. S.pick s z) (λ h. plain_of h) setup.entry.now scenario.entry.now.catalogue in
+            IfOk result (λ b. IsTrue b ↔ All (λ r. r.outcomes.items ≡ verdicts rules [] packets.entry.now r.events.items) nodes.entry.now) }
+    {
+        let catalogue = &scenario.catalogue;
+        audit_nodes::<S, AnyHash, PlaceTable, R>(rt, alloc, nodes, setup, catalogue, packets)
+    };
+    let told = || -> Result<String, AllocError>
+        requires { (scenario.now.catalogue.size ≡ scenario.now.size) × AreEven nodes.now }
+        ensures { IfOk result (λ s. string_bytes s ≡ splits_over splits scenario.entry.now nodes.entry.now) }
+    { splits_told(alloc, key, scenario, nodes, splits) };
+    if splits {
+        thread::join(rt, replay, told)
+    } else {
+        (replay(), told())
     }
-    let catalogue = &task.scenario.catalogue;
-    let agrees = audit_nodes::<S, AnyHash, PlaceTable, R>(
-        rt,
-        alloc,
-        nodes,
-        setup,
-        catalogue,
-        task.packets,
-    );
-    let splits = splits_told(alloc, task.key, task.scenario, nodes, task.splits);
-    (agrees, splits)
 }
 
 // Runs the cluster with this scheme.

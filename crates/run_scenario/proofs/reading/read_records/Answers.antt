@@ -25,17 +25,10 @@ loop-records-preserved g c =
       passed = subst Now (sym pushed) (passed-push c.args.head c.loop-records.given (g.I.Source.tape c.args.input.now).bytes (g.I.Source.tape c.loop-records.input).bytes (g.I.Source.tape c.read_record_into.new.source).bytes before next old.given old.passed c.in-Ok.ensures.gave);
       unfailed = (c.in-Ok.ensures.cause.0 ∙ old.unfailed.0, omega (arith, c.in-Ok.ensures.cause.1, old.unfailed.1));
       called = subst Calls (sym (ap calls_for pushed ∙ calls_for-push before next)) (calls-next (calls_for before) _ (g.I.Source.tape c.args.input.now) (g.I.Source.tape c.loop-records.input) (g.I.Source.tape c.read_record_into.new.source) old.called c.in-Ok.ensures.calls);
-      fits = c.in-Ok-make_room.ensures;
     }
 
 pub returns-in_default-clause-refused : goal.returns-in_default-clause-refused
 returns-in_default-clause-refused g c =
-    let old = c.loop-records.invariant in
-    refused_behind c.args.head c.loop-records.given (g.I.Source.tape c.args.input.now) (g.I.Source.tape c.loop-records.input) (g.I.Source.tape c.read_record_into.new.source) c.loop-records.records (packet c.read_record_into.new.frame)
-    old.given old.passed old.unfailed c.in-Ok.ensures.cause c.in-Ok.ensures.gave
-
-pub returns-in_default-make_room-clause-refused : goal.returns-in_default-make_room-clause-refused
-returns-in_default-make_room-clause-refused g c =
     let old = c.loop-records.invariant in
     refused_behind c.args.head c.loop-records.given (g.I.Source.tape c.args.input.now) (g.I.Source.tape c.loop-records.input) (g.I.Source.tape c.read_record_into.new.source) c.loop-records.records (packet c.read_record_into.new.frame)
     old.given old.passed old.unfailed c.in-Ok.ensures.cause c.in-Ok.ensures.gave

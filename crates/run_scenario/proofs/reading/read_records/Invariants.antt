@@ -1,8 +1,7 @@
-use Rattle.std.proofs.Common.{◌≡◌, ◌-◌, ◌≤◌, length, vec_capacity}
+use Rattle.std.proofs.Common.{◌≡◌, ◌-◌, ◌≤◌, length}
 use Rattle.pcap_file.specs.Device.{Unfailed, CallsAtMost}
 use Rattle.pcap_file.specs.Format.{max_records}
 use Rattle.pcap_file.specs.Text.{Passed, calls_for}
-use Rattle.run_scenario.specs.Store.{Fits}
 use Rattle.run_scenario.proofs.reading.read_records.Given as goal
 
 abbrev pub invariant-loop-records : goal.invariant-loop-records
@@ -12,7 +11,6 @@ invariant-loop-records g l = record {
   passed : Passed l.head (g.I.Source.tape l.initial.input).bytes l.records (g.I.Source.tape l.input).bytes;
   unfailed : Unfailed (g.I.Source.tape l.initial.input) (g.I.Source.tape l.input);
   called : CallsAtMost (calls_for l.records) (g.I.Source.tape l.initial.input) (g.I.Source.tape l.input);
-  fits : Fits l.records (vec_capacity l.frame.bytes);
 }
 
 abbrev pub decreases-loop-records : goal.decreases-loop-records
