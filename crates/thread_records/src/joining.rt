@@ -1,5 +1,5 @@
 //! One history of all nodes.
-ghost use Rattle.std.specs.Prelude.{◌≡◌, [], ℕ, List, Some, IfOk, slice_get};
+ghost use Rattle.std.specs.Prelude.{◌≡◌, ◌%◌, ◌^◌, [], ℕ, List, Some, IfOk, length, slice_get};
 ghost use Rattle.cluster_node.specs.Rules.{Rules};
 ghost use Rattle.cluster_node.specs.declared.packets.Packet.{Packet};
 ghost use Rattle.cluster_core.specs.Runs.{verdicts};
@@ -32,8 +32,11 @@ pub fn join_runs(alloc: Global, nodes: &[NodeRecord]) -> Result<History, AllocEr
     join_nodes(alloc, nodes)
 }
 
-// How many events and outcomes the nodes have.
-fn lengths(nodes: &[NodeRecord]) -> (usize, usize) {
+// How many events and outcomes the nodes have, where lists can be as long.
+fn lengths(nodes: &[NodeRecord]) -> (usize, usize)
+    ensures events { result.0 ≡ length (all_events nodes.now) % 2 ^ 64 }
+    ensures outcomes { result.1 ≡ length (all_outcomes nodes.now) % 2 ^ 64 }
+{
     let mut events = 0usize;
     let mut outcomes = 0usize;
     for node in nodes {
