@@ -1,4 +1,4 @@
--- Backends of one name among others that ascend by name.
+-- Backends among others.
 use Rattle.std.specs.Prelude.{IfOk, Result, Ok, Err}
 use Rattle.std.proofs.Common.{◌≡◌, ℕ, ◌+◌, ◌++◌, ◌<◌, ◌≤◌, cond, filter, not, take, Bool, true, false, ◌&&◌, ◌||◌, ◌==◌, List, [], ◌∷◌, length, get_or, refl, sym, ◌∙◌, ap, arith, nat_eq, map}
 use Rattle.std.specs.Cmp.{nat_eq_equiv}
@@ -18,44 +18,6 @@ use Rattle.selection.specs.Readied.{same_backend}
 use Rattle.std.proofs.lemmas.List.{append-nil}
 use Rattle.std.proofs.lemmas.List.Elements.{filter_more}
 use Rattle.rollout_plan.specs.Text.{as_up, has_member, members_gone}
-
--- how a backend's name stands to that of the one that is sought
-abbrev to_name : Backend → Backend → Ordering
-to_name b c = slice_cmp nat_cmp c.name b.name
-
-named : (b c : Backend) → pointwise nat_eq b.name c.name ≡ is_eq (to_name b c)
-named b c = nat_list_eq_equiv.symm b.name c.name ∙ texts_ties c.name b.name
-
-less_is_apart : (o : Ordering) → is_lt o ≡ true → is_eq o ≡ false
-less_is_apart Less h = refl
-less_is_apart Equal h = absurd (true≢false (sym h))
-less_is_apart Greater h = refl
-
--- behind what is neither below nor equal nothing is equal
-apart_behind : (o p : Ordering) → is_lt o ≡ false → is_eq o ≡ false → ordering_index o ≤ ordering_index p → is_eq p ≡ false
-apart_behind Less p low apart h = absurd (true≢false low)
-apart_behind Equal p low apart h = absurd (true≢false apart)
-apart_behind Greater Less low apart h = refl
-apart_behind Greater Equal low apart h = absurd (omega arith)
-apart_behind Greater Greater low apart h = refl
-
--- one of another name is another one
-apart_by_name : (b c : Backend) → is_eq (to_name b c) ≡ false → same_backend b c ≡ false
-apart_by_name b c apart = ap (λ v. v && (b.addr == c.addr)) (named b c ∙ apart)
-
-pub apart_before : (b : Backend) (bs : List Backend) (first : ℕ) → first ≤ length bs → IsPartitionPoint (λ c. is_below c.name b.name ≡ true) (λ c. is_below c.name b.name ≡ false) bs first →
-    (k : ℕ) (d : Backend) → k < first → same_backend b (get_or bs k d) ≡ false
-apart_before b bs first within parts k d low =
-    apart_by_name b (get_or bs k d) (less_is_apart (to_name b (get_or bs k d)) (parts.0 k d (omega arith) low))
-
-pub apart_from_end : (b : Backend) (bs : List Backend) (first end : ℕ) → AscendsByName bs → IsPartitionPoint (λ c. is_below c.name b.name ≡ true) (λ c. is_below c.name b.name ≡ false) bs first → first ≤ end →
-    ((d : Backend) → end < length bs → pointwise nat_eq b.name (get_or bs end d).name ≡ false) →
-    (k : ℕ) (d : Backend) → end ≤ k → k < length bs → same_backend b (get_or bs k d) ≡ false
-apart_from_end b bs first end s parts order other k d high within =
-    let up : IsNonDecreasingBy (λ c. ordering_index (to_name b c)) bs = searchable_from_sorted nat_list_cmp_total (λ (c : Backend). c.name) bs b.name s in
-    let here : is_eq (to_name b (get_or bs end d)) ≡ false = sym (named b (get_or bs end d)) ∙ other d (omega arith) in
-    apart_by_name b (get_or bs k d)
-    (apart_behind (to_name b (get_or bs end d)) (to_name b (get_or bs k d)) (parts.1 end d order (omega arith)) here (up end k d high within))
 
 same_flip : (a b : Backend) → same_backend a b ≡ same_backend b a
 same_flip a b =

@@ -5,7 +5,6 @@
 //! hash, or the turn, I. [`plan`] writes the text, and [`plans_add_up`] has the laws of its counts.
 #![tactic(auto)]
 
-mod by_name;
 mod counting;
 mod laws;
 mod members;

@@ -7,8 +7,8 @@ ghost use Rattle.pool_versions.specs.Pool.{AscendsByName, up_members};
 ghost use Rattle.selection.specs.Readied.{same_backend};
 ghost use Rattle.rollout_plan.specs.Text.{has_member, members_gone, in_order, members_of_both, members_under, service_by, as_up};
 
-use crate::by_name::is_among;
 use pool_versions::{Backend, Member, Service, ServiceKey, Version, backends_of};
+use selection::is_among;
 use std::alloc::{AllocError, Global};
 
 // Some members as ones that are up.

@@ -8,12 +8,12 @@ ghost use Rattle.rollout_plan.specs.Tables.{table_by, turn_slots, slots_by};
 ghost use Rattle.selection.specs.Candidates.{among};
 ghost use Rattle.rollout_plan.specs.Counts.{slots_naming, is_up};
 
-use crate::by_name::{is_among, places_of_name};
 use backend_names::{TableSize, Weight};
 use hash_laws::AnyHash;
 use maglev_table::{Permutation, Table, populate};
 use pool_versions::{Backend, Member, Service, backends_of, weights_of};
 use scenario::SchemeKind;
+use selection::{is_among, places_of_name};
 use std::alloc::{AllocError, Global};
 use std::marker::Model;
 

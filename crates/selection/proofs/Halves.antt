@@ -1,5 +1,5 @@
 -- A backend is sought by halves among others that ascend by name.
-use Rattle.std.proofs.Common.{◌≡◌, ℕ, zero, suc, ◌+◌, ◌<◌, ◌≤◌, true, false, ◌||◌, ◌==◌, List, [], ◌∷◌, length, drop, get_or, slice_index_or, refl, sym, ◌∙◌, ap, arith, inl, inr, nat_eq}
+use Rattle.std.proofs.Common.{◌≡◌, ℕ, zero, suc, ◌+◌, ◌<◌, ◌≤◌, true, false, ◌&&◌, ◌||◌, ◌==◌, List, [], ◌∷◌, length, drop, get_or, slice_index_or, refl, sym, ◌∙◌, ap, arith, inl, inr, nat_eq}
 use Rattle.std.specs.Cmp.Lexicographic.{pointwise, slice_cmp, nat_list_eq_equiv, texts_ties}
 use Rattle.std.specs.declared.cmp.Ordering.{Ordering}
 use Rattle.std.specs.declared.cmp.Ordering.TheVariants.{Less, Equal, Greater}
@@ -80,3 +80,21 @@ is_found_at_head b bs i s within parts =
     at_head b (drop i bs) (IsNonDecreasingBy-drop (λ c. ordering_index (to_name b c)) i bs (rises b bs s))
     (λ k d low. let e : get_or (drop i bs) k d ≡ get_or bs (i + k) d = get_or-drop i bs k d in rw e (parts.1 (i + k) d (omega arith) (omega (arith, length-drop {A = Backend}))))
     ∙ skipped b bs i (λ k d low. parts.0 k d (omega arith) low) within
+
+-- one of another name is another one
+apart_by_name : (b c : Backend) → is_eq (to_name b c) ≡ false → same_backend b c ≡ false
+apart_by_name b c apart = ap (λ v. v && (b.addr == c.addr)) (named b c ∙ apart)
+
+pub apart_before : (b : Backend) (bs : List Backend) (first : ℕ) → first ≤ length bs → IsPartitionPoint (λ c. is_below c.name b.name ≡ true) (λ c. is_below c.name b.name ≡ false) bs first →
+    (k : ℕ) (d : Backend) → k < first → same_backend b (get_or bs k d) ≡ false
+apart_before b bs first within parts k d low =
+    apart_by_name b (get_or bs k d) (less_is_apart (to_name b (get_or bs k d)) (parts.0 k d (omega arith) low))
+
+pub apart_from_end : (b : Backend) (bs : List Backend) (first end : ℕ) → AscendsByName bs → IsPartitionPoint (λ c. is_below c.name b.name ≡ true) (λ c. is_below c.name b.name ≡ false) bs first → first ≤ end →
+    ((d : Backend) → end < length bs → pointwise nat_eq b.name (get_or bs end d).name ≡ false) →
+    (k : ℕ) (d : Backend) → end ≤ k → k < length bs → same_backend b (get_or bs k d) ≡ false
+apart_from_end b bs first end s parts order other k d high within =
+    let up : IsNonDecreasingBy (λ c. ordering_index (to_name b c)) bs = searchable_from_sorted nat_list_cmp_total (λ (c : Backend). c.name) bs b.name s in
+    let here : is_eq (to_name b (get_or bs end d)) ≡ false = sym (named b (get_or bs end d)) ∙ other d (omega arith) in
+    apart_by_name b (get_or bs k d)
+    (apart_behind (to_name b (get_or bs end d)) (to_name b (get_or bs k d)) (parts.1 end d order (omega arith)) here (up end k d high within))

@@ -4,6 +4,7 @@
 //! [`RoundRobin`] by turns. A scheme of one's own is a type that meets the laws of [`Scheme`].
 #![tactic(auto)]
 
+mod by_name;
 mod choices;
 mod laws;
 mod maglev;
@@ -14,6 +15,7 @@ mod ready;
 mod round;
 mod scheme;
 
+pub use by_name::{PlaceRange, is_among, places_of_name};
 pub use laws::maglev_and_plain_hash_are_steady;
 pub use maglev::{Maglev, MaglevTable};
 pub use numbered::PreparedVersions;

@@ -3,13 +3,13 @@ ghost use Rattle.std.specs.Prelude.{◌≡◌, ◌↔◌, true, [], length, IfOk
 ghost use Rattle.std.specs.List.{list_any};
 ghost use Rattle.pool_versions.specs.Pool.{ups, AscendsByName};
 ghost use Rattle.std.specs.Arc.{arc_value};
-ghost use Rattle.selection.specs.PrivateHalves.{is_at_head};
 ghost use Rattle.selection.specs.Places.{key_of_readied};
 ghost use Rattle.selection.specs.Candidates.{among};
 ghost use Rattle.selection.specs.Shared.{StandsFor};
 ghost use Rattle.selection.specs.Readied.{ReadiedService, readied_of, same_backend};
 ghost use Rattle.selection.specs.Faults.{IsPrepareFault};
 
+use crate::by_name::is_among;
 use crate::choices::Choices;
 use crate::scheme::{PrepareFault, Scheme};
 use backend_names::{TableSize, Weight};
@@ -49,30 +49,6 @@ impl<S: Scheme> fmt::Debug for Ready<S> {
             .field("size", &self.size)
             .finish_non_exhaustive()
     }
-}
-
-// Whether a backend is among those of its name that a list begins with.
-fn is_at_head(ups: &[Backend], backend: &Backend) -> bool
-    ensures { result ≡ is_at_head backend.now ups.now }
-{
-    for other in ups {
-        if backend.name != other.name {
-            return false;
-        }
-        if backend.addr == other.addr {
-            return true;
-        }
-    }
-    false
-}
-
-// Whether a backend, name and address, is in a list that ascends by name.
-fn is_among(ups: &[Backend], backend: &Backend) -> bool
-    requires { AscendsByName ups.now }
-    ensures { result ≡ list_any (same_backend backend.now) ups.now }
-{
-    let first = ups.partition_point(|other| other.name < backend.name);
-    is_at_head(&ups[first..], backend)
 }
 
 // What a scheme prepares of some backends: that of the version before, where it is of the same ones of the same weights.

@@ -11,10 +11,10 @@ ghost use Rattle.selection.specs.Readied.{same_backend};
 use pool_versions::Backend;
 
 /// From the first of some places to before their end.
-#[derive(Clone, Copy)]
-pub(crate) struct Places {
-    pub(crate) first: usize,
-    pub(crate) end: usize,
+#[derive(Clone, Copy, Debug)]
+pub struct PlaceRange {
+    pub first: usize,
+    pub end: usize,
 }
 
 // Whether a backend is among those of its name that a list begins with.
@@ -57,16 +57,16 @@ fn end_of_name(ups: &[Backend], first: usize, backend: &Backend) -> usize
 }
 
 /// Whether a backend, name and address, is in a list that ascends by name.
-pub(crate) fn is_among(ups: &[Backend], backend: &Backend) -> bool
+pub fn is_among(ups: &[Backend], backend: &Backend) -> bool
     requires { AscendsByName ups.now }
-    ensures { result ≡ list_any (λ up. same_backend up backend.now) ups.now }
+    ensures { result ≡ list_any (same_backend backend.now) ups.now }
 {
     let first = first_of_name(ups, backend);
     is_at_head(&ups[first..], backend)
 }
 
 /// The places of the backends of a backend's name in a list that ascends by name.
-pub(crate) fn places_of_name(ups: &[Backend], backend: &Backend) -> Places
+pub fn places_of_name(ups: &[Backend], backend: &Backend) -> PlaceRange
     requires { AscendsByName ups.now }
     ensures first { result.first ≤ length ups.now }
     ensures end { result.end ≤ length ups.now }
@@ -75,5 +75,5 @@ pub(crate) fn places_of_name(ups: &[Backend], backend: &Backend) -> Places
 {
     let first = first_of_name(ups, backend);
     let end = end_of_name(ups, first, backend);
-    Places { first, end }
+    PlaceRange { first, end }
 }

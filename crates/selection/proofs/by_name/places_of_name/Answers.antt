@@ -1,5 +1,5 @@
-use Rattle.rollout_plan.proofs.ByName.{apart_before, apart_from_end}
-use Rattle.rollout_plan.proofs.by_name.places_of_name.Goals as goal
+use Rattle.selection.proofs.Halves.{apart_before, apart_from_end}
+use Rattle.selection.proofs.by_name.places_of_name.Goals as goal
 
 pub returns-clause-before : goal.returns-clause-before
 returns-clause-before c = apart_before c.args.backend.now c.args.ups.now c.first_of_name-first.result c.first_of_name-first.ensures.within c.first_of_name-first.ensures.parted

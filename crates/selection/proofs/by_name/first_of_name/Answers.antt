@@ -2,7 +2,7 @@ use Rattle.std.proofs.Common.{rules}
 use Rattle.std.proofs.lemmas.List.Sorted.{IsPartitionPoint-from_clause}
 use Rattle.pool_versions.specs.Pool.{is_below}
 use Rattle.selection.proofs.Halves.{parted}
-use Rattle.rollout_plan.proofs.by_name.first_of_name.Goals as goal
+use Rattle.selection.proofs.by_name.first_of_name.Goals as goal
 
 pub returns-clause-parted : goal.returns-clause-parted
 returns-clause-parted c =
