@@ -1,9 +1,11 @@
-//! What a log shows: names as text, faults as sentences, and never a key.
+//! What a log shows: names as text, faults as sentences, counts by their names, and never a key.
 use backend_names::Name;
 use cluster_core::SetupFault;
+use cluster_node::Cause;
 use connection_table::{Entry, TableKey};
 use pool_versions::{Backend, PoolFault};
 use selection::PrepareFault;
+use stats_book::Stats;
 use std::alloc::Global;
 use std::process::Abort;
 
@@ -51,9 +53,32 @@ fn tells_faults(rt: &impl Abort, alloc: Global) {
     );
 }
 
+// Seven packets came. Four were sent, one was dropped, and two wait.
+fn seven() -> Stats {
+    let mut stats = Stats::new();
+    for nth in 0..7 {
+        let _ = stats.receive();
+        if nth < 4 {
+            let _ = stats.forwarded_one();
+        }
+    }
+    let _ = stats.dropped_one(Cause::NoService);
+    stats
+}
+
+fn shows_counts(rt: &impl Abort, alloc: Global) {
+    let shown = format!(in alloc; "{:?}", seven()).expect(rt, "memory");
+    is(
+        rt,
+        shown.as_str(),
+        "Stats { received: 7, forwarded: 4, dropped: [0, 0, 0, 0, 0, 0, 0, 0, 1, 0, 0, 0, 0], waiting: 2 }",
+    );
+}
+
 #[test]
 fn a_log_shows_names_and_faults_but_no_key(rt: HostRuntime) {
     shows_an_entry(&rt, rt.alloc());
     hides_a_key(&rt, rt.alloc());
     tells_faults(&rt, rt.alloc());
+    shows_counts(&rt, rt.alloc());
 }
