@@ -229,6 +229,8 @@ def named_by_contracts(definitions):
             text = line.strip()
             if re.match(r'(pub(\(crate\))? )?(const )?(extern "C" )?fn ', text):
                 is_public = text.startswith(("pub fn", "pub extern")) or (of_trait and line.startswith("    "))
+            elif text == "{":
+                is_public = False  # what a body calls isn't named by a clause
             elif text.startswith(("impl", "pub trait", "pub struct", "pub enum", "struct", "enum")):
                 is_public, of_trait = True, text.startswith("pub trait") or " for " in text
             elif is_public and not text.startswith(("//", "ghost use", "use")):
