@@ -306,14 +306,14 @@ def test_chosen_flows():
     whole = scenario(["install 0 1", f"take {2 * FLOWS}"], **keys)
     restarted = scenario(["install 0 1", "take 1", "restart 0", f"take {2 * FLOWS}"], **keys)
     captures = [head() + b"".join(map(record, 2 * flows)) for flows in (chosen_flows(), drawn_flows())]
-    cases = [(command, whole) for command in ["simulate", "simulate --splits", "run", "run --splits"]]
-    cases += [(command, restarted) for command in ["simulate", "run"]]
-    for command, text in cases:
+    cases = [(command, command, whole) for command in ["simulate", "simulate --splits", "run", "run --splits"]]
+    cases += [(f"{command} behind a restart", command, restarted) for command in ["simulate", "run"]]
+    for name, command, text in cases:
         runs = [[measured(text, data, command) for data in captures] for _ in range(3)]
         ended = all(holds and f"forwarded {2 * FLOWS}" in lines for both in runs for holds, lines, *_ in both)
-        check(f"{command} of chosen flows", ended, repr(runs))
+        check(f"{name} of chosen flows", ended, repr(runs))
         chosen, drawn = (min(seconds for *_, seconds in one) for one in zip(*runs))
-        check(f"{command} of chosen flows: time", chosen < 3 * drawn, f"{chosen} and {drawn} s")
+        check(f"{name} of chosen flows: time", chosen < 3 * drawn, f"{chosen} and {drawn} s")
 
 
 # What std's `FoldHasher` multiplies a flow's hash by, after xor with one of the flow's two words of 8 bytes, least byte first. The
@@ -336,7 +336,8 @@ def turned(number):
 # An address of the service, and a client's, that are the known multiplier as a first word: one operand would be zero.
 TURNED_ADDRESS, TURNED_CLIENT = turned(KNOWN_MULTIPLIER >> 32), turned(KNOWN_MULTIPLIER & 0xFFFFFFFF)
 
-# Families of flows whose hashes collide where one operand is known: from a flow's number to source, destination and ports.
+# Families of flows that make a known operand regular: from a flow's number to source, destination and ports. Those of the same
+# halves collide under `FoldHasher`; ports do where the first word's operand is the known one; for the other none was seen.
 FAMILIES = {
     "sources from the highest byte down": lambda place: (turned(0x0A ^ place << 8), ADDRESS, *SAME_HALVES),
     "sources that count": lambda place: (0x0A000000 + place, ADDRESS, *SAME_HALVES),
@@ -401,7 +402,7 @@ def judge_family(folder, family, services, commands, steps):
 def test_known_multiplier():
     """Two packets of each of the flows of a family take at most half as long again as two of each of as many flows from drawn
     clients and ports to the same services. Families don't depend on the key, so that to draw one doesn't help where an operand is
-    known: with the ones of the first kind the program of 2026-11-27 took four times as long, and that before it thirty times."""
+    known: with the first family the program of commit 5ce00ac took four times as long, and that of cac554b up to thirty times."""
     dice = random.Random(1)
     for number, (family, flow_of) in enumerate(FAMILIES.items()):
         chosen = [flow_of(place) for place in range(COLLIDING)]
