@@ -5,6 +5,7 @@ Captures cut at each byte, headers with each value of a field, and scenarios and
 The last line is 'N passed, N failed'.
 """
 import ctypes
+import os
 import pathlib
 import random
 import struct
@@ -299,16 +300,121 @@ def drawn_flows():
 def test_chosen_flows():
     """Two packets of each of the flows that were chosen for the fixed key take no longer than two of each of as many drawn ones.
     With the fixed key each search in a connection table, or in the book of the splits, would look at all of them. A command
-    counts by the least time of three runs of each, in turns, and may take three times as long."""
+    counts by the least time of three runs of each, in turns, and may take three times as long. So it is behind a restart, which
+    empties the tables."""
     keys = {"capacity": 65536, "ring": 65536, "check": "false"}
-    text = scenario(["install 0 1", f"take {2 * FLOWS}"], **keys)
+    whole = scenario(["install 0 1", f"take {2 * FLOWS}"], **keys)
+    restarted = scenario(["install 0 1", "take 1", "restart 0", f"take {2 * FLOWS}"], **keys)
     captures = [head() + b"".join(map(record, 2 * flows)) for flows in (chosen_flows(), drawn_flows())]
-    for command in ["simulate", "simulate --splits", "run", "run --splits"]:
+    cases = [(command, command, whole) for command in ["simulate", "simulate --splits", "run", "run --splits"]]
+    cases += [(f"{command} behind a restart", command, restarted) for command in ["simulate", "run"]]
+    for name, command, text in cases:
         runs = [[measured(text, data, command) for data in captures] for _ in range(3)]
         ended = all(holds and f"forwarded {2 * FLOWS}" in lines for both in runs for holds, lines, *_ in both)
-        check(f"{command} of chosen flows", ended, repr(runs))
+        check(f"{name} of chosen flows", ended, repr(runs))
         chosen, drawn = (min(seconds for *_, seconds in one) for one in zip(*runs))
-        check(f"{command} of chosen flows: time", chosen < 3 * drawn, f"{chosen} and {drawn} s")
+        check(f"{name} of chosen flows: time", chosen < 3 * drawn, f"{chosen} and {drawn} s")
+
+
+# What std's `FoldHasher` multiplies a flow's hash by, after xor with one of the flow's two words of 8 bytes, least byte first. The
+# first word is source and destination, the second the ports and the protocol. Only the other operand of the product is secret.
+KNOWN_MULTIPLIER = 0x9E3779B97F4A7C15
+# With these ports a UDP flow's second word makes both halves of the known operand the same 32 bits, so that sums in the product
+# cancel when its halves are joined. With the others it makes the lower half of the operand zero bits alone.
+SAME_HALVES = (48389, 32225)
+ZERO_HALF = (5500, 19071)
+# 192.0.2.1, and how many flows of a family there are.
+ADDRESS = 0xC0000201
+COLLIDING = 65_536
+
+
+def turned(number):
+    """A number of four bytes with its bytes in the other order."""
+    return int.from_bytes(number.to_bytes(4, "big"), "little")
+
+
+# An address of the service, and a client's, that are the known multiplier as a first word: one operand would be zero.
+TURNED_ADDRESS, TURNED_CLIENT = turned(KNOWN_MULTIPLIER >> 32), turned(KNOWN_MULTIPLIER & 0xFFFFFFFF)
+
+# Families of flows that make a known operand regular: from a flow's number to source, destination and ports. Those of the same
+# halves collide under `FoldHasher`; ports do where the first word's operand is the known one; for the other none was seen.
+FAMILIES = {
+    "sources from the highest byte down": lambda place: (turned(0x0A ^ place << 8), ADDRESS, *SAME_HALVES),
+    "sources that count": lambda place: (0x0A000000 + place, ADDRESS, *SAME_HALVES),
+    "sources and a half of zero bits": lambda place: (turned(0x0A ^ place << 8), ADDRESS, *ZERO_HALF),
+    "sources and destinations": lambda place: (0x0A000000 + (place >> 8), ADDRESS + (place & 255), *SAME_HALVES),
+    "ports": lambda place: (TURNED_CLIENT, TURNED_ADDRESS, place, SAME_HALVES[1]),
+}
+# Two packets of each flow; the second ones with a restart in front of them.
+WHOLE = ["install 0 1", f"take {2 * COLLIDING}"]
+RESTARTED = ["install 0 1", f"take {COLLIDING}", "restart 0", f"take {COLLIDING}"]
+
+
+def udp(source, destination, port, service):
+    """A UDP datagram without payload, and without a checksum of its header."""
+    return struct.pack(">BBHHHBBHIIHHHH", 0x45, 0, 28, 1, 0, 64, 17, 0, source, destination, port, service, 8, 0)
+
+
+def destinations_of(flows):
+    """The services of flows, as a scenario's keys say them."""
+    text = ""
+    for address, port in sorted({(destination, service) for _, destination, _, service in flows}):
+        dotted = ".".join(map(str, address.to_bytes(4, "big")))
+        text += f'[[versions.services]]\nvip = "{dotted}"\nproto = "udp"\nport = {port}\nmembers = ["A@10.8.0.1", "B@10.8.0.2", "C@10.8.0.3"]\n'
+    return text
+
+
+def timed(words, folder):
+    """Status and lines of a command, and the seconds of a processor that it took."""
+    with subprocess.Popen(words, cwd=folder, stdout=subprocess.PIPE, text=True) as running:
+        lines = running.stdout.read().splitlines()
+        _, status, took = os.wait4(running.pid, 0)
+        running.returncode = os.waitstatus_to_exitcode(status)
+    return running.returncode, lines, took.ru_utime + took.ru_stime
+
+
+def least_times(folder, command):
+    """Whether each run forwards all packets, and the least time of a command with each of two captures, in turns: at least of three,
+    and of up to ten while the first takes more than half as long again as the second."""
+    times = {"chosen.pcap": [], "drawn.pcap": []}
+    chosen, drawn = times.values()
+    ended = True
+    while len(drawn) < 3 or (len(drawn) < 10 and min(chosen) > 1.5 * min(drawn)):
+        for name, one in times.items():
+            status, lines, seconds = timed([PROGRAM, *command.split(), "s.toml", name, "/dev/null"], folder)
+            ended = ended and status == 0 and f"forwarded {2 * COLLIDING}" in lines
+            one.append(seconds)
+    return ended, min(chosen), min(drawn)
+
+
+def judge_family(folder, family, services, commands, steps):
+    """Times commands over a family's flows, beside drawn ones. Two workers' rings take as many packets as come."""
+    for command in commands:
+        keys = {"capacity": COLLIDING, "ring": 65536, "check": "false", "workers": 2 if command == "run" else 1}
+        text = scenario(steps, **keys)
+        (folder / "s.toml").write_text(text[: text.index("services")] + services)
+        ended, one, other = least_times(folder, command)
+        name = f"{command} of {family}{' with a restart' if steps == RESTARTED else ''}"
+        check(name, ended)
+        check(f"{name}: time", one <= 1.5 * other, f"{one:.3f} and {other:.3f} s")
+
+
+def test_known_multiplier():
+    """Two packets of each of the flows of a family take at most half as long again as two of each of as many flows from drawn
+    clients and ports to the same services. Families don't depend on the key, so that to draw one doesn't help where an operand is
+    known: with the first family the program of commit 5ce00ac took four times as long, and that of cac554b up to thirty times."""
+    dice = random.Random(1)
+    for number, (family, flow_of) in enumerate(FAMILIES.items()):
+        chosen = [flow_of(place) for place in range(COLLIDING)]
+        drawn = [(dice.randrange(1 << 32), destination, dice.randrange(65_536), service) for _, destination, _, service in chosen]
+        services = destinations_of(chosen)
+        with tempfile.TemporaryDirectory() as name:
+            folder = pathlib.Path(name)
+            for file, flows in [("chosen.pcap", chosen), ("drawn.pcap", drawn)]:
+                (folder / file).write_bytes(head() + b"".join(2 * [record(udp(*flow)) for flow in flows]))
+            judge_family(folder, family, services, ["simulate", "simulate --splits", "run"], WHOLE)
+            if number == 0:
+                judge_family(folder, family, services, ["simulate", "run"], RESTARTED)
 
 
 def test_no_random_bytes():
