@@ -39,4 +39,5 @@ def main():
     write(sys.argv[1], ((1_000_000_000 + at, frames[pick(dice, flows, alike)]) for at in range(packets)))
 
 
-main()
+if __name__ == "__main__":
+    main()

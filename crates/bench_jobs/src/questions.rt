@@ -61,13 +61,20 @@ fn planned(
     Ok(())
 }
 
+// Each plan has a name, what its servers' names are drawn for, a number of services, and one of servers.
 fn plans(rt: &impl Print, alloc: Global, order: Order) -> anyhow::Result<()> {
-    let count = few(order, 4096);
-    let before = servers(order.tag(10), count, count / 100);
-    planned(rt, alloc, "plan-one", 1, before)?;
-    let count = few(order, 500);
-    let before = servers(order.tag(11), count, count / 100);
-    planned(rt, alloc, "plan-many", 16, before)
+    let asked: [(&str, u32, u32, u32); 4] = [
+        ("plan-one", 10, 1, 4096),
+        ("plan-many", 11, 16, 500),
+        ("plan-long", 15, 6, 2000),
+        ("plan-short", 16, 24, 20),
+    ];
+    for (name, purpose, services, count) in asked {
+        let count = few(order, count);
+        let before = servers(order.tag(purpose), count, count / 100);
+        planned(rt, alloc, name, services, before)?;
+    }
+    Ok(())
 }
 
 // So many names with single spaces between them.
@@ -102,7 +109,7 @@ fn tabled(
 }
 
 fn tables(rt: &impl Print, alloc: Global, order: Order) -> anyhow::Result<()> {
-    let lists: [(&str, u32); 7] = [
+    let lists: [(&str, u32); 12] = [
         ("fnv", 3),
         ("fnv", 20),
         ("fnv", 200),
@@ -110,6 +117,11 @@ fn tables(rt: &impl Print, alloc: Global, order: Order) -> anyhow::Result<()> {
         ("fnv", 4096),
         ("sha256", 100),
         ("sha256", 1500),
+        ("fnv", 50),
+        ("fnv", 500),
+        ("fnv", 2500),
+        ("sha256", 10),
+        ("sha256", 4000),
     ];
     for (hash, count) in lists {
         tabled(rt, alloc, order, hash, count)?;
@@ -144,7 +156,18 @@ fn compared(
 }
 
 fn compares(rt: &impl Print, alloc: Global, order: Order) -> anyhow::Result<()> {
-    let changes: [(u32, u32); 5] = [(10, 10), (50, 25), (300, 4), (1000, 8), (3000, 2)];
+    let changes: [(u32, u32); 10] = [
+        (10, 10),
+        (50, 25),
+        (300, 4),
+        (1000, 8),
+        (3000, 2),
+        (20, 5),
+        (100, 3),
+        (500, 10),
+        (2000, 5),
+        (4000, 3),
+    ];
     for (count, part) in changes {
         compared(rt, alloc, order, count, part)?;
     }
@@ -187,7 +210,7 @@ fn picked(rt: &impl Print, alloc: Global, order: Order, flow: u32) -> anyhow::Re
 }
 
 fn picks(rt: &impl Print, alloc: Global, order: Order) -> anyhow::Result<()> {
-    for flow in 0..10 {
+    for flow in 0..20 {
         picked(rt, alloc, order, flow)?;
     }
     Ok(())
@@ -213,16 +236,17 @@ fn explained_text(alloc: Global, tag: u32, packets: u32) -> Result<String, Alloc
 }
 
 // Why the first packet and the last one went where they went: both are of one client.
-fn explained(rt: &impl Print, alloc: Global, order: Order) -> anyhow::Result<()> {
-    let traffic = Traffic {
-        packets: order.scaled(500_000),
-        law: Law::Few,
-        clients: order.scaled(100_000),
-        destinations: 1,
-    };
-    let text = explained_text(alloc, order.tag(12), traffic.packets)?;
+fn explained(
+    rt: &impl Print,
+    alloc: Global,
+    order: Order,
+    name: &str,
+    purpose: u32,
+    traffic: Traffic,
+) -> anyhow::Result<()> {
+    let text = explained_text(alloc, order.tag(purpose), traffic.packets)?;
     let last = u64::from(traffic.packets).wrapping_mul(2).wrapping_add(2);
-    let mut input = MadeCapture::new(order.seed, 13, traffic);
+    let mut input = MadeCapture::new(order.seed, purpose.wrapping_add(1), traffic);
     let mut outlets = Outlets::new();
     let outcome = explain_run(
         alloc,
@@ -232,22 +256,55 @@ fn explained(rt: &impl Print, alloc: Global, order: Order) -> anyhow::Result<()>
         last,
         &mut outlets.report,
     );
-    outlets.tell(rt, "explain", outcome)?;
+    outlets.tell(rt, name, outcome)?;
     Ok(())
 }
 
-fn sketched(rt: &impl Print, alloc: Global, order: Order) -> anyhow::Result<()> {
+fn explains(rt: &impl Print, alloc: Global, order: Order) -> anyhow::Result<()> {
+    let traffic = Traffic {
+        packets: order.scaled(500_000),
+        law: Law::Few,
+        clients: order.scaled(100_000),
+        destinations: 1,
+    };
+    explained(rt, alloc, order, "explain", 12, traffic)?;
+    let scan = Traffic {
+        packets: order.scaled(300_000),
+        law: Law::Scan,
+        ..traffic
+    };
+    explained(rt, alloc, order, "explain-scan", 17, scan)
+}
+
+fn sketched(
+    rt: &impl Print,
+    alloc: Global,
+    order: Order,
+    name: &str,
+    purpose: u32,
+    traffic: Traffic,
+) -> anyhow::Result<()> {
+    let mut input = MadeCapture::new(order.seed, purpose, traffic);
+    let mut outlets = Outlets::new();
+    let outcome = sketch(alloc, TableKey::fixed(), &mut input, &mut outlets.report);
+    outlets.tell(rt, name, outcome)?;
+    Ok(())
+}
+
+fn sketches(rt: &impl Print, alloc: Global, order: Order) -> anyhow::Result<()> {
     let traffic = Traffic {
         packets: order.scaled(700_000),
         law: Law::Few,
         clients: order.scaled(100_000),
         destinations: 2000,
     };
-    let mut input = MadeCapture::new(order.seed, 14, traffic);
-    let mut outlets = Outlets::new();
-    let outcome = sketch(alloc, TableKey::fixed(), &mut input, &mut outlets.report);
-    outlets.tell(rt, "sketch", outcome)?;
-    Ok(())
+    sketched(rt, alloc, order, "sketch", 14, traffic)?;
+    let wide = Traffic {
+        packets: order.scaled(500_000),
+        destinations: 50_000,
+        ..traffic
+    };
+    sketched(rt, alloc, order, "sketch-wide", 19, wide)
 }
 
 /// What is asked before a rollout.
@@ -256,6 +313,6 @@ pub fn questions(rt: &impl Print, alloc: Global, order: Order) -> anyhow::Result
     tables(rt, alloc, order)?;
     compares(rt, alloc, order)?;
     picks(rt, alloc, order)?;
-    explained(rt, alloc, order)?;
-    sketched(rt, alloc, order)
+    explains(rt, alloc, order)?;
+    sketches(rt, alloc, order)
 }
