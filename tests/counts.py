@@ -107,7 +107,7 @@ def main():
     if sys.argv[1:] not in ([], ["--write"]):
         raise SystemExit("usage: counts.py [--write]")
     if not PROGRAM.exists():
-        raise SystemExit(f"counts.py: {PROGRAM} isn't built: bin/build.py bench_jobs")
+        raise SystemExit(f"counts.py: {PROGRAM} isn't built: `rt run -- usual 1 1` in crates/bench_jobs builds it")
     rows, here = read_rows(), kit()
     with tempfile.TemporaryDirectory() as folder:
         for name in workloads():
