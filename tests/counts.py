@@ -49,9 +49,10 @@ def workloads():
 
 
 def counted(name, folder):
-    """The counts of a workload. Its environment is empty, since what stands there moves the stack."""
+    """The counts of a workload. The program has one name and one environment everywhere, since both move the stack."""
     tool = ["valgrind", "--tool=callgrind", "--callgrind-out-file=/dev/null", "--cache-sim=yes", "--branch-sim=yes", *CACHES]
-    done = subprocess.run([*tool, PROGRAM, name, SEED, SIZE], cwd=folder, env={"PATH": os.environ["PATH"]}, capture_output=True, text=True)
+    command = [*tool, "./" + PROGRAM.name, name, SEED, SIZE]
+    done = subprocess.run(command, cwd=folder, env={"PATH": "/usr/bin:/bin"}, capture_output=True, text=True)
     events = re.search(r"Events +: ([\w ]+)", done.stderr)
     numbers = re.search(r"Collected +: ([\d ]+)", done.stderr)
     if done.returncode or " fault " in done.stdout or not events or not numbers:
@@ -110,6 +111,7 @@ def main():
         raise SystemExit(f"counts.py: {PROGRAM} isn't built: `rt run -- usual 1 1` in crates/bench_jobs builds it")
     rows, here = read_rows(), kit()
     with tempfile.TemporaryDirectory() as folder:
+        os.symlink(PROGRAM, pathlib.Path(folder) / PROGRAM.name)
         for name in workloads():
             counts = counted(name, folder)
             row, allowed = row_for(rows, here, name)

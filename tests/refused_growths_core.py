@@ -1,7 +1,7 @@
 #!/usr/bin/env python3
 """Refuses each growth of memory of a replay in turn, and of wrapping, and compares what is then said.
 
-The program `example_replay` replays one list of events on both connection tables, and `example_tunnel` wraps a datagram. Each
+The program `example_replay` replays one list of events on all three connection tables, and `example_tunnel` wraps a datagram. Each
 prints its whole answer where it never needed what was refused, and `fault: Memory` alone otherwise. `refused_growths.py` has
 how it is done.
 
@@ -18,7 +18,7 @@ SENT = "1 from 1\n1 from 2\n1 from 2\n1 from 1\n1 from 2\n1 from 2\n3 from 2\n"
 OUTER = "4500004000004000402f267d0a0900010a080001" + "00000800"
 DATAGRAM = "45000028000100004006aecd0a000001c0000201" + "03e80050000000010000000050022000" + "00000000"
 CASES = {
-    "example_replay": growths.Case(["replay"], SENT + SENT),
+    "example_replay": growths.Case(["replay"], SENT * 3),
     "example_tunnel": growths.Case(["wrap"], f"{OUTER}{DATAGRAM}\n"),
 }
 
