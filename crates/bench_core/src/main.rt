@@ -45,6 +45,7 @@ fn members(alloc: Global, count: u32, addr: u32) -> Result<Vec<Member>, AllocErr
             members.push(Member {
                 backend,
                 up: true,
+                draining: false,
                 weight: Weight::one(),
             })?;
         }

@@ -36,6 +36,7 @@ fn members(alloc: Global, count: u32) -> Result<Vec<Member>, AllocError> {
             members.push(Member {
                 backend: Backend { name, addr: number },
                 up: true,
+                draining: false,
                 weight: Weight::one(),
             })?;
         }

@@ -41,6 +41,7 @@ fn services(alloc: Global) -> Result<Vec<Service>, AllocError> {
             members.push(Member {
                 backend,
                 up: true,
+                draining: false,
                 weight: Weight::one(),
             })?;
         }

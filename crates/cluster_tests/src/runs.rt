@@ -53,6 +53,7 @@ fn catalogue(rt: &impl Abort, alloc: Global) -> Catalogue
     let member = Member {
         backend: backend(rt),
         up: true,
+        draining: false,
         weight: Weight::one(),
     };
     let mut services = Vec::new(alloc);

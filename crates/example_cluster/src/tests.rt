@@ -54,6 +54,7 @@ fn member(rt: &impl Abort, name: &[u8], addr: u32, up: bool) -> Member {
     Member {
         backend: Backend { name, addr },
         up,
+        draining: false,
         weight: Weight::one(),
     }
 }

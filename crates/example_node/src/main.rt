@@ -34,6 +34,7 @@ fn services(alloc: Global, up: bool) -> Result<Vec<Service>, AllocError> {
             members.push(Member {
                 backend,
                 up,
+                draining: false,
                 weight: Weight::one(),
             })?;
         }

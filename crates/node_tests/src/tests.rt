@@ -75,6 +75,7 @@ fn member(rt: &impl Abort, place: u8, up: bool, turns: u8) -> Member {
     Member {
         backend: backend(rt, place),
         up,
+        draining: false,
         weight: Weight::new(turns).expect(rt, "a weight"),
     }
 }

@@ -11,7 +11,7 @@ use Rattle.std.specs.List.Sorted.{IsPermutation, IsSortedBy}
 use Rattle.std.proofs.lemmas.Bool.{cases_Bool, true≢false}
 use Rattle.std.proofs.lemmas.List.Sums.{length-filter, count_by-le-length}
 use Rattle.std.proofs.lemmas.List.Sorted.{IsPermutation-refl, IsPermutation-cons, IsPermutation-trans, IsPermutation-insert, IsPermutation-middle, IsPermutation-append_left, length_permutation, IsPermutation-map}
-use Rattle.pool_versions.specs.Pool.{is_below, AscendsByName, MembersAscend, insert_by_name, ascending_with, up_members, up_backends, ranked, ups, weights, AreWeighed}
+use Rattle.pool_versions.specs.Pool.{is_below, AscendsByName, MembersAscend, insert_by_name, ascending_with, up_members, up_backends, ranked, ups, draining_members, draining_backends, weights, AreWeighed}
 use Rattle.pool_versions.specs.declared.backend.Backend.{Backend}
 use Rattle.pool_versions.specs.declared.backend.Member.{Member}
 
@@ -83,14 +83,17 @@ ascending_with_permutes sorted (b ∷ bs) =
     (IsPermutation-append_left bs (b ∷ sorted) (insert_by_name b sorted) (inserted_is_there b sorted))
     (ascending_with_permutes (insert_by_name b sorted) bs))
 
+pub sorted_ascend : (ms : List Member) → MembersAscend (ascending_with [] ms)
+sorted_ascend ms = ascending_with_ascends [] ms (λ k d low within. absurd (omega arith))
+
 pub ranked_ascend : (ms : List Member) → MembersAscend (ranked ms)
-ranked_ascend ms = ascending_with_ascends [] (up_members ms) (λ k d low within. absurd (omega arith))
+ranked_ascend ms = sorted_ascend (up_members ms)
 
 pub ranked_permute : (ms : List Member) → IsPermutation (up_members ms) (ranked ms)
 ranked_permute ms = ascending_with_permutes [] (up_members ms)
 
 a_member : Backend → Member
-a_member b = record { backend = b; up = true; weight = 1 }
+a_member b = record { backend = b; up = true; draining = false; weight = 1 }
 
 -- the backends of members that ascend do so too
 pub backends_ascend : (ms : List Member) → MembersAscend ms → AscendsByName (map (λ m. m.backend) ms)
@@ -102,6 +105,9 @@ backends_ascend ms s = λ k d low within.
 
 pub ups_ascend : (ms : List Member) → AscendsByName (ups ms)
 ups_ascend ms = backends_ascend (ranked ms) (ranked_ascend ms)
+
+pub draining_ascend : (ms : List Member) → AscendsByName (draining_backends ms)
+draining_ascend ms = backends_ascend (ascending_with [] (draining_members ms)) (sorted_ascend (draining_members ms))
 
 pub ups_permute : (ms : List Member) → IsPermutation (up_backends ms) (ups ms)
 ups_permute ms = IsPermutation-map (λ (m : Member). m.backend) (up_members ms) (ranked ms) (ranked_permute ms)

@@ -14,9 +14,9 @@ use Rattle.std.proofs.lemmas.Fn.{always_returns_same}
 use Rattle.std.proofs.lemmas.List.{append-nil}
 use Rattle.std.proofs.lemmas.List.Elements.{filter-append}
 use Rattle.std.proofs.lemmas.List.Sorted.{sorted_far, ranks_by}
-use Rattle.pool_versions.specs.Pool.{is_below, MembersAscend, insert_by_name, ascending_with, up_members, ranked}
+use Rattle.pool_versions.specs.Pool.{is_below, MembersAscend, insert_by_name, ascending_with}
 use Rattle.pool_versions.specs.declared.backend.Member.{Member}
-use Rattle.pool_versions.proofs.Ascending.{sorted_rest, inserted_ascends, ranked_ascend}
+use Rattle.pool_versions.proofs.Ascending.{sorted_rest, inserted_ascends, sorted_ascend}
 
 filter_none : {X : Type 0} (p : X → Bool) (xs : List X) → ((k : ℕ) (d : X) → k < length xs → p (get_or xs k d) ≡ false) → filter p xs ≡ []
 filter_none p [] h = refl
@@ -110,11 +110,11 @@ ascending_with_keeps z sorted (b ∷ bs) s =
     ∙ sym (filter-append (ties by_name z) (sorted ++ b ∷ []) bs)
     ∙ ap (filter (ties by_name z)) (append_assoc sorted (b ∷ []) bs)
 
--- a list that ascends and keeps the order of ties of the up members is the up members in order
-pub ranked_are : (ms : List Member) (bs : List Member) → MembersAscend bs → ((z : Member) → filter (ties by_name z) bs ≡ filter (ties by_name z) (up_members ms)) → bs ≡ ranked ms
-ranked_are ms bs s h =
-    only_one by_name by_name_is_order bs (ranked ms) s (ranked_ascend ms)
-    (λ z. h z ∙ sym (ascending_with_keeps z [] (up_members ms) (λ k d low within. absurd (omega arith))))
+-- a list that ascends and keeps the order of ties of some members is those members in order
+pub sorted_are : (ms : List Member) (bs : List Member) → MembersAscend bs → ((z : Member) → filter (ties by_name z) bs ≡ filter (ties by_name z) ms) → bs ≡ ascending_with [] ms
+sorted_are ms bs s h =
+    only_one by_name by_name_is_order bs (ascending_with [] ms) s (sorted_ascend ms)
+    (λ z. h z ∙ sym (ascending_with_keeps z [] ms (λ k d low within. absurd (omega arith))))
 
 -- a closure that compares by name answers by that order
 pub compares_by_name : {F : Type 0} {g : Mut F (Bor Member × (Bor Member × Unit {0})) Ordering} {f : F} → ((a : Bor Member × (Bor Member × Unit {0})) (r : Ordering) (f' : F) → Called g f a r f' → (r ≡ slice_cmp nat_cmp a.0.now.backend.name a.1.0.now.backend.name) × (f' ≡ f)) →

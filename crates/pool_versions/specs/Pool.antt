@@ -1,5 +1,5 @@
 -- What a catalogue represents.
-use Rattle.std.specs.Prelude.{◌≡◌, ℕ, ◌≤◌, Bool, false, ◌&&◌, ◌||◌, ◌==◌, nat_lt, nat_eq, if◌then◌else◌, List, [], ◌∷◌, length, map, filter, find, Option, Some, None, option_map, option_and_then, is_some, Result, Ok, Err, ◌⊎◌}
+use Rattle.std.specs.Prelude.{◌≡◌, ℕ, ◌≤◌, Bool, false, not, ◌&&◌, ◌||◌, ◌==◌, nat_lt, nat_eq, if◌then◌else◌, List, [], ◌∷◌, length, map, filter, find, Option, Some, None, option_map, option_and_then, is_some, Result, Ok, Err, ◌⊎◌}
 use Rattle.std.specs.List.{list_any, All}
 use Rattle.std.specs.List.Sorted.{IsSortedByKey, IsPermutation}
 use Rattle.std.specs.Ordering.{nat_cmp, is_lt}
@@ -156,7 +156,19 @@ ranked ms = ascending_with [] (up_members ms)
 abbrev pub ups : List Member → List Backend
 ups ms = map (λ m. m.backend) (ranked ms)
 
--- the weights of these backends, in their order
+-- a member takes no turns, and keeps the connections that it has
+abbrev pub is_draining : Member → Bool
+is_draining m = not m.up && m.draining
+
+-- the members that drain, in their order
+abbrev pub draining_members : List Member → List Member
+draining_members ms = filter is_draining ms
+
+-- the backends of the members that drain, in ascending byte order of name
+abbrev pub draining_backends : List Member → List Backend
+draining_backends ms = map (λ m. m.backend) (ascending_with [] (draining_members ms))
+
+-- the weights of the up backends, in their order
 abbrev pub weights : List Member → List ℕ
 weights ms = map (λ m. m.weight) (ranked ms)
 

@@ -1,7 +1,7 @@
 //! Services and versions.
-ghost use Rattle.std.specs.Prelude.{◌≡◌, ◌≤◌, map, length, All, IfOk, option_copied};
+ghost use Rattle.std.specs.Prelude.{◌≡◌, ◌≤◌, [], map, length, All, IfOk, option_copied};
 ghost use Rattle.std.specs.List.Sorted.{IsPermutation};
-ghost use Rattle.pool_versions.specs.Pool.{same_service, has_too_many, key_of, up_members, up_backends, ranked, ups, weights, AscendsByName, AreWeighed, serves, find_service};
+ghost use Rattle.pool_versions.specs.Pool.{same_service, has_too_many, key_of, up_members, up_backends, ranked, ups, draining_members, draining_backends, ascending_with, weights, AscendsByName, AreWeighed, serves, find_service};
 
 use crate::backend::{Backend, Member};
 use crate::key::ServiceKey;
@@ -39,6 +39,27 @@ fn up_members(alloc: Global, members: &[Member]) -> Result<Vec<Member>, AllocErr
         }
     }
     Ok(found)
+}
+
+// The members that drain, in their order.
+fn draining_members(alloc: Global, members: &[Member]) -> Result<Vec<Member>, AllocError>
+    ensures { IfOk result (λ v. v.items ≡ draining_members members.now) }
+{
+    let mut found = Vec::new(alloc);
+    for member in members {
+        if member.is_draining() {
+            found.push(*member)?;
+        }
+    }
+    Ok(found)
+}
+
+// Members in ascending byte order of name.
+fn sorted(mut members: Vec<Member>) -> Result<Vec<Member>, AllocError>
+    ensures { IfOk result (λ v. v.items ≡ ascending_with [] members.items) }
+{
+    members.sort_by(|one, other| one.backend.name.cmp(&other.backend.name))?;
+    Ok(members)
 }
 
 /// The backends of some members, in the members' order.
@@ -107,8 +128,7 @@ impl Service {
         ensures permutation { IfOk result (λ v. IsPermutation (up_members self.now.members.items) v.items) }
         ensures short { IfOk result (λ v. length v.items ≤ length self.now.members.items) }
     {
-        let mut members = up_members(alloc, self.members.as_slice())?;
-        members.sort_by(|one, other| one.backend.name.cmp(&other.backend.name))?;
+        let members = sorted(up_members(alloc, self.members.as_slice())?)?;
         Ok(members)
     }
 
@@ -130,6 +150,16 @@ impl Service {
     {
         let members = self.ranked(alloc)?;
         weights_of(alloc, members.as_slice())
+    }
+
+    /// The backends of the members that drain, in ascending byte order of name.
+    pub fn draining(&self, alloc: Global) -> Result<Vec<Backend>, AllocError>
+        ensures value { IfOk result (λ v. v.items ≡ draining_backends self.now.members.items) }
+        ensures ascending { IfOk result (λ v. AscendsByName v.items) }
+    {
+        let members = sorted(draining_members(alloc, self.members.as_slice())?)?;
+        let backends = backends_of(alloc, members.as_slice())?;
+        Ok(backends)
     }
 
     // Whether it serves the flows of another.

@@ -22,6 +22,7 @@ fn member(rt: &impl Abort, name: &[u8], addr: u32, up: bool) -> Member {
     Member {
         backend: backend(rt, name, addr),
         up,
+        draining: false,
         weight: Weight::one(),
     }
 }

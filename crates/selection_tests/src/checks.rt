@@ -54,6 +54,7 @@ pub(crate) fn members_of(rt: &impl Abort, alloc: Global, rows: &[Row<'_>]) -> Ve
         let member = Member {
             backend: backend(rt, name, *addr),
             up: *up,
+            draining: false,
             weight: Weight::new(*turns).expect(rt, "a weight"),
         };
         members.push(member).expect(rt, "memory");

@@ -43,6 +43,7 @@ fn services(alloc: Global, dice: &mut Dice) -> Result<Vec<Service>, AllocError> 
             members.push(Member {
                 backend,
                 up,
+                draining: false,
                 weight: Weight::one(),
             })?;
         }

@@ -19,6 +19,7 @@ fn weighed(rt: &impl Abort, name: &[u8], addr: u32, up: bool, turns: u8) -> Memb
     Member {
         backend: Backend { name, addr },
         up,
+        draining: false,
         weight: Weight::new(turns).expect(rt, "a weight"),
     }
 }

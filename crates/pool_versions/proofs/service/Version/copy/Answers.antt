@@ -1,7 +1,7 @@
-use Rattle.std.proofs.Common.{◌≡◌, ◌<◌, ◌≤◌, ◌++◌, ◌∷◌, [], length, map, List, get_or, refl, sym, ap, ◌∙◌, arith}
+use Rattle.std.proofs.Common.{◌≡◌, ◌<◌, ◌≤◌, length, map, List, get_or, refl, ap, ◌∙◌, arith}
 use Rattle.std.proofs.lemmas.List.{map_push}
 use Rattle.pool_versions.specs.declared.service.Service.{Service}
-use Rattle.pool_versions.specs.Same.{Parts, parts_of}
+use Rattle.pool_versions.specs.Same.{parts_of}
 use Rattle.pool_versions.proofs.Alike.{parts_all, parts_next}
 use Rattle.pool_versions.proofs.service.Version.copy.Goals as goal
 
