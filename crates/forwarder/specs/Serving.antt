@@ -5,7 +5,7 @@ use Rattle.five_tuple.specs.declared.Flow.{Flow}
 use Rattle.pool_versions.specs.declared.backend.Backend.{Backend}
 use Rattle.connection_table.specs.declared.table.Entry.{Entry}
 use Rattle.selection.specs.Candidates.{Candidates}
-use Rattle.selection.specs.Readied.{Readied, ReadiedService, ready_for, same_backend}
+use Rattle.selection.specs.Readied.{Readied, ReadiedService, ready_for, same_backend, keeps}
 use Rattle.connection_table.specs.Touches.{Touch, in_time, last_touch, newest_each, standing}
 use Rattle.connection_table.specs.Recency.{at_clock, stored}
 use Rattle.forwarder.specs.Forwarding.{Forwarding}
@@ -36,14 +36,14 @@ pub record Reply : Type 0 where
 abbrev pub ups_in : {S : Type 0} → Readied S → Flow → Option Candidates
 ups_in {S} v x = option_map (λ (r : ReadiedService S). r.ups) (ready_for x v.services)
 
--- whether a backend is one of the candidates, by name and address
+-- whether a backend is one of those that are up, by name and address
 abbrev pub is_up : Backend → Candidates → Bool
 is_up b ups = list_any (same_backend b) ups.backends
 
--- the entry where its backend is up
+-- the entry where its backend is up or drains
 abbrev pub kept : Option Entry → Candidates → Option Entry
 kept None ups = None
-kept (Some e) ups = if is_up e.backend ups then Some e else None
+kept (Some e) ups = if keeps e.backend ups then Some e else None
 
 -- nobody is up: an entry that stands stays as it was, and is touched
 abbrev pub touch_unanswered : ℕ → Flow → Option Entry → Option Touch
@@ -60,7 +60,7 @@ abbrev pub told_asked : ℕ → Serving → Option Entry → Option Backend → 
 told_asked clock s stood None = record { choice = NoBackend; asked = true; touch = touch_unanswered clock s.flow stood; clock = clock }
 told_asked clock s stood (Some b) = record { choice = Forward b s.version; asked = true; touch = touch_answered clock s stood b; clock = clock }
 
--- by the entry where its backend is up, else by the scheme
+-- by the entry where its backend is up or drains, else by the scheme
 abbrev pub told_by : Pick → ℕ → Serving → Candidates → Option Entry → Option Entry → ℕ → Reply
 told_by pick clock s ups stood (Some e) turn = record { choice = Forward e.backend e.version; asked = false; touch = Some (s.flow, at_clock clock e); clock = clock }
 told_by pick clock s ups stood None turn = told_asked clock s stood (pick ups s.flow turn)

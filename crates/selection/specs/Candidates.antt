@@ -4,19 +4,25 @@ use Rattle.five_tuple.specs.declared.Flow.{Flow}
 use Rattle.pool_versions.specs.declared.backend.Backend.{Backend}
 use Rattle.pool_versions.specs.declared.backend.Member.{Member}
 use Rattle.pool_versions.specs.declared.service.Version.{Version}
-use Rattle.pool_versions.specs.Pool.{Pools, version_at, find_service, ups, weights}
+use Rattle.pool_versions.specs.Pool.{Pools, version_at, find_service, ups, weights, draining_backends}
 
--- the backends of a flow's service that are up, in ascending order of name, and the weight of each
+-- The backends of a flow's service that are up, in ascending order of name, and the weight of each. Beside them those that
+-- drain: a scheme picks none of them, and a flow that has one keeps it.
 pub record Candidates : Type 0 where
   pub backends : List Backend
   pub weights : List ℕ
+  pub draining : List Backend
 
-abbrev pub among : List Backend → List ℕ → Candidates
-among bs ws = record { backends = bs; weights = ws }
+abbrev pub among : List Backend → List ℕ → List Backend → Candidates
+among bs ws ds = record { backends = bs; weights = ws; draining = ds }
+
+-- something holds of these backends and weights, whoever drains beside them
+abbrev pub WhoeverDrains : (Candidates → Type 0) → List Backend → List ℕ → Type 0
+WhoeverDrains Holds bs ws = (ds : List Backend) → Holds (among bs ws ds)
 
 -- those of some members
 abbrev pub candidates_in : List Member → Candidates
-candidates_in ms = among (ups ms) (weights ms)
+candidates_in ms = among (ups ms) (weights ms) (draining_backends ms)
 
 -- those of a flow's service under a version
 abbrev pub candidates_under : Version → Flow → Option Candidates

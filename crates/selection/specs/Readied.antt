@@ -1,6 +1,7 @@
 -- What a prepared version represents.
-use Rattle.std.specs.Prelude.{◌≡◌, ℕ, Bool, ◌&&◌, ◌==◌, nat_eq, nat_lt, List, [], ◌∷◌, map, find, length, Option, option_map, Contains, IsSomeAnd}
+use Rattle.std.specs.Prelude.{◌≡◌, ℕ, Bool, ◌&&◌, ◌||◌, ◌==◌, nat_eq, nat_lt, List, [], ◌∷◌, map, find, length, Option, option_map, Contains, IsSomeAnd}
 use Rattle.std.specs.Cmp.Lexicographic.{pointwise}
+use Rattle.std.specs.List.{list_any}
 use Rattle.five_tuple.specs.declared.Flow.{Flow}
 use Rattle.pool_versions.specs.declared.backend.Backend.{Backend}
 use Rattle.pool_versions.specs.declared.service.Service.{Service}
@@ -58,6 +59,10 @@ ups_for x ss = option_map (λ s. s.ups) (ready_for x ss)
 -- the two have one name and one address
 abbrev pub same_backend : Backend → Backend → Bool
 same_backend a b = pointwise nat_eq a.name b.name && (a.addr == b.addr)
+
+-- a flow that has a backend keeps it: the backend is up or drains
+abbrev pub keeps : Backend → Candidates → Bool
+keeps b c = list_any (same_backend b) c.backends || list_any (same_backend b) c.draining
 
 -- a backend is among the up members of the flow's service
 abbrev pub IsUpFor : {S : Type 0} → Flow → Backend → List (ReadiedService S) → Type 0
