@@ -1,7 +1,7 @@
 //! A cluster under events that are learnt one by one.
 ghost use Rattle.std.specs.Prelude.{◌≡◌, ◌≤◌, ◌<◌, ◌^◌, ◌∷◌, [], ℕ, true, false, List, length, Option, Some, None, IsTrue, IfOk, OnOk, OnErr, IsErr, option_copied, slice_get, replicate, is_some, insert};
 ghost use Rattle.pool_versions.specs.Pool.{Pools, version_at};
-ghost use Rattle.selection.specs.Readied.{Readied, readied_version};
+ghost use Rattle.selection.specs.Readied.{Readied};
 ghost use Rattle.cluster_node.specs.Rules.{Rules};
 ghost use Rattle.cluster_node.specs.declared.events.LogEntry.{LogEntry};
 ghost use Rattle.cluster_node.specs.Record.{fresh, newest_of, lines_of};
@@ -18,7 +18,7 @@ use cluster_node::{Event, Node, Outcome, Packet, Passed, Reason};
 use connection_table::ConnTable;
 use hash_laws::FlowHash;
 use pool_versions::{Catalogue, Version};
-use selection::{PreparedVersion, PreparedVersions, Scheme};
+use selection::{PreparedVersions, Scheme};
 use std::alloc::{AllocError, Global};
 use std::fmt;
 use std::marker::Model;
@@ -63,27 +63,6 @@ pub(crate) fn node_at(event: &Event) -> u16
     }
 }
 
-// Prepares a version after the one prepared last, with which its services share what they can.
-fn prepare_next<S: Scheme>(
-    alloc: Global,
-    versions: &PreparedVersions<S>,
-    scheme: &S,
-    size: TableSize,
-    version: &Version,
-) -> Result<PreparedVersion<S>, AllocError>
-    ensures { IfOk result (λ p. p ≡ readied_version scheme.now size version.now) }
-{
-    let prepared = match versions.last() {
-        None => PreparedVersion::make(alloc, scheme, size, version),
-        Some(before) => PreparedVersion::make_after(alloc, scheme, size, version, before),
-    };
-    match prepared {
-        Ok(prepared) => Ok(prepared),
-        // A version of a catalogue has no more backends than slots, so memory was refused here.
-        Err(_) => Err(AllocError),
-    }
-}
-
 // Prepares a version unless that was done before. The newest is in front.
 fn prepare<S: Scheme>(
     alloc: Global,
@@ -97,8 +76,11 @@ fn prepare<S: Scheme>(
     if versions.find(version.number).is_some() {
         return Ok(());
     }
-    let prepared = prepare_next(alloc, versions, scheme, size, version)?;
-    versions.put(prepared)
+    match versions.prepare(alloc, scheme, size, version) {
+        Ok(()) => Ok(()),
+        // A version of a catalogue has no more backends than slots, so memory was refused here.
+        Err(_) => Err(AllocError),
+    }
 }
 
 /// Prepares a version of the catalogue that is above a node's newest, unless that was done before: then it goes in front of

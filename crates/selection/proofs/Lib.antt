@@ -5,3 +5,4 @@ pub mod Places
 pub mod Tables
 pub mod Versions
 pub mod Sources
+pub mod Sharing

@@ -74,9 +74,9 @@ even_table plain size ups weights None none some any = absurd (any (no_backends 
 even_table plain size ups weights (Some t) none some any = even_owners plain size ups weights t.owners any some.long some.owners_are some.shares some.balanced
 
 pub is_table_of : (plain : List ℕ → ℕ) (size : ℕ) (ups : List Backend) (weights : List ℕ) (o : Option Owners) → (o ≡ None → preferences plain size ups ≡ []) → IfSome o (IsTable (preferences plain size ups) weights size) →
-    IsTableOf plain size (among ups weights) (record { size = size; ups = ups; owners = owners_in o })
+    (ds : List Backend) → IsTableOf plain size (among ups weights ds) (record { size = size; ups = ups; owners = owners_in o })
 unfolding named_table
-is_table_of plain size ups weights o none some = record {
+is_table_of plain size ups weights o none some ds = record {
   made = ap (named_table size ups) (owners_of_table plain size ups weights o none some);
   even = even_table plain size ups weights o none some;
 }

@@ -1,13 +1,14 @@
 //! What a scheme prepared of some backends, for every version in which they are the up ones, with the same weights.
-ghost use Rattle.std.specs.Prelude.{◌≡◌, ℕ, ◌↔◌, true, length, IsTrue, IfOk, IfErr, IfSome, Contains};
+ghost use Rattle.std.specs.Prelude.{◌≡◌, true, IsTrue, IfOk, IfErr, IfSome, Contains};
 ghost use Rattle.std.specs.Arc.{arc_value};
 ghost use Rattle.pool_versions.specs.Pool.{AscendsByName};
-ghost use Rattle.selection.specs.Candidates.{among};
-ghost use Rattle.selection.specs.Shared.{Chosen, StandsFor};
+ghost use Rattle.selection.specs.Shared.{StandsFor, IsPreparedFor, IsLike};
 ghost use Rattle.selection.specs.Faults.{IsPrepareFault};
+ghost use Rattle.selection.specs.declared.scheme.PrepareFault.TheVariants.{Memory};
 
 use crate::scheme::{PrepareFault, Scheme};
-use backend_names::{TableSize, Weight};
+use crate::ups::{Ups, is_same};
+use backend_names::TableSize;
 use pool_versions::Backend;
 use std::alloc::{AllocError, Global};
 use std::marker::Model;
@@ -18,61 +19,20 @@ use std::sync::Arc;
 pub(crate) struct Choices<S: Scheme> {
     scheme: S,
     size: TableSize,
-    ups: Vec<Backend>,
-    weights: Vec<Weight>,
+    ups: Ups,
     // The cells in which a backend is looked for first, by its address.
     places: Vec<u32>,
     prepared: S::Prepared,
 }
 
 impl<S: Scheme> Model for Choices<S> {
-    ghost use Rattle.pool_versions.specs.Pool.{AscendsByName};
-    ghost use Rattle.selection.specs.Candidates.{among};
-    ghost use Rattle.selection.specs.Shared.{Chosen};
+    ghost use Rattle.selection.specs.Shared.{Chosen, IsPreparedFor};
 
     ghost Value = { Chosen S };
 
-    ghost view = { λ a. record { scheme = a.scheme; size = a.size; ups = among a.ups.items a.weights.items } };
+    ghost view = { λ a. record { scheme = a.scheme; size = a.size; ups = a.ups } };
 
-    ghost invariant = { λ a. S.is_prepared a.scheme a.size (among a.ups.items a.weights.items) a.prepared × AscendsByName a.ups.items };
-}
-
-// Whether two backends are the same.
-#[tactic(auto, using(crate::proofs::Among::same_iff))]
-fn is_same(backend: &Backend, other: &Backend) -> bool
-    ensures { (result ≡ true) ↔ (backend.now ≡ other.now) }
-{
-    backend == other
-}
-
-// Whether two lists of backends are the same.
-fn are_same(ups: &[Backend], others: &[Backend]) -> bool
-    ensures { (result ≡ true) ↔ (ups.now ≡ others.now) }
-{
-    if ups.len() != others.len() {
-        return false;
-    }
-    for at in 0..ups.len() {
-        if !is_same(&ups[at], &others[at]) {
-            return false;
-        }
-    }
-    true
-}
-
-// Whether two lists of weights are the same.
-fn weigh_the_same(weights: &[Weight], others: &[Weight]) -> bool
-    ensures { (result ≡ true) ↔ (weights.now ≡ others.now) }
-{
-    if weights.len() != others.len() {
-        return false;
-    }
-    for at in 0..weights.len() {
-        if weights[at].turns() != others[at].turns() {
-            return false;
-        }
-    }
-    true
+    ghost invariant = { λ a. IsPreparedFor (λ c. S.is_prepared a.scheme a.size c a.prepared) a.ups };
 }
 
 // By what an address is multiplied: 2^32 by the golden ratio. Addresses at equal distances fall far apart then (Knuth, The Art
@@ -155,44 +115,88 @@ fn likely_places(alloc: Global, ups: &[Backend]) -> Result<Vec<u32>, AllocError>
     Ok(places)
 }
 
+// Several owners of what was prepared.
+fn shared_by<S: Scheme>(
+    alloc: Global,
+    scheme: &S,
+    size: TableSize,
+    ups: Ups,
+    prepared: S::Prepared,
+) -> Result<Arc<Choices<S>>, PrepareFault>
+    requires prepared { IsPreparedFor (λ c. S.is_prepared scheme.now size c prepared) ups }
+    ensures ok { IfOk result (λ a. arc_value a ≡ record { scheme = scheme.now; size = size; ups = ups }) }
+    ensures err { IfErr result (λ e. e ≡ Memory) }
+{
+    let places = likely_places(alloc, ups.backends())?;
+    let choices = Choices {
+        scheme: *scheme,
+        size,
+        ups,
+        places,
+        prepared,
+    };
+    match Arc::new(alloc, choices) {
+        Ok(shared) => Ok(shared),
+        Err(_) => Err(PrepareFault::Memory),
+    }
+}
+
 impl<S: Scheme> Choices<S> {
-    /// Prepares backends that ascend by name.
+    /// Prepares backends.
     pub(crate) fn make(
         alloc: Global,
         scheme: &S,
         size: TableSize,
-        ups: Vec<Backend>,
-        weights: Vec<Weight>,
+        ups: Ups,
     ) -> Result<Arc<Choices<S>>, PrepareFault>
-        requires ascending { AscendsByName ups.items }
-        requires weighed { length weights.items ≡ length ups.items }
-        ensures ok { IfOk result (λ a. arc_value a ≡ record { scheme = scheme.now; size = size; ups = among ups.items weights.items }) }
-        ensures err { IfErr result (IsPrepareFault size ups.items) }
+        ensures ok { IfOk result (λ a. StandsFor (λ s z c p. S.is_prepared s z c p) scheme.now size ups (arc_value a)) }
+        ensures err { IfErr result (IsPrepareFault size ups.backends) }
     {
-        let prepared = scheme.prepare(alloc, size, ups.as_slice(), weights.as_slice())?;
-        let places = likely_places(alloc, ups.as_slice())?;
-        let choices = Choices {
-            scheme: *scheme,
-            size,
-            ups,
-            weights,
-            places,
-            prepared,
+        let prepared = scheme.prepare(alloc, size, ups.backends(), ups.weights())?;
+        shared_by(alloc, scheme, size, ups, prepared)
+    }
+
+    /// The same, with what was prepared of the same names and weights, if this was.
+    pub(crate) fn make_like(
+        alloc: Global,
+        scheme: &S,
+        size: TableSize,
+        ups: Ups,
+        other: &Choices<S>,
+    ) -> Result<Arc<Choices<S>>, PrepareFault>
+        ensures ok { IfOk result (λ a. StandsFor (λ s z c p. S.is_prepared s z c p) scheme.now size ups (arc_value a)) }
+        ensures err { IfErr result (IsPrepareFault size ups.backends) }
+    {
+        let Some(like) = other.likewise(scheme, size, &ups) else {
+            return Self::make(alloc, scheme, size, ups);
         };
-        match Arc::new(alloc, choices) {
-            Ok(shared) => Ok(shared),
-            Err(_) => Err(PrepareFault::Memory),
+        let prepared = scheme.prepare_like(alloc, size, ups.backends(), ups.weights(), like)?;
+        shared_by(alloc, scheme, size, ups, prepared)
+    }
+
+    // Whether it is for an equal scheme and the size.
+    fn is_for(&self, scheme: &S, size: TableSize) -> bool
+        ensures size { IsTrue result → self.now.size ≡ size }
+        ensures scheme { IsTrue result → S.eq self.now.scheme scheme.now ≡ true }
+    {
+        self.size.slots() == size.slots() && self.scheme == *scheme
+    }
+
+    // What an equal scheme prepared for this size of the same names and weights, if it did here.
+    fn likewise(&self, scheme: &S, size: TableSize, ups: &Ups) -> Option<&S::Prepared>
+        ensures { IfSome result (λ p. IsLike (λ c. S.is_prepared scheme.now size c p.now) ups.now.backends ups.now.weights) }
+    {
+        if !self.is_for(scheme, size) || !self.ups.is_like(ups) {
+            return None;
         }
+        Some(&self.prepared)
     }
 
     // Whether this is what an equal scheme prepared of these backends, of these weights, for this size.
-    fn is_of(&self, scheme: &S, size: TableSize, ups: &[Backend], weights: &[Weight]) -> bool
-        ensures { IsTrue result → StandsFor (λ s z b p. S.is_prepared s z b p) scheme.now size (among ups.now weights.now) self.now }
+    fn is_of(&self, scheme: &S, size: TableSize, ups: &Ups) -> bool
+        ensures { IsTrue result → StandsFor (λ s z c p. S.is_prepared s z c p) scheme.now size ups.now self.now }
     {
-        self.size.slots() == size.slots()
-            && self.scheme == *scheme
-            && are_same(self.ups.as_slice(), ups)
-            && weigh_the_same(self.weights.as_slice(), weights)
+        self.is_for(scheme, size) && self.ups.is(ups)
     }
 
     /// What an equal scheme prepared of these backends, of these weights, for this size, if this is it.
@@ -200,15 +204,19 @@ impl<S: Scheme> Choices<S> {
         this: &Arc<Choices<S>>,
         scheme: &S,
         size: TableSize,
-        ups: &[Backend],
-        weights: &[Weight],
+        ups: &Ups,
     ) -> Option<Arc<Choices<S>>>
-        ensures { IfSome result (λ a. StandsFor (λ s z b p. S.is_prepared s z b p) scheme.now size (among ups.now weights.now) (arc_value a)) }
+        ensures { IfSome result (λ a. StandsFor (λ s z c p. S.is_prepared s z c p) scheme.now size ups.now (arc_value a)) }
     {
-        if !this.is_of(scheme, size, ups, weights) {
+        if !this.is_of(scheme, size, ups) {
             return None;
         }
         Arc::try_clone(this).ok()
+    }
+
+    /// A number that depends on names and weights alone.
+    pub(crate) fn key(&self) -> u64 {
+        self.ups.key()
     }
 
     /// The backends, in ascending byte order of name.
@@ -216,7 +224,7 @@ impl<S: Scheme> Choices<S> {
         ensures ups { result.now ≡ self.now.ups.backends }
         ensures ascending { AscendsByName self.now.ups.backends }
     {
-        self.ups.as_slice()
+        self.ups.backends()
     }
 
     // Whether a cell has this backend.
@@ -227,7 +235,7 @@ impl<S: Scheme> Choices<S> {
         let Some(place) = self.places.get(cell) else {
             return false;
         };
-        match self.ups.get(*place as usize) {
+        match self.ups.backends().get(*place as usize) {
             Some(other) => is_same(backend, other),
             None => false,
         }
@@ -262,7 +270,7 @@ impl<S: Scheme> Choices<S> {
 
     /// What the scheme prepared.
     pub(crate) fn prepared(&self) -> &S::Prepared
-        ensures { S.is_prepared self.now.scheme self.now.size self.now.ups result.now }
+        ensures { IsPreparedFor (λ c. S.is_prepared self.now.scheme self.now.size c result.now) self.now.ups }
     {
         &self.prepared
     }

@@ -14,6 +14,8 @@ mod prepared;
 mod ready;
 mod round;
 mod scheme;
+mod store;
+mod ups;
 
 pub use by_name::{PlaceRange, is_among, places_of_name};
 pub use laws::maglev_and_plain_hash_are_steady;
@@ -24,3 +26,4 @@ pub use prepared::PreparedVersion;
 pub use ready::Ready;
 pub use round::RoundRobin;
 pub use scheme::{PrepareFault, Scheme};
+pub use store::TableStore;

@@ -1,7 +1,9 @@
 //! Maglev's tables.
-ghost use Rattle.std.specs.Prelude.{◌≡◌, ◌<◌, ◌≤◌, ◌↔◌, true, [], length, slice_index, None, IfOk, IfSome, IsErrOf, All, refl};
+ghost use Rattle.std.specs.Prelude.{◌≡◌, ◌<◌, ◌≤◌, ◌↔◌, true, [], length, slice_index, None, IfOk, IfErr, IfSome, IsErrOf, All, refl};
 ghost use Rattle.selection.specs.Picks.{table_pick, preferences, slot_names, owners_in, IsTable, IsTableOf};
-ghost use Rattle.selection.specs.Candidates.{among};
+ghost use Rattle.selection.specs.Candidates.{WhoeverDrains};
+ghost use Rattle.selection.specs.Shared.{IsLike};
+ghost use Rattle.selection.specs.declared.scheme.PrepareFault.TheVariants.{Memory};
 ghost use Rattle.selection.specs.Kept.{owners_of};
 ghost use Rattle.selection.specs.PickLaws.{table_pick_is_up, table_pick_is_none, table_pick_respects, table_respects};
 
@@ -13,6 +15,7 @@ use maglev_table::{Permutation, Table, TableFault, populate};
 use pool_versions::Backend;
 use std::alloc::{AllocError, Global};
 use std::marker::Model;
+use std::sync::Arc;
 
 /// The scheme of Maglev's tables (Maglev, section 3.4): a flow's backend is the one that the flow's slot names.
 #[derive(Clone, Copy, Debug, PartialEq, Eq)]
@@ -36,18 +39,20 @@ enum Slots {
 pub struct MaglevTable {
     size: TableSize,
     ups: Vec<Backend>,
-    slots: Slots,
+    // Tables of the same names and weights share them.
+    slots: Arc<Slots>,
 }
 
 impl Model for MaglevTable {
+    ghost use Rattle.std.specs.Arc.{arc_value};
     ghost use Rattle.selection.specs.Picks.{NamedTable};
     ghost use Rattle.selection.specs.Kept.{owners_of, FitsSlots};
 
     ghost Value = { NamedTable };
 
-    ghost view = { λ t. record { size = t.size; ups = t.ups.items; owners = owners_of t.slots } };
+    ghost view = { λ t. record { size = t.size; ups = t.ups.items; owners = owners_of (arc_value t.slots) } };
 
-    ghost invariant = { λ t. FitsSlots t.size t.ups.items (owners_of t.slots) };
+    ghost invariant = { λ t. FitsSlots t.size t.ups.items (owners_of (arc_value t.slots)) };
 }
 
 // The backends' preference lists, in the order of the backends.
@@ -171,7 +176,7 @@ impl<H: FlowHash> Maglev<H> {
         weights: &[Weight],
     ) -> Result<MaglevTable, PrepareFault>
         requires { length weights.now ≡ length ups.now }
-        ensures table { IfOk result (IsTableOf (H.plain self.now.hash) size (among ups.now weights.now)) }
+        ensures table { IfOk result (λ t. WhoeverDrains (λ c. IsTableOf (H.plain self.now.hash) size c t) ups.now weights.now) }
         ensures too_many { IsErrOf result PrepareFault.TooMany ↔ (size < length ups.now) }
     {
         if ups.len() > size.slots() as usize {
@@ -181,6 +186,29 @@ impl<H: FlowHash> Maglev<H> {
         let table = filled(alloc, lists.as_slice(), weights, size)?;
         let slots = slots_of(alloc, size, ups.len(), table)?;
         let ups = Vec::from_slice(alloc, ups)?;
+        let Ok(slots) = Arc::new(alloc, slots) else {
+            return Err(PrepareFault::Memory);
+        };
+        Ok(MaglevTable { size, ups, slots })
+    }
+
+    // The table of backends at other addresses: the same slots.
+    fn renamed(
+        &self,
+        alloc: Global,
+        size: TableSize,
+        ups: &[Backend],
+        like: &MaglevTable,
+        _weights: &[Weight],
+    ) -> Result<MaglevTable, PrepareFault>
+        requires { IsLike (λ c. IsTableOf (H.plain self.now.hash) size c like.now) ups.now _weights.now }
+        ensures table { IfOk result (λ t. WhoeverDrains (λ c. IsTableOf (H.plain self.now.hash) size c t) ups.now _weights.now) }
+        ensures memory { IfErr result (λ e. e ≡ Memory) }
+    {
+        let ups = Vec::from_slice(alloc, ups)?;
+        let Ok(slots) = Arc::try_clone(&like.slots) else {
+            return Err(PrepareFault::Memory);
+        };
         Ok(MaglevTable { size, ups, slots })
     }
 }
@@ -204,6 +232,17 @@ impl<H: FlowHash> Scheme for Maglev<H> {
         weights: &[Weight],
     ) -> Result<MaglevTable, PrepareFault> {
         self.table(alloc, size, ups, weights)
+    }
+
+    fn prepare_like(
+        &self,
+        alloc: Global,
+        size: TableSize,
+        ups: &[Backend],
+        weights: &[Weight],
+        like: &MaglevTable,
+    ) -> Result<MaglevTable, PrepareFault> {
+        self.renamed(alloc, size, ups, like, weights)
     }
 
     fn choose(&self, prepared: &MaglevTable, flow: &Flow, turn: u64) -> Option<Backend> {

@@ -1,9 +1,13 @@
 //! Prepared versions, by number.
-ghost use Rattle.std.specs.Prelude.{◌≡◌, ◌==◌, ◌∷◌, [], OnOk, OnErr, find, option_copied, slice_get};
-ghost use Rattle.selection.specs.Readied.{Readied};
+ghost use Rattle.std.specs.Prelude.{◌≡◌, ◌↔◌, ◌==◌, ◌∷◌, [], true, IfOk, IsErrOf, OnOk, OnErr, find, option_copied, slice_get};
+ghost use Rattle.std.specs.List.{list_any};
+ghost use Rattle.selection.specs.Readied.{Readied, readied_version, has_more_ups};
 
 use crate::prepared::PreparedVersion;
-use crate::scheme::Scheme;
+use crate::scheme::{PrepareFault, Scheme};
+use crate::store::TableStore;
+use backend_names::TableSize;
+use pool_versions::Version;
 use std::alloc::{AllocError, Global};
 use std::collections::HashMap;
 use std::fmt;
@@ -16,6 +20,8 @@ pub struct PreparedVersions<S: Scheme> {
     versions: Vec<PreparedVersion<S>>,
     // Where the last one of a number is.
     places: HashMap<u32, usize>,
+    // What was prepared for them.
+    store: TableStore<S>,
 }
 
 impl<S: Scheme> Model for PreparedVersions<S> {
@@ -45,6 +51,44 @@ impl<S: Scheme> PreparedVersions<S> {
         PreparedVersions {
             versions: Vec::new(alloc),
             places: HashMap::new(alloc),
+            store: TableStore::new(alloc),
+        }
+    }
+
+    // Prepares a version, with what was prepared for those that are here.
+    fn made(
+        &mut self,
+        alloc: Global,
+        scheme: &S,
+        size: TableSize,
+        version: &Version,
+    ) -> Result<PreparedVersion<S>, PrepareFault>
+        ensures made { IfOk result (λ p. p ≡ readied_version scheme.now size version.now) }
+        ensures too_many { IsErrOf result PrepareFault.TooMany ↔ (list_any (has_more_ups size) version.now.services.items ≡ true) }
+        ensures same { self.new ≡ self.old }
+    {
+        PreparedVersion::make_from(alloc, scheme, size, version, &mut self.store)
+    }
+
+    /// Prepares a version for a scheme and a size, and puts it in front of the others. Services of any of them whose up
+    /// backends are the same, of the same weights, share what was prepared: it costs no memory of its own and no table is made.
+    /// TooMany is answered exactly where a service has more up backends than there are slots. Where anything is refused nothing
+    /// changes.
+    pub fn prepare(
+        &mut self,
+        alloc: Global,
+        scheme: &S,
+        size: TableSize,
+        version: &Version,
+    ) -> Result<(), PrepareFault>
+        ensures ok { OnOk result (self.new ≡ readied_version scheme.now size version.now ∷ self.old) }
+        ensures err { OnErr result (self.new ≡ self.old) }
+        ensures too_many { IsErrOf result PrepareFault.TooMany ↔ (list_any (has_more_ups size) version.now.services.items ≡ true) }
+    {
+        let prepared = self.made(alloc, scheme, size, version)?;
+        match self.put(prepared) {
+            Ok(()) => Ok(()),
+            Err(_) => Err(PrepareFault::Memory),
         }
     }
 

@@ -12,6 +12,7 @@ ghost use Rattle.selection.specs.Readied.{Readied, readied_version, ready_for, u
 
 use crate::ready::Ready;
 use crate::scheme::{PrepareFault, Scheme};
+use crate::store::TableStore;
 use backend_names::TableSize;
 use five_tuple::Flow;
 use pool_versions::{Backend, Member, Service, ServiceKey, Version};
@@ -108,27 +109,23 @@ fn shared_copy(alloc: Global, version: &Version) -> Result<Arc<Version>, AllocEr
     }
 }
 
-// No version before. The reference that isn't there has the scheme's lifetime.
-fn no_version<'a, S: Scheme>(_scheme: &'a S) -> Option<&'a PreparedVersion<S>> {
-    None
-}
-
-// What the version before has for the flows of a service.
-fn like_before<'a, S: Scheme>(
-    before: Option<&'a PreparedVersion<S>>,
-    service: &Service,
-) -> Option<&'a Ready<S>> {
-    before?.first_of(service.key())
+// What a version holds, for a version after it.
+fn store_of<S: Scheme>(alloc: Global, before: &PreparedVersion<S>) -> TableStore<S> {
+    let mut store = TableStore::new(alloc);
+    for service in &before.services {
+        store.hold(service.choices());
+    }
+    store
 }
 
 impl<S: Scheme> PreparedVersion<S> {
-    // Prepares a version, after the one before if there is one.
-    fn prepare(
+    /// Prepares a version for a scheme and a size, with what is in a store. What the scheme prepares anew is held there too.
+    pub fn make_from(
         alloc: Global,
         scheme: &S,
         size: TableSize,
         version: &Version,
-        before: Option<&PreparedVersion<S>>,
+        store: &mut TableStore<S>,
     ) -> Result<PreparedVersion<S>, PrepareFault>
         ensures made { IfOk result (λ p. p ≡ readied_version scheme.now size version.now) }
         ensures ups { IfOk result (λ p. (x : Flow) → ups_for x p.services ≡ candidates_under version.now x) }
@@ -139,8 +136,7 @@ impl<S: Scheme> PreparedVersion<S> {
         }
         let mut services: Vec<Ready<S>> = Vec::new(alloc);
         for service in &version.services {
-            let like = like_before(before, service);
-            let ready = Ready::make(alloc, scheme, size, service, like)?;
+            let ready = Ready::make(alloc, scheme, size, service, store)?;
             let Ok(()) = services.push(ready) else {
                 return Err(PrepareFault::Memory);
             };
@@ -168,12 +164,13 @@ impl<S: Scheme> PreparedVersion<S> {
         ensures ups { IfOk result (λ p. (x : Flow) → ups_for x p.services ≡ candidates_under version.now x) }
         ensures too_many { IsErrOf result PrepareFault.TooMany ↔ (list_any (has_more_ups size) version.now.services.items ≡ true) }
     {
-        Self::prepare(alloc, scheme, size, version, no_version(scheme))
+        let mut store = TableStore::new(alloc);
+        Self::make_from(alloc, scheme, size, version, &mut store)
     }
 
-    /// The same. A service may have the up backends, of the same weights, that a service of its address, protocol and port
-    /// had in the version before. Where that was prepared for an equal scheme and the same size, the two share what was
-    /// prepared: it costs no memory of its own and no table is made.
+    /// The same. A service may have the up backends, of the same weights, that a service had in the version before. Where that
+    /// was prepared for an equal scheme and the same size, the two share what was prepared: it costs no memory of its own and
+    /// no table is made.
     pub fn make_after(
         alloc: Global,
         scheme: &S,
@@ -185,7 +182,8 @@ impl<S: Scheme> PreparedVersion<S> {
         ensures ups { IfOk result (λ p. (x : Flow) → ups_for x p.services ≡ candidates_under version.now x) }
         ensures too_many { IsErrOf result PrepareFault.TooMany ↔ (list_any (has_more_ups size) version.now.services.items ≡ true) }
     {
-        Self::prepare(alloc, scheme, size, version, Some(before))
+        let mut store = store_of(alloc, before);
+        Self::make_from(alloc, scheme, size, version, &mut store)
     }
 
     /// The version's number.

@@ -1,26 +1,25 @@
 //! One service of a version, prepared for a scheme.
-ghost use Rattle.std.specs.Prelude.{◌≡◌, ◌↔◌, true, [], length, IfOk, IfErr, IsFalse, Contains};
+ghost use Rattle.std.specs.Prelude.{◌≡◌, ◌↔◌, true, [], IfOk, IfErr, IsFalse, Contains};
 ghost use Rattle.std.specs.List.{list_any};
-ghost use Rattle.pool_versions.specs.Pool.{ups, AscendsByName};
-ghost use Rattle.std.specs.Arc.{arc_value};
+ghost use Rattle.pool_versions.specs.Pool.{ups};
 ghost use Rattle.selection.specs.Places.{key_of_readied};
-ghost use Rattle.selection.specs.Candidates.{among};
-ghost use Rattle.selection.specs.Shared.{StandsFor};
-ghost use Rattle.selection.specs.Readied.{ReadiedService, readied_of, same_backend};
+ghost use Rattle.selection.specs.Readied.{ReadiedService, readied_of, same_backend, keeps};
 ghost use Rattle.selection.specs.Faults.{IsPrepareFault};
 
 use crate::by_name::is_among;
 use crate::choices::Choices;
 use crate::scheme::{PrepareFault, Scheme};
-use backend_names::{TableSize, Weight};
+use crate::store::TableStore;
+use crate::ups::Ups;
+use backend_names::TableSize;
 use five_tuple::Flow;
-use pool_versions::{Backend, Service, ServiceKey, backends_of, weights_of};
+use pool_versions::{Backend, Service, ServiceKey};
 use std::alloc::Global;
 use std::fmt;
 use std::marker::Model;
 use std::sync::Arc;
 
-/// A service's up backends, prepared for a scheme. Services of several versions whose up backends are the same share what
+/// A service's up backends, prepared for a scheme, and those that drain. Services whose up backends are the same share what
 /// was prepared.
 #[derive(Drop)]
 pub struct Ready<S: Scheme> {
@@ -28,18 +27,22 @@ pub struct Ready<S: Scheme> {
     size: TableSize,
     key: ServiceKey,
     choices: Arc<Choices<S>>,
+    // In ascending byte order of name.
+    draining: Vec<Backend>,
 }
 
 impl<S: Scheme> Model for Ready<S> {
     ghost use Rattle.std.specs.Arc.{arc_value};
+    ghost use Rattle.pool_versions.specs.Pool.{AscendsByName};
+    ghost use Rattle.selection.specs.Candidates.{among};
     ghost use Rattle.selection.specs.Shared.{StandsFor};
     ghost use Rattle.selection.specs.Readied.{ReadiedService};
 
     ghost Value = { ReadiedService S };
 
-    ghost view = { λ a. record { scheme = a.scheme; size = a.size; vip = a.key.vip; proto = a.key.proto; port = a.key.port; ups = (arc_value a.choices).ups } };
+    ghost view = { λ a. record { scheme = a.scheme; size = a.size; vip = a.key.vip; proto = a.key.proto; port = a.key.port; ups = among (arc_value a.choices).ups.backends (arc_value a.choices).ups.weights a.draining.items } };
 
-    ghost invariant = { λ a. StandsFor (λ s z b p. S.is_prepared s z b p) a.scheme a.size (arc_value a.choices).ups (arc_value a.choices) };
+    ghost invariant = { λ a. StandsFor (λ s z c p. S.is_prepared s z c p) a.scheme a.size (arc_value a.choices).ups (arc_value a.choices) × AscendsByName a.draining.items };
 }
 
 impl<S: Scheme> fmt::Debug for Ready<S> {
@@ -51,56 +54,33 @@ impl<S: Scheme> fmt::Debug for Ready<S> {
     }
 }
 
-// What a scheme prepares of some backends: that of the version before, where it is of the same ones of the same weights.
-fn choices_of<S: Scheme>(
-    alloc: Global,
-    scheme: &S,
-    size: TableSize,
-    ups: Vec<Backend>,
-    weights: Vec<Weight>,
-    before: Option<&Ready<S>>,
-) -> Result<Arc<Choices<S>>, PrepareFault>
-    requires ascending { AscendsByName ups.items }
-    requires weighed { length weights.items ≡ length ups.items }
-    ensures ok { IfOk result (λ a. StandsFor (λ s z b p. S.is_prepared s z b p) scheme.now size (among ups.items weights.items) (arc_value a)) }
-    ensures err { IfErr result (IsPrepareFault size ups.items) }
-{
-    if let Some(ready) = before {
-        if let Some(shared) = Choices::shared(
-            &ready.choices,
-            scheme,
-            size,
-            ups.as_slice(),
-            weights.as_slice(),
-        ) {
-            return Ok(shared);
-        }
-    }
-    Choices::make(alloc, scheme, size, ups, weights)
-}
-
 impl<S: Scheme> Ready<S> {
-    // Prepares a service, after that of the same flows in the version before.
+    // Prepares a service, with what is in a store.
     pub(crate) fn make(
         alloc: Global,
         scheme: &S,
         size: TableSize,
         service: &Service,
-        before: Option<&Ready<S>>,
+        store: &mut TableStore<S>,
     ) -> Result<Ready<S>, PrepareFault>
         ensures ok { IfOk result (λ r. r ≡ readied_of scheme.now size service.now) }
         ensures err { IfErr result (IsPrepareFault size (ups service.now.members.items)) }
     {
-        let members = service.ranked(alloc)?;
-        let ups = backends_of(alloc, members.as_slice())?;
-        let weights = weights_of(alloc, members.as_slice())?;
-        let choices = choices_of(alloc, scheme, size, ups, weights, before)?;
+        let draining = service.draining(alloc)?;
+        let ups = Ups::of(alloc, service)?;
+        let choices = store.choices(alloc, scheme, size, ups)?;
         Ok(Ready {
             scheme: *scheme,
             size,
             key: service.key(),
             choices,
+            draining,
         })
+    }
+
+    // What it shares with others.
+    pub(crate) fn choices(&self) -> &Arc<Choices<S>> {
+        &self.choices
     }
 
     // What distinguishes this service from others.
@@ -141,5 +121,19 @@ impl<S: Scheme> Ready<S> {
             return true;
         }
         is_among(self.choices.ups(), backend)
+    }
+
+    // Whether a backend is one of those that drain.
+    fn drains(&self, backend: &Backend) -> bool
+        ensures { result ≡ list_any (same_backend backend.now) self.now.ups.draining }
+    {
+        is_among(self.draining.as_slice(), backend)
+    }
+
+    /// Whether a flow that has a backend, as the pair of a name and an address, keeps it: the backend is up or drains.
+    pub fn keeps(&self, backend: &Backend) -> bool
+        ensures { result ≡ keeps backend.now self.now.ups }
+    {
+        self.is_up(backend) || self.drains(backend)
     }
 }

@@ -1,8 +1,9 @@
 //! What a scheme is.
-ghost use Rattle.std.specs.Prelude.{◌≡◌, ◌↔◌, Bool, true, ℕ, [], length, Option, Some, None, IfOk, IfErr, Contains};
+ghost use Rattle.std.specs.Prelude.{◌≡◌, ◌↔◌, Bool, true, ℕ, List, [], length, map, Option, Some, None, IfOk, IfErr, Contains};
 ghost use Rattle.five_tuple.specs.declared.Flow.{Flow};
 ghost use Rattle.pool_versions.specs.declared.backend.Backend.{Backend};
-ghost use Rattle.selection.specs.Candidates.{Candidates, among};
+ghost use Rattle.selection.specs.Candidates.{Candidates, WhoeverDrains};
+ghost use Rattle.selection.specs.Shared.{IsLike};
 ghost use Rattle.selection.specs.Faults.{IsPrepareFault};
 
 use backend_names::{TableSize, Weight};
@@ -34,9 +35,10 @@ impl From<AllocError> for PrepareFault {
 
 /// A way to choose a backend for a flow.
 ///
-/// A choice is a function, `pick`, of the up backends with their weights, the table's size, the flow and the turn. It is one of those
-/// backends, and None exactly where there is none. Schemes that are equal by `==` have one pick. So two balancers with
-/// equal schemes choose alike under one version, whatever they served before; and what one of them prepared serves the other.
+/// A choice is a function, `pick`, of the up backends with their weights, the table's size, the flow and the turn. It is one of
+/// those backends, and None exactly where there is none. Who drains beside them isn't asked: what was prepared is right
+/// whoever does. Schemes that are equal by `==` have one pick. So two balancers with equal schemes choose alike under one
+/// version, whatever they served before; and what one of them prepared serves the other.
 pub trait Scheme: Copy + Eq {
     ghost STEADY: { Bool };
 
@@ -60,8 +62,27 @@ pub trait Scheme: Copy + Eq {
         weights: &[Weight],
     ) -> Result<Self::Prepared, PrepareFault>
         requires { length weights.now ≡ length ups.now }
-        ensures ok { IfOk result (is_prepared self.now size (among ups.now weights.now)) }
+        ensures ok { IfOk result (λ p. WhoeverDrains (λ c. is_prepared self.now size c p) ups.now weights.now) }
         ensures err { IfErr result (IsPrepareFault size ups.now) };
+
+    /// The same, where something was prepared before of backends of the same names and weights, at other addresses. A scheme
+    /// that looks at names alone can share it.
+    fn prepare_like(
+        &self,
+        alloc: Global,
+        size: TableSize,
+        ups: &[Backend],
+        weights: &[Weight],
+        like: &Self::Prepared,
+    ) -> Result<Self::Prepared, PrepareFault>
+        requires weighed { length weights.now ≡ length ups.now }
+        requires like { IsLike (λ c. is_prepared self.now size c like.now) ups.now weights.now }
+        ensures ok { IfOk result (λ p. WhoeverDrains (λ c. is_prepared self.now size c p) ups.now weights.now) }
+        ensures err { IfErr result (IsPrepareFault size ups.now) }
+    {
+        let _ = like;
+        self.prepare(alloc, size, ups, weights)
+    }
 
     /// The backend of a flow at a turn, of what this scheme prepared.
     fn choose(&self, prepared: &Self::Prepared, flow: &Flow, turn: u64) -> Option<Backend>

@@ -7,5 +7,5 @@ use Rattle.selection.proofs.choices.Choices.is_in_cell.Goals as goal
 pub returns-in-Some-get : goal.returns-in-Some-get
 returns-in-Some-get g c is =
     subst (λ (k : Chosen g.row.S.Denot). Contains k.ups.backends c.args.backend.now) c.self.view_is
-    (subst (λ (bs : List Backend). Contains bs c.args.backend.now) c.deref-2.ensures.value
-    (is_item c.deref-2.result.now _ c.in-Some-get.other c.args.backend.now c.in-Some-get.ensures.lookup (c.is_same.ensures.0 is)))
+    (subst (λ (bs : List Backend). Contains bs c.args.backend.now) c.backends.ensures.backends
+    (is_item c.backends.result.now _ c.in-Some-get.other c.args.backend.now c.in-Some-get.ensures.lookup (c.is_same.ensures.0 is)))

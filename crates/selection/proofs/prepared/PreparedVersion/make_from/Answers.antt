@@ -8,7 +8,7 @@ use Rattle.selection.specs.Places.{ArePlaced}
 use Rattle.selection.specs.Readied.{Readied, ReadiedService, readied_of}
 use Rattle.selection.proofs.Versions.{AreFor_readied, ups_for_readied}
 use Rattle.selection.proofs.Sources.{readied_same}
-use Rattle.selection.proofs.prepared.PreparedVersion.prepare.Goals as goal
+use Rattle.selection.proofs.prepared.PreparedVersion.make_from.Goals as goal
 
 abbrev made : {S : Type 0} → S → ℕ → ℕ → List (ReadiedService S) → List Parts → Readied S
 made scheme size number ss ps = record { scheme = scheme; size = size; number = number; services = ss; source = ps }
