@@ -5,7 +5,7 @@ use hash_laws::{AnyHash, Fnv, SumHash};
 use pool_versions::{Backend, Service, Version};
 use selection::{
     Maglev, MaglevTable, PlainHash, PrepareFault, PreparedVersion, PreparedVersions, RoundRobin,
-    Scheme, maglev_and_plain_hash_are_steady,
+    Scheme, TableStore, maglev_and_plain_hash_are_steady,
 };
 use std::alloc::Global;
 use std::process::Abort;
@@ -274,6 +274,38 @@ static EIGHTS: [(&[u8; 8], &[u8; 8], [bool; 8]); 11] = [
     ),
 ];
 
+// Version 3 of A, which is up, B, which drains, and C, which is down.
+fn draining_version(rt: &impl Abort, alloc: Global) -> Version {
+    let rows: [Row<'_>; 3] = [
+        (b"C", C, false, 1),
+        (b"A", A, true, 1),
+        (b"B", B, false, 1),
+    ];
+    let mut version = version_of(rt, alloc, 3, VIP, &rows);
+    if let Some(service) = version.services.as_mut_slice().get_mut(0) {
+        if let Some(member) = service.members.as_mut_slice().get_mut(2) {
+            member.draining = true;
+        }
+    }
+    version
+}
+
+// Who drains is never chosen, and a flow that has it keeps it.
+#[test]
+fn a_draining_backend_is_kept_and_not_chosen(rt: HostRuntime) {
+    let version = draining_version(&rt, rt.alloc());
+    let prepared = prepared(&rt, rt.alloc(), Maglev { hash: SumHash }, &version);
+    has_addresses(&rt, &prepared, [A; 3]);
+    let ready = prepared.ready(&flow(1000)).expect(&rt, "a service");
+    let states = [(b"A", A, true, true), (b"B", B, false, true), (b"C", C, false, false)];
+    for (name, addr, is_up, keeps) in states {
+        let backend = backend(&rt, name, addr);
+        holds(&rt, ready.is_up(&backend) == is_up, "up");
+        holds(&rt, ready.keeps(&backend) == keeps, "kept");
+    }
+    holds(&rt, !ready.keeps(&backend(&rt, b"B", A)), "another address");
+}
+
 #[test]
 fn each_up_backend_is_found(rt: HostRuntime) {
     for (names, pairs, are_up) in EIGHTS.iter() {
@@ -333,6 +365,72 @@ fn a_version_after_another(rt: HostRuntime) {
         last = *wanted;
     }
     has_addresses(&rt, &before, last);
+}
+
+// The same from one store: what was prepared of a list serves it when it comes back after others.
+#[test]
+fn versions_from_one_store(rt: HostRuntime) {
+    let maglev = Maglev { hash: SumHash };
+    let mut store = TableStore::new(rt.alloc());
+    for (ups, turns, wanted) in CHAIN.iter() {
+        let version = weighed_version(&rt, rt.alloc(), *ups, *turns);
+        let made =
+            PreparedVersion::make_from(rt.alloc(), &maglev, seven(&rt), &version, &mut store)
+                .expect(&rt, "a prepared version");
+        has_addresses(&rt, &made, *wanted);
+    }
+}
+
+// Version 3 of C, B, and A at another address.
+fn moved_version(rt: &impl Abort, alloc: Global) -> Version {
+    let rows: [Row<'_>; 3] = [
+        (b"C", C, true, 1),
+        (b"A", 99, true, 1),
+        (b"B", B, true, 1),
+    ];
+    version_of(rt, alloc, 3, VIP, &rows)
+}
+
+// A table is of names: the flows of A go to its new address, and the version before stays as it was.
+fn an_address_moves<S: Scheme>(
+    rt: &impl Abort,
+    alloc: Global,
+    scheme: S,
+    old: [u32; 3],
+    new: [u32; 3],
+) {
+    let all = weighed_version(rt, alloc, ALL, 1);
+    let moved = moved_version(rt, alloc);
+    let before = prepared(rt, alloc, scheme, &all);
+    let after = prepared_after(rt, alloc, scheme, &moved, &before);
+    has_addresses(rt, &before, old);
+    has_addresses(rt, &after, new);
+    let back = prepared_after(rt, alloc, scheme, &all, &after);
+    has_addresses(rt, &back, old);
+}
+
+#[test]
+fn an_address_moves_and_the_slots_stay(rt: HostRuntime) {
+    let maglev = Maglev { hash: SumHash };
+    an_address_moves(&rt, rt.alloc(), maglev, [A, B, A], [99, B, 99]);
+    an_address_moves(&rt, rt.alloc(), RoundRobin, [A; 3], [99; 3]);
+}
+
+// Versions are prepared one after another. One with more up backends than slots is refused, and leaves them as they were.
+#[test]
+fn versions_prepared_in_one_place(rt: HostRuntime) {
+    let maglev = Maglev { hash: SumHash };
+    let mut versions = PreparedVersions::new(rt.alloc());
+    let long = version_of_eight(&rt, rt.alloc(), b"abcdefgh", 8);
+    for (ups, turns, wanted) in CHAIN.iter() {
+        let version = weighed_version(&rt, rt.alloc(), *ups, *turns);
+        let put = versions.prepare(rt.alloc(), &maglev, seven(&rt), &version);
+        holds(&rt, put.is_ok(), "a prepared version");
+        let refused = versions.prepare(rt.alloc(), &maglev, seven(&rt), &long);
+        assert_eq!(rt; refused.err(), Some(PrepareFault::TooMany));
+        has_addresses(&rt, versions.last().expect(&rt, "a version"), *wanted);
+    }
+    holds(&rt, versions.find(1).is_none(), "no refused version");
 }
 
 #[test]
