@@ -48,12 +48,17 @@ def filled(weights, size, plain):
     return owner
 
 
+# A member of a service. One that is "up" gets flows and keeps those that it has; one that is in "drain" keeps them alone; one that
+# is "down" does neither.
+Member = collections.namedtuple("Member", "name at weight state")
+
+
 def member_of(word):
-    """The name, the address and the weight of a member word, and whether it is up."""
-    word, down, _ = word.partition("/")
+    """The member of a member word."""
+    word, _, state = word.partition("/")
     word, _, weight = word.partition("*")
     name, at = word.split("@")
-    return name, at, int(weight or 1), not down
+    return Member(name, at, int(weight or 1), state or "up")
 
 
 def address(text):
@@ -168,8 +173,17 @@ class Run:
         self.tables = {}
         for step in self.scenario["steps"]:
             word, *numbers = step.split(" ")
-            getattr(self, "step_" + word)(*(int(number) for number in numbers))
+            for own in self.spelled_out(word, numbers):
+                getattr(self, "step_" + word)(*map(int, own))
         self.left = len(self.records) - self.read
+
+    def spelled_out(self, word, numbers):
+        """The numbers of each step that a step stands for: a `*` is as many records as there are, or each node in order."""
+        if "*" not in numbers:
+            return [numbers]
+        if word == "take":
+            return [[len(self.records)]]
+        return [[node, *numbers[1:]] for node in range(len(self.scenario["nodes"]))]
 
     def say(self, event, outcome, sent=None):
         self.events.append((event, outcome, sent))
@@ -259,13 +273,22 @@ class Run:
         if not self.held[node]:
             self.serve(node, worker)
 
-    def service(self, number, flow):
-        """The up members of a flow's service, as (name, address, weight), in ascending order."""
+    def members(self, number, flow):
+        """The members of a flow's service in a version, or None where it has no such service."""
         for service in self.versions[number]["services"]:
             key = address(service["vip"]), {"tcp": 6, "udp": 17}[service["proto"]], service["port"]
             if key == (flow[4:8], flow[12], int.from_bytes(flow[10:12], "big")):
-                return sorted(member[:3] for member in map(member_of, service["members"]) if member[3])
+                return [member_of(word) for word in service["members"]]
         return None
+
+    def service(self, number, flow):
+        """The up members of a flow's service, as (name, address, weight), in ascending order; None where there is no service."""
+        members = self.members(number, flow)
+        return None if members is None else sorted(member[:3] for member in members if member.state == "up")
+
+    def backends(self, number, flow, *states):
+        """The backends, as (name, address), of a flow's members that are in one of these states in a version."""
+        return [member[:2] for member in self.members(number, flow) or [] if member.state in states]
 
     def slot(self, flow):
         return self.plain(b"f" + flow) % self.scenario["size"]
@@ -294,7 +317,7 @@ class Run:
         if known is not None and forwarder.clock - known.last <= self.scenario.get("idle", forwarder.clock):
             known = known._replace(last=forwarder.clock)
             forwarder = forwarder._replace(entries=(known, *others))
-            if known.backend in [up[:2] for up in ups]:
+            if known.backend in self.backends(number, flow, "up", "drain"):
                 return forwarder, known
         turn = forwarder.turns
         forwarder = forwarder._replace(turns=turn + 1)
@@ -356,6 +379,18 @@ class Run:
         told.events = [event for _, event in sorted(placed, key=lambda one: one[0])]
         return told
 
+    def cause(self, flow, backend, origin, later):
+        """Why a flow that was sent to a backend by an entry of this origin was sent to another one under a later version."""
+        if backend in self.backends(later, flow, "up", "drain"):
+            return "moved"
+        between = [number for number in self.versions if origin <= number < later]
+        return "drained" if any(backend in self.backends(number, flow, "drain") for number in between) else "down"
+
+    def drains(self):
+        """Whether some member of some version drains."""
+        services = [service for version in self.versions.values() for service in version["services"]]
+        return any(member_of(word).state == "drain" for service in services for word in service["members"])
+
     def splits(self):
         """A line for each two sends of one flow, with none of that flow between them, to different backends, and their counts."""
         sends = [(place, event, sent) for place, (event, outcome, sent) in enumerate(self.events) if outcome.startswith("forward")]
@@ -365,8 +400,7 @@ class Run:
             if not before or before[-1][2][3] == backend2:
                 continue
             place1, _, (_, _, _, backend1, origin1) = before[-1]
-            ups = self.service(int(event.split(" ")[3]), flow)
-            causes.append("moved" if backend1 in [up[:2] for up in ups] else "down")
+            causes.append(self.cause(flow, backend1, origin1, int(event.split(" ")[3])))
             name = {6: "tcp", 17: "udp"}[flow[12]]
             ports = int.from_bytes(flow[8:10], "big"), int.from_bytes(flow[10:12], "big")
             who = f"{name} {dotted(flow[:4])}:{ports[0]}>{dotted(flow[4:8])}:{ports[1]}"
@@ -374,6 +408,7 @@ class Run:
             lines.append(f"split {who} events {place1} {place2} slot {self.slot(flow)} {halves} {causes[-1]}")
         flows = len({sent[2] for _, _, sent in sends})
         lines += [f"flows {flows}", f"split {len(causes)}", f"down {causes.count('down')}", f"moved {causes.count('moved')}"]
+        lines += [f"drained {causes.count('drained')}"] if self.drains() else []
         return "".join(line + "\n" for line in lines)
 
     def explained(self, one, other):
@@ -393,7 +428,7 @@ def named_slots(document, members):
     """The member that each slot of a service names, as (name, address, weight), or None where nobody is up. A scheme without a
     table names whom it picks for the slot's number, taken for a hash or a turn."""
     size, plain = document["size"], HASHES[document["hash"]]
-    ups = sorted(member[:3] for member in members if member[3])
+    ups = sorted(member[:3] for member in members if member.state == "up")
     if not ups:
         return [None] * size
     if document["scheme"] != "maglev":
@@ -416,9 +451,9 @@ def planned(scenario, number):
     for service, members in services_of(document, number).items():
         named = named_slots(document, members)
         lines += [f"service {service}", f"slots {len(named)}"]
-        for name, at, weight, is_up in sorted(members):
+        for name, at, weight, state in sorted(members):
             slots = sum(one is not None and one[:2] == (name, at) for one in named)
-            lines.append(f"{name}@{at} weight {weight} slots {slots}{'' if is_up else ' down'}")
+            lines.append(f"{name}@{at} weight {weight} slots {slots}{'' if state == 'up' else ' down'}")
     return "".join(line + "\n" for line in lines)
 
 
@@ -431,12 +466,12 @@ def plan(scenario, first, second):
         old, new = before.get(service, []), after.get(service, [])
         olds = [one and one[:2] for one in named_slots(document, old)]
         news = [one and one[:2] for one in named_slots(document, new)]
-        ups = {member[:2] for member in new if member[3]}
+        ups = {member[:2] for member in new if member.state == "up"}
         changed = [one for one, other in zip(olds, news) if one != other]
         down = sum(one not in ups for one in changed)
         least = len(olds) - sum((collections.Counter(olds) & collections.Counter(news)).values())
         lines += [f"service {service}", f"slots {len(olds)} changed {len(changed)} down {down} moved {len(changed) - down} least {least}"]
-        rows = {member[:2]: (0, member[2]) for member in old} | {member[:2]: (1, member[2]) for member in new}
+        rows = {member[:2]: (0, member.weight) for member in old} | {member[:2]: (1, member.weight) for member in new}
         for (name, at), (_, weight) in sorted(rows.items(), key=lambda row: (row[0][0], row[1][0])):
             one, end = (name, at), "" if (name, at) in ups else " down"
             lines.append(f"{name}@{at} weight {weight} before {olds.count(one)} after {news.count(one)}{end}")

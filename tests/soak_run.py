@@ -4,10 +4,10 @@ each, and as many nodes and workers as may be, with the smallest rings, and judg
 
 Which version a packet is served under, which ring is full and how workers' packets mix is left to the schedule. What isn't
 is compared with tests/model.py: the counts of records, what came to each node, which drops a driver judges, and that what a
-node sends came to it in that life and went to a backend that is up in a version that may have been used. Where no ring gets
-full each worker sent exactly what the model's worker sends of what came to it, by its entries, their idle limit and its turns,
-under some versions that it may have used. Where a life was stopped what its workers took is a beginning of what came to them,
-and the rest is LostAtRestart. The last line is 'N passed, N failed'.
+node sends came to it in that life and went to a backend that is up or drains in a version that may have been used. Where no
+ring gets full each worker sent exactly what the model's worker sends of what came to it, by its entries, their idle limit and
+its turns, under some versions that it may have used. Where a life was stopped what its workers took is a beginning of what came
+to them, and the rest is LostAtRestart. The last line is 'N passed, N failed'.
 """
 import collections
 import itertools
@@ -107,7 +107,7 @@ def stops_of(expected, node):
 
 def backends_of(expected, arrival):
     """The backends to which a packet may go."""
-    return {up[1] for version in arrival.versions for up in expected.service(version, arrival.flow) or []}
+    return {at for version in arrival.versions for _, at in expected.backends(version, arrival.flow, "up", "drain")}
 
 
 def fit(expected, life, sends):

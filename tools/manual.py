@@ -15,7 +15,7 @@ FORMATS = TOP / "docs" / "FORMATS.md"
 # The words that an option takes.
 CHOICES = {"--size": ["7", "13", "251", "1021", "8191", "65537"], "--hash": ["fnv", "sha256", "sum"]}
 # When the commands were last changed.
-DATE = "2026-11-26"
+DATE = "2026-11-28"
 # Arguments that are files.
 FILES = ("SCENARIO", "INPUT", "OUTPUT")
 

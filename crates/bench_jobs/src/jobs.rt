@@ -61,14 +61,7 @@ fn one_version(alloc: Global, tag: u32, packets: u32) -> Result<String, AllocErr
     push_install(&mut text, 0, 1)?;
     push_take(&mut text, packets)?;
     end_steps(&mut text)?;
-    push_version(
-        &mut text,
-        Version {
-            number: 1,
-            services: 1,
-            servers: servers(tag, 100, 0),
-        },
-    )?;
+    push_version(&mut text, Version::unshared(1, 1, servers(tag, 100, 0)))?;
     Ok(text)
 }
 
@@ -161,11 +154,7 @@ fn rollout_text(
     push_versions(
         &mut text,
         VERSIONS,
-        Version {
-            number: 0,
-            services: 1,
-            servers: servers(tag, 100, 3),
-        },
+        Version::unshared(0, 1, servers(tag, 100, 3)),
     )?;
     Ok(text)
 }
@@ -241,8 +230,8 @@ fn push_restarts(text: &mut String, nodes: u32) -> Result<(), AllocError> {
 }
 
 // Each life of the nodes has one version, installed before its packets.
-fn push_lives(text: &mut String, nodes: u32, packets: u32) -> Result<(), AllocError> {
-    for life in 0..LIVES {
+fn push_lives(text: &mut String, nodes: u32, lives: u32, packets: u32) -> Result<(), AllocError> {
+    for life in 0..lives {
         push_installs(text, nodes, life.wrapping_add(1))?;
         push_take(text, packets)?;
         push_restarts(text, nodes)?;
@@ -257,15 +246,11 @@ fn lives_text(alloc: Global, nodes: u32, tag: u32, packets: u32) -> Result<Strin
         spread: "hash",
     };
     let mut text = begun(alloc, cluster)?;
-    push_lives(&mut text, nodes, packets)?;
+    push_lives(&mut text, nodes, LIVES, packets)?;
     push_versions(
         &mut text,
         LIVES,
-        Version {
-            number: 0,
-            services: 1,
-            servers: servers(tag, 100, 3),
-        },
+        Version::unshared(0, 1, servers(tag, 100, 3)),
     )?;
     Ok(text)
 }
@@ -311,14 +296,11 @@ fn push_phases(text: &mut String, versions: u32, packets: u32) -> Result<(), All
 fn services_text(alloc: Global, order: Order, traffic: Traffic) -> Result<String, AllocError> {
     let mut text = begun(alloc, ALONE)?;
     push_phases(&mut text, 4, traffic.packets)?;
+    let servers = servers(order.tag(7), 20, 1);
     push_versions(
         &mut text,
         4,
-        Version {
-            number: 0,
-            services: traffic.destinations,
-            servers: servers(order.tag(7), 20, 1),
-        },
+        Version::unshared(0, traffic.destinations, servers),
     )?;
     Ok(text)
 }
@@ -344,4 +326,87 @@ pub fn services(rt: &impl Print, alloc: Global, order: Order) -> anyhow::Result<
     );
     outlets.tell(rt, "services", outcome)?;
     Ok(())
+}
+
+const SHARED: u32 = 4;
+
+fn shared_text(alloc: Global, order: Order, traffic: Traffic) -> Result<String, AllocError> {
+    let cluster = Cluster {
+        nodes: 4,
+        workers: 1,
+        spread: "hash",
+    };
+    let mut text = begun(alloc, cluster)?;
+    push_lives(&mut text, cluster.nodes, SHARED, traffic.packets / SHARED)?;
+    let version = Version {
+        number: 0,
+        services: traffic.destinations,
+        pools: order.scaled(16).clamp(4, 16),
+        turns: SHARED,
+        servers: servers(order.tag(20), 20, 1),
+    };
+    push_versions(&mut text, SHARED, version)?;
+    Ok(text)
+}
+
+// What is shared, simulated.
+fn simulate_shared(
+    rt: &impl Print,
+    alloc: Global,
+    order: Order,
+    traffic: Traffic,
+) -> anyhow::Result<()> {
+    let text = shared_text(alloc, order, traffic)?;
+    let mut input = MadeCapture::new(order.seed, 21, traffic);
+    let mut outlets = Outlets::new();
+    let outcome = simulate(
+        alloc,
+        text.as_bytes(),
+        &mut input,
+        &mut outlets.output,
+        &mut outlets.report,
+        PLAIN,
+    );
+    outlets.tell(rt, "shared-simulate", outcome)?;
+    Ok(())
+}
+
+// The same on threads.
+fn run_shared<R: Print + Threads + Wait + Sync>(
+    rt: &R,
+    alloc: Global,
+    order: Order,
+    traffic: Traffic,
+) -> anyhow::Result<()> {
+    let text = shared_text(alloc, order, traffic)?;
+    let mut input = MadeCapture::new(order.seed, 21, traffic);
+    let mut outlets = Outlets::new();
+    let outcome = run(
+        rt,
+        alloc,
+        text.as_bytes(),
+        &mut input,
+        &mut outlets.output,
+        &mut outlets.report,
+        false,
+    );
+    outlets.tell(rt, "shared-run", outcome)?;
+    Ok(())
+}
+
+/// Four versions of 256 services over 16 pools, of which one in four has another server down in each version. Four nodes have
+/// a life in each version, simulated and on threads.
+pub fn shared<R: Print + Threads + Wait + Sync>(
+    rt: &R,
+    alloc: Global,
+    order: Order,
+) -> anyhow::Result<()> {
+    let traffic = Traffic {
+        packets: order.scaled(20_000),
+        law: Law::Few,
+        clients: order.scaled(10_000),
+        destinations: order.scaled(256).clamp(8, 256),
+    };
+    simulate_shared(rt, alloc, order, traffic)?;
+    run_shared(rt, alloc, order, traffic)
 }

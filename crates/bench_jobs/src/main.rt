@@ -1,9 +1,9 @@
 //! A benchmark: the commands' engines over inputs that are made from a seed. `bench/run` times it.
 //!
 //! Arguments: a job, a seed, and a size in percent, 100 where it is left out. Without arguments every job runs at a small
-//! size, with the seed 1. The jobs are `usual`, `flood`, `rollout`, `threads`, `services` and `questions`. Prints a line for
-//! each call: its name and a digest of all that it wrote, and its fault, if it had one. The lines are the same at each run.
-//! Nothing is written to files, and captures are made while they are read.
+//! size, with the seed 1. The jobs are `usual`, `flood`, `rollout`, `threads`, `services`, `shared` and `questions`. Prints a
+//! line for each call: its name and a digest of all that it wrote, and its fault, if it had one. The lines are the same at each
+//! run. Nothing is written to files, and captures are made while they are read.
 #![tactic(auto)]
 
 mod answers;
@@ -15,7 +15,7 @@ mod packets;
 mod questions;
 mod scenarios;
 
-use crate::jobs::{Order, flood, rollout, services, threads, usual};
+use crate::jobs::{Order, flood, rollout, services, shared, threads, usual};
 use crate::questions::questions;
 use anyhow::bail;
 use std::alloc::Global;
@@ -35,6 +35,7 @@ fn perform<R: Print + Threads + Wait + Sync>(
         "rollout" => rollout(rt, alloc, order),
         "threads" => threads(rt, alloc, order),
         "services" => services(rt, alloc, order),
+        "shared" => shared(rt, alloc, order),
         "questions" => questions(rt, alloc, order),
         _ => bail!("there is no job of this name"),
     }
@@ -51,6 +52,7 @@ fn perform_all<R: Print + Threads + Wait + Sync>(
         "rollout",
         "threads",
         "services",
+        "shared",
         "questions",
     ] {
         perform(rt, alloc, job, order)?;

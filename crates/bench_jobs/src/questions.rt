@@ -36,12 +36,7 @@ fn plan_text(
     let mut text = begun(alloc, ALONE)?;
     end_steps(&mut text)?;
     for (number, servers) in [(1, before), (2, after)] {
-        let version = Version {
-            number,
-            services,
-            servers,
-        };
-        push_version(&mut text, version)?;
+        push_version(&mut text, Version::unshared(number, services, servers))?;
     }
     Ok(text)
 }
@@ -225,12 +220,8 @@ fn explained_text(alloc: Global, tag: u32, packets: u32) -> Result<String, Alloc
     push_take(&mut text, packets)?;
     end_steps(&mut text)?;
     for number in 1..3 {
-        let version = Version {
-            number,
-            services: 1,
-            servers: servers(tag, 100, 40),
-        };
-        push_version(&mut text, version)?;
+        let servers = servers(tag, 100, 40);
+        push_version(&mut text, Version::unshared(number, 1, servers))?;
     }
     Ok(text)
 }

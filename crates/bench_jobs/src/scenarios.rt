@@ -35,8 +35,25 @@ pub struct Version {
     pub number: u32,
     /// How many services there are.
     pub services: u32,
-    /// The servers of the first one. Those of another one have the same numbers, and other names and addresses.
+    /// How many pools of servers they share: a service has that of its number modulo this.
+    pub pools: u32,
+    /// One of so many pools has other servers down than in version 0, in each version another part of them.
+    pub turns: u32,
+    /// The servers of the first pool. Those of another one have the same numbers, and other names and addresses.
     pub servers: Servers,
+}
+
+impl Version {
+    /// A version of so many services with a pool each, in which every pool has its turn.
+    pub fn unshared(number: u32, services: u32, servers: Servers) -> Version {
+        Version {
+            number,
+            services,
+            pools: services,
+            turns: 1,
+            servers,
+        }
+    }
 }
 
 fn push_address(text: &mut String, address: u32) -> Result<(), AllocError> {
@@ -44,12 +61,21 @@ fn push_address(text: &mut String, address: u32) -> Result<(), AllocError> {
     write!(text, "{a}.{b}.{c}.{d}")
 }
 
-/// The servers of another service.
-fn servers_of(servers: Servers, service: u32) -> Servers {
+// The servers of another pool.
+fn servers_of(servers: Servers, pool: u32) -> Servers {
     Servers {
-        tag: servers.tag.wrapping_add(service),
+        tag: servers.tag.wrapping_add(pool),
         ..servers
     }
+}
+
+// The version whose servers are down in a pool: this one where it's the pool's turn, else 0.
+fn stage_of(version: Version, pool: u32) -> u32 {
+    let turns = version.turns.max(1);
+    if pool % turns == version.number % turns {
+        return version.number;
+    }
+    0
 }
 
 // Whether a server is down in a version.
@@ -104,13 +130,14 @@ pub fn member_list(alloc: Global, servers: Servers, version: u32) -> Result<Stri
 }
 
 fn push_service(text: &mut String, version: Version, service: u32) -> Result<(), AllocError> {
-    let servers = servers_of(version.servers, service);
+    let pool = service % version.pools.max(1);
+    let servers = servers_of(version.servers, pool);
     text.push_str("[[versions.services]]\nvip = \"")?;
     push_address(text, FIRST_DESTINATION.wrapping_add(service))?;
     text.push_str("\"\nproto = \"tcp\"\nport = 80\nmembers = [")?;
     for index in 0..servers.count {
         text.push_str("\"")?;
-        push_member(text, servers, index, version.number)?;
+        push_member(text, servers, index, stage_of(version, pool))?;
         text.push_str("\",")?;
     }
     text.push_str("]\n")
