@@ -2,7 +2,7 @@
 use Rattle.std.proofs.Common.{◌≡◌, ℕ, ◌+◌, ◌*◌, ◌/◌, ◌%◌, ◌<◌, ◌≤◌, ◌^◌, List, [], ◌∷◌, ◌++◌, Option, Some, None, refl, sym, ap, ◌∙◌, arith}
 use Rattle.std.specs.Prelude.{option_and_then, option_map}
 use Rattle.std.specs.Fmt.{decimal}
-use Rattle.maglev_texts.specs.Parsing.{decimal_of, pieces, pieces_after, address_of_pieces, address_of}
+use Rattle.maglev_texts.specs.Parsing.{decimal_of, pieces, address_of_pieces}
 use Rattle.maglev_texts.specs.Printing.{address_text}
 use Rattle.maglev_texts.specs.RoundTrips.{AddressesAreReadBack, OnlyAddressesAreRead}
 use Rattle.maglev_texts.proofs.Numerals.{decimal_digits, read_back, only_read}

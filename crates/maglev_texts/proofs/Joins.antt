@@ -1,8 +1,8 @@
 -- A text against its pieces.
-use Rattle.std.proofs.Common.{◌≡◌, ℕ, ◌≤◌, Bool, true, false, List, [], ◌∷◌, ◌++◌, refl, sym, ap, ◌∙◌, arith, append_assoc}
-use Rattle.std.specs.Prelude.{◌==◌, ◌&&◌, nat_le, if◌then◌else◌}
-use Rattle.std.proofs.lemmas.Bool.{eqb-true, eq-eqb, ne_eqb, and_parts, leb-true}
-use Rattle.maglev_texts.specs.Parsing.{pieces_after, pieces}
+use Rattle.std.proofs.Common.{◌≡◌, ℕ, Bool, true, false, List, [], ◌∷◌, ◌++◌, Option, Some, None, refl, sym, ap, ◌∙◌, append_assoc}
+use Rattle.std.specs.Prelude.{◌==◌, if◌then◌else◌}
+use Rattle.std.proofs.lemmas.Bool.{eqb-true, eq-eqb, ne_eqb, and_parts}
+use Rattle.maglev_texts.specs.Parsing.{before_first, behind_first, pieces_after, pieces}
 use Rattle.maglev_texts.proofs.Numerals.{is_digit, digits_only}
 
 -- a text without a byte
@@ -58,3 +58,51 @@ digits_lack c [] other h = tt
 digits_lack c (d ∷ ds) other h =
     let p : (is_digit d ≡ true) × (digits_only ds ≡ true) = and_parts (is_digit d) (digits_only ds) h in
     (ne_eqb d c (λ e. let f : true ≡ false = sym p.0 ∙ ap is_digit e ∙ other in absurd cc), digits_lack c ds other p.1)
+
+-- a text that lacks a byte is before the first place of it
+pub before_none : (c : ℕ) (text : List ℕ) → Lacks c text → before_first c text ≡ text
+before_none c [] h = refl
+before_none c (x ∷ xs) h = ap (λ (b : Bool). if b then [] else x ∷ before_first c xs) h.0 ∙ ap (λ (l : List ℕ). x ∷ l) (before_none c xs h.1)
+
+pub behind_none : (c : ℕ) (text : List ℕ) → Lacks c text → behind_first c text ≡ None
+behind_none c [] h = refl
+behind_none c (x ∷ xs) h = ap (λ (b : Bool). if b then Some xs else behind_first c xs) h.0 ∙ behind_none c xs h.1
+
+-- the first place of a byte is behind a text that lacks it
+pub before_at : (c : ℕ) (text rest : List ℕ) → Lacks c text → before_first c (text ++ c ∷ rest) ≡ text
+before_at c [] rest h = ap (λ (b : Bool). if b then [] else c ∷ before_first c rest) (eq-eqb c c refl)
+before_at c (x ∷ xs) rest h = ap (λ (b : Bool). if b then [] else x ∷ before_first c (xs ++ c ∷ rest)) h.0 ∙ ap (λ (l : List ℕ). x ∷ l) (before_at c xs rest h.1)
+
+pub behind_at : (c : ℕ) (text rest : List ℕ) → Lacks c text → behind_first c (text ++ c ∷ rest) ≡ Some rest
+behind_at c [] rest h = ap (λ (b : Bool). if b then Some rest else behind_first c rest) (eq-eqb c c refl)
+behind_at c (x ∷ xs) rest h = ap (λ (b : Bool). if b then Some (xs ++ c ∷ rest) else behind_first c (xs ++ c ∷ rest)) h.0 ∙ behind_at c xs rest h.1
+
+-- what is behind a text that lacks the byte
+pub behind_lacking : (c : ℕ) (text rest : List ℕ) → Lacks c text → behind_first c (text ++ rest) ≡ behind_first c rest
+behind_lacking c [] rest h = refl
+behind_lacking c (x ∷ xs) rest h = ap (λ (b : Bool). if b then Some (xs ++ rest) else behind_first c (xs ++ rest)) h.0 ∙ behind_lacking c xs rest h.1
+
+-- a text is what is before the first place of a byte, the byte, and what is behind it
+pub parted : (c : ℕ) (text rest : List ℕ) → behind_first c text ≡ Some rest → text ≡ before_first c text ++ c ∷ rest
+parted c [] rest h = absurd cc
+parted c (b ∷ bs) rest h = go (b == c) refl (λ k. parted c bs rest k) h
+  where
+    go : (t : Bool) → (b == c) ≡ t → (behind_first c bs ≡ Some rest → bs ≡ before_first c bs ++ c ∷ rest) → (if t then Some bs else behind_first c bs) ≡ Some rest → b ∷ bs ≡ (if t then [] else b ∷ before_first c bs) ++ c ∷ rest
+    go true e later k =
+        let same : bs ≡ rest = cc in
+        ap (λ (x : ℕ). x ∷ bs) (eqb-true b c e) ∙ ap (λ (l : List ℕ). c ∷ l) same
+    go false e later k = ap (λ (l : List ℕ). b ∷ l) (later k)
+
+-- the pieces behind the first
+abbrev pub pieces_behind : ℕ → Option (List ℕ) → List (List ℕ)
+pieces_behind c None = []
+pieces_behind c (Some rest) = pieces_after c [] rest
+
+pub first_piece : (c : ℕ) (begun text : List ℕ) → pieces_after c begun text ≡ (begun ++ before_first c text) ∷ pieces_behind c (behind_first c text)
+first_piece c begun [] = ap (λ (l : List ℕ). l ∷ []) (sym (none_behind begun))
+first_piece c begun (b ∷ bs) = go (b == c) (first_piece c (begun ++ b ∷ []) bs)
+  where
+    go : (t : Bool) → pieces_after c (begun ++ b ∷ []) bs ≡ ((begun ++ b ∷ []) ++ before_first c bs) ∷ pieces_behind c (behind_first c bs)
+        → (if t then begun ∷ pieces_after c [] bs else pieces_after c (begun ++ b ∷ []) bs) ≡ (begun ++ (if t then [] else b ∷ before_first c bs)) ∷ pieces_behind c (if t then Some bs else behind_first c bs)
+    go true h = ap (λ (l : List ℕ). l ∷ pieces_after c [] bs) (sym (none_behind begun))
+    go false h = h ∙ ap (λ (l : List ℕ). l ∷ pieces_behind c (behind_first c bs)) (append_assoc begun (b ∷ []) (before_first c bs))

@@ -9,10 +9,10 @@ use Rattle.std.proofs.lemmas.Bool.{and_parts, ne_eqb}
 use Rattle.std.proofs.lemmas.Slice.Eq.{bytes_eq-Decides}
 use Rattle.backend_names.specs.NameText.{is_name, is_name_byte}
 use Rattle.pool_versions.specs.declared.backend.Member.{Member}
-use Rattle.maglev_texts.specs.Parsing.{pieces, address_of, weighing, member_with, member_at_address, member_at, member_named, member_of_pieces, member_of}
-use Rattle.maglev_texts.specs.Printing.{address_text, backend_text}
+use Rattle.maglev_texts.specs.Parsing.{pieces, address_of, weighing, member_with, member_at_address, member_at, member_of_pieces, member_of}
+use Rattle.maglev_texts.specs.Printing.{address_text}
 use Rattle.maglev_texts.specs.RoundTrips.{member_text, MembersAreReadBack, OnlyMembersAreRead}
-use Rattle.maglev_texts.proofs.Numerals.{is_digit, digits_only, decimal_digits}
+use Rattle.maglev_texts.proofs.Numerals.{is_digit, decimal_digits}
 use Rattle.maglev_texts.proofs.Joins.{Lacks, lacks_both, cut, last, joined, join_pieces, digits_lack, none_behind}
 use Rattle.maglev_texts.proofs.Addresses.{addresses_read_back, only_addresses_read}
 
@@ -65,17 +65,22 @@ at_place name a false few =
     ap (member_at name) (cut 47 [] (address_text a) (codes "down") (address_lacks 47 a refl refl few))
     ∙ ap (option_map (member_with name false)) (addresses_read_back a few)
 
+-- a member that drains or doesn't
+abbrev pub with_draining : Member → Bool → Member
+with_draining m draining = record { backend = m.backend; up = m.up; draining = draining; weight = m.weight }
+
 pub members_read_back : MembersAreReadBack
-members_read_back m one named few =
+members_read_back m one stays named few =
     ap member_of (text_is m.backend.name m.backend.addr m.up)
     ∙ ap member_of_pieces (cut 64 [] m.backend.name (place_text m.backend.addr m.up) (name_lacks 64 m.backend.name refl refl named) ∙ ap (λ (l : List (List ℕ)). m.backend.name ∷ l) (last 64 [] (place_text m.backend.addr m.up) (place_lacks m.backend.addr m.up few)))
     ∙ ap (λ (b : Bool). if b then member_at m.backend.name (pieces 47 (place_text m.backend.addr m.up)) else None) named
     ∙ at_place m.backend.name m.backend.addr m.up few
     ∙ ap (λ (w : ℕ). Some (weighing m m.up w)) (sym one)
+    ∙ ap (λ (b : Bool). Some (with_draining m b)) (sym stays)
 
 -- what is read
 abbrev pub IsTextOf : Member → List ℕ → Type 0
-IsTextOf m text = (text ≡ member_text m) × (m.weight ≡ 1) × (is_name m.backend.name ≡ true) × (m.backend.addr < 2 ^ 32)
+IsTextOf m text = (text ≡ member_text m) × (m.weight ≡ 1) × (is_name m.backend.name ≡ true) × (m.backend.addr < 2 ^ 32) × (m.draining ≡ false)
 
 none_member : (m : Member) → ◌≡◌ {A = Option Member} None (Some m) → ⊥
 none_member m h = cc
@@ -87,6 +92,7 @@ pub record IsAt (m : Member) (name : List ℕ) (up : Bool) (address : List ℕ) 
   pub weight_is : m.weight ≡ 1
   pub printed : address ≡ address_text m.backend.addr
   pub small : m.backend.addr < 2 ^ 32
+  pub stays : m.draining ≡ false
 
 address_read : (m : Member) (name : List ℕ) (up : Bool) (address : List ℕ) (o : Option ℕ) → address_of address ≡ o → option_map (member_with name up) o ≡ Some m → IsAt m name up address
 address_read m name up address None e h = absurd (none_member m h)
@@ -100,11 +106,12 @@ address_read m name up address (Some a) e h =
       weight_is = sym (ap (λ (x : Member). x.weight) d);
       printed = r.0 ∙ ap address_text (sym at);
       small = (let q : a < 2 ^ 32 = r.1 in omega arith);
+      stays = sym (ap (λ (x : Member). x.draining) d);
     }
 
 -- a place that was read
 abbrev pub ReadsPlace : Member → List ℕ → List (List ℕ) → Type 0
-ReadsPlace m name ps = (m.backend.name ≡ name) × (joined 47 ps ≡ 47 ∷ place_text m.backend.addr m.up) × (m.weight ≡ 1) × (m.backend.addr < 2 ^ 32)
+ReadsPlace m name ps = (m.backend.name ≡ name) × (joined 47 ps ≡ 47 ∷ place_text m.backend.addr m.up) × (m.weight ≡ 1) × (m.backend.addr < 2 ^ 32) × (m.draining ≡ false)
 
 with_word : (m : Member) (name address word : List ℕ) (b : Bool) → bytes_eq word (codes "down") ≡ b → (if b then member_at_address name false address else None) ≡ Some m → ReadsPlace m name (address ∷ word ∷ [])
 with_word m name address word false e h = absurd (none_member m h)
@@ -112,36 +119,36 @@ with_word m name address word true e h =
     let r : IsAt m name false address = address_read m name false address (address_of address) refl h in
     let w : word ≡ codes "down" = (bytes_eq-Decides word (codes "down")).0 e in
     let j : 47 ∷ (address ++ 47 ∷ (word ++ [])) ≡ 47 ∷ (address_text m.backend.addr ++ codes "/down") = ap (λ (l : List ℕ). 47 ∷ (l ++ 47 ∷ (word ++ []))) r.printed ∙ ap (λ (l : List ℕ). 47 ∷ (address_text m.backend.addr ++ 47 ∷ l)) (none_behind word ∙ w) in
-    (r.name_is, j ∙ ap (λ (b : Bool). 47 ∷ place_text m.backend.addr b) (sym r.up_is), r.weight_is, r.small)
+    (r.name_is, j ∙ ap (λ (b : Bool). 47 ∷ place_text m.backend.addr b) (sym r.up_is), r.weight_is, r.small, r.stays)
 
 place_read : (m : Member) (name : List ℕ) (ps : List (List ℕ)) → member_at name ps ≡ Some m → ReadsPlace m name ps
 place_read m name [] h = absurd (none_member m h)
 place_read m name (address ∷ []) h =
     let r : IsAt m name true address = address_read m name true address (address_of address) refl h in
-    (r.name_is, ap (λ (l : List ℕ). 47 ∷ (l ++ [])) r.printed ∙ ap (λ (b : Bool). 47 ∷ place_text m.backend.addr b) (sym r.up_is), r.weight_is, r.small)
+    (r.name_is, ap (λ (l : List ℕ). 47 ∷ (l ++ [])) r.printed ∙ ap (λ (b : Bool). 47 ∷ place_text m.backend.addr b) (sym r.up_is), r.weight_is, r.small, r.stays)
 place_read m name (address ∷ word ∷ []) h = with_word m name address word (bytes_eq word (codes "down")) refl h
 place_read m name (address ∷ word ∷ more ∷ ps) h = absurd (none_member m h)
 
-named_read : (m : Member) (name place : List ℕ) (b : Bool) → is_name name ≡ b → (if b then member_at name (pieces 47 place) else None) ≡ Some m → (m.backend.name ≡ name) × (place ≡ place_text m.backend.addr m.up) × (m.weight ≡ 1) × (is_name m.backend.name ≡ true) × (m.backend.addr < 2 ^ 32)
+named_read : (m : Member) (name place : List ℕ) (b : Bool) → is_name name ≡ b → (if b then member_at name (pieces 47 place) else None) ≡ Some m → (m.backend.name ≡ name) × (place ≡ place_text m.backend.addr m.up) × (m.weight ≡ 1) × (is_name m.backend.name ≡ true) × (m.backend.addr < 2 ^ 32) × (m.draining ≡ false)
 named_read m name place false e h = absurd (none_member m h)
 named_read m name place true e h =
     let r : ReadsPlace m name (pieces 47 place) = place_read m name (pieces 47 place) h in
     let j : 47 ∷ place ≡ 47 ∷ place_text m.backend.addr m.up = sym (join_pieces 47 place) ∙ r.1 in
     let p : place ≡ place_text m.backend.addr m.up = cc in
-    (r.0, p, r.2, ap is_name r.0 ∙ e, r.3)
+    (r.0, p, r.2, ap is_name r.0 ∙ e, r.3, r.4)
 
-pieces_read : (m : Member) (ps : List (List ℕ)) → member_of_pieces ps ≡ Some m → (joined 64 ps ≡ 64 ∷ member_text m) × (m.weight ≡ 1) × (is_name m.backend.name ≡ true) × (m.backend.addr < 2 ^ 32)
+pieces_read : (m : Member) (ps : List (List ℕ)) → member_of_pieces ps ≡ Some m → (joined 64 ps ≡ 64 ∷ member_text m) × (m.weight ≡ 1) × (is_name m.backend.name ≡ true) × (m.backend.addr < 2 ^ 32) × (m.draining ≡ false)
 pieces_read m [] h = absurd (none_member m h)
 pieces_read m (name ∷ []) h = absurd (none_member m h)
 pieces_read m (name ∷ place ∷ []) h =
-    let r : (m.backend.name ≡ name) × (place ≡ place_text m.backend.addr m.up) × (m.weight ≡ 1) × (is_name m.backend.name ≡ true) × (m.backend.addr < 2 ^ 32) = named_read m name place (is_name name) refl h in
+    let r : (m.backend.name ≡ name) × (place ≡ place_text m.backend.addr m.up) × (m.weight ≡ 1) × (is_name m.backend.name ≡ true) × (m.backend.addr < 2 ^ 32) × (m.draining ≡ false) = named_read m name place (is_name name) refl h in
     let j : 64 ∷ (name ++ 64 ∷ (place ++ [])) ≡ 64 ∷ (m.backend.name ++ 64 ∷ place_text m.backend.addr m.up) = ap (λ (l : List ℕ). 64 ∷ (l ++ 64 ∷ (place ++ []))) (sym r.0) ∙ ap (λ (l : List ℕ). 64 ∷ (m.backend.name ++ 64 ∷ l)) (none_behind place ∙ r.1) in
-    (j ∙ ap (λ (l : List ℕ). 64 ∷ l) (sym (text_is m.backend.name m.backend.addr m.up)), r.2, r.3, r.4)
+    (j ∙ ap (λ (l : List ℕ). 64 ∷ l) (sym (text_is m.backend.name m.backend.addr m.up)), r.2, r.3, r.4, r.5)
 pieces_read m (name ∷ place ∷ more ∷ ps) h = absurd (none_member m h)
 
 pub only_members_read : OnlyMembersAreRead
 only_members_read m text h =
-    let r : (joined 64 (pieces 64 text) ≡ 64 ∷ member_text m) × (m.weight ≡ 1) × (is_name m.backend.name ≡ true) × (m.backend.addr < 2 ^ 32) = pieces_read m (pieces 64 text) h in
+    let r : (joined 64 (pieces 64 text) ≡ 64 ∷ member_text m) × (m.weight ≡ 1) × (is_name m.backend.name ≡ true) × (m.backend.addr < 2 ^ 32) × (m.draining ≡ false) = pieces_read m (pieces 64 text) h in
     let j : 64 ∷ text ≡ 64 ∷ member_text m = sym (join_pieces 64 text) ∙ r.0 in
     let t : text ≡ member_text m = cc in
-    (t, r.1, r.2, r.3)
+    (t, r.1, r.2, r.3, r.4)

@@ -1,37 +1,21 @@
 -- Member words that may bear weights.
-use Rattle.std.proofs.Common.{◌≡◌, ℕ, ◌<◌, ◌≤◌, ◌^◌, Bool, true, false, List, [], ◌∷◌, ◌++◌, Option, Some, None, refl, sym, ap, ◌∙◌, arith, append_assoc}
-use Rattle.std.specs.Prelude.{◌==◌, nat_lt, option_map, option_and_then, if◌then◌else◌, codes}
+use Rattle.std.proofs.Common.{◌≡◌, ℕ, ◌<◌, ◌≤◌, ◌^◌, Bool, true, false, List, [], ◌++◌, Option, Some, None, refl, sym, ap, ◌∙◌, arith}
+use Rattle.std.specs.Prelude.{nat_lt, option_map, option_and_then, if◌then◌else◌, codes}
 use Rattle.std.specs.Fmt.{decimal}
 use Rattle.std.proofs.lemmas.Bool.Decides.{nat_tests}
 use Rattle.backend_names.specs.NameText.{is_name}
 use Rattle.pool_versions.specs.declared.backend.Backend.{Backend}
 use Rattle.pool_versions.specs.declared.backend.Member.{Member}
-use Rattle.maglev_texts.specs.Parsing.{pieces, decimal_of, member_with, member_of, before_star, behind_star, weight_of, weighing, weighed_at, weighed_behind, weighed_member, weighed_member_of}
-use Rattle.maglev_texts.specs.Printing.{address_text, backend_text}
+use Rattle.maglev_texts.specs.Parsing.{pieces, member_with, member_of, before_star, behind_star, weight_of, weighing, weighed_at, weighed_behind, weighed_member, weighed_member_of}
+use Rattle.maglev_texts.specs.Printing.{backend_text}
 use Rattle.maglev_texts.specs.RoundTrips.{member_text, weighed_text, WeighedMembersAreReadBack, MemberWordsMeanTheSame}
 use Rattle.maglev_texts.proofs.Numerals.{read_back, decimal_digits}
-use Rattle.maglev_texts.proofs.Joins.{Lacks, lacks_both, cut, last, digits_lack, none_behind}
-use Rattle.maglev_texts.proofs.MemberTexts.{name_lacks, address_lacks, members_read_back, only_members_read}
-
-before_none : (text : List ℕ) → Lacks 42 text → before_star text ≡ text
-before_none [] h = refl
-before_none (x ∷ xs) h = ap (λ (b : Bool). if b then [] else x ∷ before_star xs) h.0 ∙ ap (λ (l : List ℕ). x ∷ l) (before_none xs h.1)
-
-behind_none : (text : List ℕ) → Lacks 42 text → behind_star text ≡ None
-behind_none [] h = refl
-behind_none (x ∷ xs) h = ap (λ (b : Bool). if b then Some xs else behind_star xs) h.0 ∙ behind_none xs h.1
-
-before_first : (text rest : List ℕ) → Lacks 42 text → before_star (text ++ 42 ∷ rest) ≡ text
-before_first [] rest h = refl
-before_first (x ∷ xs) rest h = ap (λ (b : Bool). if b then [] else x ∷ before_star (xs ++ 42 ∷ rest)) h.0 ∙ ap (λ (l : List ℕ). x ∷ l) (before_first xs rest h.1)
-
-behind_first : (text rest : List ℕ) → Lacks 42 text → behind_star (text ++ 42 ∷ rest) ≡ Some rest
-behind_first [] rest h = refl
-behind_first (x ∷ xs) rest h = ap (λ (b : Bool). if b then Some (xs ++ 42 ∷ rest) else behind_star (xs ++ 42 ∷ rest)) h.0 ∙ behind_first xs rest h.1
+use Rattle.maglev_texts.proofs.Joins.{Lacks, lacks_both, cut, last, digits_lack, none_behind, before_none, behind_none, before_at, behind_at}
+use Rattle.maglev_texts.proofs.MemberTexts.{name_lacks, address_lacks, with_draining, members_read_back, only_members_read}
 
 -- a text without a star is read as a member word
 pub plain_word : (text : List ℕ) → Lacks 42 text → weighed_member_of text ≡ member_of text
-plain_word text h = ap (λ (o : Option (List ℕ)). weighed_member (before_star text) o) (behind_none text h) ∙ ap member_of (before_none text h)
+plain_word text h = ap (λ (o : Option (List ℕ)). weighed_member (before_star text) o) (behind_none 42 text h) ∙ ap member_of (before_none 42 text h)
 
 down_lacks : (up : Bool) → Lacks 42 (if up then [] else codes "/down")
 down_lacks true = tt
@@ -45,7 +29,7 @@ member_lacks m named few = lacks_both 42 (backend_text m.backend) _ (backend_lac
 
 pub words_mean_the_same : MemberWordsMeanTheSame
 words_mean_the_same m text h =
-    let r : (text ≡ member_text m) × (m.weight ≡ 1) × (is_name m.backend.name ≡ true) × (m.backend.addr < 2 ^ 32) = only_members_read m text h in
+    let r : (text ≡ member_text m) × (m.weight ≡ 1) × (is_name m.backend.name ≡ true) × (m.backend.addr < 2 ^ 32) × (m.draining ≡ false) = only_members_read m text h in
     ap weighed_member_of r.0 ∙ plain_word (member_text m) (member_lacks m r.2 r.3) ∙ ap member_of (sym r.0) ∙ h
 
 weight_read_back : (n : ℕ) → 1 ≤ n → n ≤ 16 → weight_of (decimal n) ≡ Some n
@@ -65,12 +49,13 @@ tail_read_back m false n low high =
 
 -- a backend's text is a member word
 backend_read_back : (b : Backend) → is_name b.name ≡ true → b.addr < 2 ^ 32 → member_of (backend_text b) ≡ Some (member_with b.name true b.addr)
-backend_read_back b named few = ap member_of (sym (none_behind (backend_text b))) ∙ members_read_back (member_with b.name true b.addr) refl named few
+backend_read_back b named few = ap member_of (sym (none_behind (backend_text b))) ∙ members_read_back (member_with b.name true b.addr) refl refl named few
 
 pub weighed_read_back : WeighedMembersAreReadBack
-weighed_read_back m low high named few =
+weighed_read_back m low high stays named few =
     let lacks : Lacks 42 (backend_text m.backend) = backend_lacks m.backend named few in
-    ap (λ (l : List ℕ). weighed_member l (behind_star (weighed_text m))) (before_first (backend_text m.backend) (decimal m.weight ++ (if m.up then [] else codes "/down")) lacks)
-    ∙ ap (weighed_member (backend_text m.backend)) (behind_first (backend_text m.backend) (decimal m.weight ++ (if m.up then [] else codes "/down")) lacks)
+    ap (λ (l : List ℕ). weighed_member l (behind_star (weighed_text m))) (before_at 42 (backend_text m.backend) (decimal m.weight ++ (if m.up then [] else codes "/down")) lacks)
+    ∙ ap (weighed_member (backend_text m.backend)) (behind_at 42 (backend_text m.backend) (decimal m.weight ++ (if m.up then [] else codes "/down")) lacks)
     ∙ ap (option_and_then (weighed_behind (decimal m.weight ++ (if m.up then [] else codes "/down")))) (backend_read_back m.backend named few)
     ∙ tail_read_back (member_with m.backend.name true m.backend.addr) m.up m.weight low high
+    ∙ ap (λ (b : Bool). Some (with_draining m b)) (sym stays)

@@ -35,9 +35,9 @@ address_of_pieces _ = None
 abbrev pub address_of : List ℕ → Option ℕ
 address_of text = address_of_pieces (pieces 46 text)
 
--- a member of a name, an address and whether it is up, of the weight of one that counts once
+-- a member of a name, an address and whether it is up, of the weight of one that counts once; it doesn't drain
 abbrev pub member_with : List ℕ → Bool → ℕ → Member
-member_with name up addr = record { backend = record { name = name; addr = addr }; up = up; weight = 1 }
+member_with name up addr = record { backend = record { name = name; addr = addr }; up = up; draining = false; weight = 1 }
 
 -- the member of a name at the address that a text is
 abbrev pub member_at_address : List ℕ → Bool → List ℕ → Option Member
@@ -61,15 +61,23 @@ member_of_pieces _ = None
 abbrev pub member_of : List ℕ → Option Member
 member_of text = member_of_pieces (pieces 64 text)
 
+-- what is before the first place of a byte, the whole text where there is none
+abbrev pub before_first : ℕ → List ℕ → List ℕ
+before_first c [] = []
+before_first c (b ∷ bs) = if b == c then [] else b ∷ before_first c bs
+
+-- what is behind it, if there is one
+abbrev pub behind_first : ℕ → List ℕ → Option (List ℕ)
+behind_first c [] = None
+behind_first c (b ∷ bs) = if b == c then Some bs else behind_first c bs
+
 -- what is before a word's star, the whole word where there is none
 abbrev pub before_star : List ℕ → List ℕ
-before_star [] = []
-before_star (b ∷ bs) = if b == 42 then [] else b ∷ before_star bs
+before_star word = before_first 42 word
 
 -- what is after it, if there is one
 abbrev pub behind_star : List ℕ → Option (List ℕ)
-behind_star [] = None
-behind_star (b ∷ bs) = if b == 42 then Some bs else behind_star bs
+behind_star word = behind_first 42 word
 
 -- a weight: a number from 1 to 16
 abbrev pub weight_of : List ℕ → Option ℕ
@@ -89,7 +97,7 @@ weighed_name_of word = if is_name (before_star word) then option_map (weighed_as
 
 -- a member with a weight, up or down
 abbrev pub weighing : Member → Bool → ℕ → Member
-weighing m up weight = record { backend = m.backend; up = up; weight = weight }
+weighing m up weight = record { backend = m.backend; up = up; draining = false; weight = weight }
 
 -- after a member's star: `W`, or `W/down`
 abbrev pub weighed_at : Member → List (List ℕ) → Option Member
@@ -108,3 +116,17 @@ weighed_member word (Some tail) = option_and_then (weighed_behind tail) (member_
 -- a member word that may bear a weight: `NAME@ADDRESS`, then `*W` where the weight isn't left out, then `/down` where it is down
 abbrev pub weighed_member_of : List ℕ → Option Member
 weighed_member_of text = weighed_member (before_star text) (behind_star text)
+
+-- a member that drains
+abbrev pub draining_of : Member → Member
+draining_of m = record { backend = m.backend; up = false; draining = true; weight = m.weight }
+
+-- a member word that may bear a weight, or one with `drain` behind its first slash
+abbrev pub stated_member : List ℕ → List ℕ → Option (List ℕ) → Option Member
+stated_member text word None = weighed_member_of text
+stated_member text word (Some state) = if bytes_eq state (codes "drain") then option_map draining_of (weighed_member_of word) else weighed_member_of text
+
+-- a member word that may bear a weight and say that it drains: `NAME@ADDRESS`, then `*W` where the weight isn't left out, then
+-- `/down` where it is down, or `/drain` where it drains
+abbrev pub stated_member_of : List ℕ → Option Member
+stated_member_of text = stated_member text (before_first 47 text) (behind_first 47 text)

@@ -8,7 +8,7 @@ mod printing;
 mod weights;
 
 pub use laws::texts_are_read_back;
-pub use members::{member, weighed_member};
+pub use members::{member, stated_member, weighed_member};
 pub use parsing::{address, decimal, pieces};
 pub use printing::{AddressText, BackendText, FlowText};
 pub use weights::{WeighedName, weighed_name, weight};

@@ -1,8 +1,8 @@
 ghost use Rattle.std.specs.Prelude.{◌≡◌, map, option_map, IfOk};
-ghost use Rattle.maglev_texts.specs.Parsing.{member_at_address, member_at, member_named, member_of_pieces, member_of, weight_of, weighing, weighed_at, weighed_behind, weighed_member_of};
+ghost use Rattle.maglev_texts.specs.Parsing.{member_at_address, member_at, member_named, member_of_pieces, member_of, weight_of, weighing, weighed_at, weighed_behind, weighed_member_of, draining_of, stated_member_of};
 
-use crate::parsing::{address, pieces};
-use crate::weights::{at_star, weight};
+use crate::parsing::{address, at_first, pieces};
+use crate::weights::weight;
 use backend_names::{Name, Weight};
 use pool_versions::{Backend, Member};
 use std::alloc::{AllocError, Global};
@@ -19,6 +19,7 @@ fn member_with(
     Ok(found.map(|addr| Member {
         backend: Backend { name, addr },
         up,
+        draining: false,
         weight: Weight::one(),
     }))
 }
@@ -77,6 +78,7 @@ fn with_weight(member: Member, up: bool, text: &[u8]) -> Option<Member>
     Some(Member {
         backend: member.backend,
         up,
+        draining: false,
         weight,
     })
 }
@@ -113,11 +115,39 @@ fn weighed_behind(alloc: Global, tail: &[u8], member: Member) -> Result<Option<M
 pub fn weighed_member(alloc: Global, word: &[u8]) -> Result<Option<Member>, AllocError>
     ensures { IfOk result (λ o. o ≡ weighed_member_of word.now) }
 {
-    let (head, tail) = at_star(word);
+    let (head, tail) = at_first(word, b'*');
     let found = member(alloc, head)?;
     match (found, tail) {
         (Some(member), Some(tail)) => weighed_behind(alloc, tail, member),
         (found, None) => Ok(found),
         (None, Some(_)) => Ok(None),
+    }
+}
+
+fn draining_of(member: Member) -> Member
+    ensures { result ≡ draining_of member }
+{
+    Member {
+        backend: member.backend,
+        up: false,
+        draining: true,
+        weight: member.weight,
+    }
+}
+
+/// The member that a word is where members may drain: `NAME@ADDRESS`, then `*W` unless the weight is left out, then `/down`
+/// where the member is down, or `/drain` where it drains.
+pub fn stated_member(alloc: Global, word: &[u8]) -> Result<Option<Member>, AllocError>
+    ensures { IfOk result (λ o. o ≡ stated_member_of word.now) }
+{
+    let (head, tail) = at_first(word, b'/');
+    let Some(state) = tail else {
+        return weighed_member(alloc, word);
+    };
+    if state == b"drain".as_slice() {
+        let found = weighed_member(alloc, head)?;
+        Ok(found.map(draining_of))
+    } else {
+        weighed_member(alloc, word)
     }
 }

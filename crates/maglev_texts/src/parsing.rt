@@ -1,5 +1,5 @@
-ghost use Rattle.std.specs.Prelude.{◌≡◌, ◌≤◌, ◌^◌, ◌<◌, map, IfOk, IfSome, length};
-ghost use Rattle.maglev_texts.specs.Parsing.{digits_after, decimal_of, pieces, address_of, address_of_pieces};
+ghost use Rattle.std.specs.Prelude.{◌≡◌, ◌≤◌, ◌^◌, ◌<◌, map, option_copied, IfOk, IfSome, length};
+ghost use Rattle.maglev_texts.specs.Parsing.{digits_after, decimal_of, before_first, behind_first, pieces, address_of, address_of_pieces};
 
 use std::alloc::{AllocError, Global};
 
@@ -31,6 +31,19 @@ fn digits(text: &[u8], limit: u64) -> Option<u64>
         }
     }
     Some(number)
+}
+
+/// A text before the first place of a byte, and behind it, if there is one.
+pub(crate) fn at_first(text: &[u8], byte: u8) -> (&[u8], Option<&[u8]>)
+    ensures head { result.0.now ≡ before_first byte text.entry.now }
+    ensures tail { option_copied result.1 ≡ behind_first byte text.entry.now }
+{
+    for (place, other) in text.iter().enumerate() {
+        if *other == byte {
+            return (&text[..place], Some(&text[place + 1..]));
+        }
+    }
+    (text, None)
 }
 
 /// The pieces of a text between the places of a byte: one more than there are places.

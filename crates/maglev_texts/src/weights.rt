@@ -1,7 +1,7 @@
-ghost use Rattle.std.specs.Prelude.{◌≡◌, option_copied};
-ghost use Rattle.maglev_texts.specs.Parsing.{before_star, behind_star, weight_of, weighed_name_of};
+ghost use Rattle.std.specs.Prelude.{◌≡◌};
+ghost use Rattle.maglev_texts.specs.Parsing.{weight_of, weighed_name_of};
 
-use crate::parsing::decimal;
+use crate::parsing::{at_first, decimal};
 use backend_names::{Name, Weight};
 
 /// The weight that a text is: a number from 1 to 16, without sign or leading zeros.
@@ -10,19 +10,6 @@ pub fn weight(text: &[u8]) -> Option<Weight>
 {
     let number = decimal(text, 16)?;
     Weight::new(number as u8)
-}
-
-/// A word before its first star, and after it, if there is one.
-pub(crate) fn at_star(word: &[u8]) -> (&[u8], Option<&[u8]>)
-    ensures head { result.0.now ≡ before_star word.entry.now }
-    ensures tail { option_copied result.1 ≡ behind_star word.entry.now }
-{
-    for (place, byte) in word.iter().enumerate() {
-        if *byte == b'*' {
-            return (&word[..place], Some(&word[place + 1..]));
-        }
-    }
-    (word, None)
 }
 
 /// A name and its weight.
@@ -36,7 +23,7 @@ pub struct WeighedName {
 pub fn weighed_name(word: &[u8]) -> Option<WeighedName>
     ensures { result ≡ weighed_name_of word.now }
 {
-    let (head, tail) = at_star(word);
+    let (head, tail) = at_first(word, b'*');
     let name = Name::new(head)?;
     let weight = match tail {
         Some(tail) => weight(tail)?,

@@ -1,4 +1,4 @@
-use Rattle.std.proofs.Common.{◌≡◌, ◌<◌, ◌≤◌, List, ℕ, map, length, Bor, arith}
+use Rattle.std.proofs.Common.{◌≡◌, List, ℕ, map, length, Bor, arith}
 use Rattle.std.proofs.lemmas.List.{length-map}
 use Rattle.maglev_texts.proofs.Words.{of_few, of_many}
 use Rattle.maglev_texts.proofs.members.member_of_pieces.Goals as goal
