@@ -15,7 +15,7 @@ use pcap_file::ToWrite;
 pub use scenario::Played;
 pub use scenarios::between_captures;
 use scenarios::{run_explain, run_plan, run_simulate, run_sketch};
-use std::io::Write;
+use std::io::{IsTerminal, Write};
 use tables::{run_compare, run_pick, run_table};
 pub use words::{matches_of, refused, unread, words_of};
 
@@ -30,6 +30,11 @@ fn told_outcome(rt: &HostRuntime, outcome: &Result<(), CliFault>) -> u8 {
 // Reports a fault on standard error, and answers its status.
 fn told(rt: &HostRuntime, fault: CliFault) -> u8 {
     told_outcome(rt, &Err(fault))
+}
+
+// Whether more is said than the fixed texts: where that is asked for, or where a person reads it.
+fn says_more(rt: &HostRuntime, matches: &ArgMatches<'_>) -> bool {
+    matches.get_flag("verbose") || rt.stderr().is_terminal()
 }
 
 // Says what more is known of a fault.

@@ -80,9 +80,23 @@ pub(crate) fn reason(alloc: Global, trouble: &Trouble, files: &Files<'_, '_>) ->
     reason_by(alloc, trouble, &shown)
 }
 
+// Whether a file begins as a capture of packets does.
+fn is_capture(head: &[u8]) -> bool {
+    let [first, second, third, last, ..] = head else {
+        return false;
+    };
+    let bytes = [*first, *second, *third, *last];
+    let magics = [0xa1b2_c3d4, 0xa1b2_3c4d, 0xa1b2_cd34, 0x0a0d_0d0a];
+    magics.contains(&u32::from_be_bytes(bytes)) || magics.contains(&u32::from_le_bytes(bytes))
+}
+
 // The same, of paths that a terminal can show.
 fn reason_by(alloc: Global, trouble: &Trouble, files: &Files<'_, '_>) -> Option<String> {
     match trouble.fault {
+        CliFault::TooLong | CliFault::BadToml if is_capture(files.text) => {
+            let path = files.paths.scenario;
+            format!(in alloc; "{path}: found a capture, expected a scenario: SCENARIO comes before INPUT").ok()
+        }
         CliFault::OpenScenario | CliFault::ReadScenario => {
             system(alloc, files.paths.scenario, trouble.system)
         }

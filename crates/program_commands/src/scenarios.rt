@@ -3,7 +3,7 @@ use crate::files::{
     Paths, between_files, explain_files, read_scenario, records_before, sketch_file,
 };
 use crate::reasons::{Files, Trouble, reason};
-use crate::{USAGE, say, told};
+use crate::{USAGE, say, says_more, told};
 use clap::ArgMatches;
 use command_faults::CliFault;
 use connection_table::TableKey;
@@ -63,8 +63,8 @@ fn explain(rt: &HostRuntime, paths: Paths<'_>, text: &[u8], trouble: &Trouble) {
     say(rt, reason(rt.alloc(), trouble, &files));
 }
 
-// The end of a command over files. A fault is reported, and with `--verbose` where it is and what was expected. Without a
-// fault `--verbose` warns of a scenario that may not mean what was meant.
+// The end of a command over files. A fault is reported, and where more is said, where it is and what was expected. Without a
+// fault a scenario that may not mean what was meant is warned of then.
 fn ended(
     rt: &HostRuntime,
     verbose: bool,
@@ -117,7 +117,7 @@ where
         Ok(()) => between_files(rt, &paths, text, play),
         Err(trouble) => Err(trouble),
     };
-    let verbose = matches.get_flag("verbose");
+    let verbose = says_more(rt, matches);
     ended(rt, verbose, paths, played, text, outcome)
 }
 
@@ -154,7 +154,7 @@ pub(crate) fn run_explain(rt: &HostRuntime, matches: &ArgMatches<'_>) -> u8 {
         Ok(()) => explain_files(rt, &paths, text, one, other),
         Err(trouble) => Err(trouble),
     };
-    let verbose = matches.get_flag("verbose");
+    let verbose = says_more(rt, matches);
     ended(rt, verbose, paths, Played::InTurn, text, outcome)
 }
 
@@ -184,7 +184,7 @@ pub(crate) fn run_plan(rt: &HostRuntime, matches: &ArgMatches<'_>) -> u8 {
         Ok(()) => print_plan(rt, text, from, matches.get_one::<u32>("to")),
         Err(trouble) => Err(trouble),
     };
-    let verbose = matches.get_flag("verbose");
+    let verbose = says_more(rt, matches);
     ended(rt, verbose, paths, Played::InTurn, text, outcome)
 }
 
@@ -199,6 +199,6 @@ pub(crate) fn run_sketch(rt: &HostRuntime, matches: &ArgMatches<'_>) -> u8 {
         output: "standard output",
     };
     let outcome = sketch_file(rt, input);
-    let verbose = matches.get_flag("verbose");
+    let verbose = says_more(rt, matches);
     ended(rt, verbose, paths, Played::InTurn, b"", outcome)
 }

@@ -1,13 +1,13 @@
 //! The commands that need no scenario, from what the command line says.
 use crate::word_reasons::{of_members, of_names};
-use crate::{USAGE, say, told_outcome};
+use crate::{USAGE, say, says_more, told_outcome};
 use clap::ArgMatches;
 use command_faults::CliFault;
 use pcap_file::{FromRead, ToWrite};
 use std::io;
 use table_commands::{compare, pick, table};
 
-// The end of a command. A fault is reported, and with `--verbose` what `reason` knows of it.
+// The end of a command. A fault is reported, and where more is said, what `reason` knows of it.
 fn ended<F: FnOnce(CliFault) -> Option<String> + Drop>(
     rt: &HostRuntime,
     matches: &ArgMatches<'_>,
@@ -18,7 +18,7 @@ fn ended<F: FnOnce(CliFault) -> Option<String> + Drop>(
 {
     let status = told_outcome(rt, &outcome);
     match outcome {
-        Err(fault) if matches.get_flag("verbose") => say(rt, reason(fault)),
+        Err(fault) if says_more(rt, matches) => say(rt, reason(fault)),
         _ => {}
     }
     status

@@ -51,9 +51,21 @@ pub fn refused(rt: &HostRuntime) -> u8 {
     told(rt, CliFault::Memory)
 }
 
-/// The words of the program's command line.
+// Whether words ask for more before they name a command.
+fn asks_first(words: &[String]) -> bool {
+    let [_, flag, command, ..] = words else {
+        return false;
+    };
+    matches!(flag.as_str(), "-v" | "--verbose") && !command.as_str().starts_with('-')
+}
+
+/// The words of the program's command line. `maglev -v COMMAND ..` is `maglev COMMAND -v ..`.
 pub fn words_of(rt: &HostRuntime) -> io::Result<Vec<String>> {
-    Ok(env::args(rt)?.collect(rt.alloc())?)
+    let mut words = env::args(rt)?.collect(rt.alloc())?;
+    if asks_first(words.as_slice()) {
+        words.as_mut_slice().swap(1, 2);
+    }
+    Ok(words)
 }
 
 // `help --help` asks for what `help` prints.
