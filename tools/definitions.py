@@ -19,8 +19,8 @@ PROMISES = [
         "The headline over every list of events",
         "`replay_maglev` and `replay` of `cluster_core`: each outcome is the verdict of its event after all before it; two sends "
         "of one flow to different backends chose under versions whose tables name them at the flow's slot; a forwarder keeps "
-        "a flow's backend while its entry stands and the backend is up; every slot names an up backend, and backends' slot "
-        "counts are in proportion to their weights, of equal weights differ by at most one.",
+        "a flow's backend while its entry stands and the backend is up or draining; every slot names an up backend, never one "
+        "that drains, and backends' slot counts are in proportion to their weights, of equal weights differ by at most one.",
         [("cluster_core", "headline", "replay_maglev"), ("cluster_core", "replaying", "replay")],
     ),
     (
