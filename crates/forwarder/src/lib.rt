@@ -1,7 +1,7 @@
 //! One forwarder: it sends each packet of a flow where the flow's entry says, and a new flow where the scheme says.
 //!
 //! This is connection tracking over consistent hashing (Maglev, NSDI 2016, section 3.4). While the entry of a flow stands
-//! and its backend is up, the flow's packets go to that backend, whatever the pools' newer versions say.
+//! and its backend is up or drains, the flow's packets go to that backend, whatever the pools' newer versions say.
 #![tactic(auto)]
 
 ghost use Rattle.std.specs.Prelude.{◌≡◌, ◌≤◌, ◌<◌, ◌∷◌, [], ℕ, List, length, Option, Some, None, false, IsTrue, IfOk, IfSome, IsNone, IsSome, IsFalse, MatchBool};
@@ -12,8 +12,11 @@ ghost use Rattle.forwarder.specs.declared.Choice.TheVariants.{Forward};
 ghost use Rattle.forwarder.specs.Forwarding.{Forwarding, unused};
 ghost use Rattle.forwarder.specs.Serving.{Serving, kept, clock_with, told_after, told_in, stands_in, after_told, forwarding_of, serving_of, told, IsForward};
 
+mod laws;
+
 use connection_table::{ConnTable, Entry, Renewed, TableKey};
 use five_tuple::Flow;
+pub use laws::only_drains_are_new;
 use pool_versions::Backend;
 use selection::{PreparedVersion, Ready, Scheme};
 use std::alloc::{AllocError, Global};
@@ -70,15 +73,15 @@ impl<S: Scheme, T: ConnTable> fmt::Debug for Forwarder<S, T> {
     }
 }
 
-// The entry where its backend is up.
+// The entry where its backend is up or drains.
 #[inline(always)]
-fn if_up<S: Scheme>(held: Option<Entry>, ready: &Ready<S>) -> Option<Entry>
+fn if_kept<S: Scheme>(held: Option<Entry>, ready: &Ready<S>) -> Option<Entry>
     ensures { result ≡ kept held ready.now.ups }
 {
     match held {
         None => None,
         Some(entry) => {
-            if ready.is_up(&entry.backend) {
+            if ready.keeps(&entry.backend) {
                 Some(entry)
             } else {
                 None
@@ -142,12 +145,12 @@ fn keep<T: ConnTable>(table: &mut T, stood: bool, flow: Flow, entry: Entry, refu
     }
 }
 
-// Whether an entry stands, and its backend is up.
+// Whether an entry stands, and its backend is up or drains.
 #[inline(always)]
 fn stays<S: Scheme>(entry: &Entry, idle: Option<u64>, clock: u64, ready: &Ready<S>) -> bool
     ensures { MatchBool result (kept (in_time idle clock (Some entry.now)) ready.now.ups ≡ Some entry.now) (kept (in_time idle clock (Some entry.now)) ready.now.ups ≡ None) }
 {
-    stands(entry, idle, clock) && ready.is_up(&entry.backend)
+    stands(entry, idle, clock) && ready.keeps(&entry.backend)
 }
 
 // A flow's new entry, where somebody is up.
@@ -226,8 +229,8 @@ impl<S: Scheme, T: ConnTable> Forwarder<S, T> {
     /// is made, as where memory for one is refused; the packet is forwarded all the same.
     ///
     /// The clock is the greatest time of the packets that were served since the forwarder was made or restarted, this one
-    /// included. A flow with an entry that stands and whose backend is up goes there, with the entry's origin. Otherwise the
-    /// scheme is asked. By the clause `history` the answer is a function of all that this forwarder served before.
+    /// included. A flow with an entry that stands, and whose backend is up or drains, goes there with the entry's origin.
+    /// Otherwise the scheme is asked. By the clause `history` the answer is a function of all that this forwarder served before.
     #[inline(always)]
     pub fn serve(
         &mut self,
@@ -338,7 +341,7 @@ impl<S: Scheme, T: ConnTable> Forwarder<S, T> {
     {
         let clock = self.tick(at);
         let stood = stand(&mut self.table, self.idle, flow, clock);
-        if let Some(entry) = if_up(stood, ready) {
+        if let Some(entry) = if_kept(stood, ready) {
             return Served {
                 choice: sent(&entry),
                 unstored: false,
