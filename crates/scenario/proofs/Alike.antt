@@ -1,21 +1,29 @@
--- A document of format 1 means the same in format 2.
-use Rattle.std.proofs.Common.{◌≡◌, ℕ, Bool, true, false, List, ◌∷◌, codes, Option, Some, None, Ok, option_map, option_and_then, refl, sym, ap, ◌∙◌}
-use Rattle.std.specs.Prelude.{if◌then◌else◌, nat_eq}
+-- A document of a format means the same in each later one.
+use Rattle.std.proofs.Common.{◌≡◌, ℕ, Bool, true, false, List, ◌∷◌, codes, Option, Some, None, Result, Ok, Err, length, ◌-◌, [], option_map, option_and_then, refl, sym, ap, ◌∙◌}
+use Rattle.std.specs.Prelude.{if◌then◌else◌, nat_eq, nat_le}
+use Rattle.std.specs.Option.{option_or}
 use Rattle.std.specs.List.{list_any}
 use Rattle.std.specs.Cmp.Lexicographic.{pointwise}
 use Rattle.std.proofs.lemmas.Bool.{and_parts, and_from, or_right}
 use Rattle.toml.specs.Data.{Data, Items, no_items, item, Members, no_members, member, as_str, as_table}
 use Rattle.pool_versions.specs.declared.backend.Member.{Member}
-use Rattle.maglev_texts.specs.Parsing.{address_of, member_of, weighed_member_of}
+use Rattle.maglev_texts.specs.Parsing.{address_of, pieces}
 use Rattle.maglev_texts.proofs.WeighedTexts.{words_mean_the_same}
+use Rattle.maglev_texts.proofs.StatedTexts.{weighed_words_mean_the_same}
+use Rattle.pool_versions.specs.declared.catalogue.PoolFault.{PoolFault}
 use Rattle.scenario.specs.Lookups.{number_at, text_at, items_at, all_items, all_of, has_only}
 use Rattle.scenario.specs.Words.{protocol_of_word, choices_of, limits_of}
-use Rattle.scenario.specs.Plain.{PlainService, PlainVersion}
-use Rattle.scenario.specs.Drafts.{service_keys, version_keys, word_of, service_draft, service_in, version_draft, version_in}
-use Rattle.scenario.specs.Meaning.{PlainDraft, PlainScenario, common_keys, root_keys, nodes_of, versions_in, steps_in, draft_of, draft_in, service_of, version_of, with_versions, with_draft, with_format, plan_of_draft, plan_of}
-use Rattle.scenario.specs.Alike.{AreAlike, FormatsMeanTheSame}
+use Rattle.scenario.specs.Plain.{PlainService, PlainVersion, first_refused}
+use Rattle.scenario.specs.Steps.{PlainStep, kind_of, step_of}
+use Rattle.scenario.specs.Told.{PlainTold, once, steps_said, count_said, starred_in, told_by, told_by_words, allows_told, told_of, after, said_before, steps_of}
+use Rattle.scenario.specs.Drafts.{service_keys, version_keys, member_in, word_of, service_draft, service_in, version_draft, version_in}
+use Rattle.scenario.specs.Meaning.{PlainDraft, PlainScenario, common_keys, root_keys, nodes_of, versions_in, steps_in, draft_of, draft_in, service_of, version_of, rules_of, with_steps, with_pools, with_versions, with_draft, with_format, plan_of_draft, plan_of}
+use Rattle.scenario.specs.Alike.{IsLater, AreAlike, FormatsMeanTheSame}
 use Rattle.scenario.specs.declared.playing.Played.{Played}
-use Rattle.scenario.specs.declared.formats.Format.TheVariants.{One, Two}
+use Rattle.scenario.specs.declared.formats.Format.{Format}
+use Rattle.scenario.specs.declared.formats.Format.TheVariants.{One, Two, Three}
+use Rattle.scenario.specs.declared.step.Kind.{Kind}
+use Rattle.scenario.specs.declared.told.StepRules.{StepRules}
 use Rattle.scenario.specs.declared.setup.Choices.{Choices}
 use Rattle.scenario.specs.declared.setup.Limits.{Limits}
 
@@ -39,11 +47,22 @@ mapped : {A B : Type 0} (f : A → B) (o : Option A) (b : B) → option_map f o 
 mapped f None b h = absurd cc
 mapped f (Some a) b h = (a, refl)
 
-word_same : (o : Option (List ℕ)) (x : Option Member) (m : Member) → option_map member_of o ≡ Some x → x ≡ Some m → option_map weighed_member_of o ≡ Some x
-word_same None x m h k = absurd cc
-word_same (Some t) x m h k =
-    let e : member_of t ≡ x = cc in
-    ap Some (words_mean_the_same m t (e ∙ k) ∙ sym k)
+member_same : (f g : Format) → IsLater f g → (m : Member) (text : List ℕ) → member_in f text ≡ Some m → member_in g text ≡ Some m
+member_same One One later m text h = absurd later
+member_same One Two later m text h = words_mean_the_same m text h
+member_same One Three later m text h = (weighed_words_mean_the_same m text (words_mean_the_same m text h)).0
+member_same Two One later m text h = absurd later
+member_same Two Two later m text h = absurd later
+member_same Two Three later m text h = (weighed_words_mean_the_same m text h).0
+member_same Three One later m text h = absurd later
+member_same Three Two later m text h = absurd later
+member_same Three Three later m text h = absurd later
+
+word_same : (f g : Format) → IsLater f g → (o : Option (List ℕ)) (x : Option Member) (m : Member) → option_map (member_in f) o ≡ Some x → x ≡ Some m → option_map (member_in g) o ≡ Some x
+word_same f g later None x m h k = absurd cc
+word_same f g later (Some t) x m h k =
+    let e : member_in f t ≡ x = cc in
+    ap Some (member_same f g later m t (e ∙ k) ∙ sym k)
 
 under_items : {B C : Type 0} (f f' : Data → Option B) (g : B → Option C) → ((d : Data) (x : B) (y : C) → f d ≡ Some x → g x ≡ Some y → f' d ≡ Some x)
     → (o : Option Items) (xs : List B) (ys : List C) → option_and_then (all_items f) o ≡ Some xs → all_of g xs ≡ Some ys → option_and_then (all_items f') o ≡ option_and_then (all_items f) o
@@ -65,14 +84,14 @@ service_members (Some x) (Some y) (Some z) (Some ms) s h = made x y z ms s h
     made : (x y z : ℕ) (ms : List (Option Member)) (s : PlainService (Option Member)) → Some (record { vip = x; proto = y; port = z; members = ms }) ≡ Some s → Some ms ≡ Some s.members
     made x y z ms s h = ap (option_map (λ (t : PlainService (Option Member)). t.members)) h
 
-service_draft_same : (ms : Members) (s : PlainService (Option Member)) (t : PlainService Member) → service_draft One ms ≡ Some s → service_of s ≡ Some t → service_draft Two ms ≡ Some s
+service_draft_same : (f g : Format) → IsLater f g → (ms : Members) (s : PlainService (Option Member)) (t : PlainService Member) → service_draft f ms ≡ Some s → service_of s ≡ Some t → service_draft g ms ≡ Some s
 unfolding service_draft
-service_draft_same ms s t h k =
-    let members : option_and_then (all_items (word_of One)) (items_at (codes "members") ms) ≡ Some s.members =
-    service_members (option_and_then address_of (text_at (codes "vip") ms)) (option_and_then protocol_of_word (text_at (codes "proto") ms)) (number_at 0 65535 (codes "port") ms) (option_and_then (all_items (word_of One)) (items_at (codes "members") ms)) s h in
+service_draft_same f g later ms s t h k =
+    let members : option_and_then (all_items (word_of f)) (items_at (codes "members") ms) ≡ Some s.members =
+    service_members (option_and_then address_of (text_at (codes "vip") ms)) (option_and_then protocol_of_word (text_at (codes "proto") ms)) (number_at 0 65535 (codes "port") ms) (option_and_then (all_items (word_of f)) (items_at (codes "members") ms)) s h in
     let good = mapped (λ (members : List Member). let v : PlainService Member = record { vip = s.vip; proto = s.proto; port = s.port; members = members } in v) (all_of (λ o. o) s.members) t k in
     ap (made_service (option_and_then address_of (text_at (codes "vip") ms)) (option_and_then protocol_of_word (text_at (codes "proto") ms)) (number_at 0 65535 (codes "port") ms))
-    (under_items (word_of One) (word_of Two) (λ o. o) (λ d x m h k. word_same (as_str d) x m h k) (items_at (codes "members") ms) s.members good.0 members good.1)
+    (under_items (word_of f) (word_of g) (λ o. o) (λ d x m h k. word_same f g later (as_str d) x m h k) (items_at (codes "members") ms) s.members good.0 members good.1)
     ∙ h
 
 when_only : {A : Type 0} (b : Bool) (o o' : Option A) (a : A) → (o ≡ Some a → o' ≡ Some a) → (if b then o else None) ≡ Some a → (if b then o' else None) ≡ Some a
@@ -83,10 +102,10 @@ in_table : {A : Type 0} (f f' : Members → Option A) (o : Option Members) (a : 
 in_table f f' None a same h = absurd cc
 in_table f f' (Some ms) a same h = same ms h
 
-service_same : (d : Data) (s : PlainService (Option Member)) (t : PlainService Member) → service_in One d ≡ Some s → service_of s ≡ Some t → service_in Two d ≡ Some s
-service_same d s t h k =
-    in_table (λ ms. if has_only service_keys ms then service_draft One ms else None) (λ ms. if has_only service_keys ms then service_draft Two ms else None) (as_table d) s
-    (λ ms. when_only (has_only service_keys ms) (service_draft One ms) (service_draft Two ms) s (λ g. service_draft_same ms s t g k)) h
+service_same : (f g : Format) → IsLater f g → (d : Data) (s : PlainService (Option Member)) (t : PlainService Member) → service_in f d ≡ Some s → service_of s ≡ Some t → service_in g d ≡ Some s
+service_same f g later d s t h k =
+    in_table (λ ms. if has_only service_keys ms then service_draft f ms else None) (λ ms. if has_only service_keys ms then service_draft g ms else None) (as_table d) s
+    (λ ms. when_only (has_only service_keys ms) (service_draft f ms) (service_draft g ms) s (λ e. service_draft_same f g later ms s t e k)) h
 
 -- a version
 abbrev made_version : Option ℕ → Option (List (PlainService (Option Member))) → Option (PlainVersion (Option Member))
@@ -97,20 +116,20 @@ version_services None ss v h = absurd cc
 version_services (Some x) None v h = absurd cc
 version_services (Some x) (Some ss) v h = ap (option_map (λ (w : PlainVersion (Option Member)). w.services)) h
 
-version_draft_same : (ms : Members) (v : PlainVersion (Option Member)) (w : PlainVersion Member) → version_draft One ms ≡ Some v → version_of v ≡ Some w → version_draft Two ms ≡ Some v
+version_draft_same : (f g : Format) → IsLater f g → (ms : Members) (v : PlainVersion (Option Member)) (w : PlainVersion Member) → version_draft f ms ≡ Some v → version_of v ≡ Some w → version_draft g ms ≡ Some v
 unfolding version_draft
-version_draft_same ms v w h k =
-    let services : option_and_then (all_items (service_in One)) (items_at (codes "services") ms) ≡ Some v.services =
-    version_services (number_at 0 4294967295 (codes "number") ms) (option_and_then (all_items (service_in One)) (items_at (codes "services") ms)) v h in
+version_draft_same f g later ms v w h k =
+    let services : option_and_then (all_items (service_in f)) (items_at (codes "services") ms) ≡ Some v.services =
+    version_services (number_at 0 4294967295 (codes "number") ms) (option_and_then (all_items (service_in f)) (items_at (codes "services") ms)) v h in
     let good = mapped (λ (services : List (PlainService Member)). let u : PlainVersion Member = record { number = v.number; services = services } in u) (all_of service_of v.services) w k in
     ap (made_version (number_at 0 4294967295 (codes "number") ms))
-    (under_items (service_in One) (service_in Two) service_of service_same (items_at (codes "services") ms) v.services good.0 services good.1)
+    (under_items (service_in f) (service_in g) service_of (service_same f g later) (items_at (codes "services") ms) v.services good.0 services good.1)
     ∙ h
 
-version_same : (d : Data) (v : PlainVersion (Option Member)) (w : PlainVersion Member) → version_in One d ≡ Some v → version_of v ≡ Some w → version_in Two d ≡ Some v
-version_same d v w h k =
-    in_table (λ ms. if has_only version_keys ms then version_draft One ms else None) (λ ms. if has_only version_keys ms then version_draft Two ms else None) (as_table d) v
-    (λ ms. when_only (has_only version_keys ms) (version_draft One ms) (version_draft Two ms) v (λ g. version_draft_same ms v w g k)) h
+version_same : (f g : Format) → IsLater f g → (d : Data) (v : PlainVersion (Option Member)) (w : PlainVersion Member) → version_in f d ≡ Some v → version_of v ≡ Some w → version_in g d ≡ Some v
+version_same f g later d v w h k =
+    in_table (λ ms. if has_only version_keys ms then version_draft f ms else None) (λ ms. if has_only version_keys ms then version_draft g ms else None) (as_table d) v
+    (λ ms. when_only (has_only version_keys ms) (version_draft f ms) (version_draft g ms) v (λ e. version_draft_same f g later ms v w e k)) h
 
 -- the whole
 abbrev made_draft : Option Choices → Option Limits → Option (List ℕ) → Option (List (PlainVersion (Option Member))) → Option (List (List ℕ)) → Option PlainDraft
@@ -134,11 +153,86 @@ one_key_more k keys (member l d ms) h =
     and_from (list_any (pointwise nat_eq l) (k ∷ keys)) (has_only (k ∷ keys) ms)
     (or_right (pointwise nat_eq l k) (list_any (pointwise nat_eq l) keys) p.0) (one_key_more k keys ms p.1)
 
+keys_grow : (f g : Format) → IsLater f g → (ms : Members) → has_only (root_keys f) ms ≡ true → has_only (root_keys g) ms ≡ true
+keys_grow One One later ms h = absurd later
+keys_grow One Two later ms h = one_key_more (codes "idle") common_keys ms h
+keys_grow One Three later ms h = one_key_more (codes "idle") common_keys ms h
+keys_grow Two One later ms h = absurd later
+keys_grow Two Two later ms h = absurd later
+keys_grow Two Three later ms h = h
+keys_grow Three One later ms h = absurd later
+keys_grow Three Two later ms h = absurd later
+keys_grow Three Three later ms h = absurd later
+
 when_both : {A : Type 0} (b c : Bool) (o o' : Option A) (a : A) → (b ≡ true → c ≡ true) → (o ≡ Some a → o' ≡ Some a) → (if b then o else None) ≡ Some a → (if c then o' else None) ≡ Some a
 when_both false c o o' a more same h = absurd cc
 when_both true c o o' a more same h = ap (λ (x : Bool). if x then o' else None) (more refl) ∙ same h
 
-module _ (ms ns : Members) (a : AreAlike ms ns) where
+-- the steps
+abbrev pub ruled : Format → Played → ℕ → ℕ → StepRules
+ruled f played nodes workers = record { format = f; played = played; nodes = nodes; workers = workers }
+
+starred_same : (f g : Format) → IsLater f g → (k : Kind) (words : List (List ℕ)) (t : PlainTold) → starred_in f k words ≡ Some t → starred_in g k words ≡ Some t
+starred_same One g later k words t h = absurd cc
+starred_same Two g later k words t h = absurd cc
+starred_same Three One later k words t h = absurd later
+starred_same Three Two later k words t h = absurd later
+starred_same Three Three later k words t h = absurd later
+
+either_same : (o p q : Option PlainTold) (t : PlainTold) → (p ≡ Some t → q ≡ Some t) → option_or o p ≡ Some t → option_or o q ≡ Some t
+either_same None p q t same h = same h
+either_same (Some s) p q t same h = h
+
+kind_same : (f g : Format) → IsLater f g → (played : Played) (nodes workers : ℕ) (words : List (List ℕ)) (o : Option Kind) (t : PlainTold)
+    → option_and_then (λ k. told_by (ruled f played nodes workers) k words) o ≡ Some t → option_and_then (λ k. told_by (ruled g played nodes workers) k words) o ≡ Some t
+kind_same f g later played nodes workers words None t h = absurd cc
+kind_same f g later played nodes workers words (Some k) t h =
+    either_same (option_map (λ s. once s) (step_of nodes workers k words)) (starred_in f k words) (starred_in g k words) t (starred_same f g later k words t) h
+
+words_same : (f g : Format) → IsLater f g → (played : Played) (nodes workers : ℕ) (words : List (List ℕ)) (t : PlainTold) → told_by_words (ruled f played nodes workers) words ≡ Some t → told_by_words (ruled g played nodes workers) words ≡ Some t
+words_same f g later played nodes workers [] t h = absurd cc
+words_same f g later played nodes workers (word ∷ words) t h = kind_same f g later played nodes workers words (kind_of word) t h
+
+kept_same : (F : PlainTold → Option PlainTold) (o p : Option PlainTold) (t : PlainTold) → ((s : PlainTold) → o ≡ Some s → p ≡ Some s) → option_and_then F o ≡ Some t → option_and_then F p ≡ Some t
+kept_same F None p t same h = absurd cc
+kept_same F (Some s) p t same h = ap (option_and_then F) (same s refl) ∙ h
+
+told_same : (f g : Format) → IsLater f g → (played : Played) (nodes workers room : ℕ) (text : List ℕ) (t : PlainTold) → told_of (ruled f played nodes workers) room text ≡ Some t → told_of (ruled g played nodes workers) room text ≡ Some t
+unfolding told_of
+told_same f g later played nodes workers room text t h =
+    kept_same (λ t. if allows_told played t then (if nat_le (count_said nodes t) room then Some t else None) else None)
+    (told_by_words (ruled f played nodes workers) (pieces 32 text)) (told_by_words (ruled g played nodes workers) (pieces 32 text)) t
+    (λ s e. words_same f g later played nodes workers (pieces 32 text) s e) h
+
+after_same : (said ss : List PlainStep) (r r' : Result (List PlainStep) ℕ) → ((rest : List PlainStep) → r ≡ Ok rest → r' ≡ Ok rest) → after 1 said r ≡ Ok ss → after 1 said r' ≡ Ok ss
+after_same said ss (Ok rest) r' same h = ap (after 1 said) (same rest refl) ∙ h
+after_same said ss (Err n) r' same h = absurd cc
+
+said_same : (nodes room : ℕ) (o p : Option PlainTold) (rest rest' : ℕ → Result (List PlainStep) ℕ) (ss : List PlainStep)
+    → ((t : PlainTold) → o ≡ Some t → p ≡ Some t) → ((left : ℕ) (l : List PlainStep) → rest left ≡ Ok l → rest' left ≡ Ok l) → said_before nodes room o rest ≡ Ok ss → said_before nodes room p rest' ≡ Ok ss
+said_same nodes room None p rest rest' ss same later h = absurd cc
+said_same nodes room (Some t) p rest rest' ss same later h =
+    ap (λ o. said_before nodes room o rest') (same t refl)
+    ∙ after_same (steps_said nodes t) ss (rest (room - count_said nodes t)) (rest' (room - count_said nodes t)) (later (room - count_said nodes t)) h
+
+steps_mean_the_same : (f g : Format) → IsLater f g → (played : Played) (nodes workers room : ℕ) (texts : List (List ℕ)) (ss : List PlainStep)
+    → steps_of (ruled f played nodes workers) room texts ≡ Ok ss → steps_of (ruled g played nodes workers) room texts ≡ Ok ss
+steps_mean_the_same f g later played nodes workers room [] ss h = h
+steps_mean_the_same f g later played nodes workers room (text ∷ texts) ss h =
+    said_same nodes room (told_of (ruled f played nodes workers) room text) (told_of (ruled g played nodes workers) room text)
+    (λ left. steps_of (ruled f played nodes workers) left texts) (λ left. steps_of (ruled g played nodes workers) left texts) ss
+    (λ t e. told_same f g later played nodes workers room text t e) (λ left l e. steps_mean_the_same f g later played nodes workers left texts l e) h
+
+made_same : (d : PlainDraft) (vs : List (PlainVersion Member)) (p : PlainScenario) (r r' : Result (List PlainStep) ℕ) → ((ss : List PlainStep) → r ≡ Ok ss → r' ≡ Ok ss) → with_steps d vs r ≡ Ok p → with_steps d vs r' ≡ Ok p
+made_same d vs p (Ok ss) r' same h = ap (with_steps d vs) (same ss refl) ∙ h
+made_same d vs p (Err n) r' same h = absurd cc
+
+pools_same : (f g : Format) → IsLater f g → (played : Played) (d : PlainDraft) (vs : List (PlainVersion Member)) (p : PlainScenario) (o : Option PoolFault) → with_pools f played d vs o ≡ Ok p → with_pools g played d vs o ≡ Ok p
+pools_same f g later played d vs p None h =
+    made_same d vs p (steps_of (rules_of f played d) 100000 d.steps) (steps_of (rules_of g played d) 100000 d.steps) (λ ss e. steps_mean_the_same f g later played (length d.nodes) d.limits.workers 100000 d.steps ss e) h
+pools_same f g later played d vs p (Some e) h = absurd cc
+
+module _ (f g : Format) (later : IsLater f g) (ms ns : Members) (a : AreAlike f g ms ns) where
   choices_same : choices_of ns ≡ choices_of ms
   unfolding choices_of
   choices_same = rw (a.others (codes "size") refl, a.others (codes "hash") refl, a.others (codes "scheme") refl, a.others (codes "spread") refl) refl
@@ -153,36 +247,37 @@ module _ (ms ns : Members) (a : AreAlike ms ns) where
   steps_same : steps_in ns ≡ steps_in ms
   steps_same = rw (a.others (codes "steps") refl) refl
 
-  versions_at : versions_in Two ns ≡ versions_in Two ms
+  versions_at : versions_in g ns ≡ versions_in g ms
   versions_at = rw (a.others (codes "versions") refl) refl
 
-  draft_of_same : (d : PlainDraft) (vs : List (PlainVersion Member)) → draft_of One ms ≡ Some d → all_of version_of d.versions ≡ Some vs → draft_of Two ns ≡ Some d
+  draft_of_same : (d : PlainDraft) (vs : List (PlainVersion Member)) → draft_of f ms ≡ Some d → all_of version_of d.versions ≡ Some vs → draft_of g ns ≡ Some d
   unfolding draft_of
   draft_of_same d vs h k =
-      let held : versions_in One ms ≡ Some d.versions = draft_versions (choices_of ms) (limits_of ms) (nodes_of ms) (versions_in One ms) (steps_in ms) d h in
-      let versions : versions_in Two ms ≡ versions_in One ms = under_items (version_in One) (version_in Two) version_of version_same (items_at (codes "versions") ms) d.versions vs held k in
-      ap (λ c. made_draft c (limits_of ns) (nodes_of ns) (versions_in Two ns) (steps_in ns)) choices_same
-      ∙ ap (λ l. made_draft (choices_of ms) l (nodes_of ns) (versions_in Two ns) (steps_in ns)) limits_same
-      ∙ ap (λ n. made_draft (choices_of ms) (limits_of ms) n (versions_in Two ns) (steps_in ns)) nodes_same
+      let held : versions_in f ms ≡ Some d.versions = draft_versions (choices_of ms) (limits_of ms) (nodes_of ms) (versions_in f ms) (steps_in ms) d h in
+      let versions : versions_in g ms ≡ versions_in f ms = under_items (version_in f) (version_in g) version_of (version_same f g later) (items_at (codes "versions") ms) d.versions vs held k in
+      ap (λ c. made_draft c (limits_of ns) (nodes_of ns) (versions_in g ns) (steps_in ns)) choices_same
+      ∙ ap (λ l. made_draft (choices_of ms) l (nodes_of ns) (versions_in g ns) (steps_in ns)) limits_same
+      ∙ ap (λ n. made_draft (choices_of ms) (limits_of ms) n (versions_in g ns) (steps_in ns)) nodes_same
       ∙ ap (λ v. made_draft (choices_of ms) (limits_of ms) (nodes_of ms) v (steps_in ns)) (versions_at ∙ versions)
-      ∙ ap (made_draft (choices_of ms) (limits_of ms) (nodes_of ms) (versions_in One ms)) steps_same
+      ∙ ap (made_draft (choices_of ms) (limits_of ms) (nodes_of ms) (versions_in f ms)) steps_same
       ∙ h
 
-  draft_same : (d : PlainDraft) (vs : List (PlainVersion Member)) → draft_in One ms ≡ Some d → all_of version_of d.versions ≡ Some vs → draft_in Two ns ≡ Some d
+  draft_same : (d : PlainDraft) (vs : List (PlainVersion Member)) → draft_in f ms ≡ Some d → all_of version_of d.versions ≡ Some vs → draft_in g ns ≡ Some d
   draft_same d vs h k =
-      when_both (has_only (root_keys One) ms) (has_only (root_keys Two) ns) (draft_of One ms) (draft_of Two ns) d
-      (λ e. one_key_more (codes "idle") common_keys ns (a.keys ∙ e)) (λ g. draft_of_same d vs g k) h
+      when_both (has_only (root_keys f) ms) (has_only (root_keys g) ns) (draft_of f ms) (draft_of g ns) d
+      (λ e. keys_grow f g later ns (a.keys ∙ e)) (λ g. draft_of_same d vs g k) h
 
-  with_same : (played : Played) (p : PlainScenario) (o : Option PlainDraft) → draft_in One ms ≡ o → with_draft played o ≡ Ok p → with_draft played (draft_in Two ns) ≡ Ok p
+  with_same : (played : Played) (p : PlainScenario) (o : Option PlainDraft) → draft_in f ms ≡ o → with_draft f played o ≡ Ok p → with_draft g played (draft_in g ns) ≡ Ok p
   unfolding plan_of_draft
   with_same played p None e h = absurd cc
   with_same played p (Some d) e h = go (all_of version_of d.versions) refl h
     where
-      go : (o : Option (List (PlainVersion Member))) → all_of version_of d.versions ≡ o → with_versions played d o ≡ Ok p → with_draft played (draft_in Two ns) ≡ Ok p
-      go None g k = absurd cc
-      go (Some vs) g k = ap (with_draft played) (draft_same d vs e g) ∙ ap (with_versions played d) g ∙ k
+      go : (o : Option (List (PlainVersion Member))) → all_of version_of d.versions ≡ o → with_versions f played d o ≡ Ok p → with_draft g played (draft_in g ns) ≡ Ok p
+      go None e' k = absurd cc
+      go (Some vs) e' k =
+          ap (with_draft g played) (draft_same d vs e e') ∙ ap (with_versions g played d) e' ∙ pools_same f g later played d vs p (first_refused d.choices.size [] vs) k
 
 pub formats_mean_the_same : FormatsMeanTheSame
 unfolding plan_of
-formats_mean_the_same played ms ns p a h =
-    ap (λ o. with_format played o ns) a.two ∙ with_same ms ns a played p (draft_in One ms) refl (sym (ap (λ o. with_format played o ms) a.one) ∙ h)
+formats_mean_the_same f g played ms ns p later a h =
+    ap (λ o. with_format played o ns) a.two ∙ with_same f g later ms ns a played p (draft_in f ms) refl (sym (ap (λ o. with_format played o ms) a.one) ∙ h)

@@ -1,5 +1,6 @@
 pub mod Views
 pub mod Adding
+pub mod Telling
 pub mod Refusals
 pub mod Alike
 pub mod Allowed

@@ -23,21 +23,21 @@ abbrev IsLateIn : Result PlainScenario ScenarioFault → Type 0
 IsLateIn (Ok p) = Unit {0}
 IsLateIn (Err e) = IsLate e
 
-late_steps : (played : Played) (d : PlainDraft) (vs : List (PlainVersion Member)) (o : Option (List PlainStep)) → IsLateIn (with_steps played d vs o)
-late_steps played d vs None = tt
-late_steps played d vs (Some steps) = tt
+late_steps : (d : PlainDraft) (vs : List (PlainVersion Member)) (r : Result (List PlainStep) ℕ) → IsLateIn (with_steps d vs r)
+late_steps d vs (Err n) = tt
+late_steps d vs (Ok steps) = tt
 
-late_pools : (played : Played) (d : PlainDraft) (vs : List (PlainVersion Member)) (o : Option PoolFault) → IsLateIn (with_pools played d vs o)
-late_pools played d vs None = late_steps played d vs _
-late_pools played d vs (Some f) = tt
+late_pools : (f : Format) (played : Played) (d : PlainDraft) (vs : List (PlainVersion Member)) (o : Option PoolFault) → IsLateIn (with_pools f played d vs o)
+late_pools f played d vs None = late_steps d vs _
+late_pools f played d vs (Some e) = tt
 
-late_versions : (played : Played) (d : PlainDraft) (o : Option (List (PlainVersion Member))) → IsLateIn (with_versions played d o)
-late_versions played d None = tt
-late_versions played d (Some vs) = late_pools played d vs _
+late_versions : (f : Format) (played : Played) (d : PlainDraft) (o : Option (List (PlainVersion Member))) → IsLateIn (with_versions f played d o)
+late_versions f played d None = tt
+late_versions f played d (Some vs) = late_pools f played d vs _
 
-late_draft : (played : Played) (d : PlainDraft) (e : ScenarioFault) → plan_of_draft played d ≡ Err e → IsLate e
+late_draft : (f : Format) (played : Played) (d : PlainDraft) (e : ScenarioFault) → plan_of_draft f played d ≡ Err e → IsLate e
 unfolding plan_of_draft
-late_draft played d e is = let P : Result PlainScenario ScenarioFault → Type 0 = IsLateIn in subst P is (late_versions played d _)
+late_draft f played d e is = let P : Result PlainScenario ScenarioFault → Type 0 = IsLateIn in subst P is (late_versions f played d _)
 
 late_refused : (played : Played) (text : List ℕ) (ms : Members) (e : ScenarioFault) → IsDocument text ms → IsLate e → plan_of played ms ≡ Err e → IsRefused played text e
 late_refused played text ms fault.TooLong document late is = absurd late
@@ -50,19 +50,19 @@ late_refused played text ms (fault.BadStep n) document late is = (ms, document, 
 late_refused played text ms fault.Memory document late is = absurd late
 
 -- what a document of a format says is what its draft says
-pub document_says : (played : Played) (ms : Members) (f : Format) (d : PlainDraft) → format_of ms ≡ Some f → draft_in f ms ≡ Some d → plan_of played ms ≡ plan_of_draft played d
+pub document_says : (played : Played) (ms : Members) (f : Format) (d : PlainDraft) → format_of ms ≡ Some f → draft_in f ms ≡ Some d → plan_of played ms ≡ plan_of_draft f played d
 unfolding plan_of
-document_says played ms f d same is = ap (λ p. with_format played p ms) same ∙ ap (with_draft played) is
+document_says played ms f d same is = ap (λ p. with_format played p ms) same ∙ ap (with_draft f played) is
 
-one_refused : (played : Played) (text : List ℕ) (ms : Members) (d : PlainDraft) (e : ScenarioFault) → IsDocument text ms → plan_of played ms ≡ plan_of_draft played d → IsDraftRefused played d e → IsRefused played text e
-one_refused played text ms d fault.Memory document same refused = tt
-one_refused played text ms d fault.TooLong document same refused = late_refused played text ms fault.TooLong document (late_draft played d fault.TooLong refused) (same ∙ refused)
-one_refused played text ms d fault.BadToml document same refused = late_refused played text ms fault.BadToml document (late_draft played d fault.BadToml refused) (same ∙ refused)
-one_refused played text ms d fault.BadFormat document same refused = late_refused played text ms fault.BadFormat document (late_draft played d fault.BadFormat refused) (same ∙ refused)
-one_refused played text ms d fault.BadKey document same refused = late_refused played text ms fault.BadKey document (late_draft played d fault.BadKey refused) (same ∙ refused)
-one_refused played text ms d fault.BadMember document same refused = late_refused played text ms fault.BadMember document (late_draft played d fault.BadMember refused) (same ∙ refused)
-one_refused played text ms d (fault.Pool f) document same refused = late_refused played text ms (fault.Pool f) document (late_draft played d (fault.Pool f) refused) (same ∙ refused)
-one_refused played text ms d (fault.BadStep n) document same refused = late_refused played text ms (fault.BadStep n) document (late_draft played d (fault.BadStep n) refused) (same ∙ refused)
+one_refused : (f : Format) (played : Played) (text : List ℕ) (ms : Members) (d : PlainDraft) (e : ScenarioFault) → IsDocument text ms → plan_of played ms ≡ plan_of_draft f played d → IsDraftRefused f played d e → IsRefused played text e
+one_refused f played text ms d fault.Memory document same refused = tt
+one_refused f played text ms d fault.TooLong document same refused = late_refused played text ms fault.TooLong document (late_draft f played d fault.TooLong refused) (same ∙ refused)
+one_refused f played text ms d fault.BadToml document same refused = late_refused played text ms fault.BadToml document (late_draft f played d fault.BadToml refused) (same ∙ refused)
+one_refused f played text ms d fault.BadFormat document same refused = late_refused played text ms fault.BadFormat document (late_draft f played d fault.BadFormat refused) (same ∙ refused)
+one_refused f played text ms d fault.BadKey document same refused = late_refused played text ms fault.BadKey document (late_draft f played d fault.BadKey refused) (same ∙ refused)
+one_refused f played text ms d fault.BadMember document same refused = late_refused played text ms fault.BadMember document (late_draft f played d fault.BadMember refused) (same ∙ refused)
+one_refused f played text ms d (fault.Pool e) document same refused = late_refused played text ms (fault.Pool e) document (late_draft f played d (fault.Pool e) refused) (same ∙ refused)
+one_refused f played text ms d (fault.BadStep n) document same refused = late_refused played text ms (fault.BadStep n) document (late_draft f played d (fault.BadStep n) refused) (same ∙ refused)
 
 -- a fault that is passed on
 pub passed_on : (r : Result Scenario ScenarioFault) (e : ScenarioFault) (P : ScenarioFault → Type 0) → IsErrAnd r (λ f. f ≡ e) → P e → IfErr r P
@@ -70,6 +70,6 @@ passed_on (Ok s) e P is h = tt
 passed_on (Err f) e P is h = subst P (sym is) h
 
 pub refused_above : (played : Played) (text : List ℕ) (ms : Members) (f : Format) (d : PlainDraft) (r : Result Scenario ScenarioFault) → IsDocument text ms → format_of ms ≡ Some f → draft_in f ms ≡ Some d →
-    IfErr r (IsDraftRefused played d) → IfErr r (IsRefused played text)
+    IfErr r (IsDraftRefused f played d) → IfErr r (IsRefused played text)
 refused_above played text ms f d (Ok s) document same is refused = tt
-refused_above played text ms f d (Err e) document same is refused = one_refused played text ms d e document (document_says played ms f d same is) refused
+refused_above played text ms f d (Err e) document same is refused = one_refused f played text ms d e document (document_says played ms f d same is) refused

@@ -1,13 +1,13 @@
 -- The parts of a scenario as its document holds them: each text is there, whatever it says.
 use Rattle.std.specs.Prelude.{ℕ, if◌then◌else◌, List, [], ◌∷◌, map, codes, Option, None, option_and_then, option_map}
 use Rattle.toml.specs.Data.{Data, Members, as_str, as_table}
-use Rattle.maglev_texts.specs.Parsing.{address_of, member_of, weighed_member_of}
+use Rattle.maglev_texts.specs.Parsing.{address_of, member_of, weighed_member_of, stated_member_of}
 use Rattle.pool_versions.specs.declared.backend.Member.{Member}
 use Rattle.scenario.specs.Lookups.{number_at, text_at, items_at, all_items, has_only}
 use Rattle.scenario.specs.Words.{protocol_of_word}
 use Rattle.scenario.specs.Plain.{PlainService, PlainVersion}
 use Rattle.scenario.specs.declared.formats.Format.{Format}
-use Rattle.scenario.specs.declared.formats.Format.TheVariants.{One, Two}
+use Rattle.scenario.specs.declared.formats.Format.TheVariants.{One, Two, Three}
 use Rattle.scenario.specs.declared.versions.ServiceDraft.{ServiceDraft}
 use Rattle.scenario.specs.declared.versions.VersionDraft.{VersionDraft}
 
@@ -21,6 +21,7 @@ version_keys = codes "number" ∷ codes "services" ∷ []
 abbrev pub member_in : Format → List ℕ → Option Member
 member_in One text = member_of text
 member_in Two text = weighed_member_of text
+member_in Three text = stated_member_of text
 
 -- a text, as the member that it is, if it is one
 abbrev pub word_of : Format → Data → Option (Option Member)

@@ -2,6 +2,7 @@ pub mod Lookups
 pub mod Words
 pub mod Keys
 pub mod Steps
+pub mod Told
 pub mod Plain
 pub mod Drafts
 pub mod Meaning

@@ -1,6 +1,5 @@
 -- Which scenario a text means, and which fault it has, by how it is played.
-use Rattle.std.specs.Prelude.{◌≡◌, ℕ, ◌≤◌, ◌<◌, ◌^◌, ◌&&◌, ◌==◌, nat_le, if◌then◌else◌, List, [], ◌∷◌, map, length, codes, Option, Some, None, option_and_then, option_map, Result, Ok, Err, IsUtf8, string_bytes, is_none, ⊤}
-use Rattle.std.specs.List.{position_or_len}
+use Rattle.std.specs.Prelude.{◌≡◌, ℕ, ◌≤◌, ◌<◌, ◌^◌, ◌&&◌, ◌==◌, nat_le, if◌then◌else◌, List, [], ◌∷◌, map, length, codes, Option, Some, None, option_and_then, option_map, Result, Ok, Err, IsUtf8, string_bytes, ⊤}
 use Rattle.toml.specs.Data.{Data, Members, as_str}
 use Rattle.toml.specs.Parse.{parse_document}
 use Rattle.maglev_texts.specs.Parsing.{address_of}
@@ -12,10 +11,12 @@ use Rattle.scenario.specs.Lookups.{number_at, items_at, all_items, all_of, has_o
 use Rattle.scenario.specs.Words.{choices_of, limits_of}
 use Rattle.scenario.specs.Plain.{PlainService, PlainVersion, plain_version, first_refused}
 use Rattle.scenario.specs.Drafts.{version_in, plain_version_draft}
-use Rattle.scenario.specs.Steps.{PlainStep, plain_step, step_for}
+use Rattle.scenario.specs.Steps.{PlainStep, plain_step}
+use Rattle.scenario.specs.Told.{steps_of}
 use Rattle.scenario.specs.declared.playing.Played.{Played}
 use Rattle.scenario.specs.declared.formats.Format.{Format}
-use Rattle.scenario.specs.declared.formats.Format.TheVariants.{One, Two}
+use Rattle.scenario.specs.declared.formats.Format.TheVariants.{One, Two, Three}
+use Rattle.scenario.specs.declared.told.StepRules.{StepRules}
 use Rattle.scenario.specs.declared.setup.Choices.{Choices}
 use Rattle.scenario.specs.declared.setup.Limits.{Limits}
 use Rattle.scenario.specs.declared.draft.Draft.{Draft}
@@ -54,10 +55,11 @@ plan_view s = record {
 abbrev pub common_keys : List (List ℕ)
 common_keys = codes "format" ∷ codes "size" ∷ codes "hash" ∷ codes "scheme" ∷ codes "spread" ∷ codes "workers" ∷ codes "capacity" ∷ codes "ring" ∷ codes "check" ∷ codes "nodes" ∷ codes "steps" ∷ codes "versions" ∷ []
 
--- the keys of a document: an idle limit is one in format 2 alone
+-- the keys of a document: an idle limit is none in format 1
 abbrev pub root_keys : Format → List (List ℕ)
 root_keys One = common_keys
 root_keys Two = codes "idle" ∷ common_keys
+root_keys Three = codes "idle" ∷ common_keys
 
 abbrev pub address_in : Data → Option ℕ
 address_in d = option_and_then address_of (as_str d)
@@ -96,42 +98,45 @@ service_of s = option_map (λ members. record { vip = s.vip; proto = s.proto; po
 abbrev pub version_of : PlainVersion (Option Member) → Option (PlainVersion Member)
 version_of v = option_map (λ services. record { number = v.number; services = services }) (all_of service_of v.services)
 
--- the first step that is none of a scenario that is played so
-abbrev pub first_bad_step : Played → ℕ → ℕ → List (List ℕ) → ℕ
-first_bad_step played nodes workers texts = position_or_len (λ t. is_none (step_for played nodes workers t)) texts
+-- what steps are read by
+abbrev pub rules_of : Format → Played → PlainDraft → StepRules
+rules_of f played d = record { format = f; played = played; nodes = length d.nodes; workers = d.limits.workers }
 
-abbrev pub with_steps : Played → PlainDraft → List (PlainVersion Member) → Option (List PlainStep) → Result PlainScenario ScenarioFault
-with_steps played d versions None = Err (fault.BadStep (first_bad_step played (length d.nodes) d.limits.workers d.steps))
-with_steps played d versions (Some steps) = Ok (record { choices = d.choices; limits = d.limits; nodes = d.nodes; versions = versions; steps = steps })
+abbrev pub with_steps : PlainDraft → List (PlainVersion Member) → Result (List PlainStep) ℕ → Result PlainScenario ScenarioFault
+with_steps d versions (Err n) = Err (fault.BadStep n)
+with_steps d versions (Ok steps) = Ok (record { choices = d.choices; limits = d.limits; nodes = d.nodes; versions = versions; steps = steps })
 
-abbrev pub with_pools : Played → PlainDraft → List (PlainVersion Member) → Option PoolFault → Result PlainScenario ScenarioFault
-with_pools played d versions None = with_steps played d versions (all_of (step_for played (length d.nodes) d.limits.workers) d.steps)
-with_pools played d versions (Some f) = Err (fault.Pool f)
+abbrev pub with_pools : Format → Played → PlainDraft → List (PlainVersion Member) → Option PoolFault → Result PlainScenario ScenarioFault
+with_pools f played d versions None = with_steps d versions (steps_of (rules_of f played d) 100000 d.steps)
+with_pools f played d versions (Some e) = Err (fault.Pool e)
 
-abbrev pub with_versions : Played → PlainDraft → Option (List (PlainVersion Member)) → Result PlainScenario ScenarioFault
-with_versions played d None = Err fault.BadMember
-with_versions played d (Some versions) = with_pools played d versions (first_refused d.choices.size [] versions)
+abbrev pub with_versions : Format → Played → PlainDraft → Option (List (PlainVersion Member)) → Result PlainScenario ScenarioFault
+with_versions f played d None = Err fault.BadMember
+with_versions f played d (Some versions) = with_pools f played d versions (first_refused d.choices.size [] versions)
 
--- the scenario of a draft, or its first fault: a bad member word, then a fault of the pools, then the first bad step
-unfoldable pub plan_of_draft : Played → PlainDraft → Result PlainScenario ScenarioFault
-plan_of_draft played d = with_versions played d (all_of version_of d.versions)
+-- the scenario of a draft of a format, or its first fault: a bad member word, then a fault of the pools, then the first bad step
+unfoldable pub plan_of_draft : Format → Played → PlainDraft → Result PlainScenario ScenarioFault
+plan_of_draft f played d = with_versions f played d (all_of version_of d.versions)
+
+abbrev pub numbered : ℕ → Format
+numbered n = if n == 1 then One else (if n == 2 then Two else Three)
 
 -- the format of a document
 abbrev pub format_of : Members → Option Format
-format_of ms = option_map (λ n. if n == 1 then One else Two) (number_at 1 2 (codes "format") ms)
+format_of ms = option_map numbered (number_at 1 3 (codes "format") ms)
 
 -- What a document says of the pools, where its keys are as they should be and its words are members. It is the size of the
 -- tables, and the versions.
 abbrev pub pools_of : Members → Option (ℕ × List (PlainVersion Member))
 pools_of ms = option_and_then (λ f. option_and_then (λ d. option_map (λ versions. (d.choices.size, versions)) (all_of version_of d.versions)) (draft_in f ms)) (format_of ms)
 
-abbrev pub with_draft : Played → Option PlainDraft → Result PlainScenario ScenarioFault
-with_draft played None = Err fault.BadKey
-with_draft played (Some d) = plan_of_draft played d
+abbrev pub with_draft : Format → Played → Option PlainDraft → Result PlainScenario ScenarioFault
+with_draft f played None = Err fault.BadKey
+with_draft f played (Some d) = plan_of_draft f played d
 
 abbrev pub with_format : Played → Option Format → Members → Result PlainScenario ScenarioFault
 with_format played None ms = Err fault.BadFormat
-with_format played (Some f) ms = with_draft played (draft_in f ms)
+with_format played (Some f) ms = with_draft f played (draft_in f ms)
 
 -- what a document says: a scenario that is played so, or its first fault
 unfoldable pub plan_of : Played → Members → Result PlainScenario ScenarioFault
@@ -158,9 +163,9 @@ IsRefused played text fault.Memory = ⊤
 IsRefused played text e = (ms : Members) × IsDocument text ms × (plan_of played ms ≡ Err e)
 
 -- why a draft is refused
-abbrev pub IsDraftRefused : Played → PlainDraft → ScenarioFault → Type 0
-IsDraftRefused played d fault.Memory = ⊤
-IsDraftRefused played d e = plan_of_draft played d ≡ Err e
+abbrev pub IsDraftRefused : Format → Played → PlainDraft → ScenarioFault → Type 0
+IsDraftRefused f played d fault.Memory = ⊤
+IsDraftRefused f played d e = plan_of_draft f played d ≡ Err e
 
 -- why versions are refused
 abbrev pub IsPoolRefused : ℕ → List (PlainVersion Member) → PoolFault → Type 0
@@ -168,10 +173,10 @@ IsPoolRefused size vs pool.Memory = ⊤
 IsPoolRefused size vs f = first_refused size [] vs ≡ Some f
 
 -- why steps are refused
-abbrev pub AreStepsRefused : Played → ℕ → ℕ → List (List ℕ) → ScenarioFault → Type 0
-AreStepsRefused played nodes workers texts fault.Memory = ⊤
-AreStepsRefused played nodes workers texts (fault.BadStep n) = (all_of (step_for played nodes workers) texts ≡ None) × (n ≡ first_bad_step played nodes workers texts)
-AreStepsRefused played nodes workers texts e = ⊥
+abbrev pub AreStepsRefused : StepRules → List (List ℕ) → ScenarioFault → Type 0
+AreStepsRefused rules texts fault.Memory = ⊤
+AreStepsRefused rules texts (fault.BadStep n) = steps_of rules 100000 texts ≡ Err n
+AreStepsRefused rules texts e = ⊥
 
 -- the catalogue of some versions that were added in order
 pub record IsCatalogueOf (size : ℕ) (vs : List (PlainVersion Member)) (c : Pools) : Type 0 where

@@ -2,7 +2,7 @@
 use Rattle.std.specs.Prelude.{ℕ, Bool, true, false, ◌==◌, nat_lt, if◌then◌else◌, List, [], ◌∷◌, ◌++◌, map, codes, Option, Some, None, option_and_then, option_map}
 use Rattle.std.specs.List.{list_any, range_with_len}
 use Rattle.std.specs.Str.{bytes_eq}
-use Rattle.maglev_texts.specs.Parsing.{decimal_of, pieces}
+use Rattle.maglev_texts.specs.Parsing.{decimal_of}
 use Rattle.event_trace.specs.declared.steps.ScenarioStep.{ScenarioStep}
 use Rattle.event_trace.specs.declared.steps.ScenarioStep.TheVariants as code
 use Rattle.scenario.specs.declared.step.Kind.{Kind}
@@ -100,14 +100,6 @@ step_of nodes workers kind.Drain words = option_map drain (node_of nodes words)
 step_of nodes workers kind.Restart words = option_map restart (node_of nodes words)
 step_of nodes workers kind.Stop words = option_map stop (node_of nodes words)
 
-abbrev pub step_of_words : ℕ → ℕ → List (List ℕ) → Option PlainStep
-step_of_words nodes workers [] = None
-step_of_words nodes workers (word ∷ words) = option_and_then (λ k. step_of nodes workers k words) (kind_of word)
-
--- the step that a text is: words joined by single spaces
-abbrev pub step_of_text : ℕ → ℕ → List ℕ → Option PlainStep
-step_of_text nodes workers text = step_of_words nodes workers (pieces 32 text)
-
 -- the steps of a scenario that is played so: in turn none is a stop, and on threads none a full, hold or drain
 abbrev pub allows : Played → PlainStep → Bool
 allows InTurn (stop n) = false
@@ -115,7 +107,3 @@ allows OnThreads (full n marks) = false
 allows OnThreads (hold n) = false
 allows OnThreads (drain n) = false
 allows played step = true
-
--- the step that a text is, where a scenario that is played so may have it
-unfoldable pub step_for : Played → ℕ → ℕ → List ℕ → Option PlainStep
-step_for played nodes workers text = option_and_then (λ step. if allows played step then Some step else None) (step_of_text nodes workers text)

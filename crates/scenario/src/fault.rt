@@ -15,8 +15,8 @@ pub enum ScenarioFault {
     /// The text is no TOML 1.1 document in UTF-8, nests deeper than 80 levels, or holds an integer outside of 64 bits.
     #[error("the scenario isn't a TOML document")]
     BadToml,
-    /// The format is missing or neither 1 nor 2.
-    #[error("the format isn't 1 or 2")]
+    /// The format is missing or none of 1, 2 and 3.
+    #[error("the format isn't 1, 2 or 3")]
     BadFormat,
     /// A key is missing or unknown, or its value is of a wrong type, out of range or not a listed word.
     #[error("a key is missing or unknown, or has no value that it may have")]
@@ -27,7 +27,8 @@ pub enum ScenarioFault {
     /// The versions, added in order, have this fault. It isn't `PoolFault::Memory`.
     #[error(transparent)]
     Pool(PoolFault),
-    /// This step, from 0, isn't one of a scenario that is played so, and all before it are.
+    /// This step, from 0, isn't one of a scenario that is played so, or says more steps than have room, and all before it do
+    /// neither.
     #[error("step {0} isn't a step of this command")]
     BadStep(u32),
     /// Memory was refused.

@@ -5,28 +5,28 @@ ghost use Rattle.scenario.specs.Drafts.{member_in};
 ghost use Rattle.scenario.specs.Meaning.{format_of};
 
 use crate::lookup::number_at;
-use maglev_texts::{member, weighed_member};
+use maglev_texts::{member, stated_member, weighed_member};
 use pool_versions::Member;
 use std::alloc::{AllocError, Global};
 use toml::Table;
 
-/// The format of a scenario. In format 2 member words may bear weights, and there may be an idle limit; else both are the
-/// same.
+/// The format of a scenario. In format 2 member words may bear weights, and there may be an idle limit. In format 3 members
+/// may drain too, and a step may name all nodes. Else they are the same.
 #[derive(Clone, Copy, Debug, PartialEq, Eq)]
 pub enum Format {
     One,
     Two,
+    Three,
 }
 
 /// The format of a document.
 pub fn format_of(table: &Table) -> Option<Format>
     ensures { result ≡ format_of (table_view table.now) }
 {
-    let number = number_at(table, "format", 1, 2)?;
-    if number == 1 {
-        Some(Format::One)
-    } else {
-        Some(Format::Two)
+    match number_at(table, "format", 1, 3)? {
+        1 => Some(Format::One),
+        2 => Some(Format::Two),
+        _ => Some(Format::Three),
     }
 }
 
@@ -37,5 +37,6 @@ pub fn member_in(alloc: Global, format: Format, word: &[u8]) -> Result<Option<Me
     match format {
         Format::One => member(alloc, word),
         Format::Two => weighed_member(alloc, word),
+        Format::Three => stated_member(alloc, word),
     }
 }

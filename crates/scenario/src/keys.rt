@@ -54,7 +54,7 @@ pub fn is_root_key(format: Format, key: &str) -> bool
 {
     match format {
         Format::One => key != "idle" && is_one_of(key, &ROOT_KEYS),
-        Format::Two => is_one_of(key, &ROOT_KEYS),
+        Format::Two | Format::Three => is_one_of(key, &ROOT_KEYS),
     }
 }
 

@@ -16,6 +16,7 @@ mod playing;
 mod reading;
 mod setup;
 mod step;
+mod told;
 mod values;
 mod versions;
 mod words;

@@ -1,8 +1,8 @@
 //! Reads a scenario.
 ghost use Rattle.std.specs.Prelude.{◌≡◌, ◌≤◌, length, map, string_bytes, option_map, IfOk, IfErr, Ok, Some};
 ghost use Rattle.toml.specs.View.{table_view};
-ghost use Rattle.scenario.specs.Lookups.{all_of};
-ghost use Rattle.scenario.specs.Steps.{plain_step, step_for};
+ghost use Rattle.scenario.specs.Steps.{plain_step};
+ghost use Rattle.scenario.specs.Told.{steps_of};
 ghost use Rattle.scenario.specs.Plain.{plain_version};
 ghost use Rattle.scenario.specs.declared.playing.Played.{Played};
 ghost use Rattle.scenario.specs.Meaning.{pools_of, IsDocument, IsRefused, IsDraftRefused, IsLimited, AreStepsRefused, HasLimits, Means, plan_of, plan_of_draft, plan_view, plain_draft, pool_refused};
@@ -10,9 +10,10 @@ ghost use Rattle.scenario.specs.Meaning.{pools_of, IsDocument, IsRefused, IsDraf
 use crate::building::{catalogue_of, versions_of};
 use crate::draft::{Draft, draft_in};
 use crate::fault::ScenarioFault;
-use crate::formats::format_of;
+use crate::formats::{Format, format_of};
 use crate::playing::Played;
-use crate::step::step_for;
+use crate::told::{StepRules, add_told, told_of};
+use crate::values::MOST_STEPS;
 use crate::words::{SchemeKind, SpreadKind};
 use backend_names::TableSize;
 use event_trace::ScenarioStep;
@@ -69,24 +70,24 @@ fn document(alloc: Global, text: &[u8]) -> Result<Table, ScenarioFault>
     }
 }
 
+// The steps that some texts say.
 fn steps_of(
     alloc: Global,
-    played: Played,
+    rules: StepRules,
     texts: &[String],
-    nodes: u16,
-    workers: u16,
 ) -> Result<Vec<ScenarioStep>, ScenarioFault>
     requires { length texts.now ≤ 100000 }
-    ensures ok { IfOk result (λ v. all_of (step_for played nodes workers) (map string_bytes texts.now) ≡ Some (map plain_step v.items)) }
-    ensures long { IfOk result (λ v. length v.items ≡ length texts.now) }
-    ensures refused { IfErr result (AreStepsRefused played nodes workers (map string_bytes texts.now)) }
+    ensures ok { IfOk result (λ v. steps_of rules 100000 (map string_bytes texts.now) ≡ Ok (map plain_step v.items)) }
+    ensures few { IfOk result (λ v. length v.items ≤ 100000) }
+    ensures refused { IfErr result (AreStepsRefused rules (map string_bytes texts.now)) }
 {
     let mut steps: Vec<ScenarioStep> = Vec::new(alloc);
     for (n, text) in texts.iter().enumerate() {
-        let Some(step) = step_for(alloc, played, text.as_bytes(), nodes, workers)? else {
+        let room = MOST_STEPS - steps.len();
+        let Some(told) = told_of(alloc, rules, room, text.as_bytes())? else {
             return Err(ScenarioFault::BadStep(n as u32));
         };
-        let Ok(()) = steps.push(step) else {
+        let Ok(()) = add_told(&mut steps, told, rules.nodes) else {
             return Err(ScenarioFault::Memory);
         };
     }
@@ -102,14 +103,19 @@ fn pool_refused(fault: PoolFault) -> ScenarioFault
     }
 }
 
-// The scenario of a draft, which is played so.
+// The scenario of a draft of a format, which is played so.
 #[tactic(auto, unfolding(crate::specs::Meaning::plan_of_draft))]
-fn scenario_of(alloc: Global, played: Played, draft: Draft) -> Result<Scenario, ScenarioFault>
+fn scenario_of(
+    alloc: Global,
+    format: Format,
+    played: Played,
+    draft: Draft,
+) -> Result<Scenario, ScenarioFault>
     requires { IsLimited draft }
-    ensures ok { IfOk result (λ s. plan_of_draft played (plain_draft draft) ≡ Ok (plan_view s)) }
+    ensures ok { IfOk result (λ s. plan_of_draft format played (plain_draft draft) ≡ Ok (plan_view s)) }
     ensures sized { IfOk result (λ s. s.catalogue.size ≡ s.size) }
     ensures limits { IfOk result HasLimits }
-    ensures refused { IfErr result (IsDraftRefused played (plain_draft draft)) }
+    ensures refused { IfErr result (IsDraftRefused format played (plain_draft draft)) }
 {
     let Draft {
         choices,
@@ -125,8 +131,13 @@ fn scenario_of(alloc: Global, played: Played, draft: Draft) -> Result<Scenario, 
         Ok(catalogue) => catalogue,
         Err(fault) => return Err(pool_refused(fault)),
     };
-    let count = nodes.len() as u16;
-    let steps = steps_of(alloc, played, steps.as_slice(), count, limits.workers)?;
+    let rules = StepRules {
+        format,
+        played,
+        nodes: nodes.len() as u16,
+        workers: limits.workers,
+    };
+    let steps = steps_of(alloc, rules, steps.as_slice())?;
     Ok(Scenario {
         size: choices.size,
         hash: choices.hash,
@@ -163,7 +174,7 @@ pub fn pools_in(
     Ok(Some((draft.choices.size, versions)))
 }
 
-/// Reads a scenario that is played so: a TOML 1.1 document in UTF-8 of format 1 or 2.
+/// Reads a scenario that is played so: a TOML 1.1 document in UTF-8 of format 1, 2 or 3.
 #[tactic(auto, unfolding(crate::specs::Meaning::plan_of))]
 pub fn read(alloc: Global, played: Played, text: &[u8]) -> Result<Scenario, ScenarioFault>
     ensures means { IfOk result (Means played text.now) }
@@ -177,5 +188,5 @@ pub fn read(alloc: Global, played: Played, text: &[u8]) -> Result<Scenario, Scen
     let Some(draft) = draft_in(alloc, format, &table)? else {
         return Err(ScenarioFault::BadKey);
     };
-    scenario_of(alloc, played, draft)
+    scenario_of(alloc, format, played, draft)
 }

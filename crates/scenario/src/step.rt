@@ -1,15 +1,14 @@
-//! The steps of a scenario as texts.
+//! The steps of a scenario as words.
 ghost use Rattle.std.specs.Prelude.{◌≡◌, ◌<◌, ◌≤◌, map, option_map, IfOk, IfSome, length, []};
 ghost use Rattle.std.specs.Str.{bytes_eq};
-ghost use Rattle.scenario.specs.Steps.{below, new_number, numbers_after, marks_of, install_of, live_of, full_of, number_of, node_of, kind_of, step_of, step_of_text, step_for, plain_step};
+ghost use Rattle.scenario.specs.Steps.{below, new_number, numbers_after, marks_of, install_of, live_of, full_of, number_of, node_of, kind_of, step_of, plain_step};
 
-use crate::playing::Played;
 use event_trace::ScenarioStep;
-use maglev_texts::{decimal, pieces};
+use maglev_texts::decimal;
 use std::alloc::{AllocError, Global};
 
 // The greatest number in a step.
-const GREATEST: u64 = 4_294_967_295;
+pub(crate) const GREATEST: u64 = 4_294_967_295;
 
 // A number below a limit.
 fn below(text: &[u8], limit: u16) -> Option<u16>
@@ -128,7 +127,7 @@ fn full(
 
 /// What a step does, by its first word.
 #[derive(Clone, Copy)]
-enum Kind {
+pub(crate) enum Kind {
     Install,
     Live,
     Take,
@@ -141,14 +140,14 @@ enum Kind {
     Stop,
 }
 
-fn is_word(word: &[u8], text: &str) -> bool
+pub(crate) fn is_word(word: &[u8], text: &str) -> bool
     ensures { result ≡ bytes_eq word.now text.now }
 {
     word == text.as_bytes()
 }
 
 #[tactic(auto, unfolding(crate::specs::Steps::kind_of))]
-fn kind_of(word: &[u8]) -> Option<Kind>
+pub(crate) fn kind_of(word: &[u8]) -> Option<Kind>
     ensures { result ≡ kind_of word.now }
 {
     if is_word(word, "install") {
@@ -185,7 +184,7 @@ fn kind_of(word: &[u8]) -> Option<Kind>
 }
 
 // The step of a kind with these words after it.
-fn step_of(
+pub(crate) fn step_of(
     alloc: Global,
     kind: Kind,
     words: &[&[u8]],
@@ -205,45 +204,5 @@ fn step_of(
         Kind::Drain => Ok(node_of(words, nodes).map(ScenarioStep::Drain)),
         Kind::Restart => Ok(node_of(words, nodes).map(ScenarioStep::Restart)),
         Kind::Stop => Ok(node_of(words, nodes).map(ScenarioStep::Stop)),
-    }
-}
-
-// The step that a text is, of words joined by single spaces, in a cluster of so many nodes and workers a node.
-fn read_step(
-    alloc: Global,
-    text: &[u8],
-    nodes: u16,
-    workers: u16,
-) -> Result<Option<ScenarioStep>, AllocError>
-    ensures { IfOk result (λ o. option_map plain_step o ≡ step_of_text nodes workers text.now) }
-{
-    let words = pieces(alloc, text, b' ')?;
-    let Some((word, rest)) = words.split_first() else {
-        return Ok(None);
-    };
-    match kind_of(word) {
-        Some(kind) => step_of(alloc, kind, rest, nodes, workers),
-        None => Ok(None),
-    }
-}
-
-// The step that a text is, where a scenario that is played so may have it.
-#[tactic(auto, unfolding(crate::specs::Steps::step_for))]
-pub(crate) fn step_for(
-    alloc: Global,
-    played: Played,
-    text: &[u8],
-    nodes: u16,
-    workers: u16,
-) -> Result<Option<ScenarioStep>, AllocError>
-    ensures { IfOk result (λ o. option_map plain_step o ≡ step_for played nodes workers text.now) }
-{
-    let Some(step) = read_step(alloc, text, nodes, workers)? else {
-        return Ok(None);
-    };
-    if played.allows(&step) {
-        Ok(Some(step))
-    } else {
-        Ok(None)
     }
 }
