@@ -23,14 +23,11 @@ pub fn words_of(alloc: Global, text: &[u8], fault: ScenarioFault) -> Option<Stri
     };
     let text = std::str::from_utf8(text).ok()?;
     match fault {
-        ScenarioFault::BadFormat => at(alloc, text, "format", "the number 1 or 2"),
+        ScenarioFault::BadFormat => at(alloc, text, "format", "the number 1, 2 or 3"),
         ScenarioFault::BadKey => bad_key(alloc, text, &table),
         ScenarioFault::BadMember => bad_member(alloc, text, &table),
         ScenarioFault::Pool(fault) => bad_pool(alloc, text, &table, fault),
-        ScenarioFault::BadStep(step) => {
-            let path = format!(in alloc; "steps[{step}]").ok()?;
-            at(alloc, text, path.as_str(), STEPS)
-        }
+        ScenarioFault::BadStep(step) => bad_step(alloc, text, &table, step),
         _ => None,
     }
 }
@@ -38,6 +35,10 @@ pub fn words_of(alloc: Global, text: &[u8], fault: ScenarioFault) -> Option<Stri
 /// What is expected of a step.
 const STEPS: &str =
     "install N V, live [N ..], take K, lose K, again P, full N [W ..], hold N, drain N, restart N or stop N, with balancers N and workers W that are there and none twice in a list; run knows no full, hold and drain, and it alone knows stop";
+
+/// What is expected of a step in format 3.
+const STARRED_STEPS: &str =
+    "install N V, live [N ..], take K, lose K, again P, full N [W ..], hold N, drain N, restart N or stop N, with balancers N and workers W that are there and none twice in a list; * or a number for the N of install, restart and stop and the K of take; run knows no full, hold and drain, and it alone knows stop; and at most 100000 steps in all";
 
 fn bad_toml(alloc: Global, text: &[u8], error: &toml::de::Error) -> Option<String> {
     let start = error.span()?.start;
@@ -219,6 +220,18 @@ fn bad_member(alloc: Global, text: &str, table: &Table) -> Option<String> {
     let expected = match format {
         Format::One => "NAME@ADDRESS or NAME@ADDRESS/down",
         Format::Two => "NAME@ADDRESS, then *W from *1 to *16 or nothing, then /down or nothing",
+        Format::Three => {
+            "NAME@ADDRESS, then *W from *1 to *16 or nothing, then /down or /drain or nothing"
+        }
+    };
+    at(alloc, text, path.as_str(), expected)
+}
+
+fn bad_step(alloc: Global, text: &str, table: &Table, step: u32) -> Option<String> {
+    let path = format!(in alloc; "steps[{step}]").ok()?;
+    let expected = match format_of(table)? {
+        Format::One | Format::Two => STEPS,
+        Format::Three => STARRED_STEPS,
     };
     at(alloc, text, path.as_str(), expected)
 }
