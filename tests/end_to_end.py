@@ -1337,11 +1337,44 @@ def test_scenario_faults():
         misused(f"scenario {words}", ["scenario", *words])
 
 
+def plain_case(seed):
+    """A random scenario of format 1 and a capture, and what they were drawn from."""
+    source = random.Random(seed)
+    return random_scenario(source), random_capture(source), source
+
+
+def repeated_case(seed):
+    """A scenario and a capture where most steps deliver one of a few records again: before it was read, in between and for the
+    last time."""
+    source = random.Random(seed)
+    most = source.randrange(1, 12)
+    steps = ["install 0 1", "install 1 1"]
+    for _ in range(source.randrange(60)):
+        one = f"again {source.randrange(most)}"
+        steps.append(source.choice([one, one, one, f"take {source.randrange(3)}", "lose 1", "hold 0", "drain 0", "restart 1"]))
+    return scenario(steps, workers=2), random_capture(source)
+
+
+def weighed_case(seed):
+    """A random scenario of format 2 with weights, and a capture."""
+    source = random.Random(1000 + seed)
+    return random_scenario(source, ("", "", *(f"*{weight}" for weight in range(1, 17)))), random_capture(source)
+
+
+def idle_case(seed):
+    """A random scenario with an idle limit, a capture whose clock goes on and steps back, and whether each life of a node gets its
+    version before its packets."""
+    source = random.Random(3000 + seed)
+    limit = source.choice([0, 1, 500_000, 1_000_000, 3_000_000, 5_000_000])
+    steps_of = source.choice([steps_by_versions, steps_by_versions, steps_by_lives])
+    text = random_scenario(source, ("", "*2"), steps_of, 20).replace("format = 2", f"format = 2\nidle = {limit}")
+    return text, random_capture(source, passing(source, limit), 120), steps_of is steps_by_lives
+
+
 def test_against_the_model():
     """What random scenarios print and write is what the plain model says."""
     for seed in range(60):
-        source = random.Random(seed)
-        text, data = random_scenario(source), random_capture(source)
+        text, data, source = plain_case(seed)
         expected = model.Run(text, data)
         whole = expected.listing() + expected.report()
         simulates(f"scenario {seed} of the model", text, data, whole, expected.output(), ["--list"])
@@ -1358,30 +1391,21 @@ def test_against_the_model():
 
 
 def test_repeats_against_the_model():
-    """The same where most steps deliver one of a few records again: before it was read, in between and for the last time."""
+    """The same where most steps deliver a record again."""
     for seed in range(40):
-        source = random.Random(seed)
-        most = source.randrange(1, 12)
-        steps = ["install 0 1", "install 1 1"]
-        for _ in range(source.randrange(60)):
-            one = f"again {source.randrange(most)}"
-            steps.append(source.choice([one, one, one, f"take {source.randrange(3)}", "lose 1", "hold 0", "drain 0", "restart 1"]))
-        text, data = scenario(steps, workers=2), random_capture(source)
+        text, data = repeated_case(seed)
         expected = model.Run(text, data)
         simulates(f"repeats {seed} of the model", text, data, expected.listing() + expected.report(), expected.output(), ["--list"])
 
 
 def test_weights_against_the_model():
     """The same of scenarios of format 2, and the scenarios of format 1 print and write the same where their format is 2."""
-    weights = ("", "", *(f"*{weight}" for weight in range(1, 17)))
     for seed in range(40):
-        source = random.Random(1000 + seed)
-        text, data = random_scenario(source, weights), random_capture(source)
+        text, data = weighed_case(seed)
         expected = model.Run(text, data)
         whole = expected.listing() + expected.report()
         simulates(f"weighed scenario {seed} of the model", text, data, whole, expected.output(), ["--list"])
-        source = random.Random(seed)
-        text, data = random_scenario(source), random_capture(source)
+        text, data, _ = plain_case(seed)
         expected = model.Run(text, data)
         whole = expected.listing() + expected.report()
         simulates(f"scenario {seed} in format 2", text.replace("format = 1", "format = 2"), data, whole, expected.output(), ["--list"])
@@ -1390,15 +1414,11 @@ def test_weights_against_the_model():
 def test_idle_against_the_model():
     """The same of scenarios with an idle limit, over captures whose clock goes on and steps back, simulated and on threads."""
     for seed in range(90):
-        source = random.Random(3000 + seed)
-        limit = source.choice([0, 1, 500_000, 1_000_000, 3_000_000, 5_000_000])
-        steps_of = source.choice([steps_by_versions, steps_by_versions, steps_by_lives])
-        text = random_scenario(source, ("", "*2"), steps_of, 20).replace("format = 2", f"format = 2\nidle = {limit}")
-        data = random_capture(source, passing(source, limit), 120)
+        text, data, by_lives = idle_case(seed)
         expected = model.Run(text, data)
         whole = expected.listing() + expected.report()
         simulates(f"idle scenario {seed} of the model", text, data, whole, expected.output(), ["--list"])
-        if steps_of is steps_by_lives:
+        if by_lives:
             split = expected.on_threads().splits() + expected.report()
             runs(f"the splits of idle scenario {seed}, on threads", text, data, split, words=["--splits"])
 

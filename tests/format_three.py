@@ -15,6 +15,7 @@ import tempfile
 
 import end_to_end as rows
 import model
+import mutants
 import soak_run
 from end_to_end import ALL, A_DOWN, B_DOWN, HEAD, WRITTEN_HEAD, capture, explains, faults, lists, lists_of, report, scenario, simulates, stops
 from harness import check, run_tests
@@ -392,19 +393,12 @@ def test_on_threads():
 
 def of_format_two():
     """The random scenarios that the other tests make of formats 1 and 2 for `simulate`, with their captures, each under a name."""
-    weights = ("", "", *(f"*{weight}" for weight in range(1, 17)))
-    for seed in range(60):
+    for name, case_of, count in [("plain", rows.plain_case, 60), ("repeated", rows.repeated_case, 40), ("weighed", rows.weighed_case, 40), ("idle", rows.idle_case, 90)]:
+        for seed in range(count):
+            yield f"{name} scenario {seed}", *case_of(seed)[:2]
+    for seed in range(100):
         source = random.Random(seed)
-        yield f"scenario {seed}", rows.random_scenario(source), rows.random_capture(source)
-    for seed in range(40):
-        source = random.Random(1000 + seed)
-        yield f"weighed scenario {seed}", rows.random_scenario(source, weights), rows.random_capture(source)
-    for seed in range(90):
-        source = random.Random(3000 + seed)
-        limit = source.choice([0, 1, 500_000, 1_000_000, 3_000_000, 5_000_000])
-        steps_of = source.choice([rows.steps_by_versions, rows.steps_by_versions, rows.steps_by_lives])
-        text = rows.random_scenario(source, ("", "*2"), steps_of, 20).replace("format = 2", f"format = 2\nidle = {limit}")
-        yield f"idle scenario {seed}", text, rows.random_capture(source, rows.passing(source, limit), 120)
+        yield f"mutant {seed} unspoiled", mutants.random_scenario(source, "simulate"), mutants.random_capture(source)
     for name, captured in [("failover", "failover"), ("larger", "failover"), ("idle", "idle"), ("rolling", "rolling")]:
         yield f"the example {name}", *rows.example(name, captured)[:2]
 

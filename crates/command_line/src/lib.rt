@@ -42,7 +42,7 @@ Faults, and what to do:
 /// The end of the help of `run`.
 const RUN_HELP: &str = "Example: maglev run examples/failover.toml examples/failover.pcap sent.pcap
 
-SCENARIO, INPUT and OUTPUT may be -, as for simulate. Steps are those of simulate but for full, hold and drain, which are BadStep. There is one more, which is BadStep in simulate: stop N, at which N's workers end before their next packet and begin anew, without what waits. With --splits events are numbered, and packets ordered, as in the run's history. That goes node by node: of each life first the node's commands and then the servings, worker by worker.
+SCENARIO, INPUT and OUTPUT may be -, as for simulate. Steps are those of simulate but for full, hold and drain, which are BadStep. There is one more, which is BadStep in simulate: stop N, at which N's workers end before their next packet and begin anew, without what waits; in format 3 N may be * there too. With --splits events are numbered, and packets ordered, as in the run's history. That goes node by node: of each life first the node's commands and then the servings, worker by worker.
 
 Faults are those of simulate, and:
   ThreadLost           allow more threads, or take fewer nodes and workers
