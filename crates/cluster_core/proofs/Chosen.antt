@@ -10,7 +10,8 @@ use Rattle.connection_table.specs.Touches.{Touch, last_touch, since, distinct_fl
 use Rattle.forwarder.specs.declared.Choice.{Choice}
 use Rattle.forwarder.specs.declared.Choice.TheVariants.{Forward, NoService, NoBackend}
 use Rattle.selection.specs.Candidates.{Candidates}
-use Rattle.forwarder.specs.Serving.{Pick, Serving, Reply, is_up, kept, told_asked, told_by, told_under, serve_as, with_touch, touches, asked_count, clock_of, told_after, told}
+use Rattle.selection.specs.Readied.{keeps}
+use Rattle.forwarder.specs.Serving.{Pick, Serving, Reply, kept, told_asked, told_by, told_under, serve_as, with_touch, touches, asked_count, clock_of, told_after, told}
 
 abbrev pub Up : Type 0
 Up = ℕ → Flow → Option (Candidates)
@@ -73,7 +74,7 @@ module _ (pick : Pick) (up : Up) where
 
   kept_ok : (x : Flow) (o : Option Entry) (ups : Candidates) → EntryOk x o → EntryOk x (kept o ups)
   kept_ok x None ups h = tt
-  kept_ok x (Some e) ups h = go (is_up e.backend ups)
+  kept_ok x (Some e) ups h = go (keeps e.backend ups)
     where
       go : (b : Bool) → EntryOk x (if b then Some e else None)
       go true = h

@@ -5,6 +5,7 @@ pub mod Nodes
 pub mod Chosen
 pub mod Sends
 pub mod Keeps
+pub mod Draining
 pub mod Slots
 pub mod Apart
 pub mod Splits

@@ -4,6 +4,9 @@ use Rattle.std.specs.List.{All}
 use Rattle.five_tuple.specs.declared.Flow.{Flow}
 use Rattle.pool_versions.specs.Pool.{Pools, AreSound, IsWithinLimits, AreWeighed}
 use Rattle.backend_names.specs.Sizes.{is_table_size}
+use Rattle.pool_versions.specs.Pool.{ups, has_double_name}
+use Rattle.selection.specs.PickLaws.{read_is_in}
+use Rattle.cluster_core.proofs.Draining.{apart, none_of}
 use Rattle.selection.specs.Picks.{table_pick, slot_of_flow}
 use Rattle.selection.proofs.Tables.{members_table_is_even}
 use Rattle.selection.specs.Candidates.{Candidates, candidates_of}
@@ -11,7 +14,7 @@ use Rattle.forwarder.specs.Serving.{Pick}
 use Rattle.cluster_node.specs.Rules.{Rules}
 use Rattle.cluster_node.specs.declared.outcomes.Outcome.{Outcome}
 use Rattle.cluster_core.specs.Headline.{picked, pick_under, Agreement}
-use Rattle.cluster_core.specs.Tables.{named_in, named_under, TablesDiffer, TablesAreEven}
+use Rattle.cluster_core.specs.Tables.{named_in, named_under, TablesDiffer, TablesAreEven, NoSlotDrains}
 
 picked_named : (plain : List ℕ → ℕ) (size : ℕ) (pick : Pick) → ((ups : Candidates) (x : Flow) → pick ups x 0 ≡ table_pick plain size ups x) → (x : Flow) (o : Option Candidates) → picked pick x o ≡ named_in plain size o (slot_of_flow plain size x)
 picked_named plain size pick same x None = refl
@@ -36,3 +39,8 @@ pub tables_are_even : (plain : List ℕ → ℕ) (size : ℕ) (pools : Pools) �
 tables_are_even plain size pools listed sound v s known served some =
     let kept : IsWithinLimits pools.size v = of_all (IsWithinLimits pools.size) pools.versions v sound.limits known in
     members_table_is_even plain size s.members.items listed (of_all (λ t. AreWeighed t.members.items) v.services.items s kept.weighed served) some
+
+pub no_slot_drains : (plain : List ℕ → ℕ) (size : ℕ) (pools : Pools) → AreSound pools → NoSlotDrains plain size pools
+no_slot_drains plain size pools sound v s known served slot b names drains =
+    let kept : IsWithinLimits pools.size v = of_all (IsWithinLimits pools.size) pools.versions v sound.limits known in
+    apart s.members.items b (none_of has_double_name v.services.items s kept.named served) (read_is_in (ups s.members.items) _ b names) drains

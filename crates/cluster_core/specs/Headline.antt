@@ -5,6 +5,7 @@ use Rattle.pool_versions.specs.declared.backend.Backend.{Backend}
 use Rattle.connection_table.specs.declared.table.Entry.{Entry}
 use Rattle.connection_table.specs.Touches.{standing}
 use Rattle.selection.specs.Candidates.{Candidates}
+use Rattle.selection.specs.Readied.{keeps}
 use Rattle.forwarder.specs.Serving.{Pick, Reply, clock_of, is_up, touches, told}
 use Rattle.cluster_node.specs.declared.serving.Item.{Item}
 use Rattle.cluster_node.specs.Book.{Line, next_item, servings}
@@ -65,14 +66,20 @@ pub record UpUnder (rules : Rules) (v : ℕ) (x : Flow) (b : Backend) : Type 0 w
   pub known : rules.ups v x ≡ Some ups
   pub up : is_up b ups ≡ true
 
--- KEEPING. An entry may stand for the flow of the packet that an accepted serving takes, and its backend be up under the
--- serving's version. Then the packet is sent there, with the entry's origin.
+-- a backend is up or drains for a flow under a version
+pub record KeptUnder (rules : Rules) (v : ℕ) (x : Flow) (b : Backend) : Type 0 where
+  pub ups : Candidates
+  pub known : rules.ups v x ≡ Some ups
+  pub kept : keeps b ups ≡ true
+
+-- KEEPING. An entry may stand for the flow of the packet that an accepted serving takes, and its backend be up or drain
+-- under the serving's version. Then the packet is sent there, with the entry's origin.
 abbrev pub Keeps : Rules → List LogEntry → Event → Outcome → Type 0
 Keeps rules past (Install n v) o = Unit {0}
 Keeps rules past (Arrive n k marks) o = Unit {0}
 Keeps rules past (Restart n) o = Unit {0}
 Keeps rules past (Serve n w v r) o = (i : Item) (e : Entry) → accepted o ≡ true → next_item (lines_at past n w) ≡ Some i →
-    entry_at rules past n w i.flow ≡ Some e → UpUnder rules v i.flow e.backend →
+    entry_at rules past n w i.flow ≡ Some e → KeptUnder rules v i.flow e.backend →
     o ≡ Forward n w i.packet i.flow e.backend e.version
 
 -- the promise holds at each event, with the record of all before it
@@ -80,3 +87,18 @@ abbrev pub Keeping : Rules → List LogEntry → List Packet → List Event → 
 Keeping rules past packets [] os = Unit {0}
 Keeping rules past packets (e ∷ es) [] = ⊥
 Keeping rules past packets (e ∷ es) (o ∷ os) = Keeps rules past e o × Keeping rules (record { event = e; packet = packet_of packets e; outcome = o } ∷ past) packets es os
+
+-- Of the same, what is said where the backend is up under the serving's version, whoever drains.
+abbrev pub KeepsUps : Rules → List LogEntry → Event → Outcome → Type 0
+KeepsUps rules past (Install n v) o = Unit {0}
+KeepsUps rules past (Arrive n k marks) o = Unit {0}
+KeepsUps rules past (Restart n) o = Unit {0}
+KeepsUps rules past (Serve n w v r) o = (i : Item) (e : Entry) → accepted o ≡ true → next_item (lines_at past n w) ≡ Some i →
+    entry_at rules past n w i.flow ≡ Some e → UpUnder rules v i.flow e.backend →
+    o ≡ Forward n w i.packet i.flow e.backend e.version
+
+-- it holds at each event, with the record of all before it
+abbrev pub KeepingUps : Rules → List LogEntry → List Packet → List Event → List Outcome → Type 0
+KeepingUps rules past packets [] os = Unit {0}
+KeepingUps rules past packets (e ∷ es) [] = ⊥
+KeepingUps rules past packets (e ∷ es) (o ∷ os) = KeepsUps rules past e o × KeepingUps rules (record { event = e; packet = packet_of packets e; outcome = o } ∷ past) packets es os

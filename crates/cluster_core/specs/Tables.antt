@@ -6,7 +6,7 @@ use Rattle.five_tuple.specs.declared.Flow.{Flow}
 use Rattle.pool_versions.specs.declared.backend.Backend.{Backend}
 use Rattle.pool_versions.specs.declared.service.Service.{Service}
 use Rattle.pool_versions.specs.declared.service.Version.{Version}
-use Rattle.pool_versions.specs.Pool.{Pools, ups, weights, AreSound}
+use Rattle.pool_versions.specs.Pool.{Pools, ups, draining_backends, weights, AreSound}
 use Rattle.selection.specs.Picks.{slot_of_flow, slot_names, table_slots, table_pick, table_of_ups, IsEvenTable}
 use Rattle.selection.specs.Candidates.{Candidates, candidates_in, candidates_of}
 use Rattle.cluster_node.specs.Rules.{Rules}
@@ -35,6 +35,12 @@ TablesDiffer plain size pools outs = (x : Flow) (b₁ b₂ : Backend) (v₁ v₂
 abbrev pub TablesAreEven : (List ℕ → ℕ) → ℕ → Pools → Type 0
 TablesAreEven plain size pools = (v : Version) (s : Service) → Contains pools.versions v → Contains v.services.items s →
     (ups s.members.items ≡ [] → ⊥) → IsEvenTable (weights s.members.items) (table_of_ups plain size (candidates_in s.members.items))
+
+-- SLOTS. No slot of the table of a service of a version names a member that drains.
+abbrev pub NoSlotDrains : (List ℕ → ℕ) → ℕ → Pools → Type 0
+NoSlotDrains plain size pools = (v : Version) (s : Service) → Contains pools.versions v → Contains v.services.items s →
+    (slot : ℕ) (b : Backend) → slot_names (ups s.members.items) (table_slots plain size (candidates_in s.members.items)) slot ≡ Some b →
+    Contains (draining_backends s.members.items) b → ⊥
 
 -- the rules are those of Maglev over these pools, which are a catalogue's, with tables of a listed size
 pub record AreMaglevs (plain : List ℕ → ℕ) (size : ℕ) (pools : Pools) (rules : Rules) : Type 0 where

@@ -39,9 +39,9 @@ pub fn histories_are_told()
 /// The promises hold of every record whose outcomes are the verdicts, and of every list of events. For a scheme to which the
 /// turn doesn't matter, two packets of one flow that were sent to different backends were chosen under versions that pick
 /// these backends. So those versions differ for the flow. Where the scheme is Maglev, their tables name these backends at
-/// the flow's slot. A forwarder keeps a flow's backend while its entry stands and the backend is up. Every slot of Maglev's
-/// tables names an up backend, and backends' slot counts are in proportion to their weights; of equal weights they differ by
-/// at most one.
+/// the flow's slot. A forwarder keeps a flow's backend while its entry stands and the backend is up or drains. Every slot of
+/// Maglev's tables names an up backend, and none a member that drains. Backends' slot counts are in proportion to their
+/// weights; of equal weights they differ by at most one.
 pub fn promises_are_kept()
     ensures histories { HistoriesKeepPromises }
     ensures maglev { MaglevKeepsPromises }

@@ -6,7 +6,7 @@
 //!
 //! There are two promises for every list. Two packets of one flow that were sent to different backends were chosen under
 //! versions that differ for that flow. A forwarder keeps a flow's backend while the flow's entry stands and the backend is
-//! up (Maglev, NSDI 2016, section 3.4).
+//! up or drains (Maglev, NSDI 2016, section 3.4).
 #![tactic(auto)]
 
 mod counting;

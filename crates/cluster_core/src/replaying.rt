@@ -3,11 +3,11 @@ ghost use Rattle.std.specs.Prelude.{◌≡◌, ◌≤◌, ◌<◌, ◌^◌, [], 
 ghost use Rattle.cluster_node.specs.declared.packets.Packet.{Packet};
 ghost use Rattle.cluster_core.specs.Setups.{Fixed, rules_for};
 ghost use Rattle.cluster_core.specs.Runs.{packet_of, verdicts};
-ghost use Rattle.cluster_core.specs.Headline.{Agreement, Keeping};
+ghost use Rattle.cluster_core.specs.Headline.{Agreement, Keeping, KeepingUps};
 ghost use Rattle.cluster_core.specs.Totals.{came_all, went_all};
 ghost use Rattle.cluster_node.specs.Records.{WasRead};
 ghost use Rattle.cluster_core.specs.Explain.{PickedSends};
-ghost use Rattle.cluster_core.specs.Tables.{TablesAreEven};
+ghost use Rattle.cluster_core.specs.Tables.{TablesAreEven, NoSlotDrains};
 
 use crate::fixed::Setup;
 use crate::running::Run;
@@ -39,11 +39,12 @@ fn count_of(events: &[Event]) -> usize
 /// The outcomes are read off the events alone (`verdicts`). For a scheme to which the turn doesn't matter, two packets of
 /// one flow that were sent to different backends were chosen under versions that pick these backends. So those versions
 /// differ for the flow. This holds for any workers of any nodes in any lives (`agreement`). A worker keeps a flow's backend
-/// while the flow's entry stands and the backend is up (`keeping`). What left the queues is no more than what was placed
-/// (`balance`).
+/// while the flow's entry stands and the backend is up or drains (`keeping`), and so while it is up (`keeping_ups`). What
+/// left the queues is no more than what was placed (`balance`).
 ///
 /// Whatever the scheme is, every slot of the table that Maglev makes of a service of the catalogue names an up backend.
-/// Backends' slot counts are in proportion to their weights; of equal weights they differ by at most one (`slots`).
+/// Backends' slot counts are in proportion to their weights; of equal weights they differ by at most one (`slots`). No slot
+/// names a member that drains (`none_drains`).
 pub fn replay<S: Scheme, H: FlowHash, T: ConnTable>(
     alloc: Global,
     setup: &Setup<S, H>,
@@ -59,11 +60,14 @@ pub fn replay<S: Scheme, H: FlowHash, T: ConnTable>(
         S.STEADY ≡ true → IfOk result (λ v. Agreement rules v.items) }
     ensures keeping { let rules = rules_for (λ s z. S.pick s z) (λ h. H.plain h) setup.now catalogue.now in
         IfOk result (λ v. Keeping rules [] packets.now events.now v.items) }
+    ensures keeping_ups { let rules = rules_for (λ s z. S.pick s z) (λ h. H.plain h) setup.now catalogue.now in
+        IfOk result (λ v. KeepingUps rules [] packets.now events.now v.items) }
     // what `totals` and `explain` ask of outcomes
     ensures balance { IfOk result (λ v. went_all v.items ≤ came_all v.items) }
     ensures picked { let rules = rules_for (λ s z. S.pick s z) (λ h. H.plain h) setup.now catalogue.now in
         S.STEADY ≡ true → IfOk result (λ v. PickedSends rules v.items) }
     ensures slots { TablesAreEven (H.plain setup.now.hash) setup.now.size catalogue.now }
+    ensures none_drains { NoSlotDrains (H.plain setup.now.hash) setup.now.size catalogue.now }
 {
     let _slots = setup.size().slots();
     catalogue.keeps_doubles_out();
