@@ -41,7 +41,7 @@ fn is_at(rt: &impl Abort, found: Option<Place>, row: &Row, refused: bool, at: us
 
 const UNKNOWN: Option<Place> = Some(Place::Root(Flaw::Unknown));
 
-static KEYS: [Row; 20] = [
+static KEYS: [Row; 21] = [
     ("", "", None),
     ("", "color = 1\n", UNKNOWN),
     (
@@ -88,6 +88,7 @@ static KEYS: [Row; 20] = [
     ),
     ("format = 1", "format = 1\nidle = 5", UNKNOWN),
     ("format = 1", "format = 2\nidle = 0", None),
+    ("format = 1", "format = 3\nidle = 0", None),
     ("format = 1", "format = 2\nidle = 4294967295000000", None),
     (
         "format = 1",
@@ -188,7 +189,7 @@ fn places_of_the_versions(rt: HostRuntime) {
     }
 }
 
-static MEMBERS: [Row; 4] = [
+static MEMBERS: [Row; 5] = [
     ("", "", None),
     (
         "A@10",
@@ -203,6 +204,11 @@ static MEMBERS: [Row; 4] = [
     (
         "/down",
         "*2",
+        Some(Place::Service(1, 0, Flaw::Item(Key::Members, 1))),
+    ),
+    (
+        "/down",
+        "/drain",
         Some(Place::Service(1, 0, Flaw::Item(Key::Members, 1))),
     ),
 ];

@@ -100,7 +100,7 @@ fn same_fault(
 // Lines in place of the format, and the idle limit that they mean.
 type Limit = (&'static str, Result<Option<u64>, ScenarioFault>);
 
-static LIMITS: [Limit; 10] = [
+static LIMITS: [Limit; 12] = [
     ("format = 1", Ok(None)),
     ("format = 2", Ok(None)),
     ("format = 1\nidle = 5", Err(BadKey)),
@@ -114,6 +114,8 @@ static LIMITS: [Limit; 10] = [
     ("format = 2\nidle = -1", Err(BadKey)),
     ("format = 2\nidle = 5.0", Err(BadKey)),
     ("format = 2\nidle = true", Err(BadKey)),
+    ("format = 3", Ok(None)),
+    ("format = 3\nidle = 5", Ok(Some(5))),
 ];
 
 fn idle_with(rt: &impl Abort, alloc: Global, lines: &str) -> Result<Option<u64>, ScenarioFault> {
@@ -158,7 +160,7 @@ fn weights_with(
 }
 
 // The format, the first version's first member, and the weights of its members.
-static WEIGHTS: [(&str, &str, Result<[u8; 3], ScenarioFault>); 7] = [
+static WEIGHTS: [(&str, &str, Result<[u8; 3], ScenarioFault>); 9] = [
     ("format = 1", "A@10.8.0.1", Ok([1, 1, 1])),
     ("format = 2", "A@10.8.0.1", Ok([1, 1, 1])),
     ("format = 2", "A@10.8.0.1*16", Ok([16, 1, 1])),
@@ -166,12 +168,58 @@ static WEIGHTS: [(&str, &str, Result<[u8; 3], ScenarioFault>); 7] = [
     ("format = 1", "A@10.8.0.1*2", Err(BadMember)),
     ("format = 2", "A@10.8.0.1*17", Err(BadMember)),
     ("format = 2", "A@10.8.0.1/down*2", Err(BadMember)),
+    ("format = 3", "A@10.8.0.1*3", Ok([3, 1, 1])),
+    ("format = 3", "A@10.8.0.1*4/drain", Ok([4, 1, 1])),
 ];
 
 #[test]
 fn weights_of_members(rt: HostRuntime) {
     for (format, member, weights) in WEIGHTS.iter() {
         assert_eq!(rt; weights_with(&rt, rt.alloc(), format, member), *weights);
+    }
+}
+
+// Whether the first version's first member is up, and whether it drains.
+fn state_in(rt: &impl Abort, catalogue: &Catalogue) -> (bool, bool) {
+    let version = catalogue.get(1).expect(rt, "a version");
+    let service = version.services.get(0).expect(rt, "a service");
+    let member = service.members.get(0).expect(rt, "a member");
+    (member.up, member.draining)
+}
+
+fn state_with(
+    rt: &impl Abort,
+    alloc: Global,
+    format: &str,
+    member: &str,
+) -> Result<(bool, bool), ScenarioFault> {
+    let (first, second) = (("format = 1", format), ("A@10.8.0.1", member));
+    match read_changed(rt, alloc, NO_STEPS, first, second) {
+        Ok(scenario) => Ok(state_in(rt, &scenario.catalogue)),
+        Err(fault) => Err(fault),
+    }
+}
+
+// The format, the first version's first member, whether it is up, and whether it drains.
+static STATES: [(&str, &str, Result<(bool, bool), ScenarioFault>); 12] = [
+    ("format = 1", "A@10.8.0.1/down", Ok((false, false))),
+    ("format = 1", "A@10.8.0.1/drain", Err(BadMember)),
+    ("format = 2", "A@10.8.0.1/drain", Err(BadMember)),
+    ("format = 2", "A@10.8.0.1*2/drain", Err(BadMember)),
+    ("format = 3", "A@10.8.0.1", Ok((true, false))),
+    ("format = 3", "A@10.8.0.1*2/down", Ok((false, false))),
+    ("format = 3", "A@10.8.0.1/drain", Ok((false, true))),
+    ("format = 3", "A@10.8.0.1*2/drain", Ok((false, true))),
+    ("format = 3", "A@10.8.0.1/drain*2", Err(BadMember)),
+    ("format = 3", "A@10.8.0.1/down/drain", Err(BadMember)),
+    ("format = 3", "A@10.8.0.1/drained", Err(BadMember)),
+    ("format = 3", "A@10.8.0.1/", Err(BadMember)),
+];
+
+#[test]
+fn states_of_members(rt: HostRuntime) {
+    for (format, member, state) in STATES.iter() {
+        assert_eq!(rt; state_with(&rt, rt.alloc(), format, member), *state);
     }
 }
 
@@ -314,7 +362,7 @@ static FAULTS: [(&str, &str, ScenarioFault); 56] = [
     ("size = 7", "size = 7\nsize = 7", BadToml),
     ("size = 7", "size = 9223372036854775808", BadToml),
     ("format = 1", "", BadFormat),
-    ("format = 1", "format = 3", BadFormat),
+    ("format = 1", "format = 4", BadFormat),
     ("format = 1", "format = \"1\"", BadFormat),
     ("size = 7", "size = 8", BadKey),
     ("size = 7", "", BadKey),
@@ -393,10 +441,10 @@ fn each_fault_alone(rt: HostRuntime) {
 static TWO_FAULTS: [(Change, Change, ScenarioFault); 8] = [
     (
         ("size = 7", "size = "),
-        ("format = 1", "format = 3"),
+        ("format = 1", "format = 4"),
         BadToml,
     ),
-    (("\"hold 1\"", "7"), ("format = 1", "format = 3"), BadFormat),
+    (("\"hold 1\"", "7"), ("format = 1", "format = 4"), BadFormat),
     (("\"C@10.8.0.3\"", "\"C\""), ("\"hold 1\"", "7"), BadKey),
     (
         ("number = 1", "number = 0"),
@@ -507,6 +555,131 @@ fn read_as(
     let line = format!(in alloc; "steps = [{steps}]\n").expect(rt, "memory");
     let whole = text(rt, alloc, line.as_str());
     read(alloc, played, whole.as_bytes())
+}
+
+// The scenario of a format with these steps, read as one that is played so.
+fn read_in(
+    rt: &impl Abort,
+    alloc: Global,
+    format: &str,
+    played: Played,
+    steps: &str,
+) -> Result<Scenario, ScenarioFault> {
+    let line = format!(in alloc; "steps = [{steps}]\n").expect(rt, "memory");
+    let whole = text(rt, alloc, line.as_str());
+    let whole = changed(rt, alloc, whole.as_str(), ("format = 1", format));
+    read(alloc, played, whole.as_bytes())
+}
+
+// What stars mean in a cluster of two nodes.
+static STARRED: [StepRow; 8] = [
+    ("install", 0, 7),
+    ("install", 1, 7),
+    ("take", 4_294_967_295, 0),
+    ("restart", 0, 0),
+    ("restart", 1, 0),
+    ("stop", 0, 0),
+    ("stop", 1, 0),
+    ("restart", 1, 0),
+];
+
+const STARS: &str = "'install * 7', 'take *', 'restart *', 'stop *', 'restart 1'";
+
+fn has_starred_steps(rt: &impl Abort, steps: &[ScenarioStep]) {
+    same_number(rt, steps.len() as u64, 8, "steps");
+    for (step, wanted) in steps.iter().zip(STARRED.iter()) {
+        assert_eq!(rt; told(step), *wanted);
+    }
+}
+
+#[test]
+fn a_star_names_all_nodes_in_order(rt: HostRuntime) {
+    let scenario = read_in(&rt, rt.alloc(), "format = 3", Played::OnThreads, STARS).expect(
+        &rt,
+        "a scenario",
+    );
+    has_starred_steps(&rt, scenario.steps.as_slice());
+}
+
+// A format, how a scenario is played, its steps, and its fault. A step's number is that of its text.
+type StarRow = (&'static str, Played, &'static str, Option<ScenarioFault>);
+
+const STARS_REFUSED: [StarRow; 12] = [
+    ("format = 1", Played::InTurn, "'take *'", Some(BadStep(0))),
+    (
+        "format = 2",
+        Played::InTurn,
+        "'take 1', 'take *'",
+        Some(BadStep(1)),
+    ),
+    (
+        "format = 2",
+        Played::InTurn,
+        "'install * 1'",
+        Some(BadStep(0)),
+    ),
+    (
+        "format = 2",
+        Played::OnThreads,
+        "'stop *'",
+        Some(BadStep(0)),
+    ),
+    ("format = 3", Played::InTurn, "'take *', 'restart *'", None),
+    (
+        "format = 3",
+        Played::InTurn,
+        "'restart *', 'stop *'",
+        Some(BadStep(1)),
+    ),
+    (
+        "format = 3",
+        Played::OnThreads,
+        "'install 0 *'",
+        Some(BadStep(0)),
+    ),
+    (
+        "format = 3",
+        Played::InTurn,
+        "'install *'",
+        Some(BadStep(0)),
+    ),
+    ("format = 3", Played::InTurn, "'take **'", Some(BadStep(0))),
+    ("format = 3", Played::InTurn, "'take * 1'", Some(BadStep(0))),
+    ("format = 3", Played::InTurn, "'hold *'", Some(BadStep(0))),
+    (
+        "format = 3",
+        Played::InTurn,
+        "'install * 1', 'lose *'",
+        Some(BadStep(1)),
+    ),
+];
+
+#[test]
+fn stars_that_are_no_steps(rt: HostRuntime) {
+    for (at, (format, played, steps, wanted)) in STARS_REFUSED.iter().enumerate() {
+        let found = read_in(&rt, rt.alloc(), *format, *played, *steps).err();
+        same_fault(&rt, found, *wanted, at);
+    }
+}
+
+fn fault_of_stars(rt: &impl Abort, alloc: Global, count: u32) -> Option<ScenarioFault> {
+    let steps = repeated(rt, alloc, "steps = [", "\"restart *\"", count, "]\n");
+    let third = ("format = 1", "format = 3");
+    read_changed(rt, alloc, steps.as_str(), third, NOTHING).err()
+}
+
+// Texts that each say two steps, and their fault: 100,000 steps have room.
+static COUNTS_OF_STARS: [(u32, Option<ScenarioFault>); 2] = [
+    (50_000, None),
+    (50_001, Some(BadStep(50_000))),
+];
+
+#[test]
+fn stars_say_at_most_100_000_steps(rt: HostRuntime) {
+    for (count, wanted) in COUNTS_OF_STARS.iter() {
+        let found = fault_of_stars(&rt, rt.alloc(), *count);
+        same_fault(&rt, found, *wanted, 0);
+    }
 }
 
 // How a scenario is played, its steps, and its fault.
