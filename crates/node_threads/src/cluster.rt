@@ -450,7 +450,7 @@ where
 ///
 /// So what is promised of every list of events is promised of the run. Two packets of one flow that were sent to different
 /// backends, by any nodes, were chosen under versions that pick these backends (`agreement`). A worker keeps a flow's
-/// backend while its entry stands and the backend is up (`keeping`).
+/// backend while its entry stands and the backend is up or drains (`keeping`).
 pub fn run_cluster<
     S: Scheme + Send + Sync,
     H: FlowHash + Send + Sync,

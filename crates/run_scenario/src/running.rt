@@ -104,8 +104,8 @@ fn run_over<R: Threads + Wait + Sync>(
 /// By the clause `kept` the run keeps the promises, whatever the schedule was. For a scheme to which the turn doesn't
 /// matter, two packets of one flow that were sent to different backends were chosen under versions that pick these backends.
 /// Where the scheme is Maglev, their tables name the two backends at the flow's slot. A worker keeps a flow's backend while
-/// its entry stands and the backend is up. Every slot of Maglev's tables names an up backend, and backends' slot counts are
-/// in proportion to their weights. The two versions of each split pick its two backends, for such a scheme, and for Maglev
+/// its entry stands and the backend is up or drains. Every slot of Maglev's tables names an up backend, never one that
+/// drains, and backends' slot counts are in proportion to their weights. The two versions of each split pick its two backends, for such a scheme, and for Maglev
 /// name them at the flow's slot.
 pub fn run_scenario<R: Threads + Wait + Sync, I: Source, O: Sink>(
     rt: &R,

@@ -191,8 +191,8 @@ fn play_named<I: Source, O: Outlet>(
 /// By the clause `kept` the run keeps the promises. For a scheme to which the turn doesn't matter, two packets of one flow
 /// that were sent to different backends were chosen under versions that pick these backends. Where the scheme is Maglev,
 /// their tables name the two backends at the flow's slot. A forwarder keeps a flow's backend while its entry stands and the
-/// backend is up. Every slot of Maglev's tables names an up backend, and backends' slot counts are in proportion to their
-/// weights. The two versions of each split pick its two backends, for such a scheme, and for Maglev name them at the flow's
+/// backend is up or drains. Every slot of Maglev's tables names an up backend, never one that drains, and backends' slot
+/// counts are in proportion to their weights. The two versions of each split pick its two backends, for such a scheme, and for Maglev name them at the flow's
 /// slot.
 pub fn play_scenario<I: Source, O: Outlet>(
     alloc: Global,
