@@ -1,4 +1,5 @@
 //! The worked examples as lists of events, on all three tables.
+mod draining;
 mod frames;
 mod idle;
 mod schemes;

@@ -20,6 +20,7 @@ fn as_up(alloc: Global, members: &[Member]) -> Result<Vec<Member>, AllocError>
         ups.push(Member {
             backend: member.backend,
             up: true,
+            draining: member.draining,
             weight: member.weight,
         })?;
     }
