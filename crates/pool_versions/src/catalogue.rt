@@ -101,6 +101,13 @@ impl Catalogue {
         let _versions = &self.versions;
     }
 
+    /// The versions, in the order in which they were added.
+    pub fn versions(&self) -> &[Version]
+        ensures { result.now ≡ self.now.versions }
+    {
+        self.versions.as_slice()
+    }
+
     /// The version of a number. It keeps the limits of a version.
     pub fn get(&self, number: u32) -> Option<&Version>
         ensures found { option_copied result ≡ version_at number self.now.versions }

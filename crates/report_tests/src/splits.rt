@@ -17,22 +17,29 @@ fn backend(rt: &impl Abort, name: &[u8], addr: u32) -> Backend {
     Backend { name, addr }
 }
 
-// A member, by a letter, at the address of its place; whether it is up.
-fn member(rt: &impl Abort, name: &[u8], addr: u32, up: bool) -> Member {
+#[derive(Clone, Copy, PartialEq, Eq)]
+enum State {
+    Up,
+    Draining,
+    Down,
+}
+
+// A member, by a letter, at the address of its place.
+fn member(rt: &impl Abort, name: &[u8], addr: u32, state: State) -> Member {
     Member {
         backend: backend(rt, name, addr),
-        up,
-        draining: false,
+        up: state == State::Up,
+        draining: state == State::Draining,
         weight: Weight::one(),
     }
 }
 
-// A, B and C under a version; whether A and B are up.
-fn version(rt: &impl Abort, alloc: Global, number: u32, a: bool, b: bool) -> Version {
+// A, B and C under a version, C up.
+fn version(rt: &impl Abort, alloc: Global, number: u32, a: State, b: State) -> Version {
     let members = [
         member(rt, b"A", 0x0a08_0001, a),
         member(rt, b"B", 0x0a08_0002, b),
-        member(rt, b"C", 0x0a08_0003, true),
+        member(rt, b"C", 0x0a08_0003, State::Up),
     ];
     let service = Service {
         vip: VIP,
@@ -45,15 +52,37 @@ fn version(rt: &impl Abort, alloc: Global, number: u32, a: bool, b: bool) -> Ver
     Version { number, services }
 }
 
-// All are up under version 1, B is down under version 2, and A under version 3.
-fn catalogue(rt: &impl Abort, alloc: Global) -> Catalogue {
+// The versions of A and B in these states, numbered from 1.
+fn catalogue_of(rt: &impl Abort, alloc: Global, states: &[(State, State); 3]) -> Catalogue {
     let size = TableSize::new(7).expect(rt, "a size");
     let mut all = Catalogue::new(alloc, size);
-    for (number, a, b) in [(1, true, true), (2, true, false), (3, false, true)] {
-        let version = version(rt, alloc, number, a, b);
+    let mut number = 0;
+    for (a, b) in states {
+        number += 1;
+        let version = version(rt, alloc, number, *a, *b);
         all.add(version).expect(rt, "a version");
     }
     all
+}
+
+// All are up under version 1, B is down under version 2, and A under version 3.
+fn catalogue(rt: &impl Abort, alloc: Global) -> Catalogue {
+    let states = [
+        (State::Up, State::Up),
+        (State::Up, State::Down),
+        (State::Down, State::Up),
+    ];
+    catalogue_of(rt, alloc, &states)
+}
+
+// B is up under version 1, drains under version 2, and is down under version 3.
+fn leaving(rt: &impl Abort, alloc: Global) -> Catalogue {
+    let states = [
+        (State::Up, State::Up),
+        (State::Up, State::Draining),
+        (State::Up, State::Down),
+    ];
+    catalogue_of(rt, alloc, &states)
 }
 
 // The flow from this port.
@@ -112,11 +141,14 @@ fn book_of(rt: &impl Abort, alloc: Global, rows: &[Row]) -> SplitBook {
     book
 }
 
-fn tells(rt: &impl Abort, alloc: Global, book: &SplitBook, lines: &str) {
+fn tells_by(rt: &impl Abort, alloc: Global, catalogue: &Catalogue, book: &SplitBook, lines: &str) {
     let mut text = String::new(alloc);
-    let catalogue = catalogue(rt, alloc);
-    push_splits(&mut text, &SumHash, &catalogue, book).expect(rt, "memory");
+    push_splits(&mut text, &SumHash, catalogue, book).expect(rt, "memory");
     same_text(rt, text.as_str(), lines);
+}
+
+fn tells(rt: &impl Abort, alloc: Global, book: &SplitBook, lines: &str) {
+    tells_by(rt, alloc, &catalogue(rt, alloc), book, lines);
 }
 
 #[test]
@@ -200,4 +232,41 @@ down 0
 moved 1
 ";
     tells(&rt, rt.alloc(), &book, lines);
+}
+
+// While B drains its flow may have been sent elsewhere. Version 3 has it down: it drained after version 1 chose it, and not
+// after version 3 did.
+static LEAVING: [Row; 6] = [
+    (1, 1006, "B", 0x0a08_0002, 1),
+    (2, 1006, "A", 0x0a08_0001, 2),
+    (2, 1006, "B", 0x0a08_0002, 2),
+    (3, 1006, "A", 0x0a08_0001, 3),
+    (3, 1006, "B", 0x0a08_0002, 3),
+    (3, 1006, "C", 0x0a08_0003, 3),
+];
+
+#[test]
+fn a_server_that_drained(rt: HostRuntime) {
+    let book = book_of(&rt, rt.alloc(), &LEAVING);
+    let lines =
+        "split tcp 10.0.0.1:1006>192.0.2.1:80 events 0 1 slot 5 version 1 B@10.8.0.2 version 2 A@10.8.0.1 moved
+split tcp 10.0.0.1:1006>192.0.2.1:80 events 1 2 slot 5 version 2 A@10.8.0.1 version 2 B@10.8.0.2 moved
+split tcp 10.0.0.1:1006>192.0.2.1:80 events 2 3 slot 5 version 2 B@10.8.0.2 version 3 A@10.8.0.1 drained
+split tcp 10.0.0.1:1006>192.0.2.1:80 events 3 4 slot 5 version 3 A@10.8.0.1 version 3 B@10.8.0.2 moved
+split tcp 10.0.0.1:1006>192.0.2.1:80 events 4 5 slot 5 version 3 B@10.8.0.2 version 3 C@10.8.0.3 down
+flows 1
+split 5
+down 1
+moved 3
+drained 1
+";
+    tells_by(&rt, rt.alloc(), &leaving(&rt, rt.alloc()), &book, lines);
+}
+
+// A count of those that drained is printed as soon as somebody drains in some version.
+#[test]
+fn nothing_was_sent_while_some_drain(rt: HostRuntime) {
+    let book = SplitBook::new(rt.alloc(), TableKey::fixed());
+    let lines = "flows 0\nsplit 0\ndown 0\nmoved 0\ndrained 0\n";
+    tells_by(&rt, rt.alloc(), &leaving(&rt, rt.alloc()), &book, lines);
 }

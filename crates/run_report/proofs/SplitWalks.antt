@@ -1,5 +1,5 @@
 -- A split more in a walk over them.
-use Rattle.std.proofs.Common.{◌≡◌, ℕ, suc, ◌+◌, ◌-◌, ◌<◌, List, [], ◌∷◌, ◌++◌, length, get_or, drop, reverse, None, Result, Ok, Err, refl, sym, ap, ◌∙◌, append_assoc, arith, ◌⊎◌, inl, inr}
+use Rattle.std.proofs.Common.{◌≡◌, ℕ, Bool, suc, ◌+◌, ◌-◌, ◌<◌, List, [], ◌∷◌, ◌++◌, length, get_or, drop, reverse, None, Result, Ok, Err, refl, sym, ap, ◌∙◌, append_assoc, arith, ◌⊎◌, inl, inr}
 use Rattle.std.specs.Prelude.{OnOk}
 use Rattle.std.specs.List.{flat_map, sum_by}
 use Rattle.cluster_node.specs.declared.events.LogEntry.{LogEntry}
@@ -9,11 +9,11 @@ use Rattle.std.proofs.lemmas.List.{append-nil, reverse-append, reverse-reverse}
 use Rattle.cluster_node.specs.declared.events.Event.{Event}
 use Rattle.cluster_node.specs.declared.outcomes.Outcome.{Outcome}
 use Rattle.run_report.specs.declared.cause.SplitCause.{SplitCause}
-use Rattle.run_report.specs.declared.cause.SplitCause.TheVariants.{Down, Moved}
+use Rattle.run_report.specs.declared.cause.SplitCause.TheVariants.{Down, Moved, Drained}
 use Rattle.run_report.specs.declared.sending.Split.{Split}
 use Rattle.run_report.specs.Splits.{splits_of, flows_of, said_of}
-use Rattle.run_report.specs.Texts.{split_line, split_counts, text_of, splits_text}
-use Rattle.run_report.specs.Causes.{Lookups, cause_of, down_one, moved_one, down_count, moved_count}
+use Rattle.run_report.specs.Texts.{split_line, split_counts, drained_line, text_of, splits_text}
+use Rattle.run_report.specs.Causes.{Lookups, cause_of, down_one, moved_one, drained_one, down_count, moved_count, drained_count, does_anybody_drain}
 
 rest_of : {X : Type 0} (xs : List X) (i : ℕ) (x : X) → i < length xs → x ≡ get_or xs i x → drop i xs ≡ x ∷ drop (i + 1) xs
 rest_of xs i x low is = drop-cons xs i x low ∙ ap (λ y. y ∷ drop (suc i) xs) (sym is) ∙ ap (λ (n : ℕ). x ∷ drop n xs) (let e : suc i ≡ i + 1 = omega arith in e)
@@ -31,37 +31,48 @@ sum_more f xs i x count whole low is e =
     omega (arith, step, e)
 
 -- each split has one cause
-one_cause : (c : SplitCause) → down_one c + moved_one c ≡ 1
+one_cause : (c : SplitCause) → down_one c + moved_one c + drained_one c ≡ 1
 one_cause Down = refl
 one_cause Moved = refl
+one_cause Drained = refl
 
-pub causes_add_up : (lookups : Lookups) (ps : List Split) → down_count lookups ps + moved_count lookups ps ≡ length ps
+pub causes_add_up : (lookups : Lookups) (ps : List Split) → down_count lookups ps + moved_count lookups ps + drained_count lookups ps ≡ length ps
 causes_add_up lookups [] = refl
 causes_add_up lookups (p ∷ ps) =
-    let h : down_count lookups ps + moved_count lookups ps ≡ length ps = causes_add_up lookups ps in
+    let h : down_count lookups ps + moved_count lookups ps + drained_count lookups ps ≡ length ps = causes_add_up lookups ps in
     let d : down_count lookups (p ∷ ps) ≡ down_one (cause_of lookups p) + down_count lookups ps = sum_by-cons (λ q. down_one (cause_of lookups q)) p ps in
     let m : moved_count lookups (p ∷ ps) ≡ moved_one (cause_of lookups p) + moved_count lookups ps = sum_by-cons (λ q. moved_one (cause_of lookups q)) p ps in
-    let o : down_one (cause_of lookups p) + moved_one (cause_of lookups p) ≡ 1 = one_cause (cause_of lookups p) in
-    omega (arith, h, d, m, o)
+    let l : drained_count lookups (p ∷ ps) ≡ drained_one (cause_of lookups p) + drained_count lookups ps = sum_by-cons (λ q. drained_one (cause_of lookups q)) p ps in
+    let o : down_one (cause_of lookups p) + moved_one (cause_of lookups p) + drained_one (cause_of lookups p) ≡ 1 = one_cause (cause_of lookups p) in
+    omega (arith, h, d, m, l, o)
 
 -- the lines, and behind them the counts
-pub text_told : {E : Type 0} (lookups : Lookups) (past : List LogEntry) (r : Result (Unit {0}) E) (ps : List Split) (flows split down : ℕ) (old lines new : List ℕ) → ps ≡ splits_of past → flows ≡ length (flows_of past) → split ≡ length ps
-    → down ≡ down_count lookups ps → lines ≡ old ++ flat_map (split_line lookups) ps → OnOk r (new ≡ lines ++ split_counts flows split down (split - down)) → OnOk r (new ≡ old ++ splits_text lookups past)
-text_told {E} lookups past r ps flows split down old lines new is many few low made grown = ok r grown
+pub text_told : {E : Type 0} (lookups : Lookups) (past : List LogEntry) (r : Result (Unit {0}) E) (ps : List Split) (flows split down drained : ℕ) (drains : Bool) (old lines new : List ℕ) → ps ≡ splits_of past
+    → flows ≡ length (flows_of past) → split ≡ length ps → down ≡ down_count lookups ps → drained ≡ drained_count lookups ps → drains ≡ does_anybody_drain lookups.versions → lines ≡ old ++ flat_map (split_line lookups) ps
+    → OnOk r (new ≡ lines ++ (split_counts flows split down (split - (down + drained)) ++ drained_line drains drained)) → OnOk r (new ≡ old ++ splits_text lookups past)
+text_told {E} lookups past r ps flows split down drained drains old lines new is many few low gone some made grown = ok r grown
   where
-    rest : split - down ≡ moved_count lookups ps
-    rest = let whole : down_count lookups ps + moved_count lookups ps ≡ length ps = causes_add_up lookups ps in omega (arith, whole, few, low)
+    rest : split - (down + drained) ≡ moved_count lookups ps
+    rest =
+        let whole : down_count lookups ps + moved_count lookups ps + drained_count lookups ps ≡ length ps = causes_add_up lookups ps in
+        omega (arith, whole, few, low, gone)
 
-    all : lines ++ split_counts flows split down (split - down) ≡ old ++ splits_text lookups past
-    all = ap (λ (text : List ℕ). text ++ split_counts flows split down (split - down)) made
-        ∙ append_assoc old (flat_map (split_line lookups) ps) (split_counts flows split down (split - down))
-        ∙ ap (λ (n : ℕ). old ++ (flat_map (split_line lookups) ps ++ split_counts flows split down n)) rest
-        ∙ ap (λ (n : ℕ). old ++ (flat_map (split_line lookups) ps ++ split_counts flows split n (moved_count lookups ps))) low
-        ∙ ap (λ (n : ℕ). old ++ (flat_map (split_line lookups) ps ++ split_counts flows n (down_count lookups ps) (moved_count lookups ps))) few
+    behind : split_counts flows split down (split - (down + drained)) ++ drained_line drains drained ≡ split_counts flows (length ps) (down_count lookups ps) (moved_count lookups ps) ++ drained_line (does_anybody_drain lookups.versions) (drained_count lookups ps)
+    behind =
+        ap (λ (n : ℕ). split_counts flows split down n ++ drained_line drains drained) rest
+        ∙ ap (λ (n : ℕ). split_counts flows split n (moved_count lookups ps) ++ drained_line drains drained) low
+        ∙ ap (λ (n : ℕ). split_counts flows n (down_count lookups ps) (moved_count lookups ps) ++ drained_line drains drained) few
+        ∙ ap (λ (n : ℕ). split_counts flows (length ps) (down_count lookups ps) (moved_count lookups ps) ++ drained_line drains n) gone
+        ∙ ap (λ (t : Bool). split_counts flows (length ps) (down_count lookups ps) (moved_count lookups ps) ++ drained_line t (drained_count lookups ps)) some
+
+    all : lines ++ (split_counts flows split down (split - (down + drained)) ++ drained_line drains drained) ≡ old ++ splits_text lookups past
+    all = ap (λ (text : List ℕ). text ++ (split_counts flows split down (split - (down + drained)) ++ drained_line drains drained)) made
+        ∙ append_assoc old (flat_map (split_line lookups) ps) (split_counts flows split down (split - (down + drained)) ++ drained_line drains drained)
+        ∙ ap (λ (text : List ℕ). old ++ (flat_map (split_line lookups) ps ++ text)) behind
         ∙ ap (λ (n : ℕ). old ++ text_of lookups n ps) many
         ∙ ap (λ (qs : List Split). old ++ text_of lookups (length (flows_of past)) qs) is
 
-    ok : (s : Result (Unit {0}) E) → OnOk s (new ≡ lines ++ split_counts flows split down (split - down)) → OnOk s (new ≡ old ++ splits_text lookups past)
+    ok : (s : Result (Unit {0}) E) → OnOk s (new ≡ lines ++ (split_counts flows split down (split - (down + drained)) ++ drained_line drains drained)) → OnOk s (new ≡ old ++ splits_text lookups past)
     ok (Ok done) h = h ∙ all
     ok (Err fault) h = tt
 

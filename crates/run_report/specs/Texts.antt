@@ -1,5 +1,5 @@
 -- The lines of the splits, and their counts.
-use Rattle.std.specs.Prelude.{ℕ, List, ◌++◌, length, codes}
+use Rattle.std.specs.Prelude.{ℕ, Bool, true, false, List, [], ◌++◌, length, codes}
 use Rattle.std.specs.List.{flat_map}
 use Rattle.std.specs.Fmt.{decimal}
 use Rattle.cluster_node.specs.declared.events.LogEntry.{LogEntry}
@@ -9,14 +9,15 @@ use Rattle.maglev_texts.specs.Printing.{flow_text}
 use Rattle.run_report.specs.Report.{count_line}
 use Rattle.run_report.specs.Verdicts.{choice_text}
 use Rattle.run_report.specs.declared.cause.SplitCause.{SplitCause}
-use Rattle.run_report.specs.declared.cause.SplitCause.TheVariants.{Down, Moved}
+use Rattle.run_report.specs.declared.cause.SplitCause.TheVariants.{Down, Moved, Drained}
 use Rattle.run_report.specs.declared.sending.Split.{Split}
 use Rattle.run_report.specs.Splits.{splits_of, flows_of}
-use Rattle.run_report.specs.Causes.{Lookups, cause_of, down_count, moved_count}
+use Rattle.run_report.specs.Causes.{Lookups, cause_of, down_count, moved_count, drained_count, does_anybody_drain}
 
 abbrev pub cause_text : SplitCause → List ℕ
 cause_text Down = codes "down"
 cause_text Moved = codes "moved"
+cause_text Drained = codes "drained"
 
 -- `FLOW events I J`
 abbrev pub events_text : Flow → ℕ → ℕ → List ℕ
@@ -35,13 +36,18 @@ line_of p slot cause =
 abbrev pub split_line : Lookups → Split → List ℕ
 split_line lookups p = line_of p (lookups.slot p.later.flow) (cause_of lookups p)
 
--- the number of flows, of splits, and of those of each cause
+-- the number of flows, of splits, and of those that are down or moved
 abbrev pub split_counts : ℕ → ℕ → ℕ → ℕ → List ℕ
 split_counts flows split down moved = count_line (codes "flows") flows ++ (count_line (codes "split") split ++ (count_line (codes "down") down ++ count_line (codes "moved") moved))
 
+-- where a member of a version drains, the number of those that left after they had drained
+abbrev pub drained_line : Bool → ℕ → List ℕ
+drained_line false drained = []
+drained_line true drained = count_line (codes "drained") drained
+
 -- a line for each split, and after them the counts
 abbrev pub text_of : Lookups → ℕ → List Split → List ℕ
-text_of lookups flows ps = flat_map (split_line lookups) ps ++ split_counts flows (length ps) (down_count lookups ps) (moved_count lookups ps)
+text_of lookups flows ps = flat_map (split_line lookups) ps ++ (split_counts flows (length ps) (down_count lookups ps) (moved_count lookups ps) ++ drained_line (does_anybody_drain lookups.versions) (drained_count lookups ps))
 
 -- those of a record
 abbrev pub splits_text : Lookups → List LogEntry → List ℕ

@@ -1,14 +1,14 @@
 //! The lines of the splits, and their counts.
-ghost use Rattle.std.specs.Prelude.{◌≡◌, ◌≤◌, ◌-◌, ◌++◌, List, IfOk, OnOk, string_bytes};
+ghost use Rattle.std.specs.Prelude.{◌≡◌, ◌≤◌, ◌+◌, ◌-◌, ◌++◌, List, IfOk, OnOk, string_bytes};
 ghost use Rattle.std.specs.List.{flat_map};
 ghost use Rattle.cluster_node.specs.declared.events.LogEntry.{LogEntry};
 ghost use Rattle.selection.specs.Picks.{slot_of_flow};
 ghost use Rattle.run_report.specs.Books.{IsBookOf};
-ghost use Rattle.run_report.specs.Causes.{lookups_of, down_one, down_count};
-ghost use Rattle.run_report.specs.Texts.{line_of, split_line, split_counts, splits_text};
+ghost use Rattle.run_report.specs.Causes.{lookups_of, down_one, drained_one, down_count, drained_count, does_anybody_drain};
+ghost use Rattle.run_report.specs.Texts.{line_of, split_line, split_counts, drained_line, splits_text};
 
 use crate::book::SplitBook;
-use crate::cause::{SplitCause, cause_of};
+use crate::cause::{SplitCause, cause_where, does_anybody_drain};
 use crate::sending::Split;
 use crate::verdicts::ChoiceText;
 use five_tuple::Flow;
@@ -31,6 +31,7 @@ impl fmt::Display for CauseText {
         match self.0 {
             SplitCause::Down => f.write_str("down"),
             SplitCause::Moved => f.write_str("moved"),
+            SplitCause::Drained => f.write_str("drained"),
         }
     }
 }
@@ -77,8 +78,25 @@ fn count_down(cause: SplitCause) -> usize
 {
     match cause {
         SplitCause::Down => 1,
-        SplitCause::Moved => 0,
+        SplitCause::Moved | SplitCause::Drained => 0,
     }
+}
+
+// One for a split whose first backend left after it had drained.
+fn count_drained(cause: SplitCause) -> usize
+    ensures { result ≡ drained_one cause }
+{
+    match cause {
+        SplitCause::Drained => 1,
+        SplitCause::Down | SplitCause::Moved => 0,
+    }
+}
+
+/// How many splits have a first backend that is down, and how many one that left after it had drained.
+#[derive(Clone, Copy)]
+struct Gone {
+    down: usize,
+    drained: usize,
 }
 
 // The slot of a flow.
@@ -105,39 +123,63 @@ fn push_split(
     write!(text, "split {events} {choices} {cause}\n")
 }
 
-fn push_counts(text: &mut String, flows: usize, split: usize, down: usize) -> Result<(), AllocError>
-    requires { down ≤ split }
-    ensures { OnOk result (string_bytes text.new ≡ string_bytes text.old ++ split_counts flows split down (split - down)) }
+// Where a member of a version drains, the line of those that had drained.
+fn push_drained(text: &mut String, drains: bool, drained: usize) -> Result<(), AllocError>
+    ensures { OnOk result (string_bytes text.new ≡ string_bytes text.old ++ drained_line drains drained) }
 {
-    let moved = split - down;
+    if !drains {
+        return Ok(());
+    }
+    write!(text, "drained {drained}\n")
+}
+
+fn push_counts(
+    text: &mut String,
+    flows: usize,
+    split: usize,
+    gone: Gone,
+    drains: bool,
+) -> Result<(), AllocError>
+    requires { gone.down + gone.drained ≤ split }
+    ensures { OnOk result (string_bytes text.new ≡ string_bytes text.old ++ (split_counts flows split gone.down (split - (gone.down + gone.drained)) ++ drained_line drains gone.drained)) }
+{
+    let Gone { down, drained } = gone;
+    let moved = split - (down + drained);
     write!(
         text,
         "flows {flows}\nsplit {split}\ndown {down}\nmoved {moved}\n"
-    )
+    )?;
+    push_drained(text, drains, drained)
 }
 
-// The line of each split. The answer is how many have the cause `down`.
+// The line of each split. The answer is how many have the cause `down`, and how many `drained`.
 fn push_lines<H: FlowHash>(
     text: &mut String,
     hash: &H,
     catalogue: &Catalogue,
+    drains: bool,
     splits: &[Split],
-) -> Result<usize, AllocError>
+) -> Result<Gone, AllocError>
+    requires { drains ≡ does_anybody_drain catalogue.now.versions }
     ensures text { OnOk result (string_bytes text.new ≡ string_bytes text.old ++ flat_map (split_line (lookups_of (H.plain hash.now) catalogue.now.size catalogue.now)) splits.now) }
-    ensures down { IfOk result (λ n. n ≡ down_count (lookups_of (H.plain hash.now) catalogue.now.size catalogue.now) splits.now) }
+    ensures down { IfOk result (λ g. g.down ≡ down_count (lookups_of (H.plain hash.now) catalogue.now.size catalogue.now) splits.now) }
+    ensures drained { IfOk result (λ g. g.drained ≡ drained_count (lookups_of (H.plain hash.now) catalogue.now.size catalogue.now) splits.now) }
 {
     let mut down = 0;
+    let mut drained = 0;
     for split in splits {
-        let cause = cause_of(catalogue, split);
+        let cause = cause_where(catalogue, drains, split);
         let slot = slot_of(hash, catalogue, &split.later.flow);
         push_split(text, split, slot, cause)?;
         down += count_down(cause);
+        drained += count_drained(cause);
     }
-    Ok(down)
+    Ok(Gone { down, drained })
 }
 
 /// Puts a line for each split of a book after a text. Then it puts how many flows were sent, how many splits there are, and
-/// how many of them have each cause. Flows have their slots by the hash and the size of the catalogue's tables.
+/// how many of them have each cause. Flows have their slots by the hash and the size of the catalogue's tables. Splits whose
+/// server left after it had drained are counted only where a member of a version drains.
 pub fn push_splits<H: FlowHash>(
     text: &mut String,
     hash: &H,
@@ -147,6 +189,7 @@ pub fn push_splits<H: FlowHash>(
     ensures { (past : List LogEntry) → IsBookOf past book.now → OnOk result (string_bytes text.new ≡ string_bytes text.old ++ splits_text (lookups_of (H.plain hash.now) catalogue.now.size catalogue.now) past) }
 {
     let splits = book.splits();
-    let down = push_lines(text, hash, catalogue, splits)?;
-    push_counts(text, book.flows(), splits.len(), down)
+    let drains = does_anybody_drain(catalogue);
+    let gone = push_lines(text, hash, catalogue, drains, splits)?;
+    push_counts(text, book.flows(), splits.len(), gone, drains)
 }
