@@ -1,10 +1,15 @@
 -- A document of a format means the same in each later one.
-use Rattle.std.specs.Prelude.{◌≡◌, false, nat_eq, List, ℕ, codes, Some, Ok, ⊤}
+use Rattle.std.specs.Prelude.{◌≡◌, ◌≤◌, false, nat_eq, if◌then◌else◌, List, [], ◌∷◌, length, ℕ, codes, Option, Some, None, is_none, option_and_then, Result, Ok, Err, ⊤}
+use Rattle.std.specs.List.{position_or_len}
 use Rattle.std.specs.Cmp.Lexicographic.{pointwise}
 use Rattle.toml.specs.Data.{Members, get_member}
-use Rattle.scenario.specs.Lookups.{has_only}
+use Rattle.maglev_texts.specs.Parsing.{pieces}
+use Rattle.scenario.specs.Lookups.{all_of, has_only}
+use Rattle.scenario.specs.Steps.{PlainStep, kind_of, step_of, allows}
+use Rattle.scenario.specs.Told.{steps_of}
 use Rattle.scenario.specs.Meaning.{PlainScenario, root_keys, format_of, plan_of}
 use Rattle.scenario.specs.declared.playing.Played.{Played}
+use Rattle.scenario.specs.declared.told.StepRules.{StepRules}
 use Rattle.scenario.specs.declared.formats.Format.{Format}
 use Rattle.scenario.specs.declared.formats.Format.TheVariants.{One, Two, Three}
 
@@ -30,3 +35,21 @@ pub record AreAlike (f g : Format) (ms ns : Members) : Type 0 where
 -- a scenario that the first one means, the second one of a later format means too, however it is played
 abbrev pub FormatsMeanTheSame : Type 0
 FormatsMeanTheSame = (f g : Format) (played : Played) (ms ns : Members) (plan : PlainScenario) → IsLater f g → AreAlike f g ms ns → plan_of played ms ≡ Ok plan → plan_of played ns ≡ Ok plan
+
+-- the step of these words
+abbrev pub step_of_words : ℕ → ℕ → List (List ℕ) → Option PlainStep
+step_of_words nodes workers [] = None
+step_of_words nodes workers (word ∷ words) = option_and_then (λ k. step_of nodes workers k words) (kind_of word)
+
+-- the step that a text is, where a scenario that is played so may have it
+abbrev pub step_for : StepRules → List ℕ → Option PlainStep
+step_for rules text = option_and_then (λ step. if allows rules.played step then Some step else None) (step_of_words rules.nodes rules.workers (pieces 32 text))
+
+-- the steps of texts that are each one, or the place of the first that is none
+abbrev pub one_by_one : StepRules → List (List ℕ) → Option (List PlainStep) → Result (List PlainStep) ℕ
+one_by_one rules texts (Some steps) = Ok steps
+one_by_one rules texts None = Err (position_or_len (λ t. is_none (step_for rules t)) texts)
+
+-- in formats 1 and 2 each text is one step, and as many texts as a scenario may have are read
+abbrev pub TextsAreSteps : Type 0
+TextsAreSteps = (rules : StepRules) (texts : List (List ℕ)) → (rules.format ≡ Three → ⊥) → length texts ≤ 100000 → steps_of rules 100000 texts ≡ one_by_one rules texts (all_of (step_for rules) texts)

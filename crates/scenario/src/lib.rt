@@ -29,7 +29,7 @@ pub use keys::{
     ROOT_KEYS, SERVICE_KEYS, VERSION_KEYS, has_root_keys, has_service_keys, has_version_keys,
     is_root_key,
 };
-pub use laws::formats_mean_the_same;
+pub use laws::{formats_mean_the_same, texts_are_steps};
 pub use lookup::items_at;
 pub use playing::Played;
 pub use reading::{Scenario, pools_in, read};
