@@ -292,11 +292,29 @@ def test_clone():
     check("C from a clone", made[0] == 0 and did([top / "table", *ASKED])[1] == table, made)
     answer = did(["sh", "-c", page("PYTHONPATH=examples/embed")], cwd=top, env=env)
     check("Python from a clone", answer == (0, b"['B', 'A', 'B', 'C', 'C', 'A', 'A']\n", b""), answer)
+    check("README has the same command in C", page("cc examples/embed/table.c") in (TOP / "README.md").read_text())
     if shutil.which("go"):
-        answer = did(["sh", "-c", page("go run examples/embed/table.go")], cwd=top, env={**env, "GOFLAGS": "-mod=mod", "GOCACHE": str(MADE / "go")})
-        check("Go from a clone", answer == (0, table, b""), answer)
+        in_go(top, {**env, "GOCACHE": str(MADE / "go"), "GOPATH": str(MADE / "go")}, table)
     else:
         print("go isn't installed: what it shows is skipped")
+
+
+def in_go(top, env, table):
+    """The page's command for Go prints a table in a clone; so does the program that it makes of random cases, and each fault."""
+    answer = did(["sh", "-c", page("go run examples/embed/table.go")], cwd=top, env=env)
+    check("Go from a clone", answer == (0, table, b""), answer)
+    made = did(["go", "build", "-o", MADE / "in_go", "examples/embed/table.go"], cwd=top, env=env)
+    check("a program in Go", made == (0, b"", b""), made)
+    rng = random.Random(SEED)
+    for number in range(COUNT // 20):
+        size, hash_word, names, weights, _ = random_case(rng)
+        words = [f"{name}*{weight}" for name, weight in zip(names, weights)] or names
+        theirs = did([PROGRAM, "table", "--size", str(size), "--hash", hash_word, *words])
+        answer = did([MADE / "in_go", size, hash_word, *words])
+        check(f"case {number} of seed {SEED} in Go", answer == theirs, answer)
+    for fault, *words in [("BadSize", 8, "sum", "A"), ("BadHash", 7, "md5", "A"), ("BadName", 7, "sum", ""), ("TooMany", 7, "sum", *"ABCDEFGH"), ("BadWeight", 7, "sum", "A*17"), ("DoubleName", 7, "sum", "A", "A")]:
+        answer = did([MADE / "in_go", *words])
+        check(f"{fault} in Go", answer == (1, b"", f"fault: {fault}\n".encode()), answer)
 
 
 def test_clone_install():
