@@ -1,27 +1,34 @@
 #!/usr/bin/env python3
-"""dist.py release | check | compare: the program of dist/, and what it was made from.
+"""dist.py release | check | compare: the program and the library of dist/, and what they were made from.
 
-dist/maglev is the program that the gate proved and built, without what isn't loaded when it runs. Beside it are its SHA-256
-(maglev.sha256), the line of the kit that made it (kit), and the SHA-256 of crates.txt and of each file of code that it is made
-from (sources.sha256). `sha256sum -c dist/*.sha256`, at the top, holds the program and the tree to them.
+dist/maglev is the program that the gate proved and built, without what isn't loaded when it runs. Below dist/lib is libmaglev for
+each machine, as bin/library.py writes it. Beside them are their SHA-256 (maglev.sha256, lib.sha256), the line of the kit that made
+them (kit), and the SHA-256 of crates.txt and of each file that they are made from (sources.sha256, lib_sources.sha256).
+`sha256sum -c dist/*.sha256`, at the top, holds dist/ and the tree to them.
 
-`release` writes dist/ from the program in crates/maglev/out/, where nothing that it is made from is newer. `check` is the gate's:
-it fails where the sums aren't the tree's, and where the program that was built here is another one by the kit of dist/. Under
-another kit that program may be another one: then the program of dist/ has to answer the rows of the end-to-end tests as the one
-that was built here did. Its last line is 'N passed, N failed'. `compare` says whether the program that was built here is that of
-dist/, by its status too.
+`release` writes dist/ from the program in crates/maglev/out/, where nothing that it is made from is newer, and from the library,
+which is proved first where it isn't. `check` is the gate's: it fails where the sums aren't the tree's, and where the program or the
+library that was built here is another one by the kit of dist/. Under another kit they may be others: then the program of dist/ has
+to answer the rows of the end-to-end tests as the one that was built here did, and the library of dist/ those of tests/embed.py. Its
+last line is 'N passed, N failed'. `compare` says whether the program that was built here is that of dist/, by its status too.
 """
 import hashlib
 import os
 import pathlib
 import struct
+import shutil
 import subprocess
 import sys
+import tempfile
 
 import build
+import library
 
 TOP = build.TOP
 DIST = TOP / "dist"
+LIB = DIST / "lib"
+# What dist/lib has of each machine.
+MADE = {"x86_64-unknown-linux-gnu": ["libmaglev.a", "libmaglev.so.0"], "aarch64-unknown-linux-gnu": ["libmaglev.a"]}
 BUILT = TOP / "crates" / "maglev" / "out" / "maglev"
 # A segment of notes, and a note that has the linker's sum of the whole file.
 NOTES, BUILD_ID = 4, 3
@@ -72,6 +79,22 @@ def sources_text():
     return sums_text(path for path in build.sources("maglev") if path.is_file())
 
 
+def lib_sources_text():
+    """The sums of what the library is made from, and of the header that says what it has."""
+    code = [path for path in build.sources(library.CRATE) if path.is_file()]
+    return sums_text([*code, library.HEAP, TOP / "share" / "include" / "maglev.h"])
+
+
+def lib_files():
+    """The files of dist/lib, as they should be."""
+    return [lib_folder(target) / name for target, names in MADE.items() for name in names]
+
+
+def lib_folder(target):
+    """Where dist/ has the library of a machine, which is named without its vendor."""
+    return LIB / target.replace("-unknown", "")
+
+
 def kit():
     """The kit's line; none where there is no kit."""
     try:
@@ -86,25 +109,56 @@ def read(name):
     return path.read_text() if path.exists() else ""
 
 
+def put(path, data, mode=0o644):
+    """Writes a file of dist/, and the folders that it's in."""
+    path.parent.mkdir(parents=True, exist_ok=True)
+    path.write_bytes(data)
+    path.chmod(mode)
+
+
+def write(program, libraries):
+    """Writes dist/: this program, and of each machine the library in a folder."""
+    put(DIST / "maglev", program, 0o755)
+    shutil.rmtree(LIB, ignore_errors=True)
+    for target, names in MADE.items():
+        for name in names:
+            put(lib_folder(target) / name, (libraries[target] / name).read_bytes())
+    (DIST / "maglev.sha256").write_text(sums_text([DIST / "maglev"]))
+    (DIST / "sources.sha256").write_text(sources_text())
+    (DIST / "lib.sha256").write_text(sums_text(lib_files()))
+    (DIST / "lib_sources.sha256").write_text(lib_sources_text())
+    (DIST / "kit").write_text(kit() + "\n")
+
+
+def built_libraries(room):
+    """The folder of each machine's library that is built here, below a folder."""
+    found = {target: room / target for target in MADE}
+    for target, folder in found.items():
+        folder.mkdir()
+        library.write(folder, target)
+    return found
+
+
 def release():
     """Writes dist/. Whether that could be done."""
     if not build.is_current("maglev"):
         print("dist: the program isn't built from this tree: run bin/prove, or the gate, first", file=sys.stderr)
         return False
-    DIST.mkdir(exist_ok=True)
-    program = DIST / "maglev"
-    program.write_bytes(stripped(BUILT.read_bytes()))
-    program.chmod(0o755)
-    (DIST / "maglev.sha256").write_text(sums_text([program]))
-    (DIST / "sources.sha256").write_text(sources_text())
-    (DIST / "kit").write_text(kit() + "\n")
-    print(f"dist/maglev, {program.stat().st_size} bytes, by {kit()}")
+    with tempfile.TemporaryDirectory() as room:
+        try:
+            write(stripped(BUILT.read_bytes()), built_libraries(pathlib.Path(room)))
+        except library.Missing as why:
+            print(f"dist: libmaglev isn't built: {why}", file=sys.stderr)
+            return False
+    for path in [DIST / "maglev", *lib_files()]:
+        print(f"{path.relative_to(TOP)}, {path.stat().st_size} bytes, by {kit()}")
     return True
 
 
-def changed():
-    """The paths whose sums in dist/ aren't those of the tree."""
-    return sorted({line[66:] for line in set(read("sources.sha256").splitlines()) ^ set(sources_text().splitlines())})
+def changed(name="sources.sha256", text=None):
+    """The paths whose sums in a list of dist/ aren't those of the tree."""
+    ours = sources_text() if text is None else text
+    return sorted({line[66:] for line in set(read(name).splitlines()) ^ set(ours.splitlines())})
 
 
 def is_same():
@@ -112,32 +166,71 @@ def is_same():
     return BUILT.exists() and stripped(BUILT.read_bytes()) == (DIST / "maglev").read_bytes()
 
 
-def answers_alike():
-    """Whether the program of dist/ answers the rows of the end-to-end tests as the program that was built here did."""
-    words = [sys.executable, str(TOP / "tests" / "end_to_end.py")]
-    return subprocess.run(words, env={**os.environ, "MAGLEV_PROGRAM": str(DIST / "maglev")}, check=False).returncode == 0
+def passes(script, **said):
+    """Whether a script of tests/ ends well with these words in its environment."""
+    words = [sys.executable, str(TOP / "tests" / script)]
+    return subprocess.run(words, env={**os.environ, **said}, check=False).returncode == 0
+
+
+def check_program():
+    """What has to hold of the program of dist/, and whether it does."""
+    if not BUILT.exists():
+        print(f"no program was built here: there is no {BUILT.relative_to(TOP)}")
+    if changed():
+        print(f"changed since dist/ was made: {' '.join(changed()[:8])}")
+    yield "dist/ has the sums of this tree", not changed()
+    yield "dist/maglev has the sum that dist/ gives", sums_text([DIST / "maglev"]) == read("maglev.sha256")
+    if kit() == read("kit").strip():
+        yield "the program that was built here is dist/maglev to the byte", is_same()
+    elif is_same():
+        yield "by another kit too the program is dist/maglev to the byte", True
+    else:
+        print(f"the kit is {kit()}, and dist/ was made by {read('kit').strip()}: their programs are compared by what they print")
+        yield "dist/maglev prints what the program that was built here prints", passes("end_to_end.py", MAGLEV_PROGRAM=str(DIST / "maglev"))
+
+
+def unlike():
+    """The files of dist/lib that aren't what is built here, to the byte."""
+    with tempfile.TemporaryDirectory() as room:
+        built = built_libraries(pathlib.Path(room))
+        pairs = [(lib_folder(target) / name, built[target] / name) for target, names in MADE.items() for name in names]
+        return [ours for ours, theirs in pairs if ours.read_bytes() != theirs.read_bytes()]
+
+
+def check_library():
+    """What has to hold of the library of dist/, and whether it does."""
+    missing = [str(path.relative_to(TOP)) for path in lib_files() if not path.exists()]
+    if missing:
+        print(f"there is no {' '.join(missing)}: bin/release writes it")
+        yield "dist/lib has the library of each machine", False
+        return
+    others = changed("lib_sources.sha256", lib_sources_text())
+    if others:
+        print(f"changed since dist/lib was made: {' '.join(others[:8])}")
+    yield "dist/lib has the sums of this tree", not others
+    yield "the files of dist/lib have the sums that dist/ gives", sums_text(lib_files()) == read("lib.sha256")
+    try:
+        differ = unlike()
+    except library.Missing as why:
+        print(f"libmaglev isn't built: {why}")
+        yield "the library is built here", False
+        return
+    if differ and kit() != read("kit").strip():
+        print(f"the kit is {kit()}, and dist/ was made by {read('kit').strip()}: their libraries are compared by what callers get")
+        yield "callers get of dist/lib what the tests expect", passes("embed.py", MAGLEV_LIB=str(LIB))
+        return
+    for path in lib_files():
+        yield f"the library that was built here is {path.relative_to(TOP)} to the byte", path not in differ
 
 
 def check():
-    """Holds dist/ to the tree and to the program that was built here. Whether all is well."""
-    if not BUILT.exists():
-        print(f"no program was built here: there is no {BUILT.relative_to(TOP)}")
-    found = {"dist/ has the sums of this tree": not changed()}
-    if changed():
-        print(f"changed since dist/ was made: {' '.join(changed()[:8])}")
-    found["dist/maglev has the sum that dist/ gives"] = sums_text([DIST / "maglev"]) == read("maglev.sha256")
-    if kit() == read("kit").strip():
-        found["the program that was built here is dist/maglev to the byte"] = is_same()
-    elif is_same():
-        found["by another kit too the program is dist/maglev to the byte"] = True
-    else:
-        print(f"the kit is {kit()}, and dist/ was made by {read('kit').strip()}: their programs are compared by what they print")
-        found["dist/maglev prints what the program that was built here prints"] = answers_alike()
-    for what, holds in found.items():
+    """Holds dist/ to the tree and to what was built here. Whether all is well."""
+    found = []
+    for what, holds in [*check_program(), *check_library()]:
         print(f"{'ok' if holds else 'FAILED'}: {what}")
-    failed = sum(not holds for holds in found.values())
-    print(f"{len(found) - failed} passed, {failed} failed")
-    return not failed
+        found.append(holds)
+    print(f"{found.count(True)} passed, {found.count(False)} failed")
+    return all(found)
 
 
 def compare():

@@ -1,11 +1,11 @@
 #!/usr/bin/env python3
-"""library.py FOLDER [TARGET]: writes libmaglev.a, and libmaglev.so.0 where a linker is there, into a folder.
+"""library.py FOLDER [TARGET]: writes libmaglev.a, and for x86-64 libmaglev.so.0 too, into a folder.
 
-The archive has the object of the crate maglev_ffi, which is proved before it is built, and the heap of share/lib/heap.c.
-TARGET is the machine that it is for, x86_64-unknown-linux-gnu if none is named. Status 3: it can't be built, and a line says why.
+The archive has the object of the crate maglev_ffi, which is proved before it is built, and the heap of share/lib/heap.c. The kit's
+own tools compile, link and archive, so that the bytes are the same on each machine that has the kit. TARGET is the machine that
+the library is for, x86_64-unknown-linux-gnu if none is named. Status 3: it can't be built, and a line says why.
 """
 import fcntl
-import os
 import pathlib
 import shutil
 import subprocess
@@ -17,21 +17,13 @@ import build
 CRATE = "maglev_ffi"
 HERE = "x86_64-unknown-linux-gnu"
 HEAP = build.TOP / "share" / "lib" / "heap.c"
+HEAP_BY = ["-O2", "-fPIC", "-ffreestanding", "-fno-ident"]
 # The whole archive with nothing left open, tables of addresses that can't be written, and the C library alone behind it.
-SHARED = ["-shared", "-Wl,-soname,libmaglev.so.0", "-Wl,-z,defs", "-Wl,-z,now", "-Wl,-z,relro"]
+SHARED = ["-shared", "-soname", "libmaglev.so.0", "-z", "defs", "-z", "now", "-z", "relro", "--hash-style=gnu", "--strip-all"]
 
 
 class Missing(Exception):
     """What the library can't be built without."""
-
-
-def compiler(target):
-    """The C compiler of a machine: CC, or the first that is there. The kit's makes objects for each, and links nothing."""
-    if target == HERE:
-        words = [os.environ.get("CC"), "cc", "gcc", "clang"]
-    else:
-        words = [os.environ.get("CC"), f"{target.split('-')[0]}-linux-gnu-gcc"]
-    return next((shutil.which(word) for word in words if word and shutil.which(word)), None)
 
 
 def proved():
@@ -66,19 +58,15 @@ def write(folder, target):
     """Writes the library of a machine into a folder."""
     if not shutil.which("rt"):
         raise Missing("there is no rt on the PATH, which proves it")
-    tools, cc = build.toolchain(), compiler(target)
-    if target == HERE and not cc:
-        raise Missing("there is no C compiler, which makes its heap")
-    whole = folder / "libmaglev.a"
+    tools, whole = build.toolchain(), folder / "libmaglev.a"
     whole.write_bytes(archive(target))
     with tempfile.TemporaryDirectory() as room:
-        heap = str(pathlib.Path(room) / "heap.o")
-        by = [cc] if cc else [str(tools / "clang"), f"--target={target}"]
-        subprocess.run([*by, "-O2", "-fPIC", "-c", "-o", heap, str(HEAP)], check=True)
-        subprocess.run([str(tools / "llvm-ar"), "rs", str(whole), heap], check=True, capture_output=True)
-    if cc:
-        words = ["-Wl,--whole-archive", str(whole), "-Wl,--no-whole-archive"]
-        subprocess.run([cc, *SHARED, "-o", str(folder / "libmaglev.so.0"), *words], check=True)
+        heap = pathlib.Path(room) / "heap.o"
+        subprocess.run([tools / "clang", f"--target={target}", *HEAP_BY, "-c", "-o", heap, HEAP], check=True)
+        subprocess.run([tools / "llvm-ar", "rsD", whole, heap], check=True, capture_output=True)
+    if target == HERE:
+        words = ["--whole-archive", whole, "--no-whole-archive", tools.parent / "lib" / "libc.so.6"]
+        subprocess.run([tools / "ld.lld", *SHARED, "-o", folder / "libmaglev.so.0", *words], check=True)
 
 
 if __name__ == "__main__":

@@ -1,14 +1,16 @@
 #!/usr/bin/env python3
-"""Tests of libmaglev through C and Python: beside the program's `table` and `pick` over random cases, its faults, memory that is
-refused, the example of a data plane, and what bin/install puts below a prefix.
+"""Tests of libmaglev through C, Python and Go: beside the program's `table` and `pick` over random cases, its faults, memory that
+is refused, the example of a data plane, the commands of docs/EMBEDDING.md in a clone that has it in dist/lib, and what bin/install
+puts below a prefix and takes away again.
 
-embed.py [SEED [COUNT]]: by default COUNT is 1,000. What a tool that isn't installed would show is skipped with a word. The last
-line is 'N passed, N failed'.
+embed.py [SEED [COUNT]]: by default COUNT is 1,000. The library is built, or that of the folder that MAGLEV_LIB names, which is as
+dist/lib. What a tool that isn't installed would show is skipped with a word. The last line is 'N passed, N failed'.
 """
 import doctest
 import os
 import pathlib
 import random
+import re
 import shutil
 import subprocess
 import sys
@@ -18,6 +20,7 @@ from harness import PROGRAM, TOP, check, run_tests
 
 sys.path.append(str(TOP / "bin"))
 import build
+import dist
 
 EXAMPLES = TOP / "examples" / "embed"
 SEED, COUNT = [int(word) for word in sys.argv[1:3] + ["1", "1000"][len(sys.argv) - 1:]][:2]
@@ -27,6 +30,10 @@ WRAPPED = ["-Wl,--wrap=malloc,--wrap=realloc,--wrap=free", "-lpthread"]
 LETTERS = "ABCDEFGHIJKLMNOPQRSTUVWXYZabcdefghijklmnopqrstuvwxyz0123456789"
 FOLDER = tempfile.TemporaryDirectory()
 MADE = pathlib.Path(FOLDER.name)
+HERE, OTHER = dist.MADE
+# The folder of the machine's library that the tests use.
+LIBRARIES = {HERE: MADE, OTHER: MADE / "other"}
+ASKED = ["7", "sum", "A", "B", "C*2"]
 
 
 def did(words, **more):
@@ -43,10 +50,21 @@ def compiled(source, *options, name=None, compiler=COMPILER, folder=MADE):
     return program if status == 0 else check(f"{source.name} {options} is compiled", False, err.decode())
 
 
+def library_of(target):
+    """Puts the library of a machine into its folder, built or as it is given."""
+    folder, given = LIBRARIES[target], os.environ.get("MAGLEV_LIB")
+    folder.mkdir(exist_ok=True)
+    if given:
+        for name in dist.MADE[target]:
+            shutil.copy(pathlib.Path(given) / dist.lib_folder(target).name / name, folder)
+        return
+    made = did([sys.executable, TOP / "bin" / "library.py", folder, target])
+    check(f"the library for {target}", made[0] == 0, made[2].decode())
+
+
 def test_a_build():
     """The library is built, and the module finds it."""
-    made = did([sys.executable, TOP / "bin" / "library.py", MADE])
-    check("the library is built", made[0] == 0, made[2].decode())
+    library_of(HERE)
     os.environ["LIBMAGLEV"] = str(MADE / "libmaglev.so.0")
     sys.path.insert(0, str(EXAMPLES))
     import maglev
@@ -202,16 +220,12 @@ def from_c(folder, target):
     compare_cases(COUNT // 20, [[*by, caller] for caller in made[1:]], f" for {target}")
 
 
-def test_machines():
+def test_b_machines():
     """The archive needs no C library. That of another machine is built and linked too, and runs where qemu is."""
-    check("a run without a C library", bare(MADE, "x86_64-unknown-linux-gnu") == (0, b"", b""))
-    other = MADE / "other"
-    other.mkdir()
-    target = "aarch64-unknown-linux-gnu"
-    made = did([sys.executable, TOP / "bin" / "library.py", other, target])
-    check("the library for AArch64", made[0] == 0, made[2].decode())
-    check("its run", bare(other, target) in (None, (0, b"", b"")))
-    from_c(other, target)
+    check("a run without a C library", bare(MADE, HERE) == (0, b"", b""))
+    library_of(OTHER)
+    check("its run", bare(LIBRARIES[OTHER], OTHER) in (None, (0, b"", b"")))
+    from_c(LIBRARIES[OTHER], OTHER)
 
 
 def test_data_plane():
@@ -226,23 +240,6 @@ def test_data_plane():
     check("servers of clients", [line.split()[3] for line in lines] == "web-1 web-2 web-2 web-3 web-1 web-3 web-3 web-3 web-3".split(), out)
 
 
-def test_install():
-    """A caller is compiled by pkg-config from what bin/install puts below a prefix."""
-    prefix = MADE / "prefix"
-    status, _, err = did([TOP / "bin" / "install", prefix])
-    files = ["include/maglev.h", "lib/libmaglev.a", "lib/libmaglev.so", "lib/libmaglev.so.0", "lib/pkgconfig/maglev.pc"]
-    check("bin/install", status == 0 and all((prefix / name).exists() for name in files), err)
-    options = [f"-I{prefix}/include", f"-L{prefix}/lib", "-lmaglev"]
-    if shutil.which("pkg-config"):
-        told = did(["pkg-config", "--cflags", "--libs", "maglev"], env={**os.environ, "PKG_CONFIG_PATH": str(prefix / "lib" / "pkgconfig")})
-        check("pkg-config", told[1].decode().split() == options, told)
-    words = [COMPILER, "-std=c11", EXAMPLES / "table.c", *options, f"-Wl,-rpath,{prefix}/lib", "-o", MADE / "shared"]
-    check("a caller of the shared library", did(words)[0] == 0)
-    asked = ["7", "sum", "A", "B", "C*2"]
-    ours, theirs = did([MADE / "shared", *asked]), did([PROGRAM, "table", "--size", "7", "--hash", *asked[1:]])
-    check("what it prints", ours == theirs and ours[0] == 0, ours)
-
-
 def path_without(tools, room):
     """A PATH without some tools: for each of its folders one with links to all else that is there."""
     folders = [pathlib.Path(folder) for folder in os.environ["PATH"].split(os.pathsep) if os.path.isdir(folder)]
@@ -254,15 +251,149 @@ def path_without(tools, room):
     return os.pathsep.join(str(room / str(place)) for place in range(len(folders)))
 
 
-def test_missing_tools():
-    """Where the kit or a C compiler is missing bin/install says so, and installs the rest."""
-    rows = [("there is no rt on the PATH, which proves it", ["rt"]), ("there is no C compiler, which makes its heap", ["cc", "gcc", "clang"])]
-    for place, (why, tools) in enumerate(rows):
-        prefix, room = MADE / f"prefix{place}", MADE / f"path{place}"
-        env = {name: word for name, word in os.environ.items() if name != "CC"}
-        status, _, err = did([TOP / "bin" / "install", prefix], env={**env, "PATH": path_without(tools, room)})
-        check(f"bin/install: {why}", (status, err.decode()) == (0, f"library: libmaglev isn't built: {why}\n"), err)
-        check("it installs the program alone", (prefix / "bin" / "maglev").exists() and not (prefix / "lib").exists())
+def cloned(top):
+    """Copies the tree as it would be cloned after bin/release: nothing built, and dist/ with the program and the library that are
+    tested."""
+    left = shutil.ignore_patterns("out", "__pycache__", ".git")
+    shutil.copytree(TOP, top, ignore=left)
+    program = dist.stripped((dist.BUILT if build.is_current("maglev") else dist.DIST / "maglev").read_bytes())
+    write = f"import dist, pathlib; dist.write(pathlib.Path({str(MADE / 'program')!r}).read_bytes(), {{{HERE!r}: pathlib.Path({str(MADE)!r}), {OTHER!r}: pathlib.Path({str(LIBRARIES[OTHER])!r})}})"
+    (MADE / "program").write_bytes(program)
+    made = did([sys.executable, "-c", write], cwd=top / "bin")
+    check("dist/ of a clone", made[0] == 0, made[2].decode())
+    shutil.rmtree(top / "bin" / "__pycache__", ignore_errors=True)
+
+
+def without(tools, **more):
+    """The environment without some tools, without a word for a C compiler, and without a library that is named."""
+    env = {name: word for name, word in os.environ.items() if name not in ("CC", "LIBMAGLEV", "MAGLEV_LIB")}
+    return {**env, "PATH": path_without(tools, pathlib.Path(tempfile.mkdtemp(dir=MADE))), **more}
+
+
+def page(start):
+    """The command of docs/EMBEDDING.md that begins so: a line that stands alone."""
+    text = (TOP / "docs" / "EMBEDDING.md").read_text()
+    return re.search(rf"^    ({re.escape(start)}.*)$", text, re.MULTILINE).group(1)
+
+
+def files_below(folder):
+    """All that lies below a folder, but for the program's list of what it has."""
+    return {str(path.relative_to(folder)) for path in folder.rglob("*")}
+
+
+def test_clone():
+    """In a clone, without the kit: the commands of docs/EMBEDDING.md, in C, Python and Go, print what the program prints."""
+    top, env = MADE / "clone", without(["rt"])
+    cloned(top)
+    sums = did(["sh", "-c", "sha256sum -c --quiet dist/*.sha256"], cwd=top)
+    check("the sums of dist/", sums == (0, b"", b""), sums)
+    table = did([PROGRAM, "table", "--size", "7", "--hash", *ASKED[1:]])[1]
+    made = did(["sh", "-c", page("cc examples/embed/table.c")], cwd=top, env=env)
+    check("C from a clone", made[0] == 0 and did([top / "table", *ASKED])[1] == table, made)
+    answer = did(["sh", "-c", page("PYTHONPATH=examples/embed")], cwd=top, env=env)
+    check("Python from a clone", answer == (0, b"['B', 'A', 'B', 'C', 'C', 'A', 'A']\n", b""), answer)
+    check("README has the same command in C", page("cc examples/embed/table.c") in (TOP / "README.md").read_text())
+    if shutil.which("go"):
+        in_go(top, {**env, "GOCACHE": str(MADE / "go"), "GOPATH": str(MADE / "go")}, table)
+    else:
+        print("go isn't installed: what it shows is skipped")
+
+
+def in_go(top, env, table):
+    """The page's command for Go prints a table in a clone; so does the program that it makes of random cases, and each fault."""
+    answer = did(["sh", "-c", page("go run examples/embed/table.go")], cwd=top, env=env)
+    check("Go from a clone", answer == (0, table, b""), answer)
+    made = did(["go", "build", "-o", MADE / "in_go", "examples/embed/table.go"], cwd=top, env=env)
+    check("a program in Go", made == (0, b"", b""), made)
+    rng = random.Random(SEED)
+    for number in range(COUNT // 20):
+        size, hash_word, names, weights, _ = random_case(rng)
+        words = [f"{name}*{weight}" for name, weight in zip(names, weights)] or names
+        theirs = did([PROGRAM, "table", "--size", str(size), "--hash", hash_word, *words])
+        answer = did([MADE / "in_go", size, hash_word, *words])
+        check(f"case {number} of seed {SEED} in Go", answer == theirs, answer)
+    for fault, *words in [("BadSize", 8, "sum", "A"), ("BadHash", 7, "md5", "A"), ("BadName", 7, "sum", ""), ("TooMany", 7, "sum", *"ABCDEFGH"), ("BadWeight", 7, "sum", "A*17"), ("DoubleName", 7, "sum", "A", "A")]:
+        answer = did([MADE / "in_go", *words])
+        check(f"{fault} in Go", answer == (1, b"", f"fault: {fault}\n".encode()), answer)
+
+
+def test_clone_install():
+    """bin/install in a clone, without the kit and without a C compiler: all of it, and no more than --uninstall takes away."""
+    top, prefix = MADE / "clone", MADE / "a prefix"
+    env = without(["rt", "cc", "gcc", "clang"])
+    prefix.mkdir()
+    (prefix / "lib").mkdir()
+    (prefix / "lib" / "other").write_text("")
+    before = files_below(prefix)
+    done = did([top / "bin" / "install", prefix], env=env)
+    check("bin/install", done[0] == 0 and b"library:" not in done[2], done)
+    for name in dist.MADE[HERE]:
+        check(f"{name} is that of dist/", (prefix / "lib" / name).read_bytes() == (MADE / name).read_bytes())
+    check("the header", (prefix / "include" / "maglev.h").read_bytes() == (top / "share" / "include" / "maglev.h").read_bytes())
+    there = prefix / "share" / "doc" / "maglev"
+    for folder in ["docs", "examples"]:
+        check(f"{folder}/", files_below(there / folder) == files_below(top / folder), files_below(there / folder) ^ files_below(top / folder))
+    manual = (prefix / "share" / "man" / "man1" / "maglev.1").read_text()
+    named = {pathlib.Path(word) for word in re.findall(r"(/\S+/(?:docs|examples)/[\w.]*\w)", manual.replace("a prefix", "a_prefix").replace("\\-", "-"))}
+    named = {pathlib.Path(str(path).replace("a_prefix", "a prefix")) for path in named}
+    check("the page names files where they are", len(named) > 3 and all(path.exists() for path in named), named)
+    listed = {line.rstrip("/") for line in (there / "installed").read_text().splitlines()}
+    check("the list has all that was put there", listed == files_below(prefix) - before, listed ^ (files_below(prefix) - before))
+    again = did([top / "bin" / "install", prefix], env=env)
+    check("bin/install again", again[0] == 0 and {line.rstrip("/") for line in (there / "installed").read_text().splitlines()} == listed, again)
+    gone = did([top / "bin" / "install", "--uninstall", prefix], env=env)
+    check("--uninstall", gone == (0, b"", b"") and files_below(prefix) == before, (gone, files_below(prefix) ^ before))
+    gone = did([top / "bin" / "install", "--uninstall", prefix], env=env)
+    check("nothing is left to take away", gone[:2] == (1, b"") and files_below(prefix) == before, gone)
+    done = did([top / "bin" / "install", "--target", OTHER, prefix], env=env)
+    check("the library of another machine", done[0] == 0 and (prefix / "lib" / "libmaglev.a").read_bytes() == (LIBRARIES[OTHER] / "libmaglev.a").read_bytes(), done)
+    check("nothing else of it", not (prefix / "bin").exists() and not (prefix / "lib" / "libmaglev.so.0").exists())
+
+
+def test_clone_of_changes():
+    """Where the library of dist/ isn't the tree's, or isn't whole, bin/install doesn't take it: without the kit the rest is installed."""
+    top, env = MADE / "clone", without(["rt"])
+    missing = "library: libmaglev isn't built: there is no rt on the PATH, which proves it\n"
+    for place, name in enumerate(["share/lib/heap.c", "share/include/maglev.h", "dist/lib/x86_64-linux-gnu/libmaglev.a"]):
+        kept, prefix = (top / name).read_bytes(), MADE / f"prefix{place}"
+        (top / name).write_bytes(kept + b"\n")
+        status, _, err = did([top / "bin" / "install", prefix], env=env)
+        check(f"{name} changed: bin/install says so", status == 0 and err.decode().endswith(missing), err)
+        check("it installs the rest", (prefix / "bin" / "maglev").exists() and not (prefix / "lib").exists())
+        other = did([top / "bin" / "install", "--target", OTHER, MADE / "none"], env=env)
+        check("there is no library of another machine", other[:2] == (3, b"") and not (MADE / "none" / "lib").exists(), other)
+        (top / name).write_bytes(kept)
+
+
+def test_install():
+    """Callers are compiled and run from what bin/install put below a prefix, as docs/EMBEDDING.md says."""
+    prefix = MADE / "prefix"
+    status, _, err = did([MADE / "clone" / "bin" / "install", prefix])
+    files = ["include/maglev.h", "lib/libmaglev.a", "lib/libmaglev.so", "lib/libmaglev.so.0", "lib/pkgconfig/maglev.pc"]
+    check("bin/install", status == 0 and all((prefix / name).exists() for name in files), err)
+    options = [f"-I{prefix}/include", f"-L{prefix}/lib", "-lmaglev"]
+    theirs = did([PROGRAM, "table", "--size", "7", "--hash", *ASKED[1:]])
+    env = without([], PREFIX=str(prefix))
+    if shutil.which("pkg-config"):
+        told = did(["pkg-config", "--cflags", "--libs", "maglev"], env={**env, "PKG_CONFIG_PATH": str(prefix / "lib" / "pkgconfig")})
+        check("pkg-config", told[1].decode().split() == options, told)
+        room = MADE / "room"
+        room.mkdir()
+        lines = [page("export PKG_CONFIG_PATH="), page("export LD_LIBRARY_PATH="), page("cc $PREFIX"), "./table 7 sum A B 'C*2'"]
+        answer = did(["sh", "-e", "-c", "\n".join(lines)], cwd=room, env=env)
+        check("the page's commands for an install", answer == theirs, answer)
+    words = [COMPILER, "-std=c11", EXAMPLES / "table.c", *options, f"-Wl,-rpath,{prefix}/lib", "-o", MADE / "shared"]
+    check("a caller of the shared library", did(words)[0] == 0)
+    ours = did([MADE / "shared", *ASKED])
+    check("what it prints", ours == theirs and ours[0] == 0, ours)
+
+
+def test_install_misused():
+    """What bin/install refuses, and its help."""
+    told = did([TOP / "bin" / "install", "--help"])
+    check("its help", told[::2] == (0, b"") and told[1].startswith(b"usage: install [--target TARGET] PREFIX\n"), told)
+    for words in [[], ["--target", "x"], ["--uninstall"], ["--all"], ["a", "b"], [""], ["--uninstall", "--help"]]:
+        check(f"bin/install {words}", did([TOP / "bin" / "install", *words])[:2] == (2, b""))
 
 
 if __name__ == "__main__":

@@ -16,6 +16,7 @@ import subprocess
 import sys
 import tempfile
 import tomllib
+import tty
 
 import model
 import soak_run
@@ -26,6 +27,36 @@ def run(arguments, stdin=b"", cwd=None, stdout=subprocess.PIPE):
     """Runs the program, and gives status, standard output and standard error."""
     done = subprocess.run([PROGRAM, *arguments], input=stdin, stdout=stdout, stderr=subprocess.PIPE, cwd=cwd, timeout=600)
     return done.returncode, done.stdout, done.stderr
+
+
+def drained(reading):
+    """All that comes through a terminal until nobody has it open any more."""
+    found = b""
+    while True:
+        try:
+            piece = os.read(reading, 4096)
+        except OSError:
+            return found
+        if not piece:
+            return found
+        found += piece
+
+
+def run_at_terminal(arguments, cwd=None, stream="stderr"):
+    """The same, where one stream alone is a terminal: standard error if no other is named."""
+    reading, writing = os.openpty()
+    # so that a newline stays one
+    tty.setraw(writing)
+    with tempfile.TemporaryFile() as other:
+        streams = {"stdout": other, "stderr": other, stream: writing}
+        done = subprocess.Popen([PROGRAM, *arguments], stdin=subprocess.DEVNULL, cwd=cwd, **streams)
+        os.close(writing)
+        shown = drained(reading)
+        os.close(reading)
+        status = done.wait(timeout=600)
+        other.seek(0)
+        kept = other.read()
+    return (status, kept, shown) if stream == "stderr" else (status, shown, kept)
 
 
 def prints(name, arguments, text, **more):
@@ -1035,6 +1066,84 @@ def test_warnings():
     warns("many", ["install 0 7"] * 25, many[:20] + ["5 more of these"])
     warns("a stop", ["install 0 1", "stop 0", "take 1"], [bare.format(1)], on_threads)
     warns("explain", ["install 0 1", "take 2"], [bare.format(1)], ("explain", "-v", "s.toml", "in.pcap", "1", "2"))
+
+
+def tells(name, words, plain, more, text=None, data=None):
+    """What a command prints on standard error: into a pipe `plain` alone; with `-v`, with it in front or at a terminal `more` behind
+    it. Standard output and the status are the same each time, also where standard output alone is a terminal."""
+    command, *rest = words
+    first = with_files(text, data, lambda folder: run(words, cwd=folder))
+    check(f"into a pipe: {name}", first[2].decode() == plain, repr(first))
+    wanted = (*first[:2], (plain + more).encode())
+    for asked in [[command, "-v", *rest], ["-v", *words], ["--verbose", *words]]:
+        answer = with_files(text, data, lambda folder: run(asked, cwd=folder))
+        check(f"{asked[:2]}: {name}", answer == wanted, f"{answer} {wanted}")
+    for asked in [words, [command, "-v", *rest], ["-v", *words]]:
+        answer = with_files(text, data, lambda folder: run_at_terminal(asked, cwd=folder))
+        check(f"at a terminal, {asked[:2]}: {name}", answer == wanted, f"{answer} {wanted}")
+    answer = with_files(text, data, lambda folder: run_at_terminal(words, cwd=folder, stream="stdout"))
+    check(f"standard output at a terminal: {name}", answer == first, f"{answer} {first}")
+
+
+def test_what_is_told_at_a_terminal():
+    """Where standard error is a terminal a fault says what `-v` says, and warnings come; into a pipe nothing more comes than without.
+    `maglev -v COMMAND` is `maglev COMMAND -v`."""
+    good, seven = scenario(["install 0 1", "install 1 1", "take 2"]), ["--size", "7", "--hash", "sum"]
+    files = ["s.toml", "in.pcap", "out.pcap"]
+    size = "size, line 2: found 8, expected 7, 13, 251, 1021, 8191 or 65537\n"
+    warned = scenario(["install 0 1", "install 0 7", "take 2"])
+    lacks = "warning: step 1 installs version 7 on node 0, which the catalogue lacks\n"
+    bare = "warning: node 1 is live when packets come, and never has a version\n"
+    for words in [["simulate", *files], ["run", *files], ["explain", *files[:2], "2", "3"], ["plan", "s.toml", "1", "2"]]:
+        tells(f"{words[0]}, a scenario", words, "fault: BadKey\n", size, good.replace("size = 7", "size = 8"), capture("yz"))
+        tells(f"{words[0]}, no scenario", words, "fault: OpenScenario\n", f"s.toml: {os.strerror(errno.ENOENT)} (os error 2)\n", None, capture("yz"))
+        tells(f"{words[0]}, nothing to say", words, "", "", good, capture("yz"))
+        tells(f"{words[0]}, warnings", words, "", lacks + bare, warned, capture("yz"))
+    tells("run, a list of splits", ["run", "--splits", *files], "", lacks + bare, warned, capture("yz"))
+    modified = bytes.fromhex("34cdb2a1") + bytes(40)
+    magic = "in.pcap: found modified pcap, expected classic pcap: editcap -F pcap INPUT out.pcap\n"
+    for words in [["simulate", *files], ["run", *files], ["explain", *files[:2], "2", "3"], ["scenario", "in.pcap"]]:
+        tells(f"{words[0]}, a capture", words, "fault: BadMagic\n", magic, good, modified)
+    for command in ["table", "pick"]:
+        line = 'name 3 of 3: found "B", expected a name that no earlier word gives\n'
+        tells(f"{command}, a word", [command, *seven, "A", "B", "B"], "fault: DoubleName\n", line)
+        tells(f"{command}, an option", [command, "--size", "9", "--hash", "sum", "A"], "fault: BadSize\n", "--size: found 9, expected 7, 13, 251, 1021, 8191 or 65537\n")
+    tells("table, nothing to say", ["table", *seven, "A", "B"], "", "")
+    members = ["--old", "A@10.8.0.1", "--new", "A@10.8.0.1 A@10.8.0.2"]
+    tells("compare, a word", ["compare", *seven, *members], "fault: DoubleName\n", '--new, word 2 of 2: found "A@10.8.0.2", expected a name that no earlier word gives\n')
+    tells("compare, nothing to say", ["compare", *seven, "--old", "A@10.8.0.1", "--new", "B@10.8.0.2"], "", "")
+
+
+def test_captures_as_scenarios():
+    """A capture where SCENARIO should be is seen as that."""
+    line = "{}: found a capture, expected a scenario: SCENARIO comes before INPUT\n"
+    good = scenario(["install 0 1", "take 1"])
+    for magic in ["d4c3b2a1", "a1b2c3d4", "4d3cb2a1", "a1b23c4d", "34cdb2a1", "a1b2cd34", "0a0d0d0a"]:
+        data = bytes.fromhex(magic) + bytes(40)
+        tells(f"{magic} for a scenario", ["simulate", "in.pcap", "s.toml", "out.pcap"], "fault: BadToml\n", line.format("in.pcap"), good, data)
+    data = HEAD + record(P)
+    for words in [["run", "in.pcap", "s.toml", "out.pcap"], ["explain", "in.pcap", "s.toml", "0", "1"], ["plan", "in.pcap", "1", "2"]]:
+        tells(f"{words[0]}: a capture for a scenario", words, "fault: BadToml\n", line.format("in.pcap"), good, data)
+    long = data.ljust(1048577, b"\0")
+    tells("a long capture for a scenario", ["simulate", "in.pcap", "s.toml", "out.pcap"], "fault: TooLong\n", line.format("in.pcap"), good, long)
+    answer = with_files(good, data, lambda folder: run(["simulate", "-v", "-", "in.pcap", "out.pcap"], stdin=data, cwd=folder))
+    check("a capture from standard input for a scenario", answer == (1, b"", f"fault: BadToml\n{line.format('-')}".encode()), repr(answer))
+    for start in [b"\xa1\xb2\xc3", b"\n\r\r", b"\xd4\xc3\xb2\xa2"]:
+        status, out, err = with_files(start, data, lambda folder: run(["simulate", "-v", "s.toml", "in.pcap", "out.pcap"], cwd=folder))
+        is_right = (status, out) == (1, b"") and err.startswith(b"fault: BadToml\nline ") and b"capture" not in err
+        check(f"{start} is no capture", is_right, f"{status} {err!r}")
+
+
+def test_flags_without_a_command():
+    """`-v` alone, or before another option, is no command: what was always said of it is said, also at a terminal."""
+    usage = "\n\nUsage: maglev <COMMAND>\n\nFor more information, try '--help'.\n"
+    for words in [["-v"], ["-v", "--help"], ["-v", "-v", "table"], ["-v", "--verbose"]]:
+        wanted = (2, b"", f"error: unexpected argument '-v' found{usage}".encode())
+        check(f"maglev {' '.join(words)}", run(words) == wanted, repr(run(words)))
+        check(f"maglev {' '.join(words)}, at a terminal", run_at_terminal(words) == wanted, repr(run_at_terminal(words)))
+    misused("maglev -v of no command", ["-v", "tables"])
+    for flag in ["-v", "--verbose"]:
+        check(f"maglev {flag} table --help", run([flag, "table", "--help"]) == run(["table", "--help"]))
 
 
 def test_verbose_of_files():

@@ -3,11 +3,13 @@
     >>> table(7, "sum", ["A", "B", "C"])
     ['B', 'A', 'B', 'C', 'C', 'A', 'A']
 
-The library is that of the variable LIBMAGLEV, or else the one that the system finds. Nothing is kept between calls, so each
-function may be called from several threads.
+The library is that of the variable LIBMAGLEV; or else, in a clone on x86-64, that of dist/lib; or else the one that the system
+finds. Nothing is kept between calls, so each function may be called from several threads.
 """
 import ctypes
 import os
+import pathlib
+import platform
 from typing import NamedTuple, Sequence
 
 HASHES = {"fnv": 0, "sha256": 1, "sum": 2}
@@ -70,9 +72,16 @@ class _Flow(ctypes.Structure):
     _fields_ = [("src", ctypes.c_uint32), ("dst", ctypes.c_uint32), ("sport", ctypes.c_uint16), ("dport", ctypes.c_uint16), ("proto", ctypes.c_uint8)]
 
 
+def _named() -> str:
+    """Where the library is, or its name for the system."""
+    name = "libmaglev.so.0"
+    cloned = pathlib.Path(__file__).resolve().parent.parent.parent / "dist" / "lib" / f"{platform.machine()}-linux-gnu" / name
+    return os.environ.get("LIBMAGLEV") or (str(cloned) if cloned.exists() else name)
+
+
 def _loaded() -> ctypes.CDLL:
     """The library, with the types of its functions."""
-    library = ctypes.CDLL(os.environ.get("LIBMAGLEV", "libmaglev.so.0"))
+    library = ctypes.CDLL(_named())
     word, count, bytes_, slots = ctypes.c_uint32, ctypes.c_size_t, ctypes.c_char_p, ctypes.POINTER(ctypes.c_uint32)
     library.maglev_table.argtypes = [word, word, bytes_, count, bytes_, count, slots, count]
     library.maglev_table.restype = word
