@@ -955,7 +955,7 @@ def test_verbose_of_a_scenario():
         ("no TOML", "format = 1\nsize = \n", "BadToml", "line 2, column 8: "),
         ("no UTF-8", b"format = 1 # \xff\n", "BadToml", "line 1, column 14: "),
         ("no UTF-8 after a letter of two bytes", b"format = 1 # \xc3\xa9\xff\n", "BadToml", "line 1, column 15: "),
-        ("another format", good.replace("format = 1", "format = 4"), "BadFormat", "format, line 1: found 4, expected the number 1 or 2\n"),
+        ("another format", good.replace("format = 1", "format = 4"), "BadFormat", "format, line 1: found 4, expected the number 1, 2 or 3\n"),
         ("a weight in format 1", good.replace("10.8.0.1", "10.8.0.1*2", 1), "BadMember", f'{service}.members[0], line 16: found "A@10.8.0.1*2", expected NAME@ADDRESS or'),
         ("an unknown key", "color = 1\n" + good, "BadKey", f"color, line 1: found 1, expected no key but {root}\n"),
         ("idle in format 1", good.replace("size = 7", "size = 7\nidle = 5"), "BadKey", f"idle, line 3: found 5, expected no key but {root}\n"),

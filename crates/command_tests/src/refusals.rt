@@ -77,11 +77,12 @@ fn is_unknown<T: Threads + Wait + Sync + Abort>(rt: &T, alloc: Global, text: &[u
     is_quiet(rt, &input, &output, &report, at);
 }
 
-static NO_TEXTS: [(&[u8], CliFault); 4] = [
+static NO_TEXTS: [(&[u8], CliFault); 5] = [
     (b"format = ", CliFault::BadToml),
-    (b"format = 3", CliFault::BadFormat),
+    (b"format = 4", CliFault::BadFormat),
     (b"format = 1", CliFault::BadKey),
     (b"format = 2", CliFault::BadKey),
+    (b"format = 3", CliFault::BadKey),
 ];
 
 #[test]
