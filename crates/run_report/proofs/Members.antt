@@ -1,19 +1,19 @@
 -- Whether a backend is kept or drains, by the members of a service.
-use Rattle.std.proofs.Common.{◌≡◌, Bool, true, false, List, [], ◌∷◌, map, Option, Some, None, refl, sym, ap, ◌∙◌, subst, not, inl, inr}
-use Rattle.std.specs.Prelude.{filter, find, option_map, ◌||◌, ◌&&◌, if◌then◌else◌}
+use Rattle.std.proofs.Common.{◌≡◌, Bool, true, false, List, [], ◌∷◌, Some, refl, sym, ap, ◌∙◌, not, inl, inr}
+use Rattle.std.specs.Prelude.{option_map, ◌||◌, ◌&&◌, if◌then◌else◌}
 use Rattle.std.specs.List.{list_any}
-use Rattle.std.proofs.lemmas.Bool.{false_from_ne_true, both_ways, cases_Bool, and_parts, or_cases, or_left, or_right, true≢false, false≢true}
+use Rattle.std.proofs.lemmas.Bool.{false_from_ne_true, both_ways, and_parts, or_cases, or_left, or_right}
 use Rattle.five_tuple.specs.declared.Flow.{Flow}
 use Rattle.pool_versions.specs.declared.backend.Backend.{Backend}
 use Rattle.pool_versions.specs.declared.backend.Member.{Member}
 use Rattle.pool_versions.specs.declared.service.Service.{Service}
 use Rattle.pool_versions.specs.declared.service.Version.{Version}
 use Rattle.pool_versions.specs.Pool.{is_draining, draining_backends, ups, serves, find_service}
-use Rattle.selection.specs.Candidates.{Candidates, candidates_in, candidates_under}
+use Rattle.selection.specs.Candidates.{candidates_in, candidates_under}
 use Rattle.selection.specs.Readied.{same_backend, keeps}
 use Rattle.cluster_core.proofs.Draining.{in_order_any}
 use Rattle.run_report.specs.declared.sending.Split.{Split}
-use Rattle.run_report.specs.Causes.{Lookups, is_kept_member, is_draining_member, drains_among, drains_between, is_between, has_drained, drains_in_service, drains_in_version, does_anybody_drain}
+use Rattle.run_report.specs.Causes.{is_kept_member, is_draining_member, drains_among, drains_between, is_between, drains_in_service, drains_in_version, does_anybody_drain}
 
 either_one : (up draining same ups drains : Bool) → (((up || draining) && same) || (ups || drains)) ≡ (((up && same) || ups) || ((not up && draining && same) || drains))
 either_one true true true u d = refl
