@@ -5,9 +5,8 @@ use Rattle.hash_laws.specs.Any.{plain_of}
 use Rattle.maglev_table.specs.Turns.{all_slots_of}
 use Rattle.pool_versions.specs.declared.backend.Backend.{Backend}
 use Rattle.pool_versions.specs.declared.backend.Member.{Member}
-use Rattle.pool_versions.specs.Pool.{ups}
-use Rattle.selection.specs.Candidates.{Candidates, candidates_in}
-use Rattle.selection.specs.Picks.{NamedTable, table_slots}
+use Rattle.pool_versions.specs.Pool.{ups, weights}
+use Rattle.selection.specs.Picks.{NamedTable, slots_among}
 use Rattle.scenario.specs.declared.words.SchemeKind.{SchemeKind}
 use Rattle.scenario.specs.declared.words.SchemeKind.TheVariants.{Maglev, Plain, Round}
 use Rattle.scenario.specs.declared.reading.Scenario.{Scenario}
@@ -18,14 +17,14 @@ abbrev pub turn_slots : ℕ → ℕ → List ℕ
 turn_slots size n = if n == 0 then [] else map (λ slot. slot % n) (range_with_len 0 size)
 
 -- the place of the backend at each slot: by Maglev's table, or for a scheme without a table in turn
-abbrev pub slots_by : SchemeKind → (List ℕ → ℕ) → ℕ → Candidates → List ℕ
-slots_by Maglev plain size c = table_slots plain size c
-slots_by Plain plain size c = turn_slots size (length c.backends)
-slots_by Round plain size c = turn_slots size (length c.backends)
+abbrev pub slots_by : SchemeKind → (List ℕ → ℕ) → ℕ → List Backend → List ℕ → List ℕ
+slots_by Maglev plain size bs ws = slots_among plain size bs ws
+slots_by Plain plain size bs ws = turn_slots size (length bs)
+slots_by Round plain size bs ws = turn_slots size (length bs)
 
 -- the table of the up ones of some members
 abbrev pub table_by : TableRule → List Member → NamedTable
-table_by rule ms = record { size = rule.size; ups = ups ms; owners = slots_by rule.kind (plain_of rule.hash) rule.size (candidates_in ms) }
+table_by rule ms = record { size = rule.size; ups = ups ms; owners = slots_by rule.kind (plain_of rule.hash) rule.size (ups ms) (weights ms) }
 
 -- how a scenario's tables are made
 abbrev pub rule_of : Scenario → TableRule

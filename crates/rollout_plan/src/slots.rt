@@ -5,7 +5,6 @@ ghost use Rattle.maglev_table.specs.Turns.{all_slots_of};
 ghost use Rattle.pool_versions.specs.Pool.{ranked, AscendsByName};
 ghost use Rattle.selection.specs.Picks.{preferences, slots_among, slot_names};
 ghost use Rattle.rollout_plan.specs.Tables.{table_by, turn_slots, slots_by};
-ghost use Rattle.selection.specs.Candidates.{among};
 ghost use Rattle.rollout_plan.specs.Counts.{slots_naming, is_up};
 
 use backend_names::{TableSize, Weight};
@@ -154,7 +153,7 @@ impl TableRule {
         weights: &[Weight],
     ) -> Result<Vec<u32>, AllocError>
         requires { length weights.now ≡ length ups.now }
-        ensures slots { IfOk result (λ v. v.items ≡ slots_by self.now.kind (plain_of self.now.hash) self.now.size (among ups.now weights.now)) }
+        ensures slots { IfOk result (λ v. v.items ≡ slots_by self.now.kind (plain_of self.now.hash) self.now.size ups.now weights.now) }
         ensures long { IfOk result (λ v. (ups.now ≡ [] → ⊥) → length v.items ≡ self.now.size) }
         ensures few { IfOk result (λ v. length v.items ≤ 65537) }
         ensures fit { OnOk result (length ups.now ≤ self.now.size) }
