@@ -186,11 +186,14 @@ def test_install():
         share = TOP / "share"
         kinds = ("man", "bash-completion", "fish", "zsh")
         files = [path.relative_to(share) for kind in kinds for path in (share / kind).rglob("*") if path.is_file()]
-        same = [(prefix / "share" / name).read_bytes() == (share / name).read_bytes() for name in files]
-        check("what is beside it", len(same) == 4 and all(same))
-        documents = [path.relative_to(TOP / "docs") for path in (TOP / "docs").rglob("*") if path.is_file()]
+        same = [(prefix / "share" / name).read_bytes() == (share / name).read_bytes() for name in files if not name.match("man1/*")]
+        check("what is beside it", len(same) == 3 and all(same))
         there = prefix / "share" / "doc" / "maglev"
-        check("the documents", documents and all((there / name).read_bytes() == (TOP / "docs" / name).read_bytes() for name in documents))
+        page = (share / "man" / "man1" / "maglev.1").read_text()
+        named = re.sub(r"(?m)(^|[ (])(docs|examples)/", lambda found: f"{found[1]}{str(there).replace('-', chr(92) + '-')}/{found[2]}/", page)
+        check("the man page names files where they are", (prefix / "share" / "man" / "man1" / "maglev.1").read_text() == named != page)
+        documents = [path.relative_to(TOP) for folder in ("docs", "examples") for path in (TOP / folder).rglob("*") if path.is_file() and "__pycache__" not in path.parts]
+        check("the documents", documents and all((there / name).read_bytes() == (TOP / name).read_bytes() for name in documents))
         check("the licences", (there / "LICENSE").exists() and (there / "LICENSE-MIT").exists() and (there / "LICENSE-APACHE").exists())
     check("bin/install of nothing", did([TOP / "bin" / "install"])[0] == 2)
 

@@ -292,7 +292,8 @@ def test_clone():
     check("C from a clone", made[0] == 0 and did([top / "table", *ASKED])[1] == table, made)
     answer = did(["sh", "-c", page("PYTHONPATH=examples/embed")], cwd=top, env=env)
     check("Python from a clone", answer == (0, b"['B', 'A', 'B', 'C', 'C', 'A', 'A']\n", b""), answer)
-    check("README has the same command in C", page("cc examples/embed/table.c") in (TOP / "README.md").read_text())
+    for start in ["cc examples/embed/table.c", "PYTHONPATH=examples/embed"]:
+        check(f"README has the same command: {start}", f"    $ {page(start)}\n" in (TOP / "README.md").read_text())
     if shutil.which("go"):
         in_go(top, {**env, "GOCACHE": str(MADE / "go"), "GOPATH": str(MADE / "go")}, table)
     else:

@@ -15,6 +15,7 @@ import struct
 import subprocess
 import sys
 import tempfile
+import threading
 import tomllib
 import tty
 
@@ -29,7 +30,7 @@ def run(arguments, stdin=b"", cwd=None, stdout=subprocess.PIPE):
     return done.returncode, done.stdout, done.stderr
 
 
-def drained(reading):
+def all_shown(reading):
     """All that comes through a terminal until nobody has it open any more."""
     found = b""
     while True:
@@ -51,9 +52,12 @@ def run_at_terminal(arguments, cwd=None, stream="stderr"):
         streams = {"stdout": other, "stderr": other, stream: writing}
         done = subprocess.Popen([PROGRAM, *arguments], stdin=subprocess.DEVNULL, cwd=cwd, **streams)
         os.close(writing)
-        shown = drained(reading)
+        timer = threading.Timer(600, done.kill)
+        timer.start()
+        shown = all_shown(reading)
         os.close(reading)
-        status = done.wait(timeout=600)
+        status = done.wait()
+        timer.cancel()
         other.seek(0)
         kept = other.read()
     return (status, kept, shown) if stream == "stderr" else (status, shown, kept)

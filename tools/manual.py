@@ -103,6 +103,7 @@ def man_page(whole, commands):
         page += [".B maglev", roff(one.usage[len("maglev "):]), ".br"]
     page.pop()
     page += [".SH DESCRIPTION", roff("Formats, texts and the order of faults are in docs/FORMATS.md, and docs/USING.md says how to use captures.")]
+    page += [".PP", roff("Where standard error is a terminal, more is said of a fault, and of what may not be meant, as with -v. maglev -v COMMAND is maglev COMMAND -v.")]
     page.append(".SH COMMANDS")
     for one in commands:
         page += [f".SS {one.name}", roff(one.about) + "."]
