@@ -61,7 +61,7 @@ fn asks_first(words: &[String]) -> bool {
 
 /// The words of the program's command line. `maglev -v COMMAND ..` is `maglev COMMAND -v ..`.
 pub fn words_of(rt: &HostRuntime) -> io::Result<Vec<String>> {
-    let mut words = env::args(rt)?.collect(rt.alloc())?;
+    let mut words: Vec<String> = env::args(rt)?.collect(rt.alloc())?;
     if asks_first(words.as_slice()) {
         words.as_mut_slice().swap(1, 2);
     }
