@@ -56,9 +56,9 @@ fn version(rt: &impl Abort, alloc: Global, number: u32, a: State, b: State) -> V
 fn catalogue_of(rt: &impl Abort, alloc: Global, states: &[(State, State); 3]) -> Catalogue {
     let size = TableSize::new(7).expect(rt, "a size");
     let mut all = Catalogue::new(alloc, size);
-    let mut number = 0;
+    let mut number = 0u32;
     for (a, b) in states {
-        number += 1;
+        number = number.wrapping_add(1);
         let version = version(rt, alloc, number, *a, *b);
         all.add(version).expect(rt, "a version");
     }
