@@ -95,7 +95,9 @@ fn reason_by(alloc: Global, trouble: &Trouble, files: &Files<'_, '_>) -> Option<
     match trouble.fault {
         CliFault::TooLong | CliFault::BadToml if is_capture(files.text) => {
             let path = files.paths.scenario;
-            format!(in alloc; "{path}: found a capture, expected a scenario: SCENARIO comes before INPUT").ok()
+            format!(in alloc;
+                "{path}: found a capture, expected a scenario: SCENARIO comes before INPUT"
+            ).ok()
         }
         CliFault::OpenScenario | CliFault::ReadScenario => {
             system(alloc, files.paths.scenario, trouble.system)

@@ -276,11 +276,7 @@ static EIGHTS: [(&[u8; 8], &[u8; 8], [bool; 8]); 11] = [
 
 // Version 3 of A, which is up, B, which drains, and C, which is down.
 fn draining_version(rt: &impl Abort, alloc: Global) -> Version {
-    let rows: [Row<'_>; 3] = [
-        (b"C", C, false, 1),
-        (b"A", A, true, 1),
-        (b"B", B, false, 1),
-    ];
+    let rows: [Row<'_>; 3] = [(b"C", C, false, 1), (b"A", A, true, 1), (b"B", B, false, 1)];
     let mut version = version_of(rt, alloc, 3, VIP, &rows);
     if let Some(service) = version.services.as_mut_slice().get_mut(0) {
         if let Some(member) = service.members.as_mut_slice().get_mut(2) {
@@ -297,7 +293,11 @@ fn a_draining_backend_is_kept_and_not_chosen(rt: HostRuntime) {
     let prepared = prepared(&rt, rt.alloc(), Maglev { hash: SumHash }, &version);
     has_addresses(&rt, &prepared, [A; 3]);
     let ready = prepared.ready(&flow(1000)).expect(&rt, "a service");
-    let states = [(b"A", A, true, true), (b"B", B, false, true), (b"C", C, false, false)];
+    let states = [
+        (b"A", A, true, true),
+        (b"B", B, false, true),
+        (b"C", C, false, false),
+    ];
     for (name, addr, is_up, keeps) in states {
         let backend = backend(&rt, name, addr);
         holds(&rt, ready.is_up(&backend) == is_up, "up");
@@ -374,20 +374,20 @@ fn versions_from_one_store(rt: HostRuntime) {
     let mut store = TableStore::new(rt.alloc());
     for (ups, turns, wanted) in CHAIN.iter() {
         let version = weighed_version(&rt, rt.alloc(), *ups, *turns);
-        let made =
-            PreparedVersion::make_from(rt.alloc(), &maglev, seven(&rt), &version, &mut store)
-                .expect(&rt, "a prepared version");
+        let made = PreparedVersion::make_from(
+            rt.alloc(),
+            &maglev,
+            seven(&rt),
+            &version,
+            &mut store,
+        ).expect(&rt, "a prepared version");
         has_addresses(&rt, &made, *wanted);
     }
 }
 
 // Version 3 of C, B, and A at another address.
 fn moved_version(rt: &impl Abort, alloc: Global) -> Version {
-    let rows: [Row<'_>; 3] = [
-        (b"C", C, true, 1),
-        (b"A", 99, true, 1),
-        (b"B", B, true, 1),
-    ];
+    let rows: [Row<'_>; 3] = [(b"C", C, true, 1), (b"A", 99, true, 1), (b"B", B, true, 1)];
     version_of(rt, alloc, 3, VIP, &rows)
 }
 
