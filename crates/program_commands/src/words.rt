@@ -59,12 +59,17 @@ fn asks_first(words: &[String]) -> bool {
     matches!(flag.as_str(), "-v" | "--verbose") && !command.as_str().starts_with('-')
 }
 
+// Words that ask for more before they name a command do so after it.
+fn put_command_first(words: &mut [String]) {
+    if words.len() > 2 && asks_first(words) {
+        words.swap(1, 2);
+    }
+}
+
 /// The words of the program's command line. `maglev -v COMMAND ..` is `maglev COMMAND -v ..`.
 pub fn words_of(rt: &HostRuntime) -> io::Result<Vec<String>> {
     let mut words: Vec<String> = env::args(rt)?.collect(rt.alloc())?;
-    if asks_first(words.as_slice()) {
-        words.as_mut_slice().swap(1, 2);
-    }
+    put_command_first(words.as_mut_slice());
     Ok(words)
 }
 
