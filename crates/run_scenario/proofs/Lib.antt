@@ -6,3 +6,4 @@ pub mod Halts
 pub mod Audited
 pub mod Known
 pub mod OneByOne
+pub mod Copied
