@@ -1,5 +1,5 @@
 -- Whenever records came, the same steps are known.
-use Rattle.std.proofs.Common.{◌≡◌, ℕ, ◌+◌, Bool, not, List, [], ◌∷◌, length, drop, Some, None, refl, ap, ◌∙◌}
+use Rattle.std.proofs.Common.{◌≡◌, ℕ, suc, ◌+◌, not, List, [], ◌∷◌, length, drop, Some, None, refl, ap, ◌∙◌}
 use Rattle.std.specs.Prelude.{nat_lt, cond}
 use Rattle.std.specs.List.{position_or_len}
 use Rattle.timed_steps.specs.declared.TimedStep.{TimedStep}
@@ -9,8 +9,8 @@ use Rattle.driver_commands.specs.Knowing.{is_known, is_known_in, first_unsupport
 
 as_long : (first : ℕ) (left : List ℕ) (ss : List TimedStep) → length (counted_from first left ss) ≡ length ss
 as_long first left [] = refl
-as_long first left (Counted s ∷ ss) = ap (λ n. 1 + n) (as_long first (drop (reads s) left) ss)
-as_long first left (Until end ∷ ss) = ap (λ n. 1 + n) (as_long first (drop (count_until first end left) left) ss)
+as_long first left (Counted s ∷ ss) = ap suc (as_long first (drop (reads s) left) ss)
+as_long first left (Until end ∷ ss) = ap suc (as_long first (drop (count_until first end left) left) ss)
 
 as_far : (first : ℕ) (left : List ℕ) (ss : List TimedStep) → position_or_len (λ s. not (is_known s)) (counted_from first left ss) ≡ position_or_len (λ s. not (is_known_in s)) ss
 as_far first left [] = refl

@@ -32,11 +32,7 @@ fn times_of(alloc: Global, records: &Records) -> Result<Vec<u64>, AllocError>
 }
 
 // The same, where a step asks for it.
-fn times_for(
-    alloc: Global,
-    records: &Records,
-    steps: &[TimedStep],
-) -> Result<Vec<u64>, AllocError>
+fn times_for(alloc: Global, records: &Records, steps: &[TimedStep]) -> Result<Vec<u64>, AllocError>
     ensures steps { IfOk result (λ v. counted v.items steps.now ≡ counted (map time_of records.now) steps.now) }
     ensures few { IfOk result (λ v. length v.items ≤ length records.now) }
 {
