@@ -465,7 +465,9 @@ class Run:
         if backend1 == backend2:
             return "same\n"
         halves = f"version {origin1} {'@'.join(backend1)} version {origin2} {'@'.join(backend2)}"
-        return f"split slot {self.slot(flow)} {halves}\n"
+        later = int(self.events[other][0].split(" ")[3])
+        drained = self.cause(flow, backend1, origin1, later) == "drained"
+        return f"split slot {self.slot(flow)} {halves}{' drained' if drained else ''}\n"
 
 
 def named_slots(document, members):
