@@ -743,11 +743,11 @@ def ends(expected):
     return found
 
 
-def drains_of(text):
+def drains_of(text, records):
     """Of each server that drains, by name and address, how many packets come before the drain and before its end."""
     found, taken, number = {}, 0, 0
     document = model.tomllib.loads(text)
-    members = {one["number"]: list(map(model.member_of, one["services"][0]["members"])) for one in document["versions"]}
+    members = {number: next(iter(services.values())) for number, services in model.versions_of(document).items()}
     for step in document["steps"]:
         word, *numbers = step.split(" ")
         if word == "install":
@@ -755,7 +755,8 @@ def drains_of(text):
             number = int(numbers[1])
             found |= {one: (*found[one], taken) for one in before}
             found |= {one[:2]: (taken,) for one in members[number] if one.state == "drain"}
-        taken += int(numbers[0]) if word == "take" and numbers != ["*"] else 0
+        if word == "until":
+            taken = sum(secs + micros / 1_000_000 < records[0][0] + records[0][1] / 1_000_000 + int(numbers[0]) for secs, micros, _ in records)
     return found
 
 
@@ -771,17 +772,17 @@ def test_rollout():
     """Three of twenty servers are replaced. No connection breaks that ends while its server drains. Where the servers go down in
     place of draining all of these break that have a packet behind it."""
     text, data, drained = rows.example("draining", "draining")
-    without = text.replace("/drain", "/down")
+    without = text.replace("drain =", "down =")
     downed = model.Run(without, data)
     broken = 0
-    for server, (start, end) in drains_of(text).items():
+    for server, (start, end) in drains_of(text, drained.records).items():
         on_it = {flow for _, place, flow, backend, _ in drained.sends() if backend == server and place < start}
         ending = {flow for flow in on_it if start <= ends(drained)[flow][1] < end}
         check(f"{server}: connections end while it drains", len(ending) > 1, repr(ending))
         check(f"{server}: they stay together", not ending & sent_apart(drained))
         check(f"{server}: without the drain they break", ending <= sent_apart(downed))
         broken += len(ending)
-    check("three servers drain", len(drains_of(text)) == 3, repr(drains_of(text)))
+    check("three servers drain", len(drains_of(text, drained.records)) == 3)
     check("what outlasts a drain", drained.splits().splitlines()[-4:] == ["split 3", "down 0", "moved 0", "drained 3"], drained.splits())
     check("what goes down", downed.splits().splitlines()[-3:] == ["split 16", "down 16", "moved 0"] and broken == 13, downed.splits())
     for name, one, expected in [("with a drain", text, drained), ("without a drain", without, downed)]:
@@ -792,7 +793,7 @@ def test_rollout():
 def test_pages():
     """The pages show the example's steps and what is printed of it, with a drain and without one."""
     text, data, drained = rows.example("draining", "draining")
-    runs = [drained, model.Run(text.replace("/drain", "/down"), data)]
+    runs = [drained, model.Run(text.replace("drain =", "down ="), data)]
     counted = ["".join(line for line in run.splits().splitlines(True) if not line.startswith("split tcp")) for run in runs]
     for name, expected in [("README.md", counted), ("docs/USING.md", counted[:1])]:
         page = (rows.TOP / name).read_text()
