@@ -112,6 +112,16 @@ names_in o f (k ∷ ks) = if stands_in o f k then key_name k ∷ names_in o f ks
 unfoldable pub keys_of : Owner → Format → List (List ℕ)
 keys_of o f = names_in o f all_keys
 
+-- those of the document, of a version and of a service
+abbrev pub root_keys : Format → List (List ℕ)
+root_keys f = keys_of owner.Document f
+
+abbrev pub version_keys : Format → List (List ℕ)
+version_keys f = keys_of owner.Version f
+
+abbrev pub service_keys : Format → List (List ℕ)
+service_keys f = keys_of owner.Service f
+
 -- the number at a key of a number, in its range
 abbrev pub number_in : Form → List ℕ → Members → Option ℕ
 number_in (form.Number low high missing) name ms = number_by low high missing name ms
