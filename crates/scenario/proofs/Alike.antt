@@ -13,7 +13,7 @@ use Rattle.scenario_keys.specs.Words.{protocol_of_word}
 use Rattle.scenario.specs.Setup.{choices_of, limits_of}
 use Rattle.scenario.specs.Plain.{PlainService, PlainVersion, first_refused}
 use Rattle.scenario.specs.Steps.{PlainStep, kind_of, step_of}
-use Rattle.scenario.specs.Told.{PlainTold, once, steps_said, count_said, starred_in, told_by, told_by_words, allows_told, told_of, after, said_before, steps_of}
+use Rattle.scenario.specs.Told.{PlainTold, once, steps_said, count_said, newer_in, told_by, told_by_words, allows_told, told_of, after, said_before, steps_of}
 use Rattle.scenario.specs.Drafts.{member_in, word_of, service_draft, service_in, version_draft, version_in}
 use Rattle.scenario.specs.Meaning.{PlainDraft, PlainScenario, nodes_of, versions_in, steps_in, draft_of, draft_in, service_of, version_of, rules_of, with_steps, with_pools, with_versions, with_draft, with_format, plan_of_draft, plan_of}
 use Rattle.scenario_keys.specs.Keys.{key_name, number_of, root_keys, version_keys, service_keys, has}
@@ -126,7 +126,7 @@ service_same : (f g : Format) → IsLater f g → (d : Data) (s : PlainService (
 service_same f g later d s t h k =
     in_table (λ ms. if has_only (service_keys f) ms then service_draft f ms else None) (λ ms. if has_only (service_keys g) ms then service_draft g ms else None) (as_table d) s
     (λ ms. when_both (has_only (service_keys f) ms) (has_only (service_keys g) ms) (service_draft f ms) (service_draft g ms) s
-        (keys_grow owner.Service f g (has_later f g later) ms) (λ e. service_draft_same f g later ms s t e k)) h
+    (keys_grow owner.Service f g (has_later f g later) ms) (λ e. service_draft_same f g later ms s t e k)) h
 
 -- a version
 abbrev made_version : Option ℕ → Option (List (PlainService (Option Member))) → Option (PlainVersion (Option Member))
@@ -151,7 +151,7 @@ version_same : (f g : Format) → IsLater f g → (d : Data) (v : PlainVersion (
 version_same f g later d v w h k =
     in_table (λ ms. if has_only (version_keys f) ms then version_draft f ms else None) (λ ms. if has_only (version_keys g) ms then version_draft g ms else None) (as_table d) v
     (λ ms. when_both (has_only (version_keys f) ms) (has_only (version_keys g) ms) (version_draft f ms) (version_draft g ms) v
-        (keys_grow owner.Version f g (has_later f g later) ms) (λ e. version_draft_same f g later ms v w e k)) h
+    (keys_grow owner.Version f g (has_later f g later) ms) (λ e. version_draft_same f g later ms v w e k)) h
 
 -- the whole
 abbrev made_draft : Option Choices → Option Limits → Option (List ℕ) → Option (List (PlainVersion (Option Member))) → Option (List (List ℕ)) → Option PlainDraft
@@ -171,12 +171,12 @@ draft_versions (Some c) (Some l) (Some n) (Some v) (Some s) d h = ap (option_map
 abbrev pub ruled : Format → Played → ℕ → ℕ → StepRules
 ruled f played nodes workers = record { format = f; played = played; nodes = nodes; workers = workers }
 
-starred_same : (f g : Format) → IsLater f g → (k : Kind) (words : List (List ℕ)) (t : PlainTold) → starred_in f k words ≡ Some t → starred_in g k words ≡ Some t
-starred_same One g later k words t h = absurd cc
-starred_same Two g later k words t h = absurd cc
-starred_same Three One later k words t h = absurd later
-starred_same Three Two later k words t h = absurd later
-starred_same Three Three later k words t h = absurd later
+newer_same : (f g : Format) → IsLater f g → (k : Kind) (words : List (List ℕ)) (t : PlainTold) → newer_in f k words ≡ Some t → newer_in g k words ≡ Some t
+newer_same One g later k words t h = absurd cc
+newer_same Two g later k words t h = absurd cc
+newer_same Three One later k words t h = absurd later
+newer_same Three Two later k words t h = absurd later
+newer_same Three Three later k words t h = absurd later
 
 either_same : (o p q : Option PlainTold) (t : PlainTold) → (p ≡ Some t → q ≡ Some t) → option_or o p ≡ Some t → option_or o q ≡ Some t
 either_same None p q t same h = same h
@@ -186,7 +186,7 @@ kind_same : (f g : Format) → IsLater f g → (played : Played) (nodes workers 
     → option_and_then (λ k. told_by (ruled f played nodes workers) k words) o ≡ Some t → option_and_then (λ k. told_by (ruled g played nodes workers) k words) o ≡ Some t
 kind_same f g later played nodes workers words None t h = absurd cc
 kind_same f g later played nodes workers words (Some k) t h =
-    either_same (option_map (λ s. once s) (step_of nodes workers k words)) (starred_in f k words) (starred_in g k words) t (starred_same f g later k words t) h
+    either_same (option_map (λ s. once s) (step_of nodes workers k words)) (newer_in f k words) (newer_in g k words) t (newer_same f g later k words t) h
 
 words_same : (f g : Format) → IsLater f g → (played : Played) (nodes workers : ℕ) (words : List (List ℕ)) (t : PlainTold) → told_by_words (ruled f played nodes workers) words ≡ Some t → told_by_words (ruled g played nodes workers) words ≡ Some t
 words_same f g later played nodes workers [] t h = absurd cc

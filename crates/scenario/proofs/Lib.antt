@@ -4,3 +4,4 @@ pub mod Refusals
 pub mod Alike
 pub mod Allowed
 pub mod OneByOne
+pub mod Until

@@ -1,4 +1,5 @@
 pub mod Setup
+pub mod Times
 pub mod Steps
 pub mod Told
 pub mod Plain

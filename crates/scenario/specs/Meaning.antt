@@ -14,7 +14,7 @@ use Rattle.scenario_keys.specs.declared.key.Key.TheVariants as key
 use Rattle.scenario.specs.Setup.{choices_of, limits_of}
 use Rattle.scenario.specs.Plain.{PlainService, PlainVersion, plain_version, first_refused}
 use Rattle.scenario.specs.Drafts.{version_in, plain_version_draft}
-use Rattle.scenario.specs.Steps.{PlainStep, plain_step}
+use Rattle.scenario.specs.Steps.{PlainStep, plain_timed}
 use Rattle.scenario.specs.Told.{steps_of}
 use Rattle.scenario.specs.declared.playing.Played.{Played}
 use Rattle.scenario_keys.specs.declared.formats.Format.{Format}
@@ -51,7 +51,7 @@ plan_view s = record {
   limits = record { workers = s.workers; capacity = s.capacity; ring = s.ring; check = s.check; idle = s.idle };
   nodes = s.nodes.items;
   versions = map plain_version s.catalogue.versions;
-  steps = map plain_step s.steps.items;
+  steps = map plain_timed s.steps.items;
 }
 
 abbrev pub address_in : Data → Option ℕ

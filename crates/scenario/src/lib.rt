@@ -13,6 +13,7 @@ mod playing;
 mod reading;
 mod setup;
 mod step;
+mod times;
 mod told;
 mod versions;
 
@@ -23,3 +24,4 @@ pub use laws::{formats_mean_the_same, texts_are_steps};
 pub use playing::Played;
 pub use reading::{Scenario, pools_in, read};
 pub use scenario_keys::{Format, Key, SchemeKind, SpreadKind, format_of};
+pub use timed_steps::TimedStep;

@@ -5,7 +5,9 @@ ghost use Rattle.scenario.specs.Setup.{choices_of, limits_of};
 
 use backend_names::TableSize;
 use hash_laws::AnyHash;
-use scenario_keys::{Key, SchemeKind, SpreadKind, flag, hash_at, number, number_if, scheme_at, size_at, spread_at};
+use scenario_keys::{
+    Key, SchemeKind, SpreadKind, flag, hash_at, number, number_if, scheme_at, size_at, spread_at,
+};
 use toml::Table;
 
 /// What a cluster chooses by.
