@@ -1,0 +1,11 @@
+//! The versions of the pools that a scenario's document means: written out, or by difference from one before.
+#![tactic(auto)]
+
+mod change;
+mod changing;
+mod draft;
+mod fault;
+
+pub use change::Change;
+pub use draft::{ServiceDraft, VersionDraft};
+pub use fault::PoolsFault;
