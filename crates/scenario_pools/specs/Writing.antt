@@ -34,11 +34,15 @@ with_stated before ss t = if list_any (λ d. same_key (draft_key d) (plain_key t
 abbrev pub of_members : PlainService Member → List Member → PlainService Member
 of_members s ms = record { vip = s.vip; proto = s.proto; port = s.port; members = ms }
 
--- the first service that a draft is for, changed among the others; none where there is no such service
+-- a service with its members changed
+abbrev pub changed_one : PlainServiceDraft → PlainService Member → Option (PlainService Member)
+changed_one d s = option_map (of_members s) (changed d.changes s.members)
+
+-- services, of which the first that a draft is for is changed; none where there is no such service
 abbrev pub with_changed : PlainServiceDraft → List (PlainService Member) → Option (List (PlainService Member))
 with_changed d [] = None
 with_changed d (s ∷ ss) = if same_key (draft_key d) (plain_key s)
-    then option_map (λ ms. of_members s ms ∷ ss) (changed d.changes s.members)
+    then option_map (λ t. t ∷ ss) (changed_one d s)
     else option_map (λ rest. s ∷ rest) (with_changed d ss)
 
 -- services with a draft, which has these words or is of changes
@@ -46,10 +50,13 @@ abbrev pub with_words : List PlainServiceDraft → PlainServiceDraft → List (P
 with_words before d ss None = with_changed d ss
 with_words before d ss (Some words) = option_map (with_stated before ss) (stated_with d words)
 
+abbrev pub with_draft : List PlainServiceDraft → PlainServiceDraft → List (PlainService Member) → Option (List (PlainService Member))
+with_draft before d ss = with_words before d ss d.members
+
 -- services with drafts, one after another
 abbrev pub with_drafts : List PlainServiceDraft → List PlainServiceDraft → List (PlainService Member) → Option (List (PlainService Member))
 with_drafts before [] ss = Some ss
-with_drafts before (d ∷ ds) ss = option_and_then (with_drafts (before ++ d ∷ []) ds) (with_words before d ss d.members)
+with_drafts before (d ∷ ds) ss = option_and_then (with_drafts (before ++ d ∷ []) ds) (with_draft before d ss)
 
 -- a version with these services
 abbrev pub numbered_with : ℕ → List (PlainService Member) → PlainVersion Member

@@ -1,6 +1,7 @@
 //! The versions of the pools that a scenario's document means: written out, or by difference from one before.
 #![tactic(auto)]
 
+mod basing;
 mod change;
 mod changing;
 mod draft;
