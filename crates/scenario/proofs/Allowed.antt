@@ -11,7 +11,7 @@ use Rattle.scenario.specs.Told.{PlainTold, once, each, at_node, steps_said, coun
 use Rattle.scenario.specs.Meaning.{PlainDraft, PlainScenario, rules_of, with_steps, with_pools, with_versions, with_draft, with_format, plan_of_draft, plan_of, format_of, Means}
 use Rattle.scenario.specs.declared.playing.Played.{Played}
 use Rattle.scenario.specs.declared.playing.Played.TheVariants.{InTurn, OnThreads}
-use Rattle.scenario.specs.declared.formats.Format.{Format}
+use Rattle.scenario_keys.specs.declared.formats.Format.{Format}
 use Rattle.scenario.specs.declared.told.EachNode.{EachNode}
 use Rattle.scenario.specs.declared.told.EachNode.TheVariants as node
 use Rattle.scenario.specs.declared.told.StepRules.{StepRules}

@@ -5,13 +5,13 @@ use Rattle.std.specs.List.{position_or_len}
 use Rattle.std.specs.Option.{option_or}
 use Rattle.std.proofs.lemmas.Bool.{le-leb}
 use Rattle.maglev_texts.specs.Parsing.{pieces}
-use Rattle.scenario.specs.Lookups.{all_of}
+use Rattle.scenario_keys.specs.Lookups.{all_of}
 use Rattle.scenario.specs.Steps.{PlainStep, kind_of, step_of, allows}
 use Rattle.scenario.specs.Told.{PlainTold, once, count_said, allows_told, starred_in, told_by, told_by_words, told_of, after, said_before, steps_of}
 use Rattle.scenario.specs.Alike.{step_of_words, step_for, one_by_one, TextsAreSteps}
 use Rattle.scenario.specs.declared.step.Kind.{Kind}
-use Rattle.scenario.specs.declared.formats.Format.{Format}
-use Rattle.scenario.specs.declared.formats.Format.TheVariants.{One, Two, Three}
+use Rattle.scenario_keys.specs.declared.formats.Format.{Format}
+use Rattle.scenario_keys.specs.declared.formats.Format.TheVariants.{One, Two, Three}
 use Rattle.scenario.specs.declared.told.StepRules.{StepRules}
 
 -- no star is said

@@ -1,6 +1,4 @@
-pub mod Lookups
-pub mod Words
-pub mod Keys
+pub mod Setup
 pub mod Steps
 pub mod Told
 pub mod Plain

@@ -10,15 +10,13 @@ ghost use Rattle.scenario.specs.Meaning.{pools_of, IsDocument, IsRefused, IsDraf
 use crate::building::{catalogue_of, versions_of};
 use crate::draft::{Draft, draft_in};
 use crate::fault::ScenarioFault;
-use crate::formats::{Format, format_of};
 use crate::playing::Played;
 use crate::told::{StepRules, add_told, told_of};
-use crate::values::MOST_STEPS;
-use crate::words::{SchemeKind, SpreadKind};
 use backend_names::TableSize;
 use event_trace::ScenarioStep;
 use hash_laws::AnyHash;
 use pool_versions::{Catalogue, PoolFault, Version};
+use scenario_keys::{Format, MOST_STEPS, SchemeKind, SpreadKind, format_of};
 use std::alloc::{AllocError, Global};
 use toml::Table;
 

@@ -4,11 +4,11 @@ ghost use Rattle.std.specs.List.{range_with_len};
 ghost use Rattle.scenario.specs.Steps.{plain_step};
 ghost use Rattle.scenario.specs.Told.{at_node, count_said, install_each, is_star, plain_told, starred, starred_in, steps_said, told_by, told_by_words, told_of, allows_told};
 
-use crate::formats::Format;
 use crate::playing::Played;
 use crate::step::{GREATEST, Kind, is_word, kind_of, step_of};
 use event_trace::ScenarioStep;
 use maglev_texts::{decimal, pieces};
+use scenario_keys::Format;
 use std::alloc::{AllocError, Global};
 
 /// What steps are read by: the format, how the scenario is played, and how many nodes and workers a node there are.

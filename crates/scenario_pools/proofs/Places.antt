@@ -1,10 +1,13 @@
 -- Services at the place of the first that is for some flows.
-use Rattle.std.proofs.Common.{◌≡◌, ℕ, ◌+◌, ◌<◌, ◌≤◌, Bool, true, false, not, cond, List, [], ◌∷◌, ◌++◌, length, get_or, Option, Some, None, option_map, refl, sym, ap, ◌∙◌, arith, suc}
+use Rattle.std.proofs.Common.{◌≡◌, ℕ, ◌+◌, ◌<◌, ◌≤◌, Bool, true, false, not, cond, List, [], ◌∷◌, ◌++◌, length, get_or, map, Option, Some, None, option_map, refl, sym, ap, ◌∙◌, arith, suc}
 use Rattle.std.specs.List.{position_or_len}
-use Rattle.std.proofs.Math.ListN.{set}
+use Rattle.std.proofs.Math.ListN.{set, get_or-map}
+use Rattle.std.proofs.lemmas.List.{length-map, map-append, map-set}
 use Rattle.pool_versions.specs.declared.backend.Member.{Member}
+use Rattle.pool_versions.specs.declared.service.Service.{Service}
+use Rattle.pool_versions.specs.declared.key.ServiceKey.{ServiceKey}
 use Rattle.pool_versions.specs.Pool.{same_key}
-use Rattle.scenario_pools.specs.Plain.{PlainService, plain_key}
+use Rattle.scenario_pools.specs.Plain.{PlainService, plain_service, plain_key}
 use Rattle.scenario_pools.specs.Drafts.{PlainServiceDraft, draft_key}
 use Rattle.scenario_pools.specs.Writing.{placed, changed_one, with_changed}
 
@@ -78,3 +81,45 @@ missing_step false n d s ss above rest = ap (option_map (λ (l : List (PlainServ
 pub none_changed : (d : PlainServiceDraft) (ss : List (PlainService Member)) → length ss ≤ place_by d ss → with_changed d ss ≡ None
 none_changed d [] above = refl
 none_changed d (s ∷ ss) above = missing_step (same_key (draft_key d) (plain_key s)) (place_by d ss) d s ss above (none_changed d ss)
+
+-- a service of the code at its place
+pub put_at : (key : ServiceKey) (t : Service) (xs : List Service) (k : ℕ) → k ≡ position_or_len (λ s. same_key key (plain_key s)) (map plain_service xs) → key ≡ plain_key (plain_service t) → k < length xs
+    → map plain_service (set xs k t) ≡ placed (plain_service t) (map plain_service xs)
+put_at key t xs k is named below =
+    let at : k ≡ place_for (plain_service t) (map plain_service xs) = is ∙ ap (λ (q : ServiceKey). position_or_len (λ s. same_key q (plain_key s)) (map plain_service xs)) named in
+    let long : length (map plain_service xs) ≡ length xs = length-map xs plain_service in
+    let h : place_for (plain_service t) (map plain_service xs) < length (map plain_service xs) = omega (arith, at, long, below) in
+    map-set plain_service xs k t ∙ ap (λ (n : ℕ). set (map plain_service xs) n (plain_service t)) at ∙ sym (placed_at (plain_service t) (map plain_service xs) h)
+
+-- and behind all
+pub put_behind : (key : ServiceKey) (t : Service) (xs : List Service) (k : ℕ) → k ≡ position_or_len (λ s. same_key key (plain_key s)) (map plain_service xs) → key ≡ plain_key (plain_service t) → length xs ≤ k
+    → map plain_service (xs ++ t ∷ []) ≡ placed (plain_service t) (map plain_service xs)
+put_behind key t xs k is named above =
+    let at : k ≡ place_for (plain_service t) (map plain_service xs) = is ∙ ap (λ (q : ServiceKey). position_or_len (λ s. same_key q (plain_key s)) (map plain_service xs)) named in
+    let long : length (map plain_service xs) ≡ length xs = length-map xs plain_service in
+    let h : length (map plain_service xs) ≤ place_for (plain_service t) (map plain_service xs) = omega (arith, at, long, above) in
+    map-append plain_service xs (t ∷ []) ∙ sym (placed_behind (plain_service t) (map plain_service xs) h)
+
+set_mapped : (xs : List Service) (k : ℕ) (o : Option Service) → option_map (λ t. map plain_service (set xs k t)) o ≡ option_map (set (map plain_service xs) k) (option_map plain_service o)
+set_mapped xs k None = refl
+set_mapped xs k (Some t) = ap Some (map-set plain_service xs k t)
+
+-- a service of the code is changed at its place
+pub change_at : (d : PlainServiceDraft) (key : ServiceKey) (x : Service) (xs : List Service) (k : ℕ) (o : Option Service) → k ≡ position_or_len (λ s. same_key key (plain_key s)) (map plain_service xs) → key ≡ draft_key d → k < length xs
+    → x ≡ get_or xs k x → option_map plain_service o ≡ changed_one d (plain_service x) → option_map (λ t. map plain_service (set xs k t)) o ≡ with_changed d (map plain_service xs)
+change_at d key x xs k o is named below there one =
+    let at : k ≡ place_by d (map plain_service xs) = is ∙ ap (λ (q : ServiceKey). position_or_len (λ s. same_key q (plain_key s)) (map plain_service xs)) named in
+    let long : length (map plain_service xs) ≡ length xs = length-map xs plain_service in
+    let h : place_by d (map plain_service xs) < length (map plain_service xs) = omega (arith, at, long, below) in
+    let found : get_or (map plain_service xs) k (plain_service x) ≡ plain_service x = get_or-map plain_service xs k x ∙ ap plain_service (sym there) in
+    set_mapped xs k o
+    ∙ ap (option_map (set (map plain_service xs) k)) (one ∙ ap (changed_one d) (sym found))
+    ∙ ap (λ (n : ℕ). option_map (set (map plain_service xs) n) (changed_one d (get_or (map plain_service xs) n (plain_service x)))) at
+    ∙ sym (changed_at d (plain_service x) (map plain_service xs) h)
+
+-- no service of the code is changed
+pub change_none : (d : PlainServiceDraft) (key : ServiceKey) (xs : List Service) (k : ℕ) → k ≡ position_or_len (λ s. same_key key (plain_key s)) (map plain_service xs) → key ≡ draft_key d → length xs ≤ k → with_changed d (map plain_service xs) ≡ None
+change_none d key xs k is named above =
+    let at : k ≡ place_by d (map plain_service xs) = is ∙ ap (λ (q : ServiceKey). position_or_len (λ s. same_key q (plain_key s)) (map plain_service xs)) named in
+    let long : length (map plain_service xs) ≡ length xs = length-map xs plain_service in
+    none_changed d (map plain_service xs) (omega (arith, at, long, above))

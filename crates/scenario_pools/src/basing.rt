@@ -1,5 +1,5 @@
 //! Services of a version from those of its base.
-ghost use Rattle.std.specs.Prelude.{◌≡◌, ◌≤◌, if◌then◌else◌, [], length, map, option_map, IfOk};
+ghost use Rattle.std.specs.Prelude.{◌≡◌, ◌≤◌, ◌++◌, ◌∷◌, Some, None, if◌then◌else◌, [], length, map, option_map, IfOk};
 ghost use Rattle.std.specs.List.{list_any, position_or_len};
 ghost use Rattle.pool_versions.specs.Pool.{same_key};
 ghost use Rattle.scenario_pools.specs.Plain.{plain_service, plain_key, all_of};
@@ -79,6 +79,15 @@ fn place_of(key: &ServiceKey, services: &[Service]) -> usize
     services.len()
 }
 
+fn append(services: &mut Vec<Service>, service: Service) -> Result<(), AllocError>
+    ensures { IfOk result (λ _. services.new.items ≡ services.old.items ++ service ∷ []) }
+{
+    let Ok(()) = services.push(service) else {
+        return Err(AllocError);
+    };
+    Ok(())
+}
+
 // Puts a service in the place of the first of its key, behind all where there is none.
 fn place(services: &mut Vec<Service>, service: Service) -> Result<(), AllocError>
     ensures { IfOk result (λ _. map plain_service services.new.items ≡ placed (plain_service service) (map plain_service services.old.items)) }
@@ -88,9 +97,9 @@ fn place(services: &mut Vec<Service>, service: Service) -> Result<(), AllocError
         services[place] = service;
         Ok(())
     } else {
-        match services.push(service) {
+        match append(services, service) {
             Ok(()) => Ok(()),
-            Err(_) => Err(AllocError),
+            Err(e) => Err(e),
         }
     }
 }
@@ -104,12 +113,15 @@ fn add_stated(
     ensures { IfOk result (λ _. map plain_service services.new.items ≡ with_stated (map plain_service_draft before.now) (map plain_service services.old.items) (plain_service service)) }
 {
     if some_is_for(&service.key(), before) {
-        match services.push(service) {
+        match append(services, service) {
             Ok(()) => Ok(()),
-            Err(_) => Err(AllocError),
+            Err(e) => Err(e),
         }
     } else {
-        place(services, service)
+        match place(services, service) {
+            Ok(()) => Ok(()),
+            Err(e) => Err(e),
+        }
     }
 }
 
