@@ -135,8 +135,8 @@ most_places = 1048576
 unfoldable pub versions_of : List PlainVersionDraft → Result (List (PlainVersion Member)) PoolsFault
 versions_of ds = written_behind most_places [] ds
 
--- why drafts are refused
-abbrev pub AreRefused : List PlainVersionDraft → PoolsFault → Type 0
-AreRefused ds fault.Memory = ⊤
-AreRefused ds fault.BadMember = versions_of ds ≡ Err fault.BadMember
-AreRefused ds fault.TooMany = versions_of ds ≡ Err fault.TooMany
+-- a fault of the code is that of the meaning, or memory was refused
+abbrev pub IsRefused : {A : Type 0} → Result A PoolsFault → PoolsFault → Type 0
+IsRefused r fault.Memory = ⊤
+IsRefused r fault.BadMember = r ≡ Err fault.BadMember
+IsRefused r fault.TooMany = r ≡ Err fault.TooMany

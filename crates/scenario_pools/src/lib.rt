@@ -6,7 +6,11 @@ mod change;
 mod changing;
 mod draft;
 mod fault;
+mod laws;
+mod writing;
 
 pub use change::Change;
 pub use draft::{ServiceDraft, VersionDraft};
 pub use fault::PoolsFault;
+pub use laws::differences_are_written_out;
+pub use writing::{MOST_PLACES, versions_of};
