@@ -1,5 +1,6 @@
 -- Differences are written out.
 use Rattle.std.proofs.Common.{◌≡◌, ℕ, List, [], ◌∷◌, ◌++◌, map, Option, Some, None, Result, Ok, Err, option_map, option_and_then, refl, sym, ap, ◌∙◌, append_assoc}
+use Rattle.std.proofs.lemmas.List.{append-nil}
 use Rattle.std.specs.Option.{ok_or}
 use Rattle.pool_versions.specs.declared.backend.Member.{Member}
 use Rattle.scenario_pools.specs.Plain.{PlainService, PlainVersion, all_of, service_of, version_of}
@@ -33,7 +34,7 @@ then_rest room earlier None vs rest = refl
 then_rest room earlier (Some v) vs rest = rest (left_by_version room v) (earlier ++ v ∷ []) ∙ one_more earlier v (all_of version_of vs)
 
 whole_behind : (room : ℕ) (earlier : List (PlainVersion Member)) (vs : List (PlainVersion (Option Member))) → written_behind room earlier (map whole_version vs) ≡ behind earlier (all_of version_of vs)
-whole_behind room earlier [] = ap Ok (sym (append_nil earlier))
+whole_behind room earlier [] = ap Ok (sym (append-nil earlier))
 whole_behind room earlier (v ∷ vs) =
     ap (λ r. after_version r (λ v. written_behind (left_by_version room v) (earlier ++ v ∷ []) (map whole_version vs))) (whole_out room earlier v)
     ∙ then_rest room earlier (version_of v) vs (λ room earlier. whole_behind room earlier vs)

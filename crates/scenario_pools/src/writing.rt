@@ -169,8 +169,8 @@ fn based(
     draft: &VersionDraft,
     base: Option<&Version>,
 ) -> Result<Version, PoolsFault>
-    ensures ok { IfOk result (λ v. based room (plain_version_draft draft.now) (option_map (λ b. plain_version b.now) base) ≡ Ok (plain_version v)) }
-    ensures refused { IfErr result (IsRefused (based room (plain_version_draft draft.now) (option_map (λ b. plain_version b.now) base))) }
+    ensures ok { IfOk result (λ v. based room (plain_version_draft draft.now) (option_map (λ b. plain_version b.now) base.entry) ≡ Ok (plain_version v)) }
+    ensures refused { IfErr result (IsRefused (based room (plain_version_draft draft.now) (option_map (λ b. plain_version b.now) base.entry))) }
 {
     let Some(base) = base else {
         return Err(PoolsFault::BadMember);
