@@ -2,7 +2,8 @@
 use Rattle.std.specs.Prelude.{◌≡◌, List, map, Option, Some, Ok}
 use Rattle.std.specs.Option.{ok_or}
 use Rattle.pool_versions.specs.declared.backend.Member.{Member}
-use Rattle.scenario_pools.specs.Plain.{PlainService, PlainVersion, all_of, version_of}
+use Rattle.scenario_keys.specs.Lookups.{all_of}
+use Rattle.scenario_pools.specs.Plain.{PlainService, PlainVersion, version_of}
 use Rattle.scenario_pools.specs.Drafts.{PlainVersionDraft, whole_version}
 use Rattle.scenario_pools.specs.Writing.{versions_of}
 use Rattle.scenario_pools.specs.declared.fault.PoolsFault.TheVariants as fault

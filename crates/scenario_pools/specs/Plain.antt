@@ -1,9 +1,10 @@
 -- Services and versions as plain lists.
-use Rattle.std.specs.Prelude.{ℕ, List, [], ◌∷◌, map, Option, Some, option_and_then, option_map}
+use Rattle.std.specs.Prelude.{ℕ, List, map, Option, option_map}
 use Rattle.pool_versions.specs.declared.backend.Member.{Member}
 use Rattle.pool_versions.specs.declared.service.Service.{Service}
 use Rattle.pool_versions.specs.declared.service.Version.{Version}
 use Rattle.pool_versions.specs.declared.key.ServiceKey.{ServiceKey}
+use Rattle.scenario_keys.specs.Lookups.{all_of}
 
 -- a service and a version, with plain lists
 pub record PlainService (M : Type 0) : Type 0 where
@@ -25,11 +26,6 @@ plain_version v = record { number = v.number; services = map plain_service v.ser
 -- what distinguishes a service
 abbrev pub plain_key : PlainService Member → ServiceKey
 plain_key s = record { vip = s.vip; proto = s.proto; port = s.port }
-
--- what each element is, where each is something
-abbrev pub all_of : {A B : Type 0} → (A → Option B) → List A → Option (List B)
-all_of f [] = Some []
-all_of f (a ∷ as') = option_and_then (λ b. option_map (λ rest. b ∷ rest) (all_of f as')) (f a)
 
 -- a service and a version, where each of their words is a member
 abbrev pub service_of : PlainService (Option Member) → Option (PlainService Member)

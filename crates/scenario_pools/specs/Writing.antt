@@ -5,7 +5,8 @@ use Rattle.std.specs.Option.{ok_or}
 use Rattle.pool_versions.specs.declared.backend.Member.{Member}
 use Rattle.pool_versions.specs.declared.key.ServiceKey.{ServiceKey}
 use Rattle.pool_versions.specs.Pool.{same_key}
-use Rattle.scenario_pools.specs.Plain.{PlainService, PlainVersion, plain_key, all_of}
+use Rattle.scenario_keys.specs.Lookups.{all_of}
+use Rattle.scenario_pools.specs.Plain.{PlainService, PlainVersion, plain_key}
 use Rattle.scenario_pools.specs.Changes.{changed_name, changed, all_changed}
 use Rattle.scenario_pools.specs.Drafts.{PlainServiceDraft, PlainVersionDraft, draft_key}
 use Rattle.scenario_pools.specs.declared.change.Change.{Change}

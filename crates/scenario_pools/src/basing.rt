@@ -2,7 +2,8 @@
 ghost use Rattle.std.specs.Prelude.{◌≡◌, ◌≤◌, ◌++◌, ◌∷◌, Some, None, if◌then◌else◌, [], length, map, option_map, IfOk};
 ghost use Rattle.std.specs.List.{list_any, position_or_len};
 ghost use Rattle.pool_versions.specs.Pool.{same_key};
-ghost use Rattle.scenario_pools.specs.Plain.{plain_service, plain_key, all_of};
+ghost use Rattle.scenario_keys.specs.Lookups.{all_of};
+ghost use Rattle.scenario_pools.specs.Plain.{plain_service, plain_key};
 ghost use Rattle.scenario_pools.specs.Drafts.{plain_service_draft, draft_key};
 ghost use Rattle.scenario_pools.specs.Writing.{stated_with, placed, with_stated, changed_one, with_changed, with_draft, with_drafts};
 

@@ -7,10 +7,12 @@ mod changing;
 mod draft;
 mod fault;
 mod laws;
+mod words;
 mod writing;
 
 pub use change::Change;
 pub use draft::{ServiceDraft, VersionDraft};
 pub use fault::PoolsFault;
 pub use laws::differences_are_written_out;
+pub use words::{change_in, member_in, served_member, servers_in};
 pub use writing::{MOST_PLACES, versions_of};

@@ -1,7 +1,8 @@
 //! The versions that drafts mean, written out.
 ghost use Rattle.std.specs.Prelude.{◌≡◌, ◌+◌, ◌==◌, Ok, length, map, find, option_map, is_some, IfOk, IfErr};
 ghost use Rattle.pool_versions.specs.Pool.{same_key};
-ghost use Rattle.scenario_pools.specs.Plain.{plain_service, plain_version, all_of};
+ghost use Rattle.scenario_keys.specs.Lookups.{all_of};
+ghost use Rattle.scenario_pools.specs.Plain.{plain_service, plain_version};
 ghost use Rattle.scenario_pools.specs.Drafts.{plain_service_draft, plain_version_draft};
 ghost use Rattle.scenario_pools.specs.Writing.{stated, stated_version, version_from, left, left_by_services, left_by_drafts, left_by_version, additions, is_addition, brought, has_room, based, written_out, versions_of, IsRefused};
 

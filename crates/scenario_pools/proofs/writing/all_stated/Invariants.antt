@@ -1,5 +1,6 @@
 use Rattle.std.proofs.Common.{◌≡◌, ◌++◌, drop, map, option_map}
-use Rattle.scenario_pools.specs.Plain.{plain_service, all_of}
+use Rattle.scenario_keys.specs.Lookups.{all_of}
+use Rattle.scenario_pools.specs.Plain.{plain_service}
 use Rattle.scenario_pools.specs.Drafts.{plain_service_draft}
 use Rattle.scenario_pools.specs.Writing.{stated}
 use Rattle.scenario_pools.proofs.writing.all_stated.Given as goal
