@@ -1,5 +1,6 @@
 -- Versions as a document holds them: each text is there, whatever it says.
-use Rattle.std.specs.Prelude.{ℕ, List, [], map, Option, Some, None, option_map}
+use Rattle.std.specs.Prelude.{ℕ, List, [], map, Option, Some, None, option_map, Vec}
+use Rattle.std.specs.declared.alloc.Global.{Global}
 use Rattle.pool_versions.specs.declared.backend.Member.{Member}
 use Rattle.pool_versions.specs.declared.key.ServiceKey.{ServiceKey}
 use Rattle.scenario_pools.specs.Plain.{PlainService, PlainVersion}
@@ -24,6 +25,9 @@ pub record PlainVersionDraft : Type 0 where
 
 abbrev pub plain_service_draft : ServiceDraft → PlainServiceDraft
 plain_service_draft s = record { vip = s.vip; proto = s.proto; port = s.port; members = option_map (λ v. v.items) s.members; changes = s.changes.items }
+
+abbrev pub plain_service_drafts : Vec ServiceDraft Global → List PlainServiceDraft
+plain_service_drafts v = map plain_service_draft v.items
 
 abbrev pub plain_version_draft : VersionDraft → PlainVersionDraft
 plain_version_draft v = record { number = v.number; base = v.base; changes = v.changes.items; services = map plain_service_draft v.services.items }

@@ -14,6 +14,7 @@ use Rattle.scenario_keys.specs.declared.formats.Format.{Format}
 use Rattle.scenario_pools.specs.Words.{member_in, change_in, change_keys, servers_in}
 use Rattle.scenario_pools.specs.Drafts.{PlainServiceDraft, PlainVersionDraft}
 use Rattle.scenario_pools.specs.declared.change.Change.{Change}
+use Rattle.scenario_pools.specs.declared.services.Parts.{Parts as CodeParts}
 
 -- a text, as the member that it is, if it is one
 abbrev pub word_of : Format → List Backend → Data → Option (Option Member)
@@ -47,9 +48,16 @@ of_members words = record { members = Some words; changes = [] }
 abbrev pub of_changes : List (Option Change) → Parts
 of_changes changes = record { members = None; changes = changes }
 
+abbrev pub plain_parts : CodeParts → Parts
+plain_parts p = record { members = option_map (λ v. v.items) p.members; changes = p.changes.items }
+
+-- the members that an array of words is
+abbrev pub members_in : Format → List Backend → Data → Option Parts
+members_in f servers d = option_map of_members (option_and_then (all_items (word_of f servers)) (as_array d))
+
 -- members, and no key of changes; or changes, where the version has a base
 abbrev pub parts_by : Format → List Backend → Bool → Members → Option Data → Option Parts
-parts_by f servers based ms (Some d) = if has_change_key ms then None else option_map of_members (option_and_then (all_items (word_of f servers)) (as_array d))
+parts_by f servers based ms (Some d) = if has_change_key ms then None else members_in f servers d
 parts_by f servers true ms None = option_map of_changes (changes_of servers change_keys ms)
 parts_by f servers false ms None = None
 
@@ -69,12 +77,16 @@ service_draft f servers based ms =
 abbrev pub service_in : Format → List Backend → Bool → Data → Option PlainServiceDraft
 service_in f servers based d = option_and_then (λ ms. if has_only (service_keys f) ms then service_draft f servers based ms else None) (as_table d)
 
+-- the services of a version without a base
+abbrev pub services_at : Format → List Backend → Members → Option (List PlainServiceDraft)
+services_at f servers ms = option_and_then (all_items (service_in f servers false)) (items_at (key_name key.Services) ms)
+
 -- a version without a base, which has services and no key of changes
 abbrev pub whole_draft : Format → List Backend → ℕ → Members → Option PlainVersionDraft
 whole_draft f servers number ms =
     if has_change_key ms then None else
     option_map (λ services. record { number = number; base = None; changes = []; services = services })
-    (option_and_then (all_items (service_in f servers false)) (items_at (key_name key.Services) ms))
+    (services_at f servers ms)
 
 -- the services of a version with a base, none where the key is missing
 abbrev pub services_if : Format → List Backend → Members → Option (List PlainServiceDraft)

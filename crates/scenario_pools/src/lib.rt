@@ -3,14 +3,17 @@
 
 mod basing;
 mod change;
+mod changes;
 mod changing;
 mod draft;
 mod fault;
 mod laws;
+mod services;
 mod words;
 mod writing;
 
 pub use change::Change;
+pub use changes::{CHANGE_KEYS, has_change_key};
 pub use draft::{ServiceDraft, VersionDraft};
 pub use fault::PoolsFault;
 pub use laws::differences_are_written_out;
