@@ -32,6 +32,9 @@ plain_service_drafts v = map plain_service_draft v.items
 abbrev pub plain_version_draft : VersionDraft → PlainVersionDraft
 plain_version_draft v = record { number = v.number; base = v.base; changes = v.changes.items; services = map plain_service_draft v.services.items }
 
+abbrev pub plain_version_drafts : Vec VersionDraft Global → List PlainVersionDraft
+plain_version_drafts v = map plain_version_draft v.items
+
 -- what distinguishes the service that a draft is for
 abbrev pub draft_key : PlainServiceDraft → ServiceKey
 draft_key d = record { vip = d.vip; proto = d.proto; port = d.port }
