@@ -12,7 +12,7 @@ use Rattle.pool_versions.specs.declared.catalogue.PoolFault.{PoolFault}
 use Rattle.pool_versions.specs.declared.catalogue.PoolFault.TheVariants as pool
 use Rattle.scenario.specs.Plain.{PlainVersion, plain_service, plain_version, same_flows, names_double, is_long, passes_limit, services_refused, version_refused, first_refused}
 use Rattle.scenario.specs.Meaning.{IsPoolRefused}
-use Rattle.scenario.proofs.Views.{any_of_mapped}
+use Rattle.scenario_keys.proofs.Views.{any_of_mapped}
 
 found_step : (b : Bool) (v : Version) (o : Option Version) (c : Bool) → is_some o ≡ c → is_some (cond b (Some v) o) ≡ (b || c)
 found_step true v o c e = refl

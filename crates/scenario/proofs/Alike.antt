@@ -1,27 +1,29 @@
 -- A document of a format means the same in each later one.
 use Rattle.std.proofs.Common.{◌≡◌, ℕ, Bool, true, false, List, ◌∷◌, codes, Option, Some, None, Result, Ok, Err, length, ◌-◌, [], option_map, option_and_then, refl, sym, ap, ◌∙◌}
-use Rattle.std.specs.Prelude.{if◌then◌else◌, nat_eq, nat_le}
+use Rattle.std.specs.Prelude.{if◌then◌else◌, nat_le}
 use Rattle.std.specs.Option.{option_or}
-use Rattle.std.specs.List.{list_any}
-use Rattle.std.specs.Cmp.Lexicographic.{pointwise}
-use Rattle.std.proofs.lemmas.Bool.{and_parts, and_from, or_right}
-use Rattle.toml.specs.Data.{Data, Items, no_items, item, Members, no_members, member, as_str, as_table}
+use Rattle.toml.specs.Data.{Data, Items, no_items, item, Members, as_str, as_table}
 use Rattle.pool_versions.specs.declared.backend.Member.{Member}
 use Rattle.maglev_texts.specs.Parsing.{address_of, pieces}
 use Rattle.maglev_texts.proofs.WeighedTexts.{words_mean_the_same}
 use Rattle.maglev_texts.proofs.StatedTexts.{weighed_words_mean_the_same}
 use Rattle.pool_versions.specs.declared.catalogue.PoolFault.{PoolFault}
-use Rattle.scenario.specs.Lookups.{number_at, text_at, items_at, all_items, all_of, has_only}
-use Rattle.scenario.specs.Words.{protocol_of_word, choices_of, limits_of}
+use Rattle.scenario_keys.specs.Lookups.{text_at, items_at, all_items, all_of, has_only}
+use Rattle.scenario_keys.specs.Words.{protocol_of_word}
+use Rattle.scenario.specs.Setup.{choices_of, limits_of}
 use Rattle.scenario.specs.Plain.{PlainService, PlainVersion, first_refused}
 use Rattle.scenario.specs.Steps.{PlainStep, kind_of, step_of}
-use Rattle.scenario.specs.Told.{PlainTold, once, steps_said, count_said, starred_in, told_by, told_by_words, allows_told, told_of, after, said_before, steps_of}
-use Rattle.scenario.specs.Drafts.{service_keys, version_keys, member_in, word_of, service_draft, service_in, version_draft, version_in}
-use Rattle.scenario.specs.Meaning.{PlainDraft, PlainScenario, common_keys, root_keys, nodes_of, versions_in, steps_in, draft_of, draft_in, service_of, version_of, rules_of, with_steps, with_pools, with_versions, with_draft, with_format, plan_of_draft, plan_of}
+use Rattle.scenario.specs.Told.{PlainTold, once, steps_said, count_said, newer_in, told_by, told_by_words, allows_told, told_of, after, said_before, steps_of}
+use Rattle.scenario.specs.Drafts.{member_in, word_of, service_draft, service_in, version_draft, version_in}
+use Rattle.scenario.specs.Meaning.{PlainDraft, PlainScenario, nodes_of, versions_in, steps_in, draft_of, draft_in, service_of, version_of, rules_of, with_steps, with_pools, with_versions, with_draft, with_format, plan_of_draft, plan_of}
+use Rattle.scenario_keys.specs.Keys.{key_name, number_of, root_keys, version_keys, service_keys, has}
+use Rattle.scenario_keys.proofs.KeyNames.{keys_grow}
+use Rattle.scenario_keys.specs.declared.key.Key.TheVariants as key
+use Rattle.scenario_keys.specs.declared.key.Owner.TheVariants as owner
 use Rattle.scenario.specs.Alike.{IsLater, AreAlike, FormatsMeanTheSame}
 use Rattle.scenario.specs.declared.playing.Played.{Played}
-use Rattle.scenario.specs.declared.formats.Format.{Format}
-use Rattle.scenario.specs.declared.formats.Format.TheVariants.{One, Two, Three}
+use Rattle.scenario_keys.specs.declared.formats.Format.{Format}
+use Rattle.scenario_keys.specs.declared.formats.Format.TheVariants.{One, Two, Three}
 use Rattle.scenario.specs.declared.step.Kind.{Kind}
 use Rattle.scenario.specs.declared.told.StepRules.{StepRules}
 use Rattle.scenario.specs.declared.setup.Choices.{Choices}
@@ -87,16 +89,34 @@ service_members (Some x) (Some y) (Some z) (Some ms) s h = made x y z ms s h
 service_draft_same : (f g : Format) → IsLater f g → (ms : Members) (s : PlainService (Option Member)) (t : PlainService Member) → service_draft f ms ≡ Some s → service_of s ≡ Some t → service_draft g ms ≡ Some s
 unfolding service_draft
 service_draft_same f g later ms s t h k =
-    let members : option_and_then (all_items (word_of f)) (items_at (codes "members") ms) ≡ Some s.members =
-    service_members (option_and_then address_of (text_at (codes "vip") ms)) (option_and_then protocol_of_word (text_at (codes "proto") ms)) (number_at 0 65535 (codes "port") ms) (option_and_then (all_items (word_of f)) (items_at (codes "members") ms)) s h in
+    let members : option_and_then (all_items (word_of f)) (items_at (key_name key.Members) ms) ≡ Some s.members =
+    service_members (option_and_then address_of (text_at (key_name key.Vip) ms)) (option_and_then protocol_of_word (text_at (key_name key.Proto) ms)) (number_of key.Port ms) (option_and_then (all_items (word_of f)) (items_at (key_name key.Members) ms)) s h in
     let good = mapped (λ (members : List Member). let v : PlainService Member = record { vip = s.vip; proto = s.proto; port = s.port; members = members } in v) (all_of (λ o. o) s.members) t k in
-    ap (made_service (option_and_then address_of (text_at (codes "vip") ms)) (option_and_then protocol_of_word (text_at (codes "proto") ms)) (number_at 0 65535 (codes "port") ms))
-    (under_items (word_of f) (word_of g) (λ o. o) (λ d x m h k. word_same f g later (as_str d) x m h k) (items_at (codes "members") ms) s.members good.0 members good.1)
+    ap (made_service (option_and_then address_of (text_at (key_name key.Vip) ms)) (option_and_then protocol_of_word (text_at (key_name key.Proto) ms)) (number_of key.Port ms))
+    (under_items (word_of f) (word_of g) (λ o. o) (λ d x m h k. word_same f g later (as_str d) x m h k) (items_at (key_name key.Members) ms) s.members good.0 members good.1)
     ∙ h
 
-when_only : {A : Type 0} (b : Bool) (o o' : Option A) (a : A) → (o ≡ Some a → o' ≡ Some a) → (if b then o else None) ≡ Some a → (if b then o' else None) ≡ Some a
-when_only true o o' a same h = same h
-when_only false o o' a same h = absurd cc
+when_both : {A : Type 0} (b c : Bool) (o o' : Option A) (a : A) → (b ≡ true → c ≡ true) → (o ≡ Some a → o' ≡ Some a) → (if b then o else None) ≡ Some a → (if c then o' else None) ≡ Some a
+when_both false c o o' a more same h = absurd cc
+when_both true c o o' a more same h = ap (λ (x : Bool). if x then o' else None) (more refl) ∙ same h
+
+-- a later format has what an earlier one has
+has_later : (f g : Format) → IsLater f g → (since : Format) → has f since ≡ true → has g since ≡ true
+has_later One One later since h = absurd later
+has_later One Two later One h = refl
+has_later One Two later Two h = refl
+has_later One Two later Three h = h
+has_later One Three later One h = refl
+has_later One Three later Two h = refl
+has_later One Three later Three h = refl
+has_later Two One later since h = absurd later
+has_later Two Two later since h = absurd later
+has_later Two Three later One h = refl
+has_later Two Three later Two h = refl
+has_later Two Three later Three h = refl
+has_later Three One later since h = absurd later
+has_later Three Two later since h = absurd later
+has_later Three Three later since h = absurd later
 
 in_table : {A : Type 0} (f f' : Members → Option A) (o : Option Members) (a : A) → ((ms : Members) → f ms ≡ Some a → f' ms ≡ Some a) → option_and_then f o ≡ Some a → option_and_then f' o ≡ Some a
 in_table f f' None a same h = absurd cc
@@ -104,8 +124,9 @@ in_table f f' (Some ms) a same h = same ms h
 
 service_same : (f g : Format) → IsLater f g → (d : Data) (s : PlainService (Option Member)) (t : PlainService Member) → service_in f d ≡ Some s → service_of s ≡ Some t → service_in g d ≡ Some s
 service_same f g later d s t h k =
-    in_table (λ ms. if has_only service_keys ms then service_draft f ms else None) (λ ms. if has_only service_keys ms then service_draft g ms else None) (as_table d) s
-    (λ ms. when_only (has_only service_keys ms) (service_draft f ms) (service_draft g ms) s (λ e. service_draft_same f g later ms s t e k)) h
+    in_table (λ ms. if has_only (service_keys f) ms then service_draft f ms else None) (λ ms. if has_only (service_keys g) ms then service_draft g ms else None) (as_table d) s
+    (λ ms. when_both (has_only (service_keys f) ms) (has_only (service_keys g) ms) (service_draft f ms) (service_draft g ms) s
+    (keys_grow owner.Service f g (has_later f g later) ms) (λ e. service_draft_same f g later ms s t e k)) h
 
 -- a version
 abbrev made_version : Option ℕ → Option (List (PlainService (Option Member))) → Option (PlainVersion (Option Member))
@@ -119,17 +140,18 @@ version_services (Some x) (Some ss) v h = ap (option_map (λ (w : PlainVersion (
 version_draft_same : (f g : Format) → IsLater f g → (ms : Members) (v : PlainVersion (Option Member)) (w : PlainVersion Member) → version_draft f ms ≡ Some v → version_of v ≡ Some w → version_draft g ms ≡ Some v
 unfolding version_draft
 version_draft_same f g later ms v w h k =
-    let services : option_and_then (all_items (service_in f)) (items_at (codes "services") ms) ≡ Some v.services =
-    version_services (number_at 0 4294967295 (codes "number") ms) (option_and_then (all_items (service_in f)) (items_at (codes "services") ms)) v h in
+    let services : option_and_then (all_items (service_in f)) (items_at (key_name key.Services) ms) ≡ Some v.services =
+    version_services (number_of key.Number ms) (option_and_then (all_items (service_in f)) (items_at (key_name key.Services) ms)) v h in
     let good = mapped (λ (services : List (PlainService Member)). let u : PlainVersion Member = record { number = v.number; services = services } in u) (all_of service_of v.services) w k in
-    ap (made_version (number_at 0 4294967295 (codes "number") ms))
-    (under_items (service_in f) (service_in g) service_of (service_same f g later) (items_at (codes "services") ms) v.services good.0 services good.1)
+    ap (made_version (number_of key.Number ms))
+    (under_items (service_in f) (service_in g) service_of (service_same f g later) (items_at (key_name key.Services) ms) v.services good.0 services good.1)
     ∙ h
 
 version_same : (f g : Format) → IsLater f g → (d : Data) (v : PlainVersion (Option Member)) (w : PlainVersion Member) → version_in f d ≡ Some v → version_of v ≡ Some w → version_in g d ≡ Some v
 version_same f g later d v w h k =
-    in_table (λ ms. if has_only version_keys ms then version_draft f ms else None) (λ ms. if has_only version_keys ms then version_draft g ms else None) (as_table d) v
-    (λ ms. when_only (has_only version_keys ms) (version_draft f ms) (version_draft g ms) v (λ e. version_draft_same f g later ms v w e k)) h
+    in_table (λ ms. if has_only (version_keys f) ms then version_draft f ms else None) (λ ms. if has_only (version_keys g) ms then version_draft g ms else None) (as_table d) v
+    (λ ms. when_both (has_only (version_keys f) ms) (has_only (version_keys g) ms) (version_draft f ms) (version_draft g ms) v
+    (keys_grow owner.Version f g (has_later f g later) ms) (λ e. version_draft_same f g later ms v w e k)) h
 
 -- the whole
 abbrev made_draft : Option Choices → Option Limits → Option (List ℕ) → Option (List (PlainVersion (Option Member))) → Option (List (List ℕ)) → Option PlainDraft
@@ -145,39 +167,16 @@ draft_versions (Some c) (Some l) (Some n) None s d h = absurd cc
 draft_versions (Some c) (Some l) (Some n) (Some v) None d h = absurd cc
 draft_versions (Some c) (Some l) (Some n) (Some v) (Some s) d h = ap (option_map (λ (e : PlainDraft). e.versions)) h
 
--- with one key more there are no more other keys
-one_key_more : (k : List ℕ) (keys : List (List ℕ)) (ms : Members) → has_only keys ms ≡ true → has_only (k ∷ keys) ms ≡ true
-one_key_more k keys no_members h = refl
-one_key_more k keys (member l d ms) h =
-    let p = and_parts (list_any (pointwise nat_eq l) keys) (has_only keys ms) h in
-    and_from (list_any (pointwise nat_eq l) (k ∷ keys)) (has_only (k ∷ keys) ms)
-    (or_right (pointwise nat_eq l k) (list_any (pointwise nat_eq l) keys) p.0) (one_key_more k keys ms p.1)
-
-keys_grow : (f g : Format) → IsLater f g → (ms : Members) → has_only (root_keys f) ms ≡ true → has_only (root_keys g) ms ≡ true
-keys_grow One One later ms h = absurd later
-keys_grow One Two later ms h = one_key_more (codes "idle") common_keys ms h
-keys_grow One Three later ms h = one_key_more (codes "idle") common_keys ms h
-keys_grow Two One later ms h = absurd later
-keys_grow Two Two later ms h = absurd later
-keys_grow Two Three later ms h = h
-keys_grow Three One later ms h = absurd later
-keys_grow Three Two later ms h = absurd later
-keys_grow Three Three later ms h = absurd later
-
-when_both : {A : Type 0} (b c : Bool) (o o' : Option A) (a : A) → (b ≡ true → c ≡ true) → (o ≡ Some a → o' ≡ Some a) → (if b then o else None) ≡ Some a → (if c then o' else None) ≡ Some a
-when_both false c o o' a more same h = absurd cc
-when_both true c o o' a more same h = ap (λ (x : Bool). if x then o' else None) (more refl) ∙ same h
-
 -- the steps
 abbrev pub ruled : Format → Played → ℕ → ℕ → StepRules
 ruled f played nodes workers = record { format = f; played = played; nodes = nodes; workers = workers }
 
-starred_same : (f g : Format) → IsLater f g → (k : Kind) (words : List (List ℕ)) (t : PlainTold) → starred_in f k words ≡ Some t → starred_in g k words ≡ Some t
-starred_same One g later k words t h = absurd cc
-starred_same Two g later k words t h = absurd cc
-starred_same Three One later k words t h = absurd later
-starred_same Three Two later k words t h = absurd later
-starred_same Three Three later k words t h = absurd later
+newer_same : (f g : Format) → IsLater f g → (k : Kind) (words : List (List ℕ)) (t : PlainTold) → newer_in f k words ≡ Some t → newer_in g k words ≡ Some t
+newer_same One g later k words t h = absurd cc
+newer_same Two g later k words t h = absurd cc
+newer_same Three One later k words t h = absurd later
+newer_same Three Two later k words t h = absurd later
+newer_same Three Three later k words t h = absurd later
 
 either_same : (o p q : Option PlainTold) (t : PlainTold) → (p ≡ Some t → q ≡ Some t) → option_or o p ≡ Some t → option_or o q ≡ Some t
 either_same None p q t same h = same h
@@ -187,7 +186,7 @@ kind_same : (f g : Format) → IsLater f g → (played : Played) (nodes workers 
     → option_and_then (λ k. told_by (ruled f played nodes workers) k words) o ≡ Some t → option_and_then (λ k. told_by (ruled g played nodes workers) k words) o ≡ Some t
 kind_same f g later played nodes workers words None t h = absurd cc
 kind_same f g later played nodes workers words (Some k) t h =
-    either_same (option_map (λ s. once s) (step_of nodes workers k words)) (starred_in f k words) (starred_in g k words) t (starred_same f g later k words t) h
+    either_same (option_map (λ s. once s) (step_of nodes workers k words)) (newer_in f k words) (newer_in g k words) t (newer_same f g later k words t) h
 
 words_same : (f g : Format) → IsLater f g → (played : Played) (nodes workers : ℕ) (words : List (List ℕ)) (t : PlainTold) → told_by_words (ruled f played nodes workers) words ≡ Some t → told_by_words (ruled g played nodes workers) words ≡ Some t
 words_same f g later played nodes workers [] t h = absurd cc
@@ -254,7 +253,7 @@ module _ (f g : Format) (later : IsLater f g) (ms ns : Members) (a : AreAlike f 
   unfolding draft_of
   draft_of_same d vs h k =
       let held : versions_in f ms ≡ Some d.versions = draft_versions (choices_of ms) (limits_of ms) (nodes_of ms) (versions_in f ms) (steps_in ms) d h in
-      let versions : versions_in g ms ≡ versions_in f ms = under_items (version_in f) (version_in g) version_of (version_same f g later) (items_at (codes "versions") ms) d.versions vs held k in
+      let versions : versions_in g ms ≡ versions_in f ms = under_items (version_in f) (version_in g) version_of (version_same f g later) (items_at (key_name key.Versions) ms) d.versions vs held k in
       ap (λ c. made_draft c (limits_of ns) (nodes_of ns) (versions_in g ns) (steps_in ns)) choices_same
       ∙ ap (λ l. made_draft (choices_of ms) l (nodes_of ns) (versions_in g ns) (steps_in ns)) limits_same
       ∙ ap (λ n. made_draft (choices_of ms) (limits_of ms) n (versions_in g ns) (steps_in ns)) nodes_same
@@ -265,7 +264,7 @@ module _ (f g : Format) (later : IsLater f g) (ms ns : Members) (a : AreAlike f 
   draft_same : (d : PlainDraft) (vs : List (PlainVersion Member)) → draft_in f ms ≡ Some d → all_of version_of d.versions ≡ Some vs → draft_in g ns ≡ Some d
   draft_same d vs h k =
       when_both (has_only (root_keys f) ms) (has_only (root_keys g) ns) (draft_of f ms) (draft_of g ns) d
-      (λ e. keys_grow f g later ns (a.keys ∙ e)) (λ g. draft_of_same d vs g k) h
+      (λ e. keys_grow owner.Document f g (has_later f g later) ns (a.keys ∙ e)) (λ g. draft_of_same d vs g k) h
 
   with_same : (played : Played) (p : PlainScenario) (o : Option PlainDraft) → draft_in f ms ≡ o → with_draft f played o ≡ Ok p → with_draft g played (draft_in g ns) ≡ Ok p
   unfolding plan_of_draft

@@ -6,12 +6,13 @@ use Rattle.toml.specs.Data.{Members}
 use Rattle.pool_versions.specs.declared.backend.Member.{Member}
 use Rattle.pool_versions.specs.declared.catalogue.PoolFault.{PoolFault}
 use Rattle.scenario.specs.Plain.{PlainVersion}
-use Rattle.scenario.specs.Steps.{PlainStep, plain_step, allows}
+use Rattle.scenario.specs.Steps.{PlainStep, plain_timed, allows}
 use Rattle.scenario.specs.Told.{PlainTold, once, each, at_node, steps_said, count_said, allows_told, told_of, after, said_before, steps_of}
-use Rattle.scenario.specs.Meaning.{PlainDraft, PlainScenario, rules_of, with_steps, with_pools, with_versions, with_draft, with_format, plan_of_draft, plan_of, format_of, Means}
+use Rattle.scenario.specs.Meaning.{PlainDraft, PlainScenario, rules_of, with_steps, with_pools, with_versions, with_draft, with_format, plan_of_draft, plan_of, Means}
+use Rattle.scenario_keys.specs.Formats.{format_of}
 use Rattle.scenario.specs.declared.playing.Played.{Played}
 use Rattle.scenario.specs.declared.playing.Played.TheVariants.{InTurn, OnThreads}
-use Rattle.scenario.specs.declared.formats.Format.{Format}
+use Rattle.scenario_keys.specs.declared.formats.Format.{Format}
 use Rattle.scenario.specs.declared.told.EachNode.{EachNode}
 use Rattle.scenario.specs.declared.told.EachNode.TheVariants as node
 use Rattle.scenario.specs.declared.told.StepRules.{StepRules}
@@ -87,6 +88,6 @@ of_format played None ms = tt
 of_format played (Some f) ms = of_draft f played _
 
 -- of each scenario that a text means
-pub steps_allowed : (played : Played) (text : List ℕ) (s : Scenario) → Means played text s → list_all (λ p. allows played p) (map plain_step s.steps.items) ≡ true
+pub steps_allowed : (played : Played) (text : List ℕ) (s : Scenario) → Means played text s → list_all (λ p. allows played p) (map plain_timed s.steps.items) ≡ true
 unfolding plan_of
 steps_allowed played text s m = let P : Result PlainScenario ScenarioFault → Type 0 = AreAllowed played in subst P m.plan (of_format played (format_of m.members) m.members)

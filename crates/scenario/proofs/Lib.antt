@@ -1,7 +1,7 @@
-pub mod Views
 pub mod Adding
 pub mod Telling
 pub mod Refusals
 pub mod Alike
 pub mod Allowed
 pub mod OneByOne
+pub mod Until

@@ -5,17 +5,17 @@ use Rattle.std.specs.List.{position_or_len}
 use Rattle.std.specs.Option.{option_or}
 use Rattle.std.proofs.lemmas.Bool.{le-leb}
 use Rattle.maglev_texts.specs.Parsing.{pieces}
-use Rattle.scenario.specs.Lookups.{all_of}
+use Rattle.scenario_keys.specs.Lookups.{all_of}
 use Rattle.scenario.specs.Steps.{PlainStep, kind_of, step_of, allows}
-use Rattle.scenario.specs.Told.{PlainTold, once, count_said, allows_told, starred_in, told_by, told_by_words, told_of, after, said_before, steps_of}
+use Rattle.scenario.specs.Told.{PlainTold, once, count_said, allows_told, newer_in, told_by, told_by_words, told_of, after, said_before, steps_of}
 use Rattle.scenario.specs.Alike.{step_of_words, step_for, one_by_one, TextsAreSteps}
 use Rattle.scenario.specs.declared.step.Kind.{Kind}
-use Rattle.scenario.specs.declared.formats.Format.{Format}
-use Rattle.scenario.specs.declared.formats.Format.TheVariants.{One, Two, Three}
+use Rattle.scenario_keys.specs.declared.formats.Format.{Format}
+use Rattle.scenario_keys.specs.declared.formats.Format.TheVariants.{One, Two, Three}
 use Rattle.scenario.specs.declared.told.StepRules.{StepRules}
 
 -- no star is said
-no_star : (f : Format) (k : Kind) (words : List (List ℕ)) → (f ≡ Three → ⊥) → starred_in f k words ≡ None
+no_star : (f : Format) (k : Kind) (words : List (List ℕ)) → (f ≡ Three → ⊥) → newer_in f k words ≡ None
 no_star One k words other = refl
 no_star Two k words other = refl
 no_star Three k words other = absurd (other refl)
@@ -27,7 +27,7 @@ or_none (Some s) p h = refl
 of_kind : (rules : StepRules) (words : List (List ℕ)) (o : Option Kind) → (rules.format ≡ Three → ⊥)
     → option_and_then (λ k. told_by rules k words) o ≡ option_map (λ s. once s) (option_and_then (λ k. step_of rules.nodes rules.workers k words) o)
 of_kind rules words None other = refl
-of_kind rules words (Some k) other = or_none (step_of rules.nodes rules.workers k words) (starred_in rules.format k words) (no_star rules.format k words other)
+of_kind rules words (Some k) other = or_none (step_of rules.nodes rules.workers k words) (newer_in rules.format k words) (no_star rules.format k words other)
 
 of_words : (rules : StepRules) (words : List (List ℕ)) → (rules.format ≡ Three → ⊥) → told_by_words rules words ≡ option_map (λ s. once s) (step_of_words rules.nodes rules.workers words)
 of_words rules [] other = refl

@@ -2,9 +2,10 @@
 use Rattle.std.proofs.Common.{◌≡◌, ℕ, List, Option, Some, None, Result, Ok, Err, IfErr, IsErrAnd, ◌∙◌, sym, ap, subst}
 use Rattle.scenario.specs.Plain.{PlainVersion}
 use Rattle.scenario.specs.Steps.{PlainStep}
-use Rattle.scenario.specs.Meaning.{PlainDraft, PlainScenario, with_steps, with_pools, with_versions, with_draft, with_format, plan_of_draft, plan_of, format_of, draft_in, IsDocument, IsRefused, IsDraftRefused}
+use Rattle.scenario.specs.Meaning.{PlainDraft, PlainScenario, with_steps, with_pools, with_versions, with_draft, with_format, plan_of_draft, plan_of, draft_in, IsDocument, IsRefused, IsDraftRefused}
+use Rattle.scenario_keys.specs.Formats.{format_of}
 use Rattle.scenario.specs.declared.playing.Played.{Played}
-use Rattle.scenario.specs.declared.formats.Format.{Format}
+use Rattle.scenario_keys.specs.declared.formats.Format.{Format}
 use Rattle.scenario.specs.declared.fault.ScenarioFault.{ScenarioFault}
 use Rattle.scenario.specs.declared.fault.ScenarioFault.TheVariants as fault
 use Rattle.scenario.specs.declared.reading.Scenario.{Scenario}

@@ -5,9 +5,9 @@ use Rattle.std.proofs.lemmas.Bool.{leb-true}
 use Rattle.std.proofs.lemmas.List.{length-map, length-append}
 use Rattle.std.proofs.lemmas.List.FromFn.{length-map-range_with_len}
 use Rattle.std.proofs.Math.Seq.{drop-cons}
-use Rattle.event_trace.specs.declared.steps.ScenarioStep.{ScenarioStep}
+use Rattle.timed_steps.specs.declared.TimedStep.{TimedStep}
 use Rattle.maglev_texts.specs.Parsing.{pieces}
-use Rattle.scenario.specs.Steps.{PlainStep, plain_step}
+use Rattle.scenario.specs.Steps.{PlainStep, plain_timed}
 use Rattle.scenario.specs.Told.{PlainTold, once, each, at_node, plain_told, steps_said, count_said, allows_told, told_by_words, told_of, after, said_before, steps_of}
 use Rattle.scenario.specs.declared.told.Told.{Told}
 use Rattle.scenario.specs.declared.told.StepRules.{StepRules}
@@ -49,32 +49,32 @@ bad_text rules room n done text texts h =
     ap (λ o. after n done (said_before rules.nodes room o (λ left. steps_of rules left texts))) h ∙ ap Err e
 
 -- a text whose steps are added
-pub record Added (rules : StepRules) (n : ℕ) (steps : List ScenarioStep) (texts : List (List ℕ)) (whole : Result (List PlainStep) ℕ) : Type 0 where
+pub record Added (rules : StepRules) (n : ℕ) (steps : List TimedStep) (texts : List (List ℕ)) (whole : Result (List PlainStep) ℕ) : Type 0 where
   pub few : length steps ≤ 100000
-  pub said : after n (map plain_step steps) (steps_of rules (100000 - length steps) texts) ≡ whole
+  pub said : after n (map plain_timed steps) (steps_of rules (100000 - length steps) texts) ≡ whole
 
-pub one_more : (rules : StepRules) (n : ℕ) (text : List ℕ) (texts : List (List ℕ)) (old new : List ScenarioStep) (t : PlainTold) (whole : Result (List PlainStep) ℕ)
-    → Added rules n old (text ∷ texts) whole → told_of rules (100000 - length old) text ≡ Some t → map plain_step new ≡ map plain_step old ++ steps_said rules.nodes t → Added rules (n + 1) new texts whole
+pub one_more : (rules : StepRules) (n : ℕ) (text : List ℕ) (texts : List (List ℕ)) (old new : List TimedStep) (t : PlainTold) (whole : Result (List PlainStep) ℕ)
+    → Added rules n old (text ∷ texts) whole → told_of rules (100000 - length old) text ≡ Some t → map plain_timed new ≡ map plain_timed old ++ steps_said rules.nodes t → Added rules (n + 1) new texts whole
 one_more rules n text texts old new t whole before told added =
     let fits : Fits rules (100000 - length old) t = told_fits rules (100000 - length old) text t told in
     let long : length new ≡ length old + count_said rules.nodes t =
-    sym (length-map new plain_step) ∙ ap length added ∙ length-append (map plain_step old) (steps_said rules.nodes t) ∙ ap (λ k. k + length (steps_said rules.nodes t)) (length-map old plain_step) ∙ ap (λ k. length old + k) (said_length rules.nodes t) in
+    sym (length-map new plain_timed) ∙ ap length added ∙ length-append (map plain_timed old) (steps_said rules.nodes t) ∙ ap (λ k. k + length (steps_said rules.nodes t)) (length-map old plain_timed) ∙ ap (λ k. length old + k) (said_length rules.nodes t) in
     let few : count_said rules.nodes t ≤ 100000 - length old = fits.few in
     let low : length old ≤ 100000 = before.few in
     let left : 100000 - length old - count_said rules.nodes t ≡ 100000 - length new = omega arith in
     record {
       few = omega arith;
       said = ap (λ done. after (n + 1) done (steps_of rules (100000 - length new) texts)) added
-          ∙ ap (λ room. after (n + 1) (map plain_step old ++ steps_said rules.nodes t) (steps_of rules room texts)) (sym left)
-          ∙ sym (after_more n (map plain_step old) (steps_said rules.nodes t) (steps_of rules (100000 - length old - count_said rules.nodes t) texts))
-          ∙ sym (ap (λ o. after n (map plain_step old) (said_before rules.nodes (100000 - length old) o (λ left. steps_of rules left texts))) told)
+          ∙ ap (λ room. after (n + 1) (map plain_timed old ++ steps_said rules.nodes t) (steps_of rules room texts)) (sym left)
+          ∙ sym (after_more n (map plain_timed old) (steps_said rules.nodes t) (steps_of rules (100000 - length old - count_said rules.nodes t) texts))
+          ∙ sym (ap (λ o. after n (map plain_timed old) (said_before rules.nodes (100000 - length old) o (λ left. steps_of rules left texts))) told)
           ∙ before.said;
     }
 
 -- the same of the texts of a slice
-pub text_taken : (rules : StepRules) (n room : ℕ) (bytes : List ℕ) (texts : List (String Global)) (text : String Global) (old new : List ScenarioStep) (o : Option Told) (t : Told) (whole : Result (List PlainStep) ℕ)
+pub text_taken : (rules : StepRules) (n room : ℕ) (bytes : List ℕ) (texts : List (String Global)) (text : String Global) (old new : List TimedStep) (o : Option Told) (t : Told) (whole : Result (List PlainStep) ℕ)
     → n < length texts → text ≡ get_or texts n text → bytes ≡ string_bytes text → room ≡ 100000 - length old → Added rules n old (map string_bytes (drop n texts)) whole
-    → option_map plain_told o ≡ told_of rules room bytes → o ≡ Some t → map plain_step new ≡ map plain_step old ++ steps_said rules.nodes (plain_told t) → Added rules (n + 1) new (map string_bytes (drop (n + 1) texts)) whole
+    → option_map plain_told o ≡ told_of rules room bytes → o ≡ Some t → map plain_timed new ≡ map plain_timed old ++ steps_said rules.nodes (plain_told t) → Added rules (n + 1) new (map string_bytes (drop (n + 1) texts)) whole
 text_taken rules n room bytes texts text old new o t whole inside here same left before told some added =
     let rest : drop n texts ≡ text ∷ drop (n + 1) texts = rw add-one (drop-cons texts n text inside ∙ ap (λ (x : String Global). x ∷ drop (suc n) texts) (sym here)) in
     let all : map string_bytes (drop n texts) ≡ string_bytes text ∷ map string_bytes (drop (n + 1) texts) = ap (map string_bytes) rest in

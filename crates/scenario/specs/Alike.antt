@@ -4,14 +4,16 @@ use Rattle.std.specs.List.{position_or_len}
 use Rattle.std.specs.Cmp.Lexicographic.{pointwise}
 use Rattle.toml.specs.Data.{Members, get_member}
 use Rattle.maglev_texts.specs.Parsing.{pieces}
-use Rattle.scenario.specs.Lookups.{all_of, has_only}
+use Rattle.scenario_keys.specs.Lookups.{all_of, has_only}
 use Rattle.scenario.specs.Steps.{PlainStep, kind_of, step_of, allows}
 use Rattle.scenario.specs.Told.{steps_of}
-use Rattle.scenario.specs.Meaning.{PlainScenario, root_keys, format_of, plan_of}
+use Rattle.scenario.specs.Meaning.{PlainScenario, plan_of}
+use Rattle.scenario_keys.specs.Keys.{root_keys}
+use Rattle.scenario_keys.specs.Formats.{format_of}
 use Rattle.scenario.specs.declared.playing.Played.{Played}
 use Rattle.scenario.specs.declared.told.StepRules.{StepRules}
-use Rattle.scenario.specs.declared.formats.Format.{Format}
-use Rattle.scenario.specs.declared.formats.Format.TheVariants.{One, Two, Three}
+use Rattle.scenario_keys.specs.declared.formats.Format.{Format}
+use Rattle.scenario_keys.specs.declared.formats.Format.TheVariants.{One, Two, Three}
 
 -- the second format is later than the first
 abbrev pub IsLater : Format → Format → Type 0

@@ -1,6 +1,5 @@
-pub mod Lookups
-pub mod Words
-pub mod Keys
+pub mod Setup
+pub mod Times
 pub mod Steps
 pub mod Told
 pub mod Plain

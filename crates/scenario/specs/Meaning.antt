@@ -1,5 +1,5 @@
 -- Which scenario a text means, and which fault it has, by how it is played.
-use Rattle.std.specs.Prelude.{◌≡◌, ℕ, ◌≤◌, ◌<◌, ◌^◌, ◌&&◌, ◌==◌, nat_le, if◌then◌else◌, List, [], ◌∷◌, map, length, codes, Option, Some, None, option_and_then, option_map, Result, Ok, Err, IsUtf8, string_bytes, ⊤}
+use Rattle.std.specs.Prelude.{◌≡◌, ℕ, ◌≤◌, ◌<◌, ◌^◌, ◌&&◌, nat_le, if◌then◌else◌, List, [], map, length, Option, Some, None, option_and_then, option_map, Result, Ok, Err, IsUtf8, string_bytes, ⊤}
 use Rattle.toml.specs.Data.{Data, Members, as_str}
 use Rattle.toml.specs.Parse.{parse_document}
 use Rattle.maglev_texts.specs.Parsing.{address_of}
@@ -7,15 +7,17 @@ use Rattle.pool_versions.specs.declared.backend.Member.{Member}
 use Rattle.pool_versions.specs.declared.catalogue.PoolFault.{PoolFault}
 use Rattle.pool_versions.specs.declared.catalogue.PoolFault.TheVariants as pool
 use Rattle.pool_versions.specs.Pool.{Pools}
-use Rattle.scenario.specs.Lookups.{number_at, items_at, all_items, all_of, has_only}
-use Rattle.scenario.specs.Words.{choices_of, limits_of}
+use Rattle.scenario_keys.specs.Lookups.{items_at, all_items, all_of, has_only}
+use Rattle.scenario_keys.specs.Keys.{key_name, root_keys}
+use Rattle.scenario_keys.specs.Formats.{format_of}
+use Rattle.scenario_keys.specs.declared.key.Key.TheVariants as key
+use Rattle.scenario.specs.Setup.{choices_of, limits_of}
 use Rattle.scenario.specs.Plain.{PlainService, PlainVersion, plain_version, first_refused}
 use Rattle.scenario.specs.Drafts.{version_in, plain_version_draft}
-use Rattle.scenario.specs.Steps.{PlainStep, plain_step}
+use Rattle.scenario.specs.Steps.{PlainStep, plain_timed}
 use Rattle.scenario.specs.Told.{steps_of}
 use Rattle.scenario.specs.declared.playing.Played.{Played}
-use Rattle.scenario.specs.declared.formats.Format.{Format}
-use Rattle.scenario.specs.declared.formats.Format.TheVariants.{One, Two, Three}
+use Rattle.scenario_keys.specs.declared.formats.Format.{Format}
 use Rattle.scenario.specs.declared.told.StepRules.{StepRules}
 use Rattle.scenario.specs.declared.setup.Choices.{Choices}
 use Rattle.scenario.specs.declared.setup.Limits.{Limits}
@@ -49,17 +51,8 @@ plan_view s = record {
   limits = record { workers = s.workers; capacity = s.capacity; ring = s.ring; check = s.check; idle = s.idle };
   nodes = s.nodes.items;
   versions = map plain_version s.catalogue.versions;
-  steps = map plain_step s.steps.items;
+  steps = map plain_timed s.steps.items;
 }
-
-abbrev pub common_keys : List (List ℕ)
-common_keys = codes "format" ∷ codes "size" ∷ codes "hash" ∷ codes "scheme" ∷ codes "spread" ∷ codes "workers" ∷ codes "capacity" ∷ codes "ring" ∷ codes "check" ∷ codes "nodes" ∷ codes "steps" ∷ codes "versions" ∷ []
-
--- the keys of a document: an idle limit is none in format 1
-abbrev pub root_keys : Format → List (List ℕ)
-root_keys One = common_keys
-root_keys Two = codes "idle" ∷ common_keys
-root_keys Three = codes "idle" ∷ common_keys
 
 abbrev pub address_in : Data → Option ℕ
 address_in d = option_and_then address_of (as_str d)
@@ -73,13 +66,13 @@ abbrev pub few_steps : List (List ℕ) → Option (List (List ℕ))
 few_steps ts = if nat_le (length ts) 100000 then Some ts else None
 
 abbrev pub nodes_of : Members → Option (List ℕ)
-nodes_of ms = option_and_then few_nodes (option_and_then (all_items address_in) (items_at (codes "nodes") ms))
+nodes_of ms = option_and_then few_nodes (option_and_then (all_items address_in) (items_at (key_name key.Nodes) ms))
 
 abbrev pub versions_in : Format → Members → Option (List (PlainVersion (Option Member)))
-versions_in f ms = option_and_then (all_items (version_in f)) (items_at (codes "versions") ms)
+versions_in f ms = option_and_then (all_items (version_in f)) (items_at (key_name key.Versions) ms)
 
 abbrev pub steps_in : Members → Option (List (List ℕ))
-steps_in ms = option_and_then few_steps (option_and_then (all_items as_str) (items_at (codes "steps") ms))
+steps_in ms = option_and_then few_steps (option_and_then (all_items as_str) (items_at (key_name key.Steps) ms))
 
 -- what a document holds, where all its keys are as they should be
 unfoldable pub draft_of : Format → Members → Option PlainDraft
@@ -117,13 +110,6 @@ with_versions f played d (Some versions) = with_pools f played d versions (first
 -- the scenario of a draft of a format, or its first fault: a bad member word, then a fault of the pools, then the first bad step
 unfoldable pub plan_of_draft : Format → Played → PlainDraft → Result PlainScenario ScenarioFault
 plan_of_draft f played d = with_versions f played d (all_of version_of d.versions)
-
-abbrev pub numbered : ℕ → Format
-numbered n = if n == 1 then One else (if n == 2 then Two else Three)
-
--- the format of a document
-abbrev pub format_of : Members → Option Format
-format_of ms = option_map numbered (number_at 1 3 (codes "format") ms)
 
 -- What a document says of the pools, where its keys are as they should be and its words are members. It is the size of the
 -- tables, and the versions.

@@ -5,6 +5,8 @@ use Rattle.std.specs.Str.{bytes_eq}
 use Rattle.maglev_texts.specs.Parsing.{decimal_of}
 use Rattle.event_trace.specs.declared.steps.ScenarioStep.{ScenarioStep}
 use Rattle.event_trace.specs.declared.steps.ScenarioStep.TheVariants as code
+use Rattle.timed_steps.specs.declared.TimedStep.{TimedStep}
+use Rattle.timed_steps.specs.declared.TimedStep.TheVariants.{Counted, Until}
 use Rattle.scenario.specs.declared.step.Kind.{Kind}
 use Rattle.scenario.specs.declared.step.Kind.TheVariants as kind
 use Rattle.scenario.specs.declared.playing.Played.{Played}
@@ -22,6 +24,7 @@ pub data PlainStep : Type 0 where
   drain : ℕ → PlainStep
   restart : ℕ → PlainStep
   stop : ℕ → PlainStep
+  until : ℕ → PlainStep
 
 abbrev pub plain_step : ScenarioStep → PlainStep
 plain_step (code.Install n v) = install n v
@@ -34,6 +37,11 @@ plain_step (code.Hold n) = hold n
 plain_step (code.Drain n) = drain n
 plain_step (code.Restart n) = restart n
 plain_step (code.Stop n) = stop n
+
+-- a step by count, or by a time in microseconds after the capture's first record
+abbrev pub plain_timed : TimedStep → PlainStep
+plain_timed (Counted s) = plain_step s
+plain_timed (Until t) = until t
 
 -- a number below a limit
 abbrev pub below : ℕ → List ℕ → Option ℕ
@@ -85,9 +93,10 @@ kind_of word =
     else (if bytes_eq word (codes "hold") then Some kind.Hold
     else (if bytes_eq word (codes "drain") then Some kind.Drain
     else (if bytes_eq word (codes "restart") then Some kind.Restart
-    else (if bytes_eq word (codes "stop") then Some kind.Stop else None)))))))))
+    else (if bytes_eq word (codes "stop") then Some kind.Stop
+    else (if bytes_eq word (codes "until") then Some kind.Until else None))))))))))
 
--- the step of a kind with these words after it
+-- the step of a kind with these words after it; a time is read in format 3 alone, with the stars
 abbrev pub step_of : ℕ → ℕ → Kind → List (List ℕ) → Option PlainStep
 step_of nodes workers kind.Install words = install_of nodes words
 step_of nodes workers kind.Live words = live_of nodes words
@@ -99,6 +108,7 @@ step_of nodes workers kind.Hold words = option_map hold (node_of nodes words)
 step_of nodes workers kind.Drain words = option_map drain (node_of nodes words)
 step_of nodes workers kind.Restart words = option_map restart (node_of nodes words)
 step_of nodes workers kind.Stop words = option_map stop (node_of nodes words)
+step_of nodes workers kind.Until words = None
 
 -- the steps of a scenario that is played so: in turn none is a stop, and on threads none a full, hold or drain
 abbrev pub allows : Played → PlainStep → Bool

@@ -1,14 +1,15 @@
--- What a text says: a step, or in format 3 one for each node, and what texts say one after another.
+-- What a text says: a step, in format 3 also one by time or one for each node, and what texts say one after another.
 use Rattle.std.specs.Prelude.{ℕ, ◌+◌, ◌-◌, Bool, false, nat_le, if◌then◌else◌, List, [], ◌∷◌, ◌++◌, map, codes, Option, Some, None, option_and_then, option_map, Result, Ok, Err}
 use Rattle.std.specs.List.{range_with_len}
 use Rattle.std.specs.Option.{option_or}
 use Rattle.std.specs.Str.{bytes_eq}
 use Rattle.maglev_texts.specs.Parsing.{decimal_of, pieces}
-use Rattle.scenario.specs.Steps.{PlainStep, install, deliver, restart, stop, plain_step, kind_of, step_of, allows}
+use Rattle.scenario.specs.Steps.{PlainStep, install, deliver, restart, stop, until, plain_timed, kind_of, step_of, allows}
+use Rattle.scenario.specs.Times.{micros_of}
 use Rattle.scenario.specs.declared.step.Kind.{Kind}
 use Rattle.scenario.specs.declared.step.Kind.TheVariants as kind
-use Rattle.scenario.specs.declared.formats.Format.{Format}
-use Rattle.scenario.specs.declared.formats.Format.TheVariants.{One, Two, Three}
+use Rattle.scenario_keys.specs.declared.formats.Format.{Format}
+use Rattle.scenario_keys.specs.declared.formats.Format.TheVariants.{One, Two, Three}
 use Rattle.scenario.specs.declared.playing.Played.{Played}
 use Rattle.scenario.specs.declared.told.EachNode.{EachNode}
 use Rattle.scenario.specs.declared.told.EachNode.TheVariants as node
@@ -22,7 +23,7 @@ pub data PlainTold : Type 0 where
   each : EachNode → PlainTold
 
 abbrev pub plain_told : Told → PlainTold
-plain_told (code.Once s) = once (plain_step s)
+plain_told (code.Once s) = once (plain_timed s)
 plain_told (code.Each e) = each e
 
 -- the step of one node
@@ -50,23 +51,29 @@ abbrev pub install_each : List (List ℕ) → Option PlainTold
 install_each (word ∷ version ∷ []) = if bytes_eq word (codes "*") then option_map (λ v. each (node.Install v)) (decimal_of 4294967295 version) else None
 install_each _ = None
 
--- what a kind with a star says: `take *` takes the rest of the capture, and of the others each node does what one would
-abbrev pub starred : Kind → List (List ℕ) → Option PlainTold
-starred kind.Install words = install_each words
-starred kind.Take words = if is_star words then Some (once (deliver 4294967295)) else None
-starred kind.Restart words = if is_star words then Some (each node.Restart) else None
-starred kind.Stop words = if is_star words then Some (each node.Stop) else None
-starred _ words = None
+-- a time
+abbrev pub until_of : List (List ℕ) → Option PlainTold
+until_of (word ∷ []) = option_map (λ t. once (until t)) (micros_of word)
+until_of _ = None
 
--- stars are of format 3 alone
-abbrev pub starred_in : Format → Kind → List (List ℕ) → Option PlainTold
-starred_in Three k words = starred k words
-starred_in One k words = None
-starred_in Two k words = None
+-- What a kind says in format 3 alone. `until T` takes the records up to a time, `take *` the rest of the capture, and of the
+-- others with a star each node does what one would.
+abbrev pub newer : Kind → List (List ℕ) → Option PlainTold
+newer kind.Install words = install_each words
+newer kind.Take words = if is_star words then Some (once (deliver 4294967295)) else None
+newer kind.Restart words = if is_star words then Some (each node.Restart) else None
+newer kind.Stop words = if is_star words then Some (each node.Stop) else None
+newer kind.Until words = until_of words
+newer _ words = None
+
+abbrev pub newer_in : Format → Kind → List (List ℕ) → Option PlainTold
+newer_in Three k words = newer k words
+newer_in One k words = None
+newer_in Two k words = None
 
 -- what a kind with these words after it says
 abbrev pub told_by : StepRules → Kind → List (List ℕ) → Option PlainTold
-told_by rules k words = option_or (option_map (λ s. once s) (step_of rules.nodes rules.workers k words)) (starred_in rules.format k words)
+told_by rules k words = option_or (option_map (λ s. once s) (step_of rules.nodes rules.workers k words)) (newer_in rules.format k words)
 
 abbrev pub told_by_words : StepRules → List (List ℕ) → Option PlainTold
 told_by_words rules [] = None

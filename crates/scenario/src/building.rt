@@ -1,6 +1,6 @@
 //! Members, services and versions out of drafts, and the catalogue of them.
 ghost use Rattle.std.specs.Prelude.{◌≡◌, map, option_map, IfOk, IfErr};
-ghost use Rattle.scenario.specs.Lookups.{all_of};
+ghost use Rattle.scenario_keys.specs.Lookups.{all_of};
 ghost use Rattle.scenario.specs.Plain.{plain_service, plain_version};
 ghost use Rattle.scenario.specs.Drafts.{plain_service_draft, plain_version_draft};
 ghost use Rattle.scenario.specs.Meaning.{service_of, version_of, IsCatalogueOf, IsPoolRefused};

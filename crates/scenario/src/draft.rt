@@ -2,17 +2,14 @@
 ghost use Rattle.std.specs.Prelude.{◌≡◌, ◌≤◌, map, length, option_map, option_and_then, string_bytes, codes, IfOk, IfSome};
 ghost use Rattle.toml.specs.Data.{as_str};
 ghost use Rattle.toml.specs.View.{table_view, items_view};
-ghost use Rattle.scenario.specs.Lookups.{items_at, all_items};
+ghost use Rattle.scenario_keys.specs.Lookups.{items_at, all_items};
 ghost use Rattle.scenario.specs.Drafts.{version_in, plain_version_draft};
 ghost use Rattle.scenario.specs.Meaning.{address_in, few_nodes, few_steps, nodes_of, versions_in, steps_in, draft_of, draft_in, plain_draft, IsLimited};
 
-use crate::formats::Format;
-use crate::keys::has_root_keys;
-use crate::lookup::items_at;
 use crate::setup::{Choices, Limits, choices_at, limits_at};
-use crate::values::{MOST_NODES, MOST_STEPS};
 use crate::versions::{VersionDraft, read_versions};
 use maglev_texts::address;
+use scenario_keys::{Format, Key, MOST_NODES, MOST_STEPS, Owner, has_only_keys, items_at};
 use std::alloc::{AllocError, Global};
 use toml::{Table, Value};
 
@@ -26,7 +23,7 @@ pub(crate) struct Draft {
     pub(crate) steps: Vec<String>,
 }
 
-#[tactic(auto, using(crate::proofs::Views::items_from))]
+#[tactic(auto, using(scenario_keys::proofs::Views::items_from))]
 fn addresses(alloc: Global, values: &[Value]) -> Result<Option<Vec<u32>>, AllocError>
     ensures { IfOk result (λ o. option_map (λ v. v.items) o ≡ all_items address_in (items_view values.now)) }
 {
@@ -43,7 +40,7 @@ fn addresses(alloc: Global, values: &[Value]) -> Result<Option<Vec<u32>>, AllocE
     Ok(Some(found))
 }
 
-#[tactic(auto, using(crate::proofs::Views::items_from))]
+#[tactic(auto, using(scenario_keys::proofs::Views::items_from))]
 fn texts(alloc: Global, values: &[Value]) -> Result<Option<Vec<String>>, AllocError>
     ensures { IfOk result (λ o. option_map (λ v. map string_bytes v.items) o ≡ all_items as_str (items_view values.now)) }
 {
@@ -64,7 +61,7 @@ fn nodes_at(alloc: Global, table: &Table) -> Result<Option<Vec<u32>>, AllocError
     ensures value { IfOk result (λ o. option_map (λ v. v.items) o ≡ nodes_of (table_view table.now)) }
     ensures few { IfOk result (λ o. IfSome o (λ v. (1 ≤ length v.items) × (length v.items ≤ 64))) }
 {
-    let Some(values) = items_at(table, "nodes") else {
+    let Some(values) = items_at(table, Key::Nodes.name()) else {
         return Ok(None);
     };
     let Some(nodes) = addresses(alloc, values)? else {
@@ -83,7 +80,7 @@ fn versions_at(
 ) -> Result<Option<Vec<VersionDraft>>, AllocError>
     ensures { IfOk result (λ o. option_map (λ v. map plain_version_draft v.items) o ≡ versions_in format (table_view table.now)) }
 {
-    match items_at(table, "versions") {
+    match items_at(table, Key::Versions.name()) {
         Some(values) => read_versions(alloc, format, values),
         None => Ok(None),
     }
@@ -93,7 +90,7 @@ fn steps_at(alloc: Global, table: &Table) -> Result<Option<Vec<String>>, AllocEr
     ensures value { IfOk result (λ o. option_map (λ v. map string_bytes v.items) o ≡ steps_in (table_view table.now)) }
     ensures few { IfOk result (λ o. IfSome o (λ v. length v.items ≤ 100000)) }
 {
-    let Some(values) = items_at(table, "steps") else {
+    let Some(values) = items_at(table, Key::Steps.name()) else {
         return Ok(None);
     };
     let Some(steps) = texts(alloc, values)? else {
@@ -143,7 +140,7 @@ pub(crate) fn draft_in(
     ensures value { IfOk result (λ o. option_map plain_draft o ≡ draft_in format (table_view table.now)) }
     ensures limits { IfOk result (λ o. IfSome o IsLimited) }
 {
-    if has_root_keys(format, table) {
+    if has_only_keys(Owner::Document, format, table) {
         read_draft(alloc, format, table)
     } else {
         Ok(None)

@@ -1,7 +1,7 @@
 //! Reads a scenario.
 ghost use Rattle.std.specs.Prelude.{◌≡◌, ◌≤◌, length, map, string_bytes, option_map, IfOk, IfErr, Ok, Some};
 ghost use Rattle.toml.specs.View.{table_view};
-ghost use Rattle.scenario.specs.Steps.{plain_step};
+ghost use Rattle.scenario.specs.Steps.{plain_timed};
 ghost use Rattle.scenario.specs.Told.{steps_of};
 ghost use Rattle.scenario.specs.Plain.{plain_version};
 ghost use Rattle.scenario.specs.declared.playing.Played.{Played};
@@ -10,16 +10,14 @@ ghost use Rattle.scenario.specs.Meaning.{pools_of, IsDocument, IsRefused, IsDraf
 use crate::building::{catalogue_of, versions_of};
 use crate::draft::{Draft, draft_in};
 use crate::fault::ScenarioFault;
-use crate::formats::{Format, format_of};
 use crate::playing::Played;
 use crate::told::{StepRules, add_told, told_of};
-use crate::values::MOST_STEPS;
-use crate::words::{SchemeKind, SpreadKind};
 use backend_names::TableSize;
-use event_trace::ScenarioStep;
 use hash_laws::AnyHash;
 use pool_versions::{Catalogue, PoolFault, Version};
+use scenario_keys::{Format, MOST_STEPS, SchemeKind, SpreadKind, format_of};
 use std::alloc::{AllocError, Global};
+use timed_steps::TimedStep;
 use toml::Table;
 
 // The most bytes of a scenario's text.
@@ -52,7 +50,7 @@ pub struct Scenario {
     /// The versions of the pools.
     pub catalogue: Catalogue,
     /// What happens, in order: at most 100,000 steps.
-    pub steps: Vec<ScenarioStep>,
+    pub steps: Vec<TimedStep>,
 }
 
 // The document that a text is.
@@ -75,13 +73,13 @@ fn steps_of(
     alloc: Global,
     rules: StepRules,
     texts: &[String],
-) -> Result<Vec<ScenarioStep>, ScenarioFault>
+) -> Result<Vec<TimedStep>, ScenarioFault>
     requires { length texts.now ≤ 100000 }
-    ensures ok { IfOk result (λ v. steps_of rules 100000 (map string_bytes texts.now) ≡ Ok (map plain_step v.items)) }
+    ensures ok { IfOk result (λ v. steps_of rules 100000 (map string_bytes texts.now) ≡ Ok (map plain_timed v.items)) }
     ensures few { IfOk result (λ v. length v.items ≤ 100000) }
     ensures refused { IfErr result (AreStepsRefused rules (map string_bytes texts.now)) }
 {
-    let mut steps: Vec<ScenarioStep> = Vec::new(alloc);
+    let mut steps: Vec<TimedStep> = Vec::new(alloc);
     for (n, text) in texts.iter().enumerate() {
         let room = MOST_STEPS - steps.len();
         let Some(told) = told_of(alloc, rules, room, text.as_bytes())? else {

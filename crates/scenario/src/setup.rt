@@ -1,14 +1,13 @@
 //! The scalars of a scenario's setup.
 ghost use Rattle.std.specs.Prelude.{◌≡◌, ◌≤◌, IfSome};
 ghost use Rattle.toml.specs.View.{table_view};
-ghost use Rattle.scenario.specs.Words.{choices_of, limits_of};
+ghost use Rattle.scenario.specs.Setup.{choices_of, limits_of};
 
-use crate::values::{
-    capacity_at, check_at, hash_at, idle_at, ring_at, scheme_at, size_at, spread_at, workers_at,
-};
-use crate::words::{SchemeKind, SpreadKind};
 use backend_names::TableSize;
 use hash_laws::AnyHash;
+use scenario_keys::{
+    Key, SchemeKind, SpreadKind, flag, hash_at, number, number_if, scheme_at, size_at, spread_at,
+};
 use toml::Table;
 
 /// What a cluster chooses by.
@@ -30,7 +29,7 @@ pub(crate) struct Limits {
     pub(crate) idle: Option<u64>,
 }
 
-#[tactic(auto, unfolding(crate::specs::Words::choices_of))]
+#[tactic(auto, unfolding(crate::specs::Setup::choices_of))]
 pub(crate) fn choices_at(table: &Table) -> Option<Choices>
     ensures { result ≡ choices_of (table_view table.now) }
 {
@@ -46,18 +45,18 @@ pub(crate) fn choices_at(table: &Table) -> Option<Choices>
     })
 }
 
-#[tactic(auto, unfolding(crate::specs::Words::limits_of))]
+#[tactic(auto, unfolding(crate::specs::Setup::limits_of))]
 pub(crate) fn limits_at(table: &Table) -> Option<Limits>
     ensures value { result ≡ limits_of (table_view table.now) }
     ensures workers { IfSome result (λ l. (1 ≤ l.workers) × (l.workers ≤ 16)) }
     ensures capacity { IfSome result (λ l. (1 ≤ l.capacity) × (l.capacity ≤ 1000000)) }
     ensures ring { IfSome result (λ l. (1 ≤ l.ring) × (l.ring ≤ 65536)) }
 {
-    let workers = workers_at(table)?;
-    let capacity = capacity_at(table)?;
-    let ring = ring_at(table)?;
-    let check = check_at(table)?;
-    let idle = idle_at(table)?;
+    let workers = number(table, Key::Workers)? as u16;
+    let capacity = number(table, Key::Capacity)? as u32;
+    let ring = number(table, Key::Ring)? as u32;
+    let check = flag(table, Key::Check)?;
+    let idle = number_if(table, Key::Idle)?;
     Some(Limits {
         workers,
         capacity,

@@ -138,6 +138,7 @@ pub(crate) enum Kind {
     Drain,
     Restart,
     Stop,
+    Until,
 }
 
 pub(crate) fn is_word(word: &[u8], text: &str) -> bool
@@ -180,10 +181,13 @@ pub(crate) fn kind_of(word: &[u8]) -> Option<Kind>
     if is_word(word, "stop") {
         return Some(Kind::Stop);
     }
+    if is_word(word, "until") {
+        return Some(Kind::Until);
+    }
     None
 }
 
-// The step of a kind with these words after it.
+// The step of a kind with these words after it. A time is read in format 3 alone, with the stars.
 pub(crate) fn step_of(
     alloc: Global,
     kind: Kind,
@@ -204,5 +208,6 @@ pub(crate) fn step_of(
         Kind::Drain => Ok(node_of(words, nodes).map(ScenarioStep::Drain)),
         Kind::Restart => Ok(node_of(words, nodes).map(ScenarioStep::Restart)),
         Kind::Stop => Ok(node_of(words, nodes).map(ScenarioStep::Stop)),
+        Kind::Until => Ok(None),
     }
 }

@@ -1,15 +1,17 @@
-//! What the texts of a scenario's steps say: each a step, or one for each node in order.
+//! What the texts of a scenario's steps say: each a step, by count or by time, or one for each node in order.
 ghost use Rattle.std.specs.Prelude.{◌≡◌, ◌++◌, map, option_map, IfOk, if◌then◌else◌};
 ghost use Rattle.std.specs.List.{range_with_len};
-ghost use Rattle.scenario.specs.Steps.{plain_step};
-ghost use Rattle.scenario.specs.Told.{at_node, count_said, install_each, is_star, plain_told, starred, starred_in, steps_said, told_by, told_by_words, told_of, allows_told};
+ghost use Rattle.scenario.specs.Steps.{deliver, plain_step, plain_timed};
+ghost use Rattle.scenario.specs.Told.{at_node, count_said, once, install_each, is_star, newer, newer_in, plain_told, steps_said, told_by, told_by_words, told_of, allows_told, until_of};
 
-use crate::formats::Format;
 use crate::playing::Played;
 use crate::step::{GREATEST, Kind, is_word, kind_of, step_of};
+use crate::times::micros_of;
 use event_trace::ScenarioStep;
 use maglev_texts::{decimal, pieces};
+use scenario_keys::Format;
 use std::alloc::{AllocError, Global};
+use timed_steps::TimedStep;
 
 /// What steps are read by: the format, how the scenario is played, and how many nodes and workers a node there are.
 #[derive(Clone, Copy)]
@@ -34,7 +36,7 @@ pub(crate) enum EachNode {
 /// What a text says.
 #[derive(Drop)]
 pub(crate) enum Told {
-    Once(ScenarioStep),
+    Once(TimedStep),
     Each(EachNode),
 }
 
@@ -58,11 +60,11 @@ fn count_said(told: &Told, nodes: u16) -> usize
 }
 
 // Adds the step of each node.
-fn add_each(steps: &mut Vec<ScenarioStep>, each: EachNode, nodes: u16) -> Result<(), AllocError>
-    ensures { IfOk result (λ _. map plain_step steps.new.items ≡ map plain_step steps.old.items ++ map (at_node each) (range_with_len 0 nodes)) }
+fn add_each(steps: &mut Vec<TimedStep>, each: EachNode, nodes: u16) -> Result<(), AllocError>
+    ensures { IfOk result (λ _. map plain_timed steps.new.items ≡ map plain_timed steps.old.items ++ map (at_node each) (range_with_len 0 nodes)) }
 {
     for node in 0..nodes {
-        let Ok(()) = steps.push(at_node(each, node)) else {
+        let Ok(()) = steps.push(TimedStep::Counted(at_node(each, node))) else {
             return Err(AllocError);
         };
     }
@@ -70,12 +72,8 @@ fn add_each(steps: &mut Vec<ScenarioStep>, each: EachNode, nodes: u16) -> Result
 }
 
 /// Adds the steps that are said.
-pub(crate) fn add_told(
-    steps: &mut Vec<ScenarioStep>,
-    told: Told,
-    nodes: u16,
-) -> Result<(), AllocError>
-    ensures { IfOk result (λ _. map plain_step steps.new.items ≡ map plain_step steps.old.items ++ steps_said nodes (plain_told told)) }
+pub(crate) fn add_told(steps: &mut Vec<TimedStep>, told: Told, nodes: u16) -> Result<(), AllocError>
+    ensures { IfOk result (λ _. map plain_timed steps.new.items ≡ map plain_timed steps.old.items ++ steps_said nodes (plain_told told)) }
 {
     match told {
         Told::Once(step) => {
@@ -117,25 +115,50 @@ fn if_star(words: &[&[u8]], told: Told) -> Option<Told>
     if is_star(words) { Some(told) } else { None }
 }
 
-// What a kind with a star says.
-fn starred(kind: Kind, words: &[&[u8]]) -> Option<Told>
-    ensures { option_map plain_told result ≡ starred kind (map (λ t. t.now) words.now) }
+fn until(alloc: Global, words: &[&[u8]]) -> Result<Option<Told>, AllocError>
+    ensures { IfOk result (λ o. option_map plain_told o ≡ until_of (map (λ t. t.now) words.now)) }
 {
-    match kind {
-        Kind::Install => install_each(words),
-        Kind::Take => if_star(words, Told::Once(ScenarioStep::Take(u32::MAX))),
-        Kind::Restart => if_star(words, Told::Each(EachNode::Restart)),
-        Kind::Stop => if_star(words, Told::Each(EachNode::Stop)),
-        Kind::Live | Kind::Lose | Kind::Again | Kind::Full | Kind::Hold | Kind::Drain => None,
+    let [word] = words else {
+        return Ok(None);
+    };
+    match micros_of(alloc, word)? {
+        Some(micros) => Ok(Some(Told::Once(TimedStep::Until(micros)))),
+        None => Ok(None),
     }
 }
 
-fn starred_in(format: Format, kind: Kind, words: &[&[u8]]) -> Option<Told>
-    ensures { option_map plain_told result ≡ starred_in format kind (map (λ t. t.now) words.now) }
+// The rest of the capture.
+fn take_rest() -> Told
+    ensures { plain_told result ≡ once (deliver 4294967295) }
+{
+    Told::Once(TimedStep::Counted(ScenarioStep::Take(u32::MAX)))
+}
+
+// What a kind says in format 3 alone.
+fn newer(alloc: Global, kind: Kind, words: &[&[u8]]) -> Result<Option<Told>, AllocError>
+    ensures { IfOk result (λ o. option_map plain_told o ≡ newer kind (map (λ t. t.now) words.now)) }
+{
+    match kind {
+        Kind::Install => Ok(install_each(words)),
+        Kind::Take => Ok(if_star(words, take_rest())),
+        Kind::Restart => Ok(if_star(words, Told::Each(EachNode::Restart))),
+        Kind::Stop => Ok(if_star(words, Told::Each(EachNode::Stop))),
+        Kind::Until => until(alloc, words),
+        Kind::Live | Kind::Lose | Kind::Again | Kind::Full | Kind::Hold | Kind::Drain => Ok(None),
+    }
+}
+
+fn newer_in(
+    alloc: Global,
+    format: Format,
+    kind: Kind,
+    words: &[&[u8]],
+) -> Result<Option<Told>, AllocError>
+    ensures { IfOk result (λ o. option_map plain_told o ≡ newer_in format kind (map (λ t. t.now) words.now)) }
 {
     match format {
-        Format::One | Format::Two => None,
-        Format::Three => starred(kind, words),
+        Format::One | Format::Two => Ok(None),
+        Format::Three => newer(alloc, kind, words),
     }
 }
 
@@ -148,8 +171,8 @@ fn told_by(
     ensures { IfOk result (λ o. option_map plain_told o ≡ told_by rules kind (map (λ t. t.now) words.now)) }
 {
     match step_of(alloc, kind, words, rules.nodes, rules.workers)? {
-        Some(step) => Ok(Some(Told::Once(step))),
-        None => Ok(starred_in(rules.format, kind, words)),
+        Some(step) => Ok(Some(Told::Once(TimedStep::Counted(step)))),
+        None => newer_in(alloc, rules.format, kind, words),
     }
 }
 
@@ -170,11 +193,13 @@ fn told_by_words(
 }
 
 // Whether a scenario that is played so may have what is said.
+#[tactic(auto, using(crate::proofs::Until::until_allowed))]
 fn allows_told(played: Played, told: &Told) -> bool
     ensures { result ≡ allows_told played (plain_told told.now) }
 {
     match told {
-        Told::Once(step) => played.allows(step),
+        Told::Once(TimedStep::Counted(step)) => played.allows(step),
+        Told::Once(TimedStep::Until(_)) => true,
         Told::Each(each) => played.allows(&at_node(*each, 0)),
     }
 }

@@ -1,14 +1,14 @@
 //! Versions as a document holds them: member words are read at once, and those that are none are kept as such.
-ghost use Rattle.std.specs.Prelude.{◌≡◌, map, length, option_map, option_and_then, IfOk, codes, if◌then◌else◌, None};
+ghost use Rattle.std.specs.Prelude.{◌≡◌, map, length, option_map, option_and_then, IfOk, if◌then◌else◌, None};
 ghost use Rattle.toml.specs.View.{table_view, view, items_view};
-ghost use Rattle.scenario.specs.Lookups.{items_at, all_items};
+ghost use Rattle.scenario_keys.specs.Lookups.{items_at, all_items};
+ghost use Rattle.scenario_keys.specs.Keys.{key_name};
+ghost use Rattle.scenario_keys.specs.declared.key.Key.TheVariants as key;
 ghost use Rattle.scenario.specs.Drafts.{word_of, service_draft, service_in, version_draft, version_in, plain_service_draft, plain_version_draft};
 
-use crate::formats::{Format, member_in};
-use crate::keys::{has_service_keys, has_version_keys};
-use crate::lookup::items_at;
-use crate::values::{port_at, protocol_at, version_number_at, vip_at};
+use crate::formats::member_in;
 use pool_versions::Member;
+use scenario_keys::{Format, Key, Owner, address_at, has_only_keys, items_at, number, protocol_at};
 use std::alloc::{AllocError, Global};
 use toml::{Table, Value};
 
@@ -29,7 +29,7 @@ pub(crate) struct VersionDraft {
 }
 
 // The members that some texts are, None where something is no text.
-#[tactic(auto, using(crate::proofs::Views::items_from))]
+#[tactic(auto, using(scenario_keys::proofs::Views::items_from))]
 fn read_words(
     alloc: Global,
     format: Format,
@@ -52,9 +52,9 @@ fn words_at(
     format: Format,
     table: &Table,
 ) -> Result<Option<Vec<Option<Member>>>, AllocError>
-    ensures { IfOk result (λ o. option_map (λ v. v.items) o ≡ option_and_then (all_items (word_of format)) (items_at (codes "members") (table_view table.now))) }
+    ensures { IfOk result (λ o. option_map (λ v. v.items) o ≡ option_and_then (all_items (word_of format)) (items_at (key_name key.Members) (table_view table.now))) }
 {
-    match items_at(table, "members") {
+    match items_at(table, Key::Members.name()) {
         Some(values) => read_words(alloc, format, values),
         None => Ok(None),
     }
@@ -68,13 +68,13 @@ fn service_draft_of(
 ) -> Result<Option<ServiceDraft>, AllocError>
     ensures { IfOk result (λ o. option_map plain_service_draft o ≡ service_draft format (table_view table.now)) }
 {
-    let Some(vip) = vip_at(alloc, table)? else {
+    let Some(vip) = address_at(alloc, table, Key::Vip)? else {
         return Ok(None);
     };
     let Some(proto) = protocol_at(table) else {
         return Ok(None);
     };
-    let Some(port) = port_at(table) else {
+    let Some(port) = number(table, Key::Port) else {
         return Ok(None);
     };
     let Some(members) = words_at(alloc, format, table)? else {
@@ -83,7 +83,7 @@ fn service_draft_of(
     Ok(Some(ServiceDraft {
         vip,
         proto,
-        port,
+        port: port as u16,
         members,
     }))
 }
@@ -98,14 +98,14 @@ fn service_in(
     let Some(table) = value.as_table() else {
         return Ok(None);
     };
-    if has_service_keys(table) {
+    if has_only_keys(Owner::Service, format, table) {
         service_draft_of(alloc, format, table)
     } else {
         Ok(None)
     }
 }
 
-#[tactic(auto, using(crate::proofs::Views::items_from))]
+#[tactic(auto, using(scenario_keys::proofs::Views::items_from))]
 fn read_services(
     alloc: Global,
     format: Format,
@@ -130,9 +130,9 @@ fn services_at(
     format: Format,
     table: &Table,
 ) -> Result<Option<Vec<ServiceDraft>>, AllocError>
-    ensures { IfOk result (λ o. option_map (λ v. map plain_service_draft v.items) o ≡ option_and_then (all_items (service_in format)) (items_at (codes "services") (table_view table.now))) }
+    ensures { IfOk result (λ o. option_map (λ v. map plain_service_draft v.items) o ≡ option_and_then (all_items (service_in format)) (items_at (key_name key.Services) (table_view table.now))) }
 {
-    match items_at(table, "services") {
+    match items_at(table, Key::Services.name()) {
         Some(values) => read_services(alloc, format, values),
         None => Ok(None),
     }
@@ -146,13 +146,16 @@ fn version_draft_of(
 ) -> Result<Option<VersionDraft>, AllocError>
     ensures { IfOk result (λ o. option_map plain_version_draft o ≡ version_draft format (table_view table.now)) }
 {
-    let Some(number) = version_number_at(table) else {
+    let Some(number) = number(table, Key::Number) else {
         return Ok(None);
     };
     let Some(services) = services_at(alloc, format, table)? else {
         return Ok(None);
     };
-    Ok(Some(VersionDraft { number, services }))
+    Ok(Some(VersionDraft {
+        number: number as u32,
+        services,
+    }))
 }
 
 fn version_in(
@@ -165,7 +168,7 @@ fn version_in(
     let Some(table) = value.as_table() else {
         return Ok(None);
     };
-    if has_version_keys(table) {
+    if has_only_keys(Owner::Version, format, table) {
         version_draft_of(alloc, format, table)
     } else {
         Ok(None)
@@ -173,7 +176,7 @@ fn version_in(
 }
 
 /// The versions that some values are, None where one of them isn't one.
-#[tactic(auto, using(crate::proofs::Views::items_from))]
+#[tactic(auto, using(scenario_keys::proofs::Views::items_from))]
 pub(crate) fn read_versions(
     alloc: Global,
     format: Format,

@@ -7,16 +7,17 @@ use Rattle.toml.specs.declared.value.Value.{Value}
 use Rattle.pool_versions.specs.declared.backend.Member.{Member}
 use Rattle.maglev_texts.specs.Parsing.{address_of}
 use Rattle.hash_laws.specs.Any.{hash_of_word}
-use Rattle.scenario.specs.Lookups.{number_at, number_or, number_if, flag_or, text_at, items_at, all_items, given_or, has_only}
-use Rattle.scenario.specs.Words.{size_of, scheme_of_word, spread_of_word, protocol_of_word, longest_idle, choices_of, limits_of}
+use Rattle.scenario_keys.specs.Lookups.{number_at, number_or, number_if, flag_or, text_at, items_at, all_items, given_or, has_only}
+use Rattle.scenario_keys.specs.Words.{size_of, scheme_of_word, spread_of_word, protocol_of_word, longest_idle}
+use Rattle.scenario.specs.Setup.{choices_of, limits_of}
 use Rattle.scenario.specs.Plain.{PlainService, PlainVersion}
 use Rattle.scenario.specs.Drafts.{service_keys, version_keys, member_in, word_of, service_draft, service_in, version_draft, version_in}
-use Rattle.scenario.specs.declared.formats.Format.{Format}
+use Rattle.scenario_keys.specs.declared.formats.Format.{Format}
 use Rattle.scenario.specs.Meaning.{root_keys, address_in, few_nodes, few_steps, nodes_of, versions_in, steps_in, draft_of}
-use Rattle.scenario.specs.Keys.{holds}
+use Rattle.scenario_keys.specs.Keys.{holds}
 use Rattle.scenario_diagnostics.specs.Places.{first_bad, setup, item_from, is_text, is_address, count, members_flaw, service_table_flaw, service_flaw, services_from, services_flaw, version_table_flaw, version_flaw, versions_from, versions_flaw, sized, nodes_in, nodes_flaw, steps_of, steps_flaw, arrays_flaw, OnePlaceOrADraft}
-use Rattle.scenario.specs.declared.key.Key.{Key}
-use Rattle.scenario.specs.declared.key.Key.TheVariants as key
+use Rattle.scenario_keys.specs.declared.key.Key.{Key}
+use Rattle.scenario_keys.specs.declared.key.Key.TheVariants as key
 use Rattle.scenario_diagnostics.specs.declared.place.Flaw.TheVariants as flaw
 use Rattle.scenario_diagnostics.specs.declared.place.Place.TheVariants as place
 

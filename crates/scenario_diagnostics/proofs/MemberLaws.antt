@@ -4,15 +4,16 @@ use Rattle.std.specs.Option.{option_or}
 use Rattle.toml.specs.Data.{Items, no_items, item, Members, as_str, as_table}
 use Rattle.pool_versions.specs.declared.backend.Member.{Member}
 use Rattle.maglev_texts.specs.Parsing.{address_of}
-use Rattle.scenario.specs.Lookups.{number_at, text_at, items_at, all_items, all_of, has_only}
-use Rattle.scenario.specs.Words.{protocol_of_word, choices_of, limits_of}
+use Rattle.scenario_keys.specs.Lookups.{number_at, text_at, items_at, all_items, all_of, has_only}
+use Rattle.scenario_keys.specs.Words.{protocol_of_word}
+use Rattle.scenario.specs.Setup.{choices_of, limits_of}
 use Rattle.scenario.specs.Plain.{PlainService}
 use Rattle.scenario.specs.Drafts.{service_keys, version_keys, member_in, word_of, service_draft, service_in, version_draft, version_in}
-use Rattle.scenario.specs.declared.formats.Format.{Format}
+use Rattle.scenario_keys.specs.declared.formats.Format.{Format}
 use Rattle.scenario.specs.Meaning.{root_keys, nodes_of, versions_in, steps_in, draft_of, service_of, version_of}
 use Rattle.scenario_diagnostics.specs.Places.{item_from}
 use Rattle.scenario_diagnostics.specs.MemberPlaces.{is_member, service_word, word_in_services, version_word, word_in_versions, member_place_in, OneWordOrAllMembers}
-use Rattle.scenario.specs.declared.key.Key.TheVariants as key
+use Rattle.scenario_keys.specs.declared.key.Key.TheVariants as key
 use Rattle.scenario_diagnostics.specs.declared.place.Flaw.TheVariants as flaw
 use Rattle.scenario_diagnostics.specs.declared.place.Place.{Place}
 use Rattle.scenario_diagnostics.specs.declared.place.Place.TheVariants as place

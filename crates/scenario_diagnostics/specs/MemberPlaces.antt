@@ -2,12 +2,12 @@
 use Rattle.std.specs.Prelude.{◌≡◌, ℕ, ◌+◌, Bool, codes, Option, None, is_none, is_some, option_and_then, option_map, IfSome}
 use Rattle.std.specs.Option.{option_or}
 use Rattle.toml.specs.Data.{Data, Items, no_items, item, Members, as_str, as_table}
-use Rattle.scenario.specs.Lookups.{items_at, all_of}
-use Rattle.scenario.specs.declared.formats.Format.{Format}
+use Rattle.scenario_keys.specs.Lookups.{items_at, all_of}
+use Rattle.scenario_keys.specs.declared.formats.Format.{Format}
 use Rattle.scenario.specs.Drafts.{member_in}
 use Rattle.scenario.specs.Meaning.{draft_in, version_of}
 use Rattle.scenario_diagnostics.specs.Places.{item_from}
-use Rattle.scenario.specs.declared.key.Key.TheVariants as key
+use Rattle.scenario_keys.specs.declared.key.Key.TheVariants as key
 use Rattle.scenario_diagnostics.specs.declared.place.Flaw.TheVariants as flaw
 use Rattle.scenario_diagnostics.specs.declared.place.Place.{Place}
 use Rattle.scenario_diagnostics.specs.declared.place.Place.TheVariants as place

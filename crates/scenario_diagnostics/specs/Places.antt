@@ -2,13 +2,13 @@
 use Rattle.std.specs.Prelude.{◌≡◌, ℕ, suc, ◌+◌, Bool, ◌&&◌, nat_le, if◌then◌else◌, List, [], ◌∷◌, codes, Option, Some, None, is_none, is_some, option_map}
 use Rattle.std.specs.Option.{option_or}
 use Rattle.toml.specs.Data.{Data, Items, no_items, item, Members, as_str, as_table}
-use Rattle.scenario.specs.Lookups.{items_at, given_or, has_only}
+use Rattle.scenario_keys.specs.Lookups.{items_at, given_or, has_only}
 use Rattle.scenario.specs.Drafts.{service_keys, version_keys}
-use Rattle.scenario.specs.declared.formats.Format.{Format}
+use Rattle.scenario_keys.specs.declared.formats.Format.{Format}
 use Rattle.scenario.specs.Meaning.{root_keys, address_in, draft_in}
-use Rattle.scenario.specs.Keys.{holds}
-use Rattle.scenario.specs.declared.key.Key.{Key}
-use Rattle.scenario.specs.declared.key.Key.TheVariants as key
+use Rattle.scenario_keys.specs.Keys.{holds}
+use Rattle.scenario_keys.specs.declared.key.Key.{Key}
+use Rattle.scenario_keys.specs.declared.key.Key.TheVariants as key
 use Rattle.scenario_diagnostics.specs.declared.place.Flaw.{Flaw}
 use Rattle.scenario_diagnostics.specs.declared.place.Flaw.TheVariants as flaw
 use Rattle.scenario_diagnostics.specs.declared.place.Place.{Place}

@@ -6,7 +6,7 @@ use Rattle.std.specs.Cmp.Lexicographic.{pointwise}
 use Rattle.pool_versions.specs.declared.backend.Member.{Member}
 use Rattle.scenario.specs.Plain.{PlainService, PlainVersion, is_long, first_refused}
 use Rattle.scenario_diagnostics.specs.declared.doubles.ServiceKey.{ServiceKey}
-use Rattle.scenario.specs.declared.key.Key.TheVariants as key
+use Rattle.scenario_keys.specs.declared.key.Key.TheVariants as key
 use Rattle.scenario_diagnostics.specs.declared.place.Flaw.TheVariants as flaw
 use Rattle.scenario_diagnostics.specs.declared.place.Place.{Place}
 use Rattle.scenario_diagnostics.specs.declared.place.Place.TheVariants as place

@@ -19,7 +19,7 @@ fn is_member(alloc: Global, format: Format, value: &Value) -> Result<bool, Alloc
 }
 
 // The first item that is no member.
-#[tactic(auto, using(scenario::proofs::Views::items_from))]
+#[tactic(auto, using(scenario_keys::proofs::Views::items_from))]
 fn first_no_member(
     alloc: Global,
     format: Format,
@@ -48,7 +48,7 @@ fn service_word(alloc: Global, format: Format, value: &Value) -> Result<Option<u
 }
 
 // The first word in the services of a version.
-#[tactic(auto, using(scenario::proofs::Views::items_from))]
+#[tactic(auto, using(scenario_keys::proofs::Views::items_from))]
 fn word_in_services(
     alloc: Global,
     format: Format,
@@ -83,7 +83,7 @@ fn version_word(
 }
 
 // The first word in the versions.
-#[tactic(auto, using(scenario::proofs::Views::items_from))]
+#[tactic(auto, using(scenario_keys::proofs::Views::items_from))]
 fn word_in_versions(
     alloc: Global,
     format: Format,

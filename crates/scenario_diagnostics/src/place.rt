@@ -47,7 +47,7 @@ fn first_bad(alloc: Global, table: &Table, keys: &[Key]) -> Result<Option<Key>, 
 }
 
 // The first item that is no text.
-#[tactic(auto, using(scenario::proofs::Views::items_from))]
+#[tactic(auto, using(scenario_keys::proofs::Views::items_from))]
 fn first_no_text(values: &[Value]) -> Option<usize>
     ensures { result ≡ item_from is_text 0 (items_view values.now) }
 {
@@ -69,7 +69,7 @@ fn is_address(alloc: Global, value: &Value) -> Result<bool, AllocError>
 }
 
 // The first item that is no address.
-#[tactic(auto, using(scenario::proofs::Views::items_from))]
+#[tactic(auto, using(scenario_keys::proofs::Views::items_from))]
 fn first_no_address(alloc: Global, values: &[Value]) -> Result<Option<usize>, AllocError>
     ensures { IfOk result (λ o. o ≡ item_from is_address 0 (items_view values.now)) }
 {
@@ -112,7 +112,7 @@ fn service_flaw(alloc: Global, value: &Value) -> Result<Option<Flaw>, AllocError
 }
 
 // The first place in the services of a version.
-#[tactic(auto, using(scenario::proofs::Views::items_from))]
+#[tactic(auto, using(scenario_keys::proofs::Views::items_from))]
 fn first_in_services(
     alloc: Global,
     version: usize,
@@ -163,7 +163,7 @@ fn version_flaw(alloc: Global, version: usize, value: &Value) -> Result<Option<P
 }
 
 // The first place in the versions.
-#[tactic(auto, using(scenario::proofs::Views::items_from))]
+#[tactic(auto, using(scenario_keys::proofs::Views::items_from))]
 fn first_in_versions(alloc: Global, values: &[Value]) -> Result<Option<Place>, AllocError>
     ensures { IfOk result (λ o. o ≡ versions_from 0 (items_view values.now)) }
 {

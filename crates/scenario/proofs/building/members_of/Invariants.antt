@@ -1,5 +1,5 @@
 use Rattle.std.proofs.Common.{◌≡◌, ◌++◌, drop, option_map}
-use Rattle.scenario.specs.Lookups.{all_of}
+use Rattle.scenario_keys.specs.Lookups.{all_of}
 use Rattle.scenario.proofs.building.members_of.Given as goal
 
 abbrev pub invariant-loop-word : goal.invariant-loop-word

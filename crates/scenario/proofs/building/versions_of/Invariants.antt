@@ -1,5 +1,5 @@
 use Rattle.std.proofs.Common.{◌≡◌, ◌++◌, drop, map, option_map}
-use Rattle.scenario.specs.Lookups.{all_of}
+use Rattle.scenario_keys.specs.Lookups.{all_of}
 use Rattle.scenario.specs.Plain.{plain_version}
 use Rattle.scenario.specs.Drafts.{plain_version_draft}
 use Rattle.scenario.specs.Meaning.{version_of}

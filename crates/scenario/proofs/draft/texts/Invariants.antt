@@ -1,7 +1,7 @@
 use Rattle.std.proofs.Common.{◌≡◌, ◌++◌, drop, map, option_map, string_bytes}
 use Rattle.toml.specs.Data.{as_str}
 use Rattle.toml.specs.View.{items_view}
-use Rattle.scenario.specs.Lookups.{all_items}
+use Rattle.scenario_keys.specs.Lookups.{all_items}
 use Rattle.scenario.proofs.draft.texts.Given as goal
 
 abbrev pub invariant-loop-value : goal.invariant-loop-value

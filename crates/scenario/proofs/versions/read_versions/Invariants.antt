@@ -1,6 +1,6 @@
 use Rattle.std.proofs.Common.{◌≡◌, ◌++◌, drop, map, option_map}
 use Rattle.toml.specs.View.{items_view}
-use Rattle.scenario.specs.Lookups.{all_items}
+use Rattle.scenario_keys.specs.Lookups.{all_items}
 use Rattle.scenario.specs.Drafts.{version_in, plain_version_draft}
 use Rattle.scenario.proofs.versions.read_versions.Given as goal
 

@@ -1,6 +1,6 @@
 use Rattle.std.proofs.Common.{◌≡◌, ◌++◌, drop, option_map}
 use Rattle.toml.specs.View.{items_view}
-use Rattle.scenario.specs.Lookups.{all_items}
+use Rattle.scenario_keys.specs.Lookups.{all_items}
 use Rattle.scenario.specs.Drafts.{word_of}
 use Rattle.scenario.proofs.versions.read_words.Given as goal
 

@@ -1,0 +1,31 @@
+-- A scenario's setup.
+use Rattle.std.specs.Prelude.{option_and_then, option_map, Option}
+use Rattle.hash_laws.specs.Any.{hash_of_word}
+use Rattle.toml.specs.Data.{Members}
+use Rattle.scenario_keys.specs.Lookups.{number_at, text_at}
+use Rattle.scenario_keys.specs.Words.{size_of, scheme_of_word, spread_of_word}
+use Rattle.scenario_keys.specs.Keys.{key_name, number_of, number_if_of, flag_of}
+use Rattle.scenario_keys.specs.declared.key.Key.TheVariants as key
+use Rattle.scenario.specs.declared.setup.Choices.{Choices}
+use Rattle.scenario.specs.declared.setup.Limits.{Limits}
+
+-- the size, the hash, the scheme and the spread
+unfoldable pub choices_of : Members → Option Choices
+choices_of ms =
+    option_and_then (λ size. option_and_then (λ hash. option_and_then (λ scheme. option_map (λ spread.
+    record { size = size; hash = hash; scheme = scheme; spread = spread })
+    (option_and_then spread_of_word (text_at (key_name key.Spread) ms)))
+    (option_and_then scheme_of_word (text_at (key_name key.Scheme) ms)))
+    (option_and_then hash_of_word (text_at (key_name key.Hash) ms)))
+    (option_and_then size_of (number_at 0 65537 (key_name key.Size) ms))
+
+-- the workers, the capacity, the places of a ring, the checksum test and the idle limit in microseconds
+unfoldable pub limits_of : Members → Option Limits
+limits_of ms =
+    option_and_then (λ workers. option_and_then (λ capacity. option_and_then (λ ring. option_and_then (λ check. option_map (λ idle.
+    record { workers = workers; capacity = capacity; ring = ring; check = check; idle = idle })
+    (number_if_of key.Idle ms))
+    (flag_of key.Check ms))
+    (number_of key.Ring ms))
+    (number_of key.Capacity ms))
+    (number_of key.Workers ms)

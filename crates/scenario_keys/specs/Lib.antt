@@ -1,0 +1,4 @@
+pub mod Lookups
+pub mod Words
+pub mod Keys
+pub mod Formats

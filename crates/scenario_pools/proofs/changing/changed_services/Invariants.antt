@@ -1,0 +1,7 @@
+use Rattle.std.proofs.Common.{◌≡◌, ◌++◌, drop, map}
+use Rattle.scenario_pools.specs.Plain.{plain_service}
+use Rattle.scenario_pools.specs.Changes.{service_changed_by}
+use Rattle.scenario_pools.proofs.changing.changed_services.Given as goal
+
+abbrev pub invariant-loop-service : goal.invariant-loop-service
+invariant-loop-service l = map plain_service l.found.items ++ map (service_changed_by l.change) (map plain_service (drop l.service-index l.services)) ≡ map (service_changed_by l.change) (map plain_service l.services)

@@ -1,0 +1,9 @@
+use Rattle.std.proofs.Common.{◌≡◌, ◌++◌, drop, map, option_map}
+use Rattle.scenario_keys.specs.Lookups.{all_of}
+use Rattle.scenario_pools.specs.Plain.{plain_service}
+use Rattle.scenario_pools.specs.Drafts.{plain_service_draft}
+use Rattle.scenario_pools.specs.Writing.{stated}
+use Rattle.scenario_pools.proofs.writing.all_stated.Given as goal
+
+abbrev pub invariant-loop-draft : goal.invariant-loop-draft
+invariant-loop-draft l = option_map (λ rest. map plain_service l.services.items ++ rest) (all_of stated (map plain_service_draft (drop l.draft-index l.drafts))) ≡ all_of stated (map plain_service_draft l.drafts)

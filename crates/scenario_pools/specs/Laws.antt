@@ -1,0 +1,24 @@
+-- Differences are written out.
+use Rattle.std.specs.Prelude.{◌≡◌, List, map, Option, Some, Ok}
+use Rattle.std.specs.Option.{ok_or}
+use Rattle.pool_versions.specs.declared.backend.Member.{Member}
+use Rattle.scenario_keys.specs.Lookups.{all_of}
+use Rattle.scenario_pools.specs.Plain.{PlainService, PlainVersion, version_of}
+use Rattle.scenario_pools.specs.Drafts.{PlainVersionDraft, whole_version}
+use Rattle.scenario_pools.specs.Writing.{versions_of}
+use Rattle.scenario_pools.specs.declared.fault.PoolsFault.TheVariants as fault
+
+-- drafts without differences mean the versions whose words are all members
+abbrev pub WholeVersionsAreStated : Type 0
+WholeVersionsAreStated = (vs : List (PlainVersion (Option Member))) → versions_of (map whole_version vs) ≡ ok_or (all_of version_of vs) fault.BadMember
+
+-- a version as words
+abbrev pub service_words : PlainService Member → PlainService (Option Member)
+service_words s = record { vip = s.vip; proto = s.proto; port = s.port; members = map (λ m. Some m) s.members }
+
+abbrev pub version_words : PlainVersion Member → PlainVersion (Option Member)
+version_words v = record { number = v.number; services = map service_words v.services }
+
+-- the versions that drafts mean are those that the drafts written out mean
+abbrev pub DifferencesAreWrittenOut : Type 0
+DifferencesAreWrittenOut = (ds : List PlainVersionDraft) (vs : List (PlainVersion Member)) → versions_of ds ≡ Ok vs → versions_of (map (λ v. whole_version (version_words v)) vs) ≡ Ok vs

@@ -1,0 +1,28 @@
+//! What is wrong with drafts of versions.
+ghost use Rattle.std.specs.Prelude.{◌≡◌};
+ghost use Rattle.scenario_pools.specs.declared.fault.PoolsFault.TheVariants.{Memory};
+
+use std::alloc::AllocError;
+use thiserror::Error;
+
+/// Why drafts of versions were refused: the fault of the first that has one.
+#[derive(Clone, Copy, Debug, PartialEq, Eq, Drop, Error)]
+pub enum PoolsFault {
+    /// A word is no member, name or weight, or names a server that isn't there.
+    #[error("a member isn't one, or isn't there")]
+    BadMember,
+    /// Versions written out have more than 1,048,576 services and members.
+    #[error("the versions, written out, are too large")]
+    TooMany,
+    /// Memory was refused.
+    #[error("out of memory")]
+    Memory,
+}
+
+impl From<AllocError> for PoolsFault {
+    ghost from_gives = { λ _ e. e ≡ Memory };
+
+    fn from(_: AllocError) -> PoolsFault {
+        PoolsFault::Memory
+    }
+}
