@@ -14,9 +14,9 @@ ghost use Rattle.run_scenario.specs.Runs.{steps_in};
 use crate::records::Records;
 use cluster_node::Packet;
 use driver_commands::{Orders, orders};
-use event_trace::{ScenarioStep, all_live};
-use scenario::{Scenario, SpreadKind};
-use spreader::{HashSpread, TurnSpread};
+use event_trace::ScenarioStep;
+use named_spread::spread_of;
+use scenario::Scenario;
 use std::alloc::{AllocError, Global};
 use timed_steps::{TimedStep, counted, has_until};
 
@@ -72,17 +72,8 @@ fn orders_by(
     ensures tally { IfOk result (λ o. o.tally ≡ tally_of (length packets.now) (plan_of (choice_in scenario.now) packets.now steps.now (length scenario.now.nodes.items))) }
 {
     let nodes = scenario.nodes.len() as u16;
-    let live = all_live(alloc, nodes)?;
-    match scenario.spread {
-        SpreadKind::Hash => {
-            let spread = HashSpread::new(scenario.hash, live);
-            orders(alloc, nodes, spread, packets, steps)
-        }
-        SpreadKind::Turn => {
-            let spread = TurnSpread::new(live);
-            orders(alloc, nodes, spread, packets, steps)
-        }
-    }
+    let spread = spread_of(alloc, scenario.spread, scenario.hash, nodes)?;
+    orders(alloc, nodes, spread, packets, steps)
 }
 
 /// What the scenario's steps tell each node over records, with the choices of its spreader, and what becomes of the records.
