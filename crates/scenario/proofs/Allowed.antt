@@ -5,7 +5,8 @@ use Rattle.std.proofs.lemmas.Bool.{and_from, and_parts}
 use Rattle.toml.specs.Data.{Members}
 use Rattle.pool_versions.specs.declared.backend.Member.{Member}
 use Rattle.pool_versions.specs.declared.catalogue.PoolFault.{PoolFault}
-use Rattle.scenario.specs.Plain.{PlainVersion}
+use Rattle.scenario_pools.specs.Plain.{PlainVersion}
+use Rattle.scenario_pools.specs.declared.fault.PoolsFault.{PoolsFault}
 use Rattle.scenario.specs.Steps.{PlainStep, plain_timed, allows}
 use Rattle.scenario.specs.Told.{PlainTold, once, each, at_node, steps_said, count_said, allows_told, told_of, after, said_before, steps_of}
 use Rattle.scenario.specs.Meaning.{PlainDraft, PlainScenario, rules_of, with_steps, with_pools, with_versions, with_draft, with_format, plan_of_draft, plan_of, Means}
@@ -74,9 +75,9 @@ of_pools : (f : Format) (played : Played) (d : PlainDraft) (vs : List (PlainVers
 of_pools f played d vs None = of_steps played d vs (steps_of (rules_of f played d) 100000 d.steps) (all_allowed (rules_of f played d) 100000 d.steps)
 of_pools f played d vs (Some e) = tt
 
-of_versions : (f : Format) (played : Played) (d : PlainDraft) (o : Option (List (PlainVersion Member))) → AreAllowed played (with_versions f played d o)
-of_versions f played d None = tt
-of_versions f played d (Some vs) = of_pools f played d vs _
+of_versions : (f : Format) (played : Played) (d : PlainDraft) (r : Result (List (PlainVersion Member)) PoolsFault) → AreAllowed played (with_versions f played d r)
+of_versions f played d (Err e) = tt
+of_versions f played d (Ok vs) = of_pools f played d vs _
 
 of_draft : (f : Format) (played : Played) (o : Option PlainDraft) → AreAllowed played (with_draft f played o)
 unfolding plan_of_draft

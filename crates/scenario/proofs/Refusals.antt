@@ -1,8 +1,11 @@
 -- A draft's fault is its document's.
 use Rattle.std.proofs.Common.{◌≡◌, ℕ, List, Option, Some, None, Result, Ok, Err, IfErr, IsErrAnd, ◌∙◌, sym, ap, subst}
-use Rattle.scenario.specs.Plain.{PlainVersion}
+use Rattle.scenario_pools.specs.Plain.{PlainVersion}
+use Rattle.scenario_pools.specs.Drafts.{PlainVersionDraft}
+use Rattle.scenario_pools.specs.declared.fault.PoolsFault.{PoolsFault}
+use Rattle.scenario_pools.specs.declared.fault.PoolsFault.TheVariants as written
 use Rattle.scenario.specs.Steps.{PlainStep}
-use Rattle.scenario.specs.Meaning.{PlainDraft, PlainScenario, with_steps, with_pools, with_versions, with_draft, with_format, plan_of_draft, plan_of, draft_in, IsDocument, IsRefused, IsDraftRefused}
+use Rattle.scenario.specs.Meaning.{PlainDraft, PlainScenario, with_steps, with_pools, with_versions, with_draft, with_format, plan_of_draft, plan_of, draft_in, IsDocument, IsRefused, IsDraftRefused, AreVersionsRefused}
 use Rattle.scenario_keys.specs.Formats.{format_of}
 use Rattle.scenario.specs.declared.playing.Played.{Played}
 use Rattle.scenario_keys.specs.declared.formats.Format.{Format}
@@ -11,6 +14,7 @@ use Rattle.scenario.specs.declared.fault.ScenarioFault.TheVariants as fault
 use Rattle.scenario.specs.declared.reading.Scenario.{Scenario}
 use Rattle.pool_versions.specs.declared.backend.Member.{Member}
 use Rattle.pool_versions.specs.declared.catalogue.PoolFault.{PoolFault}
+use Rattle.pool_versions.specs.declared.catalogue.PoolFault.TheVariants as pool
 use Rattle.toml.specs.Data.{Members}
 
 -- the faults that a draft can have
@@ -18,6 +22,7 @@ abbrev IsLate : ScenarioFault → Type 0
 IsLate fault.BadMember = Unit {0}
 IsLate (fault.Pool f) = Unit {0}
 IsLate (fault.BadStep n) = Unit {0}
+IsLate fault.Memory = Unit {0}
 IsLate e = ⊥
 
 abbrev IsLateIn : Result PlainScenario ScenarioFault → Type 0
@@ -32,9 +37,11 @@ late_pools : (f : Format) (played : Played) (d : PlainDraft) (vs : List (PlainVe
 late_pools f played d vs None = late_steps d vs _
 late_pools f played d vs (Some e) = tt
 
-late_versions : (f : Format) (played : Played) (d : PlainDraft) (o : Option (List (PlainVersion Member))) → IsLateIn (with_versions f played d o)
-late_versions f played d None = tt
-late_versions f played d (Some vs) = late_pools f played d vs _
+late_versions : (f : Format) (played : Played) (d : PlainDraft) (r : Result (List (PlainVersion Member)) PoolsFault) → IsLateIn (with_versions f played d r)
+late_versions f played d (Err written.BadMember) = tt
+late_versions f played d (Err written.TooMany) = tt
+late_versions f played d (Err written.Memory) = tt
+late_versions f played d (Ok vs) = late_pools f played d vs _
 
 late_draft : (f : Format) (played : Played) (d : PlainDraft) (e : ScenarioFault) → plan_of_draft f played d ≡ Err e → IsLate e
 unfolding plan_of_draft
@@ -48,7 +55,7 @@ late_refused played text ms fault.BadKey document late is = absurd late
 late_refused played text ms fault.BadMember document late is = (ms, document, is)
 late_refused played text ms (fault.Pool f) document late is = (ms, document, is)
 late_refused played text ms (fault.BadStep n) document late is = (ms, document, is)
-late_refused played text ms fault.Memory document late is = absurd late
+late_refused played text ms fault.Memory document late is = tt
 
 -- what a document of a format says is what its draft says
 pub document_says : (played : Played) (ms : Members) (f : Format) (d : PlainDraft) → format_of ms ≡ Some f → draft_in f ms ≡ Some d → plan_of played ms ≡ plan_of_draft f played d
@@ -74,3 +81,26 @@ pub refused_above : (played : Played) (text : List ℕ) (ms : Members) (f : Form
     IfErr r (IsDraftRefused f played d) → IfErr r (IsRefused played text)
 refused_above played text ms f d (Ok s) document same is refused = tt
 refused_above played text ms f d (Err e) document same is refused = one_refused f played text ms d e document (document_says played ms f d same is) refused
+
+-- the fault of a draft's versions is the draft's
+draft_refused : (f : Format) (played : Played) (d : PlainDraft) (e : ScenarioFault) → AreVersionsRefused d.versions e → IsDraftRefused f played d e
+unfolding plan_of_draft
+draft_refused f played d fault.Memory h = tt
+draft_refused f played d fault.BadMember h = ap (with_versions f played d) h
+draft_refused f played d (fault.Pool pool.TooMany) h = ap (with_versions f played d) h
+draft_refused f played d (fault.Pool pool.BadNumber) h = absurd h
+draft_refused f played d (fault.Pool pool.NumberTaken) h = absurd h
+draft_refused f played d (fault.Pool pool.DoubleService) h = absurd h
+draft_refused f played d (fault.Pool pool.DoubleName) h = absurd h
+draft_refused f played d (fault.Pool pool.Memory) h = absurd h
+draft_refused f played d fault.TooLong h = absurd h
+draft_refused f played d fault.BadToml h = absurd h
+draft_refused f played d fault.BadFormat h = absurd h
+draft_refused f played d fault.BadKey h = absurd h
+draft_refused f played d (fault.BadStep n) h = absurd h
+
+pub versions_refused : (f : Format) (played : Played) (d : PlainDraft) (ds : List PlainVersionDraft) (r : Result Scenario ScenarioFault) (e : ScenarioFault)
+    → ds ≡ d.versions → IsErrAnd r (λ f. f ≡ e) → AreVersionsRefused ds e → IfErr r (IsDraftRefused f played d)
+versions_refused f played d ds r e same is h =
+    let P : List PlainVersionDraft → Type 0 = λ ds. AreVersionsRefused ds e in
+    passed_on r e (IsDraftRefused f played d) is (draft_refused f played d e (subst P same h))

@@ -3,6 +3,5 @@ pub mod Times
 pub mod Steps
 pub mod Told
 pub mod Plain
-pub mod Drafts
 pub mod Meaning
 pub mod Alike

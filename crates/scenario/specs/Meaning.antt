@@ -7,13 +7,18 @@ use Rattle.pool_versions.specs.declared.backend.Member.{Member}
 use Rattle.pool_versions.specs.declared.catalogue.PoolFault.{PoolFault}
 use Rattle.pool_versions.specs.declared.catalogue.PoolFault.TheVariants as pool
 use Rattle.pool_versions.specs.Pool.{Pools}
-use Rattle.scenario_keys.specs.Lookups.{items_at, all_items, all_of, has_only}
+use Rattle.scenario_keys.specs.Lookups.{items_at, all_items, has_only}
 use Rattle.scenario_keys.specs.Keys.{key_name, root_keys}
 use Rattle.scenario_keys.specs.Formats.{format_of}
 use Rattle.scenario_keys.specs.declared.key.Key.TheVariants as key
 use Rattle.scenario.specs.Setup.{choices_of, limits_of}
-use Rattle.scenario.specs.Plain.{PlainService, PlainVersion, plain_version, first_refused}
-use Rattle.scenario.specs.Drafts.{version_in, plain_version_draft}
+use Rattle.scenario_pools.specs.Plain.{PlainVersion, plain_version}
+use Rattle.scenario_pools.specs.Drafts.{PlainVersionDraft, plain_version_drafts}
+use Rattle.scenario_pools.specs.Reading.{versions_in}
+use Rattle.scenario_pools.specs.Writing.{versions_of}
+use Rattle.scenario_pools.specs.declared.fault.PoolsFault.{PoolsFault}
+use Rattle.scenario_pools.specs.declared.fault.PoolsFault.TheVariants as written
+use Rattle.scenario.specs.Plain.{first_refused}
 use Rattle.scenario.specs.Steps.{PlainStep, plain_timed}
 use Rattle.scenario.specs.Told.{steps_of}
 use Rattle.scenario.specs.declared.playing.Played.{Played}
@@ -31,11 +36,11 @@ pub record PlainDraft : Type 0 where
   pub choices : Choices
   pub limits : Limits
   pub nodes : List ℕ
-  pub versions : List (PlainVersion (Option Member))
+  pub versions : List PlainVersionDraft
   pub steps : List (List ℕ)
 
 abbrev pub plain_draft : Draft → PlainDraft
-plain_draft d = record { choices = d.choices; limits = d.limits; nodes = d.nodes.items; versions = map plain_version_draft d.versions.items; steps = map string_bytes d.steps.items }
+plain_draft d = record { choices = d.choices; limits = d.limits; nodes = d.nodes.items; versions = plain_version_drafts d.versions; steps = map string_bytes d.steps.items }
 
 -- a scenario
 pub record PlainScenario : Type 0 where
@@ -68,9 +73,6 @@ few_steps ts = if nat_le (length ts) 100000 then Some ts else None
 abbrev pub nodes_of : Members → Option (List ℕ)
 nodes_of ms = option_and_then few_nodes (option_and_then (all_items address_in) (items_at (key_name key.Nodes) ms))
 
-abbrev pub versions_in : Format → Members → Option (List (PlainVersion (Option Member)))
-versions_in f ms = option_and_then (all_items (version_in f)) (items_at (key_name key.Versions) ms)
-
 abbrev pub steps_in : Members → Option (List (List ℕ))
 steps_in ms = option_and_then few_steps (option_and_then (all_items as_str) (items_at (key_name key.Steps) ms))
 
@@ -84,12 +86,11 @@ draft_of f ms =
 abbrev pub draft_in : Format → Members → Option PlainDraft
 draft_in f ms = if has_only (root_keys f) ms then draft_of f ms else None
 
--- a service and a version, where each of their words is a member
-abbrev pub service_of : PlainService (Option Member) → Option (PlainService Member)
-service_of s = option_map (λ members. record { vip = s.vip; proto = s.proto; port = s.port; members = members }) (all_of (λ o. o) s.members)
-
-abbrev pub version_of : PlainVersion (Option Member) → Option (PlainVersion Member)
-version_of v = option_map (λ services. record { number = v.number; services = services }) (all_of service_of v.services)
+-- a fault of the versions as a scenario's
+abbrev pub pools_refused : PoolsFault → ScenarioFault
+pools_refused written.BadMember = fault.BadMember
+pools_refused written.TooMany = fault.Pool pool.TooMany
+pools_refused written.Memory = fault.Memory
 
 -- what steps are read by
 abbrev pub rules_of : Format → Played → PlainDraft → StepRules
@@ -103,18 +104,23 @@ abbrev pub with_pools : Format → Played → PlainDraft → List (PlainVersion 
 with_pools f played d versions None = with_steps d versions (steps_of (rules_of f played d) 100000 d.steps)
 with_pools f played d versions (Some e) = Err (fault.Pool e)
 
-abbrev pub with_versions : Format → Played → PlainDraft → Option (List (PlainVersion Member)) → Result PlainScenario ScenarioFault
-with_versions f played d None = Err fault.BadMember
-with_versions f played d (Some versions) = with_pools f played d versions (first_refused d.choices.size [] versions)
+abbrev pub with_versions : Format → Played → PlainDraft → Result (List (PlainVersion Member)) PoolsFault → Result PlainScenario ScenarioFault
+with_versions f played d (Err e) = Err (pools_refused e)
+with_versions f played d (Ok versions) = with_pools f played d versions (first_refused d.choices.size [] versions)
 
--- the scenario of a draft of a format, or its first fault: a bad member word, then a fault of the pools, then the first bad step
+-- the scenario of a draft of a format, or its first fault: that of the first version that has one, then one of the pools, then the first bad step
 unfoldable pub plan_of_draft : Format → Played → PlainDraft → Result PlainScenario ScenarioFault
-plan_of_draft f played d = with_versions f played d (all_of version_of d.versions)
+plan_of_draft f played d = with_versions f played d (versions_of d.versions)
 
--- What a document says of the pools, where its keys are as they should be and its words are members. It is the size of the
+-- the versions that drafts mean, where they mean some
+abbrev pub if_written : Result (List (PlainVersion Member)) PoolsFault → Option (List (PlainVersion Member))
+if_written (Ok versions) = Some versions
+if_written (Err e) = None
+
+-- What a document says of the pools, where its keys are as they should be and its versions mean some. It is the size of the
 -- tables, and the versions.
 abbrev pub pools_of : Members → Option (ℕ × List (PlainVersion Member))
-pools_of ms = option_and_then (λ f. option_and_then (λ d. option_map (λ versions. (d.choices.size, versions)) (all_of version_of d.versions)) (draft_in f ms)) (format_of ms)
+pools_of ms = option_and_then (λ f. option_and_then (λ d. option_map (λ versions. (d.choices.size, versions)) (if_written (versions_of d.versions))) (draft_in f ms)) (format_of ms)
 
 abbrev pub with_draft : Format → Played → Option PlainDraft → Result PlainScenario ScenarioFault
 with_draft f played None = Err fault.BadKey
@@ -157,6 +163,13 @@ IsDraftRefused f played d e = plan_of_draft f played d ≡ Err e
 abbrev pub IsPoolRefused : ℕ → List (PlainVersion Member) → PoolFault → Type 0
 IsPoolRefused size vs pool.Memory = ⊤
 IsPoolRefused size vs f = first_refused size [] vs ≡ Some f
+
+-- why the versions of drafts are refused
+abbrev pub AreVersionsRefused : List PlainVersionDraft → ScenarioFault → Type 0
+AreVersionsRefused ds fault.Memory = ⊤
+AreVersionsRefused ds fault.BadMember = versions_of ds ≡ Err written.BadMember
+AreVersionsRefused ds (fault.Pool pool.TooMany) = versions_of ds ≡ Err written.TooMany
+AreVersionsRefused ds e = ⊥
 
 -- why steps are refused
 abbrev pub AreStepsRefused : StepRules → List (List ℕ) → ScenarioFault → Type 0

@@ -1,30 +1,12 @@
--- Versions as plain lists, and the faults of adding them in order.
+-- The faults of adding versions in order.
 use Rattle.std.specs.Prelude.{ℕ, Bool, ◌&&◌, ◌||◌, ◌==◌, nat_lt, if◌then◌else◌, List, [], ◌∷◌, ◌++◌, map, length, Option, Some, None}
 use Rattle.std.specs.List.{list_any}
 use Rattle.std.specs.Option.{option_or}
 use Rattle.pool_versions.specs.Pool.{has_double, same_name}
 use Rattle.pool_versions.specs.declared.backend.Member.{Member}
-use Rattle.pool_versions.specs.declared.service.Service.{Service}
-use Rattle.pool_versions.specs.declared.service.Version.{Version}
 use Rattle.pool_versions.specs.declared.catalogue.PoolFault.{PoolFault}
+use Rattle.scenario_pools.specs.Plain.{PlainService, PlainVersion}
 use Rattle.pool_versions.specs.declared.catalogue.PoolFault.TheVariants as fault
-
--- a service and a version, with plain lists
-pub record PlainService (M : Type 0) : Type 0 where
-  pub vip : ℕ
-  pub proto : ℕ
-  pub port : ℕ
-  pub members : List M
-
-pub record PlainVersion (M : Type 0) : Type 0 where
-  pub number : ℕ
-  pub services : List (PlainService M)
-
-abbrev pub plain_service : Service → PlainService Member
-plain_service s = record { vip = s.vip; proto = s.proto; port = s.port; members = s.members.items }
-
-abbrev pub plain_version : Version → PlainVersion Member
-plain_version v = record { number = v.number; services = map plain_service v.services.items }
 
 -- two services are for the same flows
 abbrev pub same_flows : PlainService Member → PlainService Member → Bool

@@ -3,13 +3,12 @@ ghost use Rattle.std.specs.Prelude.{◌≡◌, ◌≤◌, map, length, option_ma
 ghost use Rattle.toml.specs.Data.{as_str};
 ghost use Rattle.toml.specs.View.{table_view, items_view};
 ghost use Rattle.scenario_keys.specs.Lookups.{items_at, all_items};
-ghost use Rattle.scenario.specs.Drafts.{version_in, plain_version_draft};
-ghost use Rattle.scenario.specs.Meaning.{address_in, few_nodes, few_steps, nodes_of, versions_in, steps_in, draft_of, draft_in, plain_draft, IsLimited};
+ghost use Rattle.scenario.specs.Meaning.{address_in, few_nodes, few_steps, nodes_of, steps_in, draft_of, draft_in, plain_draft, IsLimited};
 
 use crate::setup::{Choices, Limits, choices_at, limits_at};
-use crate::versions::{VersionDraft, read_versions};
 use maglev_texts::address;
 use scenario_keys::{Format, Key, MOST_NODES, MOST_STEPS, Owner, has_only_keys, items_at};
+use scenario_pools::{VersionDraft, drafts_in};
 use std::alloc::{AllocError, Global};
 use toml::{Table, Value};
 
@@ -73,19 +72,6 @@ fn nodes_at(alloc: Global, table: &Table) -> Result<Option<Vec<u32>>, AllocError
     Ok(Some(nodes))
 }
 
-fn versions_at(
-    alloc: Global,
-    format: Format,
-    table: &Table,
-) -> Result<Option<Vec<VersionDraft>>, AllocError>
-    ensures { IfOk result (λ o. option_map (λ v. map plain_version_draft v.items) o ≡ versions_in format (table_view table.now)) }
-{
-    match items_at(table, Key::Versions.name()) {
-        Some(values) => read_versions(alloc, format, values),
-        None => Ok(None),
-    }
-}
-
 fn steps_at(alloc: Global, table: &Table) -> Result<Option<Vec<String>>, AllocError>
     ensures value { IfOk result (λ o. option_map (λ v. map string_bytes v.items) o ≡ steps_in (table_view table.now)) }
     ensures few { IfOk result (λ o. IfSome o (λ v. length v.items ≤ 100000)) }
@@ -116,7 +102,7 @@ fn read_draft(alloc: Global, format: Format, table: &Table) -> Result<Option<Dra
     let Some(nodes) = nodes_at(alloc, table)? else {
         return Ok(None);
     };
-    let Some(versions) = versions_at(alloc, format, table)? else {
+    let Some(versions) = drafts_in(alloc, format, table)? else {
         return Ok(None);
     };
     let Some(steps) = steps_at(alloc, table)? else {

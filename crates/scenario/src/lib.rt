@@ -7,7 +7,6 @@
 mod building;
 mod draft;
 mod fault;
-mod formats;
 mod laws;
 mod playing;
 mod reading;
@@ -15,11 +14,9 @@ mod setup;
 mod step;
 mod times;
 mod told;
-mod versions;
 
 pub use event_trace::ScenarioStep;
 pub use fault::ScenarioFault;
-pub use formats::member_in;
 pub use laws::{formats_mean_the_same, texts_are_steps};
 pub use playing::Played;
 pub use reading::{Scenario, pools_in, read};

@@ -3,11 +3,13 @@ ghost use Rattle.std.specs.Prelude.{◌≡◌, ◌≤◌, length, map, string_by
 ghost use Rattle.toml.specs.View.{table_view};
 ghost use Rattle.scenario.specs.Steps.{plain_timed};
 ghost use Rattle.scenario.specs.Told.{steps_of};
-ghost use Rattle.scenario.specs.Plain.{plain_version};
+ghost use Rattle.scenario_pools.specs.Plain.{plain_version};
+ghost use Rattle.scenario_pools.specs.Drafts.{plain_version_draft};
+ghost use Rattle.scenario_pools.specs.Writing.{versions_of};
 ghost use Rattle.scenario.specs.declared.playing.Played.{Played};
-ghost use Rattle.scenario.specs.Meaning.{pools_of, IsDocument, IsRefused, IsDraftRefused, IsLimited, AreStepsRefused, HasLimits, Means, plan_of, plan_of_draft, plan_view, plain_draft, pool_refused};
+ghost use Rattle.scenario.specs.Meaning.{pools_of, IsDocument, IsRefused, IsDraftRefused, IsLimited, AreVersionsRefused, AreStepsRefused, if_written, HasLimits, Means, plan_of, plan_of_draft, plan_view, plain_draft, pool_refused};
 
-use crate::building::{catalogue_of, versions_of};
+use crate::building::catalogue_of;
 use crate::draft::{Draft, draft_in};
 use crate::fault::ScenarioFault;
 use crate::playing::Played;
@@ -16,6 +18,7 @@ use backend_names::TableSize;
 use hash_laws::AnyHash;
 use pool_versions::{Catalogue, PoolFault, Version};
 use scenario_keys::{Format, MOST_STEPS, SchemeKind, SpreadKind, format_of};
+use scenario_pools::{PoolsFault, VersionDraft, versions_of};
 use std::alloc::{AllocError, Global};
 use timed_steps::TimedStep;
 use toml::Table;
@@ -92,6 +95,31 @@ fn steps_of(
     Ok(steps)
 }
 
+// The versions that some drafts mean.
+fn written(alloc: Global, drafts: &[VersionDraft]) -> Result<Vec<Version>, ScenarioFault>
+    ensures ok { IfOk result (λ v. versions_of (map plain_version_draft drafts.now) ≡ Ok (map plain_version v.items)) }
+    ensures refused { IfErr result (AreVersionsRefused (map plain_version_draft drafts.now)) }
+{
+    match versions_of(alloc, drafts) {
+        Ok(versions) => Ok(versions),
+        Err(PoolsFault::BadMember) => Err(ScenarioFault::BadMember),
+        Err(PoolsFault::TooMany) => Err(ScenarioFault::Pool(PoolFault::TooMany)),
+        Err(PoolsFault::Memory) => Err(ScenarioFault::Memory),
+    }
+}
+
+// The versions that some drafts mean, where they mean some.
+fn if_written(alloc: Global, drafts: &[VersionDraft]) -> Result<Option<Vec<Version>>, AllocError>
+    ensures { IfOk result (λ o. option_map (λ v. map plain_version v.items) o ≡ if_written (versions_of (map plain_version_draft drafts.now))) }
+{
+    match versions_of(alloc, drafts) {
+        Ok(versions) => Ok(Some(versions)),
+        Err(PoolsFault::BadMember) => Ok(None),
+        Err(PoolsFault::TooMany) => Ok(None),
+        Err(PoolsFault::Memory) => Err(AllocError),
+    }
+}
+
 fn pool_refused(fault: PoolFault) -> ScenarioFault
     ensures { result ≡ pool_refused fault }
 {
@@ -122,9 +150,7 @@ fn scenario_of(
         versions,
         steps,
     } = draft;
-    let Some(versions) = versions_of(alloc, versions.as_slice())? else {
-        return Err(ScenarioFault::BadMember);
-    };
+    let versions = written(alloc, versions.as_slice())?;
     let catalogue = match catalogue_of(alloc, choices.size, versions) {
         Ok(catalogue) => catalogue,
         Err(fault) => return Err(pool_refused(fault)),
@@ -153,7 +179,7 @@ fn scenario_of(
 }
 
 /// What a document says of the pools: the size of the tables, and the versions in order. None where its format isn't one, a
-/// key isn't as it should be, or a word is no member.
+/// key isn't as it should be, or its versions have a fault of their own.
 pub fn pools_in(
     alloc: Global,
     table: &Table,
@@ -166,7 +192,7 @@ pub fn pools_in(
     let Some(draft) = draft_in(alloc, format, table)? else {
         return Ok(None);
     };
-    let Some(versions) = versions_of(alloc, draft.versions.as_slice())? else {
+    let Some(versions) = if_written(alloc, draft.versions.as_slice())? else {
         return Ok(None);
     };
     Ok(Some((draft.choices.size, versions)))

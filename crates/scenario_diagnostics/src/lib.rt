@@ -11,14 +11,17 @@
 #![tactic(auto)]
 
 mod doubles;
+mod flaws;
 mod member_words;
 mod place;
 mod pools;
+mod service_places;
 mod spots;
+mod version_places;
 mod words;
 
 pub use member_words::{member_place, one_word_or_all_members};
 pub use place::{Flaw, Place, key_place, one_place_or_a_draft};
 pub use pools::{one_place_or_a_catalogue, pool_place};
-pub use scenario::Key;
+pub use scenario_keys::Key;
 pub use words::words_of;

@@ -1,14 +1,15 @@
 //! Where a scenario's versions can't be those of a catalogue.
 ghost use Rattle.std.specs.Prelude.{◌≡◌, ◌==◌, ◌||◌, map, length, IfOk};
 ghost use Rattle.std.specs.List.{list_any};
-ghost use Rattle.scenario.specs.Plain.{plain_service, plain_version, is_long};
+ghost use Rattle.scenario_pools.specs.Plain.{plain_service, plain_version};
+ghost use Rattle.scenario.specs.Plain.{is_long};
 ghost use Rattle.scenario_diagnostics.specs.PoolPlaces.{double_service, double_name_from, most_members, long_from, over_place, services_place, version_place, pool_place_of, OnePlaceOrACatalogue};
 
 use crate::doubles::{double_name, double_service};
 use crate::place::{Flaw, Place};
 use backend_names::TableSize;
 use pool_versions::{MOST_MEMBERS, MOST_SERVICES, MOST_VERSIONS, Service, Version};
-use scenario::Key;
+use scenario_keys::Key;
 use std::alloc::{AllocError, Global};
 
 // The first service of a version that is for the flows of an earlier one.

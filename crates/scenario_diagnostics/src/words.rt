@@ -1,14 +1,13 @@
 //! The words.
+use crate::flaws::is_address;
 use crate::member_words::member_place;
 use crate::place::{Flaw, Place, key_place};
 use crate::pools::pool_place;
 use crate::spots::{below, line_of, spot_of};
+use backend_names::Name;
 use pool_versions::PoolFault;
-use scenario::{
-    Format, Key, LONGEST_IDLE, MOST_ENTRIES, MOST_NODES, MOST_PLACES, MOST_PORT, MOST_STEPS,
-    MOST_VERSION, MOST_WORKERS, ROOT_KEYS, SERVICE_KEYS, ScenarioFault, VERSION_KEYS, format_of,
-    is_root_key, pools_in,
-};
+use scenario::{ScenarioFault, pools_in};
+use scenario_keys::{Form, Format, Key, Owner, format_of, value_at};
 use shown_text::shown;
 use std::alloc::Global;
 use toml::{Table, Value};
@@ -38,7 +37,14 @@ const STEPS: &str =
 
 /// What is expected of a step in format 3.
 const STARRED_STEPS: &str =
-    "install N V, live [N ..], take K, lose K, again P, full N [W ..], hold N, drain N, restart N or stop N, with balancers N and workers W that are there and none twice in a list; * or a number for the N of install, restart and stop and the K of take; run knows no full, hold and drain, and it alone knows stop; and at most 100000 steps in all";
+    "install N V, live [N ..], take K, lose K, again P, full N [W ..], hold N, drain N, restart N, stop N or until T, with balancers N and workers W that are there and none twice in a list; * or a number for the N of install, restart and stop and the K of take; T in seconds; run knows no full, hold and drain, and it alone knows stop; and at most 100000 steps in all";
+
+/// What is expected of a step by time.
+const UNTIL: &str =
+    "until T, with T in seconds from 0 to 4294967295, and one to six digits behind a point or no point";
+
+/// What is expected of versions by difference.
+const WRITTEN_OUT: &str = "at most 1048576 services and members in all versions, written out";
 
 fn bad_toml(alloc: Global, text: &[u8], error: &toml::de::Error) -> Option<String> {
     let start = error.span()?.start;
@@ -84,7 +90,7 @@ fn table_of(alloc: Global, place: Place) -> Option<(String, Flaw)> {
 fn path_of(alloc: Global, table: String, flaw: Flaw) -> Option<String> {
     match flaw {
         Flaw::NoTable | Flaw::Unknown => Some(table),
-        Flaw::Value(key) => below(alloc, table.as_str(), key.name()),
+        Flaw::Value(key) | Flaw::Misplaced(key) => below(alloc, table.as_str(), key.name()),
         Flaw::Item(key, n) => {
             let path = below(alloc, table.as_str(), key.name())?;
             format!(in alloc; "{path}[{n}]").ok()
@@ -99,7 +105,10 @@ fn bad_key(alloc: Global, text: &str, document: &Table) -> Option<String> {
     let path = path.as_str();
     match flaw {
         Flaw::NoTable => at(alloc, text, path, "a table"),
-        Flaw::Value(key) => at(alloc, text, path, expected(alloc, key)?.as_str()),
+        Flaw::Value(Key::Servers) => bad_servers(alloc, text, path, document),
+        Flaw::Value(Key::Base) => at(alloc, text, path, "the number of an earlier version"),
+        Flaw::Value(key) => at(alloc, text, path, key.form().words(alloc).ok()?.as_str()),
+        Flaw::Misplaced(_) => at(alloc, text, path, CHANGES_NEED),
         Flaw::Item(key, _) => at(alloc, text, path, expected_item(key)),
         Flaw::Unknown => {
             let (table, keys) = keys_at(alloc, document, place)?;
@@ -107,6 +116,35 @@ fn bad_key(alloc: Global, text: &str, document: &Table) -> Option<String> {
         }
     }
 }
+
+/// What is expected of a key of changes that stands where none may.
+const CHANGES_NEED: &str = "no such key without a base or beside members";
+
+// What is said of a table of servers: of its first entry that is none, if there is one.
+fn bad_servers(alloc: Global, text: &str, path: &str, document: &Table) -> Option<String> {
+    let Some(Value::Table(servers)) = document.get("servers") else {
+        return at(
+            alloc,
+            text,
+            path,
+            Key::Servers.form().words(alloc).ok()?.as_str(),
+        );
+    };
+    for (name, value) in servers.iter() {
+        if Name::new(name.as_str().as_bytes()).is_none() {
+            let path = below(alloc, path, name.as_str())?;
+            return at(alloc, text, path.as_str(), NAMES);
+        }
+        if !is_address(alloc, value).ok()? {
+            let path = below(alloc, path, name.as_str())?;
+            return at(alloc, text, path.as_str(), "an address, as \"10.8.0.1\"");
+        }
+    }
+    None
+}
+
+/// What is expected of a name.
+const NAMES: &str = "a name of 1 to 32 letters, digits, - and ., the first a letter or digit";
 
 // What is said of the first key of a table of this path that is none of these.
 fn unknown_key(alloc: Global, text: &str, path: &str, table: &Table, keys: &str) -> Option<String> {
@@ -127,37 +165,29 @@ fn push_key(keys: &mut String, key: &str) -> Option<()> {
     keys.push_str(key).ok()
 }
 
-// The keys of a document of a format, with commas between them.
-fn root_keys(alloc: Global, format: Format) -> Option<String> {
+// The keys that a table of a document of a format may have, with commas between them.
+fn keys_of(alloc: Global, owner: Owner, format: Format) -> Option<String> {
     let mut keys = String::new(alloc);
-    for key in ROOT_KEYS {
-        if is_root_key(format, key) {
-            push_key(&mut keys, key)?;
+    for key in Key::ALL {
+        if key.stands_in(owner, format) {
+            push_key(&mut keys, key.name())?;
         }
-    }
-    Some(keys)
-}
-
-// Keys with commas between them.
-fn joined(alloc: Global, all: &[&str]) -> Option<String> {
-    let mut keys = String::new(alloc);
-    for key in all {
-        push_key(&mut keys, key)?;
     }
     Some(keys)
 }
 
 // The table of a place, and the keys that it may have.
 fn keys_at(alloc: Global, table: &Table, place: Place) -> Option<(&Table, String)> {
+    let format = format_of(table)?;
     match place {
-        Place::Root(_) => Some((table, root_keys(alloc, format_of(table)?)?)),
+        Place::Root(_) => Some((table, keys_of(alloc, Owner::Document, format)?)),
         Place::Version(version, _) => {
-            let keys = joined(alloc, &VERSION_KEYS)?;
+            let keys = keys_of(alloc, Owner::Version, format)?;
             Some((nth(table, "versions", version)?, keys))
         }
         Place::Service(version, service, _) => {
             let version = nth(table, "versions", version)?;
-            let keys = joined(alloc, &SERVICE_KEYS)?;
+            let keys = keys_of(alloc, Owner::Service, format)?;
             Some((nth(version, "services", service)?, keys))
         }
     }
@@ -176,38 +206,14 @@ fn items<'a>(table: &'a Table, key: &str) -> &'a [Value] {
     }
 }
 
-// What is expected at a key.
-fn expected(alloc: Global, key: Key) -> Option<String> {
-    let words = match key {
-        Key::Size => "7, 13, 251, 1021, 8191 or 65537",
-        Key::Hash => "\"fnv\", \"sha256\" or \"sum\"",
-        Key::Scheme => "\"maglev\", \"plain\" or \"round\"",
-        Key::Spread => "\"hash\" or \"turn\"",
-        Key::Workers => return number(alloc, 1, MOST_WORKERS),
-        Key::Capacity => return number(alloc, 1, MOST_ENTRIES),
-        Key::Ring => return number(alloc, 1, MOST_PLACES),
-        Key::Check => "true or false",
-        Key::Idle => return number(alloc, 0, LONGEST_IDLE),
-        Key::Nodes => return format!(in alloc; "an array of 1 to {MOST_NODES} addresses").ok(),
-        Key::Versions | Key::Services => "an array of tables",
-        Key::Steps => return format!(in alloc; "an array of at most {MOST_STEPS} texts").ok(),
-        Key::Number => return number(alloc, 0, MOST_VERSION),
-        Key::Vip => "an address, as \"192.0.2.1\"",
-        Key::Proto => "\"tcp\" or \"udp\"",
-        Key::Port => return number(alloc, 0, MOST_PORT),
-        Key::Members => "an array of texts",
-    };
-    String::from_str(alloc, words).ok()
-}
-
-fn number(alloc: Global, low: u64, high: u64) -> Option<String> {
-    format!(in alloc; "a number from {low} to {high}").ok()
-}
-
 // What is expected of an item of the array at a key.
 fn expected_item(key: Key) -> &'static str {
-    match key {
-        Key::Nodes => "an address, as \"10.9.0.1\"",
+    match key.form() {
+        Form::Items {
+            of,
+            low: _,
+            high: _,
+        } => of.words(),
         _ => "a text",
     }
 }
@@ -215,32 +221,107 @@ fn expected_item(key: Key) -> &'static str {
 fn bad_member(alloc: Global, text: &str, table: &Table) -> Option<String> {
     let format = format_of(table)?;
     let place = member_place(alloc, format, table).ok()??;
-    let (table, flaw) = table_of(alloc, place)?;
-    let path = path_of(alloc, table, flaw)?;
-    let expected = match format {
+    let (path, flaw) = table_of(alloc, place)?;
+    let path = path_of(alloc, path, flaw)?;
+    let expected = expected_word(alloc, format, table, place, flaw)?;
+    at(alloc, text, path.as_str(), expected.as_str())
+}
+
+// What is expected of a word of a place.
+fn expected_word(
+    alloc: Global,
+    format: Format,
+    table: &Table,
+    place: Place,
+    flaw: Flaw,
+) -> Option<String> {
+    match flaw {
+        Flaw::Item(Key::Members | Key::Add, _) => {
+            String::from_str(alloc, expected_member(format)).ok()
+        }
+        Flaw::Item(Key::Weights, _) => {
+            let server = server_of_base(alloc, table, place)?;
+            format!(in alloc; "NAME*W, with W from *1 to *16 and NAME {server}").ok()
+        }
+        Flaw::Item(_, _) => server_of_base(alloc, table, place),
+        _ => String::from_str(alloc, "members, or a base with this service").ok(),
+    }
+}
+
+fn expected_member(format: Format) -> &'static str {
+    match format {
         Format::One => "NAME@ADDRESS or NAME@ADDRESS/down",
         Format::Two => "NAME@ADDRESS, then *W from *1 to *16 or nothing, then /down or nothing",
         Format::Three => {
-            "NAME@ADDRESS, then *W from *1 to *16 or nothing, then /down or /drain or nothing"
+            "NAME@ADDRESS or a server's NAME, then *W from *1 to *16 or nothing, then /down or /drain or nothing"
         }
+    }
+}
+
+// A server of the base of a place's version, in words.
+fn server_of_base(alloc: Global, table: &Table, place: Place) -> Option<String> {
+    let (Place::Version(version, _) | Place::Service(version, _, _)) = place else {
+        return None;
     };
-    at(alloc, text, path.as_str(), expected)
+    let base = nth(table, "versions", version)?.get("base")?.as_integer()?;
+    match place {
+        Place::Service(_, _, _) => {
+            format!(in alloc;
+                "a server that this service has in version {base} and no change has taken out"
+            ).ok()
+        }
+        _ => format!(in alloc; "a server of version {base} that no change has taken out").ok(),
+    }
 }
 
 fn bad_step(alloc: Global, text: &str, table: &Table, step: u32) -> Option<String> {
     let path = format!(in alloc; "steps[{step}]").ok()?;
     let expected = match format_of(table)? {
         Format::One | Format::Two => STEPS,
+        Format::Three if is_until(table, step) => UNTIL,
         Format::Three => STARRED_STEPS,
     };
     at(alloc, text, path.as_str(), expected)
 }
 
+// Whether a step is by time.
+fn is_until(table: &Table, step: u32) -> bool {
+    let Some(text) = items(table, "steps").get(step as usize) else {
+        return false;
+    };
+    match text.as_str() {
+        Some(text) => text == "until" || text.starts_with("until "),
+        None => false,
+    }
+}
+
+// Whether a version is by difference.
+fn has_base(table: &Table, version: usize) -> bool {
+    match nth(table, "versions", version) {
+        Some(version) => value_at(version, Key::Base.name()).is_some(),
+        None => false,
+    }
+}
+
+// The path of a place in the versions written out: that of the version, where it is by difference.
+fn written_path(alloc: Global, document: &Table, place: Place) -> Option<String> {
+    match place {
+        Place::Version(version, Flaw::Item(_, _)) | Place::Service(version, _, _)
+            if has_base(document, version) => { format!(in alloc; "versions[{version}]").ok() }
+        _ => {
+            let (table, flaw) = table_of(alloc, place)?;
+            path_of(alloc, table, flaw)
+        }
+    }
+}
+
 fn bad_pool(alloc: Global, text: &str, table: &Table, fault: PoolFault) -> Option<String> {
-    let (size, versions) = pools_in(alloc, table).ok()??;
+    let Some((size, versions)) = pools_in(alloc, table).ok()? else {
+        return at(alloc, text, Key::Versions.name(), WRITTEN_OUT);
+    };
     let place = pool_place(alloc, size, versions.as_slice()).ok()??;
-    let (table, flaw) = table_of(alloc, place)?;
-    let path = path_of(alloc, table, flaw)?;
+    let (_, flaw) = table_of(alloc, place)?;
+    let path = written_path(alloc, table, place)?;
     let expected = match (fault, flaw) {
         (PoolFault::BadNumber, _) => "a number from 1",
         (PoolFault::NumberTaken, _) => "a number that no earlier version has",

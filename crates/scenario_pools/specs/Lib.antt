@@ -5,3 +5,4 @@ pub mod Writing
 pub mod Words
 pub mod Reading
 pub mod Laws
+pub mod BadWords

@@ -45,7 +45,7 @@ pub(crate) fn stated_with(
     }))
 }
 
-fn key_of(draft: &ServiceDraft) -> ServiceKey
+pub(crate) fn key_of(draft: &ServiceDraft) -> ServiceKey
     ensures { result ≡ draft_key (plain_service_draft draft.now) }
 {
     ServiceKey {
@@ -166,7 +166,7 @@ fn change_one(
 }
 
 // Puts the service of a draft among others, or changes one of them. False where a word is none, or there is no such service.
-fn add_draft(
+pub(crate) fn add_draft(
     alloc: Global,
     services: &mut Vec<Service>,
     before: &[ServiceDraft],

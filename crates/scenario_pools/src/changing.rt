@@ -15,7 +15,7 @@ fn has_name(name: Name, members: &[Member]) -> bool
     members.iter().any(|member| is_of(name, member))
 }
 
-fn has_member(name: Option<Name>, members: &[Member]) -> bool
+pub(crate) fn has_member(name: Option<Name>, members: &[Member]) -> bool
     ensures { result ≡ has_member name members.now }
 {
     match name {
@@ -56,7 +56,7 @@ fn one_has_name(name: Name, services: &[Service]) -> bool
     false
 }
 
-fn some_has_member(name: Option<Name>, services: &[Service]) -> bool
+pub(crate) fn some_has_member(name: Option<Name>, services: &[Service]) -> bool
     ensures { result ≡ some_has_member name (map plain_service services.now) }
 {
     match name {
@@ -77,7 +77,7 @@ fn changed_service(alloc: Global, change: &Change, service: &Service) -> Result<
     })
 }
 
-fn changed_services(
+pub(crate) fn changed_services(
     alloc: Global,
     change: &Change,
     services: &[Service],
@@ -106,7 +106,10 @@ fn copied_service(alloc: Global, service: &Service) -> Result<Service, AllocErro
     })
 }
 
-fn copied_services(alloc: Global, services: &[Service]) -> Result<Vec<Service>, AllocError>
+pub(crate) fn copied_services(
+    alloc: Global,
+    services: &[Service],
+) -> Result<Vec<Service>, AllocError>
     ensures { IfOk result (λ v. map plain_service v.items ≡ map plain_service services.now) }
 {
     let mut found: Vec<Service> = Vec::new(alloc);

@@ -1,6 +1,7 @@
 //! The versions of the pools that a scenario's document means: written out, or by difference from one before.
 #![tactic(auto)]
 
+mod bad_words;
 mod basing;
 mod change;
 mod changes;
@@ -13,6 +14,7 @@ mod services;
 mod words;
 mod writing;
 
+pub use bad_words::{BadWord, bad_word, bad_words_are_bad_members};
 pub use change::Change;
 pub use changes::{CHANGE_KEYS, has_change_key};
 pub use draft::{ServiceDraft, VersionDraft};

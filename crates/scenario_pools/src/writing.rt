@@ -17,7 +17,7 @@ use std::alloc::{AllocError, Global};
 /// The most services and members that versions may have in all, up to one with a base.
 pub const MOST_PLACES: usize = 1_048_576;
 
-fn stated(alloc: Global, draft: &ServiceDraft) -> Result<Option<Service>, AllocError>
+pub(crate) fn stated(alloc: Global, draft: &ServiceDraft) -> Result<Option<Service>, AllocError>
     ensures { IfOk result (λ o. option_map plain_service o ≡ stated (plain_service_draft draft.now)) }
 {
     match &draft.members {
@@ -145,14 +145,14 @@ fn has_room(room: usize, draft: &VersionDraft, base: &Version) -> bool
 }
 
 // What is left of some room behind a version.
-fn left_by_version(room: usize, version: &Version) -> usize
+pub(crate) fn left_by_version(room: usize, version: &Version) -> usize
     ensures { result ≡ left_by_version room (plain_version version.now) }
 {
     left_by_services(room, 0, version.services.as_slice()).unwrap_or(0)
 }
 
 // The first version of a number.
-fn version_of_number(versions: &[Version], number: u32) -> Option<&Version>
+pub(crate) fn version_of_number(versions: &[Version], number: u32) -> Option<&Version>
     ensures { option_map (λ v. plain_version v.now) result ≡ find (λ v. v.number == number) (map plain_version versions.entry.now) }
 {
     for version in versions {
@@ -187,7 +187,7 @@ fn based(
 }
 
 // The version of a draft beside those before it.
-fn written_out(
+pub(crate) fn written_out(
     alloc: Global,
     room: usize,
     earlier: &[Version],

@@ -4,8 +4,9 @@ use Rattle.std.specs.List.{list_any}
 use Rattle.std.specs.Fmt.{decimal}
 use Rattle.pool_versions.specs.declared.catalogue.Catalogue.{Catalogue}
 use Rattle.pool_versions.specs.Pool.{version_at}
-use Rattle.event_trace.specs.declared.steps.ScenarioStep.{ScenarioStep}
 use Rattle.event_trace.specs.declared.steps.ScenarioStep.TheVariants as steps
+use Rattle.timed_steps.specs.declared.TimedStep.{TimedStep}
+use Rattle.timed_steps.specs.declared.TimedStep.TheVariants.{Counted, Until}
 use Rattle.scenario.specs.declared.reading.Scenario.{Scenario}
 use Rattle.scenario_warnings.specs.declared.Warning.{Warning}
 use Rattle.scenario_warnings.specs.declared.Warning.TheVariants.{UnknownVersion, NoVersion}
@@ -15,71 +16,75 @@ abbrev pub is_known : Catalogue → ℕ → Bool
 is_known c v = is_some (version_at v c.versions)
 
 -- a step installs a version of the catalogue on a node
-abbrev pub gives : Catalogue → ℕ → ScenarioStep → Bool
-gives c n (steps.Install m v) = m == n && is_known c v
-gives c n (steps.Live ns) = false
-gives c n (steps.Take k) = false
-gives c n (steps.Lose k) = false
-gives c n (steps.Again k) = false
-gives c n (steps.Full m ms) = false
-gives c n (steps.Hold m) = false
-gives c n (steps.Drain m) = false
-gives c n (steps.Restart m) = false
-gives c n (steps.Stop m) = false
+abbrev pub gives : Catalogue → ℕ → TimedStep → Bool
+gives c n (Counted (steps.Install m v)) = m == n && is_known c v
+gives c n (Counted (steps.Live ns)) = false
+gives c n (Counted (steps.Take k)) = false
+gives c n (Counted (steps.Lose k)) = false
+gives c n (Counted (steps.Again k)) = false
+gives c n (Counted (steps.Full m ms)) = false
+gives c n (Counted (steps.Hold m)) = false
+gives c n (Counted (steps.Drain m)) = false
+gives c n (Counted (steps.Restart m)) = false
+gives c n (Counted (steps.Stop m)) = false
+gives c n (Until t) = false
 
 -- whether a node is live behind a step, where it was or wasn't before
-abbrev pub live_after : ℕ → Bool → ScenarioStep → Bool
-live_after n live (steps.Install m v) = live
-live_after n live (steps.Live ns) = list_any (λ m. m == n) ns.items
-live_after n live (steps.Take k) = live
-live_after n live (steps.Lose k) = live
-live_after n live (steps.Again k) = live
-live_after n live (steps.Full m ms) = live
-live_after n live (steps.Hold m) = live
-live_after n live (steps.Drain m) = live
-live_after n live (steps.Restart m) = live
-live_after n live (steps.Stop m) = live
+abbrev pub live_after : ℕ → Bool → TimedStep → Bool
+live_after n live (Counted (steps.Install m v)) = live
+live_after n live (Counted (steps.Live ns)) = list_any (λ m. m == n) ns.items
+live_after n live (Counted (steps.Take k)) = live
+live_after n live (Counted (steps.Lose k)) = live
+live_after n live (Counted (steps.Again k)) = live
+live_after n live (Counted (steps.Full m ms)) = live
+live_after n live (Counted (steps.Hold m)) = live
+live_after n live (Counted (steps.Drain m)) = live
+live_after n live (Counted (steps.Restart m)) = live
+live_after n live (Counted (steps.Stop m)) = live
+live_after n live (Until t) = live
 
 -- a step delivers packets
-abbrev pub delivers : ScenarioStep → Bool
-delivers (steps.Install m v) = false
-delivers (steps.Live ns) = false
-delivers (steps.Take k) = true
-delivers (steps.Lose k) = false
-delivers (steps.Again k) = true
-delivers (steps.Full m ms) = false
-delivers (steps.Hold m) = false
-delivers (steps.Drain m) = false
-delivers (steps.Restart m) = false
-delivers (steps.Stop m) = false
+abbrev pub delivers : TimedStep → Bool
+delivers (Counted (steps.Install m v)) = false
+delivers (Counted (steps.Live ns)) = false
+delivers (Counted (steps.Take k)) = true
+delivers (Counted (steps.Lose k)) = false
+delivers (Counted (steps.Again k)) = true
+delivers (Counted (steps.Full m ms)) = false
+delivers (Counted (steps.Hold m)) = false
+delivers (Counted (steps.Drain m)) = false
+delivers (Counted (steps.Restart m)) = false
+delivers (Counted (steps.Stop m)) = false
+delivers (Until t) = true
 
 -- a node is live at one of the steps that delivers packets
-abbrev pub comes : ℕ → Bool → List ScenarioStep → Bool
+abbrev pub comes : ℕ → Bool → List TimedStep → Bool
 comes n live [] = false
 comes n live (s ∷ ss) = if live && delivers s then true else comes n (live_after n live s) ss
 
 -- a step that installs what the catalogue lacks, by its number
-abbrev pub unknown_at : Catalogue → ℕ → ScenarioStep → List Warning
-unknown_at c i (steps.Install n v) = if is_known c v then [] else UnknownVersion i n v ∷ []
-unknown_at c i (steps.Live ns) = []
-unknown_at c i (steps.Take k) = []
-unknown_at c i (steps.Lose k) = []
-unknown_at c i (steps.Again k) = []
-unknown_at c i (steps.Full m ms) = []
-unknown_at c i (steps.Hold m) = []
-unknown_at c i (steps.Drain m) = []
-unknown_at c i (steps.Restart m) = []
-unknown_at c i (steps.Stop m) = []
+abbrev pub unknown_at : Catalogue → ℕ → TimedStep → List Warning
+unknown_at c i (Counted (steps.Install n v)) = if is_known c v then [] else UnknownVersion i n v ∷ []
+unknown_at c i (Counted (steps.Live ns)) = []
+unknown_at c i (Counted (steps.Take k)) = []
+unknown_at c i (Counted (steps.Lose k)) = []
+unknown_at c i (Counted (steps.Again k)) = []
+unknown_at c i (Counted (steps.Full m ms)) = []
+unknown_at c i (Counted (steps.Hold m)) = []
+unknown_at c i (Counted (steps.Drain m)) = []
+unknown_at c i (Counted (steps.Restart m)) = []
+unknown_at c i (Counted (steps.Stop m)) = []
+unknown_at c i (Until t) = []
 
-abbrev pub unknown_from : Catalogue → ℕ → List ScenarioStep → List Warning
+abbrev pub unknown_from : Catalogue → ℕ → List TimedStep → List Warning
 unknown_from c i [] = []
 unknown_from c i (s ∷ ss) = unknown_at c i s ++ unknown_from c (i + 1) ss
 
 -- a node to which packets come, and on which no step installs a version of the catalogue
-abbrev pub bare_at : Catalogue → List ScenarioStep → ℕ → List Warning
+abbrev pub bare_at : Catalogue → List TimedStep → ℕ → List Warning
 bare_at c ss n = if comes n true ss && not (list_any (λ s. gives c n s) ss) then NoVersion n ∷ [] else []
 
-abbrev pub bare_below : Catalogue → List ScenarioStep → ℕ → List Warning
+abbrev pub bare_below : Catalogue → List TimedStep → ℕ → List Warning
 bare_below c ss zero = []
 bare_below c ss (suc n) = bare_below c ss n ++ bare_at c ss n
 

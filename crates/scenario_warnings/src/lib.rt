@@ -8,7 +8,7 @@ ghost use Rattle.scenario_warnings.specs.Warnings.{is_known, gives, live_after, 
 
 use event_trace::ScenarioStep;
 use pool_versions::Catalogue;
-use scenario::Scenario;
+use scenario::{Scenario, TimedStep};
 use std::alloc::{AllocError, Global};
 
 /// What a scenario may not mean as it was meant.
@@ -28,41 +28,46 @@ fn is_known(catalogue: &Catalogue, version: u32) -> bool
 }
 
 // Whether a step installs a version of the catalogue on a node.
-fn gives(catalogue: &Catalogue, node: u16, step: &ScenarioStep) -> bool
+fn gives(catalogue: &Catalogue, node: u16, step: &TimedStep) -> bool
     ensures { result ≡ gives catalogue.now node step.now }
 {
     match step {
-        ScenarioStep::Install { node: at, version } => *at == node && is_known(catalogue, *version),
+        TimedStep::Counted(ScenarioStep::Install { node: at, version }) => {
+            *at == node && is_known(catalogue, *version)
+        }
         _ => false,
     }
 }
 
 // Whether one of the steps does.
-fn give(catalogue: &Catalogue, node: u16, steps: &[ScenarioStep]) -> bool
+fn give(catalogue: &Catalogue, node: u16, steps: &[TimedStep]) -> bool
     ensures { result ≡ list_any (λ s. gives catalogue.now node s) steps.now }
 {
     steps.iter().any(|step| gives(catalogue, node, step))
 }
 
 // Whether a node is live behind a step.
-fn live_after(node: u16, is_live: bool, step: &ScenarioStep) -> bool
+fn live_after(node: u16, is_live: bool, step: &TimedStep) -> bool
     ensures { result ≡ live_after node is_live step.now }
 {
     match step {
-        ScenarioStep::Live(nodes) => nodes.contains(&node),
+        TimedStep::Counted(ScenarioStep::Live(nodes)) => nodes.contains(&node),
         _ => is_live,
     }
 }
 
 // Whether a step delivers packets.
-fn delivers(step: &ScenarioStep) -> bool
+fn delivers(step: &TimedStep) -> bool
     ensures { result ≡ delivers step.now }
 {
-    matches!(step, ScenarioStep::Take(_) | ScenarioStep::Again(_))
+    matches!(
+        step,
+        TimedStep::Counted(ScenarioStep::Take(_) | ScenarioStep::Again(_)) | TimedStep::Until(_)
+    )
 }
 
 // Whether a node is live at a step that delivers packets.
-fn comes(node: u16, steps: &[ScenarioStep]) -> bool
+fn comes(node: u16, steps: &[TimedStep]) -> bool
     ensures { result ≡ comes node true steps.now }
 {
     let mut is_live = true;
@@ -79,13 +84,14 @@ fn comes(node: u16, steps: &[ScenarioStep]) -> bool
 fn warn_at(
     catalogue: &Catalogue,
     number: u64,
-    step: &ScenarioStep,
+    step: &TimedStep,
     warnings: &mut Vec<Warning>,
 ) -> Result<(), AllocError>
     ensures { OnOk result (warnings.new.items ≡ warnings.old.items ++ unknown_at catalogue.now number step.now) }
 {
     match *step {
-        ScenarioStep::Install { node, version } if !is_known(catalogue, version) => {
+        TimedStep::Counted(ScenarioStep::Install { node, version })
+            if !is_known(catalogue, version) => {
             warnings.push(Warning::UnknownVersion {
                 step: number,
                 node,
@@ -100,7 +106,7 @@ fn warn_at(
 // Warns of all steps that do.
 fn warn_of_steps(
     catalogue: &Catalogue,
-    steps: &[ScenarioStep],
+    steps: &[TimedStep],
     warnings: &mut Vec<Warning>,
 ) -> Result<(), AllocError>
     ensures { OnOk result (warnings.new.items ≡ warnings.old.items ++ unknown_from catalogue.now 0 steps.now) }
@@ -114,7 +120,7 @@ fn warn_of_steps(
 // Warns of a node to which packets come, and which never has a version.
 fn warn_of_node(
     catalogue: &Catalogue,
-    steps: &[ScenarioStep],
+    steps: &[TimedStep],
     node: u16,
     warnings: &mut Vec<Warning>,
 ) -> Result<(), AllocError>
@@ -129,7 +135,7 @@ fn warn_of_node(
 // Warns of all nodes below one that are so.
 fn warn_of_nodes(
     catalogue: &Catalogue,
-    steps: &[ScenarioStep],
+    steps: &[TimedStep],
     nodes: u16,
     warnings: &mut Vec<Warning>,
 ) -> Result<(), AllocError>

@@ -1,5 +1,6 @@
 use Rattle.std.proofs.Common.{◌≡◌, ◌++◌, [], map, reverse, vec_len}
-use Rattle.scenario.specs.Plain.{plain_version, first_refused}
+use Rattle.scenario_pools.specs.Plain.{plain_version}
+use Rattle.scenario.specs.Plain.{first_refused}
 use Rattle.scenario.proofs.building.catalogue_of.Given as goal
 
 abbrev pub invariant-loop-version : goal.invariant-loop-version

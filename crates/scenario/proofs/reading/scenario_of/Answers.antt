@@ -1,5 +1,7 @@
-use Rattle.std.proofs.Common.{arith}
+use Rattle.std.proofs.Common.{arith, rules}
 use Rattle.std.proofs.lemmas.Grind.{common_steps}
+use Rattle.scenario.specs.Meaning.{plain_draft}
+use Rattle.scenario.proofs.Refusals.{versions_refused}
 use Rattle.scenario.proofs.reading.scenario_of.Goals as goal
 
 pub returns-in_err-versions-clause-ok : goal.returns-in_err-versions-clause-ok
@@ -10,18 +12,6 @@ returns-in_err-versions-clause-sized c = grind (arith, common_steps)
 
 pub returns-in_err-versions-clause-limits : goal.returns-in_err-versions-clause-limits
 returns-in_err-versions-clause-limits c = grind (arith, common_steps)
-
-pub returns-in_err-versions-clause-refused : goal.returns-in_err-versions-clause-refused
-returns-in_err-versions-clause-refused c = grind (arith, common_steps)
-
-pub returns-in_default-clause-ok : goal.returns-in_default-clause-ok
-returns-in_default-clause-ok c = grind (arith, common_steps)
-
-pub returns-in_default-clause-sized : goal.returns-in_default-clause-sized
-returns-in_default-clause-sized c = grind (arith, common_steps)
-
-pub returns-in_default-clause-limits : goal.returns-in_default-clause-limits
-returns-in_default-clause-limits c = grind (arith, common_steps)
 
 pub returns-in-Err-clause-ok : goal.returns-in-Err-clause-ok
 returns-in-Err-clause-ok c = grind (arith, common_steps)
@@ -49,3 +39,8 @@ returns-clause-limits c = grind (arith, common_steps)
 
 pub returns-clause-refused : goal.returns-clause-refused
 returns-clause-refused c = grind (arith, common_steps)
+
+
+pub returns-in_err-versions-clause-refused : goal.returns-in_err-versions-clause-refused
+returns-in_err-versions-clause-refused c =
+    versions_refused c.args.format c.args.played (plain_draft c.args.draft) _ c.from_residual.result c.in_err-versions.field-0.0 (search rules) c.from_residual.ensures.1 c.in_err-versions.ensures.refused

@@ -1,5 +1,5 @@
 use Rattle.std.proofs.Common.{◌≡◌, drop, take, map}
-use Rattle.scenario.specs.Plain.{plain_version}
+use Rattle.scenario_pools.specs.Plain.{plain_version}
 use Rattle.scenario_diagnostics.specs.PoolPlaces.{pool_from, pool_place_of}
 use Rattle.scenario_diagnostics.proofs.pools.pool_place.Given as goal
 

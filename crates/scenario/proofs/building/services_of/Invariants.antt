@@ -1,9 +1,0 @@
-use Rattle.std.proofs.Common.{◌≡◌, ◌++◌, drop, map, option_map}
-use Rattle.scenario_keys.specs.Lookups.{all_of}
-use Rattle.scenario.specs.Plain.{plain_service}
-use Rattle.scenario.specs.Drafts.{plain_service_draft}
-use Rattle.scenario.specs.Meaning.{service_of}
-use Rattle.scenario.proofs.building.services_of.Given as goal
-
-abbrev pub invariant-loop-draft : goal.invariant-loop-draft
-invariant-loop-draft l = option_map (λ rest. map plain_service l.services.items ++ rest) (all_of service_of (map plain_service_draft (drop l.draft-index l.drafts))) ≡ all_of service_of (map plain_service_draft l.drafts)

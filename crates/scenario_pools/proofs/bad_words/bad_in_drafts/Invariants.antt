@@ -1,0 +1,10 @@
+use Rattle.std.proofs.Common.{◌≡◌, [], drop, take, map}
+use Rattle.scenario_pools.specs.Plain.{plain_service}
+use Rattle.scenario_pools.specs.Drafts.{plain_service_draft}
+use Rattle.scenario_pools.specs.BadWords.{bad_in_drafts}
+use Rattle.scenario_pools.proofs.bad_words.bad_in_drafts.Given as goal
+
+abbrev pub invariant-loop-place : goal.invariant-loop-place
+invariant-loop-place l =
+    bad_in_drafts (map plain_service_draft (take l.place l.drafts)) l.place (map plain_service_draft (drop l.place l.drafts)) (map plain_service l.services.items)
+    ≡ bad_in_drafts [] 0 (map plain_service_draft l.drafts) (map plain_service l.fn.services.items)
