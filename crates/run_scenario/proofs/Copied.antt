@@ -1,5 +1,5 @@
 -- Copies of steps tell what the steps tell.
-use Rattle.std.proofs.Common.{◌≡◌, ℕ, List, [], ◌∷◌, map, length, refl, ap, ◌∙◌, absurd, Result, subst}
+use Rattle.std.proofs.Common.{◌≡◌, ℕ, suc, List, [], ◌∷◌, map, drop, length, refl, ap, ◌∙◌, absurd, Result, subst}
 use Rattle.std.specs.Prelude.{filter_map, cons_option}
 use Rattle.cluster_node.specs.declared.packets.Packet.{Packet}
 use Rattle.spreader.specs.Choices.{Choice}
@@ -7,16 +7,26 @@ use Rattle.event_trace.specs.declared.steps.ScenarioStep.{ScenarioStep}
 use Rattle.event_trace.specs.declared.steps.ScenarioStep.TheVariants as steps
 use Rattle.event_trace.specs.Trace.{Trace}
 use Rattle.event_trace.specs.Steps.{World, after, run, below, start, world_of}
+use Rattle.timed_steps.specs.declared.TimedStep.{TimedStep}
+use Rattle.timed_steps.specs.Timed.{first_of, reads, counted_step, counted_from, counted}
 use Rattle.timed_steps.specs.Copies.{IsCopy, AreCopies}
 use Rattle.thread_records.specs.declared.command.Command.{Command}
 use Rattle.driver_commands.specs.Noting.{noting}
 use Rattle.driver_commands.specs.Orders.{events_of, commands_on, plan_of, ends_by, ends_on, ended_by, orders_on, orders_of}
 
-pub long_copies : (ss ts : List ScenarioStep) → AreCopies ss ts → length ss ≡ length ts
+long_copies : (ss ts : List ScenarioStep) → AreCopies ss ts → length ss ≡ length ts
 long_copies [] [] h = refl
 long_copies [] (t ∷ ts) h = absurd h
 long_copies (s ∷ ss) [] h = absurd h
 long_copies (s ∷ ss) (t ∷ ts) h = ap (λ n. 1 + n) (long_copies ss ts h.1)
+
+long_counted : (first : ℕ) (left : List ℕ) (ss : List TimedStep) → length (counted_from first left ss) ≡ length ss
+long_counted first left [] = refl
+long_counted first left (s ∷ ss) = ap suc (long_counted first (drop (reads (counted_step first left s)) left) ss)
+
+-- copies of the steps by count are as many as the steps
+pub as_many : (times : List ℕ) (ss : List TimedStep) (ts : List ScenarioStep) → AreCopies ts (counted times ss) → length ts ≡ length ss
+as_many times ss ts h = long_copies ts (counted times ss) h ∙ long_counted (first_of times) times ss
 
 copy_after : (w : World) (c : Trace) (a b : ScenarioStep) → IsCopy a b → after w a c ≡ after w b c
 unfolding after

@@ -2,7 +2,7 @@ use Rattle.std.proofs.Common.{List, ap, sym, ◌∙◌, subst, inr}
 use Rattle.std.specs.Io.KnownBytes.{Appends}
 use Rattle.simulation.specs.Sent.{Sending, capture_text}
 use Rattle.simulation.specs.Simulated.{CaptureUntil}
-use Rattle.driver_commands.specs.Knowing.{first_unsupported_of}
+use Rattle.driver_commands.specs.Knowing.{first_unsupported_in}
 use Rattle.run_scenario.proofs.Ruled.{keeps}
 use Rattle.run_scenario.proofs.InWords.{same_sends}
 use Rattle.run_scenario.proofs.running.run_scenario.Goals as goal
