@@ -5,3 +5,4 @@ pub mod Unmarked
 pub mod Ending
 pub mod Lives
 pub mod Anytime
+pub mod Copied

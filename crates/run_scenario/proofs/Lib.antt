@@ -6,4 +6,3 @@ pub mod Halts
 pub mod Audited
 pub mod Known
 pub mod OneByOne
-pub mod Copied

@@ -9,7 +9,7 @@ use Rattle.driver_commands.specs.Orders.{plan_of, orders_of}
 use Rattle.simulation.specs.Sent.{time_of}
 use Rattle.simulate_scenario.specs.Described.{choice_in}
 use Rattle.run_scenario.specs.Runs.{steps_in}
-use Rattle.run_scenario.proofs.Copied.{as_many, plan_copies, orders_copies}
+use Rattle.driver_commands.proofs.Copied.{as_many, plan_copies, orders_copies}
 use Rattle.run_scenario.proofs.orders.orders_of.Goals as goal
 
 pub orders_by-requires-clause-steps : goal.orders_by-requires-clause-steps

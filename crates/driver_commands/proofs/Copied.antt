@@ -1,6 +1,6 @@
 -- Copies of steps tell what the steps tell.
-use Rattle.std.proofs.Common.{◌≡◌, ℕ, suc, List, [], ◌∷◌, map, drop, length, refl, ap, ◌∙◌, absurd, Result, subst}
-use Rattle.std.specs.Prelude.{filter_map, cons_option}
+use Rattle.std.proofs.Common.{◌≡◌, ℕ, suc, List, [], ◌∷◌, map, drop, length, refl, ap, ◌∙◌}
+use Rattle.std.specs.List.{cons_option}
 use Rattle.cluster_node.specs.declared.packets.Packet.{Packet}
 use Rattle.spreader.specs.Choices.{Choice}
 use Rattle.event_trace.specs.declared.steps.ScenarioStep.{ScenarioStep}
@@ -10,7 +10,6 @@ use Rattle.event_trace.specs.Steps.{World, after, run, below, start, world_of}
 use Rattle.timed_steps.specs.declared.TimedStep.{TimedStep}
 use Rattle.timed_steps.specs.Timed.{first_of, reads, counted_step, counted_from, counted}
 use Rattle.timed_steps.specs.Copies.{IsCopy, AreCopies}
-use Rattle.thread_records.specs.declared.command.Command.{Command}
 use Rattle.driver_commands.specs.Noting.{noting}
 use Rattle.driver_commands.specs.Orders.{events_of, commands_on, plan_of, ends_by, ends_on, ended_by, orders_on, orders_of}
 
@@ -18,7 +17,7 @@ long_copies : (ss ts : List ScenarioStep) → AreCopies ss ts → length ss ≡ 
 long_copies [] [] h = refl
 long_copies [] (t ∷ ts) h = absurd h
 long_copies (s ∷ ss) [] h = absurd h
-long_copies (s ∷ ss) (t ∷ ts) h = ap (λ n. 1 + n) (long_copies ss ts h.1)
+long_copies (s ∷ ss) (t ∷ ts) h = ap suc (long_copies ss ts h.1)
 
 long_counted : (first : ℕ) (left : List ℕ) (ss : List TimedStep) → length (counted_from first left ss) ≡ length ss
 long_counted first left [] = refl
