@@ -155,7 +155,7 @@ missing_step name l keys Equal d o same here not_there rest =
     absurd (let e : false ≡ true = sym not_there ∙ both ∙ here in cc)
 missing_step name l keys Greater d o same here not_there rest = rest
 
-missing : (name : List ℕ) (keys : List (List ℕ)) (ms : Members) → has_only keys ms ≡ true → list_any (pointwise nat_eq name) keys ≡ false → get_member name ms ≡ None
+pub missing : (name : List ℕ) (keys : List (List ℕ)) (ms : Members) → has_only keys ms ≡ true → list_any (pointwise nat_eq name) keys ≡ false → get_member name ms ≡ None
 missing name keys no_members only not_there = refl
 missing name keys (member l d ms) only not_there =
     let p = and_parts (list_any (pointwise nat_eq l) keys) (has_only keys ms) only in

@@ -4,4 +4,5 @@ pub mod Drafts
 pub mod Writing
 pub mod Words
 pub mod Reading
+pub mod Older
 pub mod Laws
