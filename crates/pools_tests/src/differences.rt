@@ -202,7 +202,10 @@ static ROWS: [Row; 30] = [
     ("base = 1\nremove = [\"a\"]", Some(Ok(2))),
     ("base = 1\nremove = [\"b\"]", Some(Err(BadMember))),
     ("base = 1\nremove = [\"a\", \"a\"]", Some(Err(BadMember))),
-    ("base = 1\nremove = [\"a\"]\nup = [\"a\"]", Some(Err(BadMember))),
+    (
+        "base = 1\nremove = [\"a\"]\nup = [\"a\"]",
+        Some(Err(BadMember)),
+    ),
     ("base = 1\ndown = [\"a_\"]", Some(Err(BadMember))),
     ("base = 1\nweights = [\"a\"]", Some(Err(BadMember))),
     ("base = 1\nweights = [\"a*0\"]", Some(Err(BadMember))),
@@ -265,8 +268,14 @@ fn each_fault_alone(rt: HostRuntime) {
 #[test]
 fn formats_one_and_two_know_no_differences(rt: HostRuntime) {
     let text = with_lines(&rt, rt.alloc(), "base = 1");
-    assert_eq!(rt; counted(read(&rt, rt.alloc(), Format::Two, text.as_str())), None);
-    assert_eq!(rt; counted(read(&rt, rt.alloc(), Format::One, text.as_str())), None);
+    assert_eq!(rt;
+        counted(read(&rt, rt.alloc(), Format::Two, text.as_str())),
+        None
+    );
+    assert_eq!(rt;
+        counted(read(&rt, rt.alloc(), Format::One, text.as_str())),
+        None
+    );
 }
 
 // Servers of a document, and whether it may have them.

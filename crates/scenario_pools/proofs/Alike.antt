@@ -1,5 +1,5 @@
 -- The versions that a document means in format 1 or 2 it means in each later format too.
-use Rattle.std.proofs.Common.{◌≡◌, ℕ, ◌&&◌, ◌||◌, Bool, true, false, cond, nat_eq, List, [], ◌∷◌, ◌++◌, Option, Some, None, Result, Ok, Err, option_map, option_and_then, codes, refl, sym, ap, ◌∙◌}
+use Rattle.std.proofs.Common.{◌≡◌, ℕ, Bool, true, false, nat_eq, List, [], ◌∷◌, ◌++◌, Option, Some, None, Result, Ok, Err, option_map, option_and_then, refl, sym, ap, ◌∙◌}
 use Rattle.std.specs.Prelude.{if◌then◌else◌}
 use Rattle.std.specs.Option.{option_or, ok_or}
 use Rattle.std.specs.List.{list_any}
@@ -26,7 +26,7 @@ use Rattle.scenario_keys.proofs.KeyNames.{HasMore, keys_grow}
 use Rattle.scenario_pools.specs.Plain.{PlainService, PlainVersion}
 use Rattle.scenario_pools.specs.Drafts.{PlainServiceDraft, PlainVersionDraft}
 use Rattle.scenario_pools.specs.Words.{member_in, served_member_of, servers_in}
-use Rattle.scenario_pools.specs.Reading.{Parts, of_members, word_of, has_change_key, members_in, parts_by, parts_of, service_draft, service_in, services_at, whole_draft, based_draft, draft_by, version_draft, version_in, are_in_order, in_order, versions_with, versions_in}
+use Rattle.scenario_pools.specs.Reading.{Parts, of_members, word_of, has_change_key, members_in, parts_by, parts_of, service_draft, service_in, services_at, whole_draft, draft_by, version_draft, version_in, are_in_order, in_order, versions_with, versions_in}
 use Rattle.scenario_pools.specs.Writing.{stated_with, stated, numbered_with, stated_version, left_by_version, after_version, beside, written_out, written_behind, most_places, versions_of}
 use Rattle.scenario_pools.specs.declared.fault.PoolsFault.{PoolsFault}
 use Rattle.scenario_pools.specs.declared.fault.PoolsFault.TheVariants as fault
@@ -143,7 +143,7 @@ service_same : (f g : Format) → (f ≡ Three → ⊥) → HasMore f g → (ser
 service_same f g old more servers d s t h k =
     in_table (λ ms. if has_only (service_keys f) ms then service_draft f servers false ms else None) (λ ms. if has_only (service_keys g) ms then service_draft g servers false ms else None) (as_table d) s
     (λ ms. when_both (has_only (service_keys f) ms) (has_only (service_keys g) ms) (service_draft f servers false ms) (service_draft g servers false ms) s
-      (keys_grow owner.Service f g more ms) (λ b e. service_draft_same f g old more servers ms s t e k)) h
+    (keys_grow owner.Service f g more ms) (λ b e. service_draft_same f g old more servers ms s t e k)) h
 
 -- a key that a table may not have is missing
 missing_step : (name l : List ℕ) (keys : List (List ℕ)) (r : Ordering) (d : Data) (o : Option Data) → slice_cmp nat_cmp name l ≡ r → list_any (pointwise nat_eq l) keys ≡ true → list_any (pointwise nat_eq name) keys ≡ false
@@ -223,7 +223,7 @@ version_same : (f g : Format) → (f ≡ Three → ⊥) → HasMore f g → (ser
 version_same f g old more servers d v w h k =
     in_table (λ ms. if has_only (version_keys f) ms then version_draft f servers ms else None) (λ ms. if has_only (version_keys g) ms then version_draft g servers ms else None) (as_table d) v
     (λ ms. when_both (has_only (version_keys f) ms) (has_only (version_keys g) ms) (version_draft f servers ms) (version_draft g servers ms) v
-      (keys_grow owner.Version f g more ms) (λ only e. version_draft_same f g old more servers ms v w only e k)) h
+    (keys_grow owner.Version f g more ms) (λ only e. version_draft_same f g old more servers ms v w only e k)) h
 
 -- a version of these formats has no base
 version_whole : (f : Format) → (f ≡ Three → ⊥) → (servers : List Backend) (d : Data) (v : PlainVersionDraft) → version_in f servers d ≡ Some v → v.base ≡ None

@@ -1,5 +1,5 @@
 -- In formats 1 and 2 a document's drafts are the versions that it states.
-use Rattle.std.proofs.Common.{◌≡◌, ℕ, ◌||◌, ◌&&◌, Bool, true, false, List, [], ◌∷◌, ◌++◌, map, is_some, Option, Some, None, option_map, option_and_then, codes, refl, sym, ap, ◌∙◌}
+use Rattle.std.proofs.Common.{◌≡◌, ℕ, ◌||◌, Bool, true, false, List, [], ◌∷◌, ◌++◌, map, is_some, Option, Some, None, option_map, option_and_then, codes, refl, ap, ◌∙◌}
 use Rattle.std.specs.Prelude.{if◌then◌else◌}
 use Rattle.toml.specs.Data.{Data, Items, no_items, item, Members, get_member, as_str, as_table, as_array}
 use Rattle.maglev_texts.specs.Parsing.{address_of}
@@ -14,7 +14,7 @@ use Rattle.scenario_keys.specs.declared.formats.Format.TheVariants.{One, Two, Th
 use Rattle.scenario_pools.specs.Plain.{PlainService, PlainVersion}
 use Rattle.scenario_pools.specs.Drafts.{PlainServiceDraft, PlainVersionDraft, whole_service, whole_version}
 use Rattle.scenario_pools.specs.Words.{member_in, servers_of}
-use Rattle.scenario_pools.specs.Reading.{Parts, of_members, word_of, has_change_key, members_in, parts_by, parts_of, service_draft, service_in, services_at, draft_by, version_draft, version_in, are_in_order, in_order, versions_with, versions_in}
+use Rattle.scenario_pools.specs.Reading.{Parts, of_members, word_of, has_change_key, members_in, parts_by, service_draft, service_in, services_at, draft_by, version_draft, version_in, are_in_order, in_order, versions_with}
 use Rattle.scenario_pools.specs.Older.{old_service_keys, old_version_keys, old_member, old_word, old_service, old_service_in, old_version, old_version_in, old_versions_in, OlderFormatsStateVersions}
 use Rattle.scenario_pools.proofs.Alike.{missing}
 
@@ -143,7 +143,7 @@ version_draft_old f old servers ms only =
     ap (λ (base : Option (Option ℕ)). option_and_then (λ number. option_and_then (draft_by f servers number ms) base) n) (no_base ms only)
     ∙ ap (λ (b : Bool). option_and_then (λ number. if b then None else option_map (whole_of number) (services_at f servers ms)) n) (version_unchanged ms only)
     ∙ ap (λ (ss : Option (List PlainServiceDraft)). option_and_then (λ number. option_map (whole_of number) ss) n)
-      (under_mapped (service_in f servers false) (old_service_in f) whole_service (λ d. service_old f old servers (as_table d)) (items_at (codes "services") ms))
+    (under_mapped (service_in f servers false) (old_service_in f) whole_service (λ d. service_old f old servers (as_table d)) (items_at (codes "services") ms))
     ∙ made_version n (option_and_then (all_items (old_service_in f)) (items_at (codes "services") ms))
 
 version_old : (f : Format) → (f ≡ Three → ⊥) → (servers : List Backend) (o : Option Members)

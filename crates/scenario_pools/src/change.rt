@@ -102,11 +102,7 @@ fn with_weight(
         .collect(alloc)
 }
 
-fn with_member(
-    alloc: Global,
-    member: Member,
-    members: &[Member],
-) -> Result<Vec<Member>, AllocError>
+fn with_member(alloc: Global, member: Member, members: &[Member]) -> Result<Vec<Member>, AllocError>
     ensures { IfOk result (λ v. v.items ≡ members.now ++ member ∷ []) }
 {
     let mut all = members.to_vec(alloc)?;

@@ -13,7 +13,9 @@ use crate::changes::{changes_in, has_change_key};
 use crate::draft::ServiceDraft;
 use crate::words::member_in;
 use pool_versions::{Backend, Member};
-use scenario_keys::{Format, Key, Owner, address_at, has_only_keys, items_at, number, protocol_at, value_at};
+use scenario_keys::{
+    Format, Key, Owner, address_at, has_only_keys, items_at, number, protocol_at, value_at,
+};
 use std::alloc::{AllocError, Global};
 use toml::{Table, Value};
 

@@ -8,9 +8,7 @@ ghost use Rattle.scenario_pools.specs.Words.{server_of, servers_of, servers_in, 
 
 use crate::change::Change;
 use backend_names::{Name, Weight};
-use maglev_texts::{
-    WeighedName, address, member, stated_member, weighed_member, weighed_name,
-};
+use maglev_texts::{WeighedName, address, member, stated_member, weighed_member, weighed_name};
 use pool_versions::{Backend, Member};
 use scenario_keys::{Format, Key, value_at};
 use std::alloc::{AllocError, Global};
