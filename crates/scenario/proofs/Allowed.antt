@@ -1,5 +1,5 @@
 -- A scenario's steps are those that it may have.
-use Rattle.std.proofs.Common.{◌≡◌, ℕ, ◌-◌, true, List, [], ◌∷◌, ◌++◌, map, Option, Some, None, Result, Ok, Err, refl, subst, ◌∙◌}
+use Rattle.std.proofs.Common.{◌≡◌, ℕ, ◌-◌, true, List, [], ◌∷◌, ◌++◌, map, Option, Some, None, Result, Ok, Err, IfOk, refl, subst, ◌∙◌}
 use Rattle.std.specs.List.{list_all, range_with_len}
 use Rattle.std.proofs.lemmas.Bool.{and_from, and_parts}
 use Rattle.toml.specs.Data.{Members}
@@ -9,7 +9,7 @@ use Rattle.scenario_pools.specs.Plain.{PlainVersion}
 use Rattle.scenario_pools.specs.declared.fault.PoolsFault.{PoolsFault}
 use Rattle.scenario.specs.Steps.{PlainStep, plain_timed, allows}
 use Rattle.scenario.specs.Told.{PlainTold, once, each, at_node, steps_said, count_said, allows_told, told_of, after, said_before, steps_of}
-use Rattle.scenario.specs.Meaning.{PlainDraft, PlainScenario, rules_of, with_steps, with_pools, with_versions, with_draft, with_format, plan_of_draft, plan_of, Means}
+use Rattle.scenario.specs.Meaning.{PlainDraft, PlainScenario, rules_of, with_steps, with_pools, with_versions, with_draft, with_format, plan_of_draft, plan_of, plan_view, IsSupported, Means}
 use Rattle.scenario_keys.specs.Formats.{format_of}
 use Rattle.scenario.specs.declared.playing.Played.{Played}
 use Rattle.scenario.specs.declared.playing.Played.TheVariants.{InTurn, OnThreads}
@@ -83,6 +83,11 @@ of_draft : (f : Format) (played : Played) (o : Option PlainDraft) → AreAllowed
 unfolding plan_of_draft
 of_draft f played None = tt
 of_draft f played (Some d) = of_versions f played d _
+
+-- a draft's scenario is supported
+pub draft_supported : (f : Format) (played : Played) (d : PlainDraft) (r : Result Scenario ScenarioFault) → IfOk r (λ s. plan_of_draft f played d ≡ Ok (plan_view s)) → IfOk r (IsSupported played)
+draft_supported f played d (Err e) h = tt
+draft_supported f played d (Ok s) h = let P : Result PlainScenario ScenarioFault → Type 0 = AreAllowed played in subst P h (of_draft f played (Some d))
 
 of_format : (played : Played) (o : Option Format) (ms : Members) → AreAllowed played (with_format played o ms)
 of_format played None ms = tt

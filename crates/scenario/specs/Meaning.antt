@@ -1,5 +1,6 @@
 -- Which scenario a text means, and which fault it has, by how it is played.
-use Rattle.std.specs.Prelude.{◌≡◌, ℕ, ◌≤◌, ◌<◌, ◌^◌, ◌&&◌, nat_le, if◌then◌else◌, List, [], map, length, Option, Some, None, option_and_then, option_map, Result, Ok, Err, IsUtf8, string_bytes, ⊤}
+use Rattle.std.specs.Prelude.{◌≡◌, ℕ, ◌≤◌, ◌<◌, ◌^◌, ◌&&◌, true, nat_le, if◌then◌else◌, List, [], map, length, Option, Some, None, option_and_then, option_map, Result, Ok, Err, IsUtf8, string_bytes, ⊤}
+use Rattle.std.specs.List.{list_all}
 use Rattle.toml.specs.Data.{Data, Members, as_str}
 use Rattle.toml.specs.Parse.{parse_document}
 use Rattle.maglev_texts.specs.Parsing.{address_of}
@@ -19,7 +20,7 @@ use Rattle.scenario_pools.specs.Writing.{versions_of}
 use Rattle.scenario_pools.specs.declared.fault.PoolsFault.{PoolsFault}
 use Rattle.scenario_pools.specs.declared.fault.PoolsFault.TheVariants as written
 use Rattle.scenario.specs.Plain.{first_refused}
-use Rattle.scenario.specs.Steps.{PlainStep, plain_timed}
+use Rattle.scenario.specs.Steps.{PlainStep, plain_timed, allows}
 use Rattle.scenario.specs.Told.{steps_of}
 use Rattle.scenario.specs.declared.playing.Played.{Played}
 use Rattle.scenario_keys.specs.declared.formats.Format.{Format}
@@ -146,6 +147,10 @@ pub record Means (played : Played) (text : List ℕ) (s : Scenario) : Type 0 whe
   pub document : IsDocument text members
   pub plan : plan_of played members ≡ Ok (plan_view s)
   pub sized : s.catalogue.size ≡ s.size
+
+-- each step is one of a scenario that is played so: on threads none is a full, a hold or a drain
+abbrev pub IsSupported : Played → Scenario → Type 0
+IsSupported played s = list_all (λ p. allows played p) (map plain_timed s.steps.items) ≡ true
 
 -- why a text is refused as a scenario that is played so
 abbrev pub IsRefused : Played → List ℕ → ScenarioFault → Type 0

@@ -7,7 +7,7 @@ ghost use Rattle.scenario_pools.specs.Plain.{plain_version};
 ghost use Rattle.scenario_pools.specs.Drafts.{plain_version_draft};
 ghost use Rattle.scenario_pools.specs.Writing.{versions_of};
 ghost use Rattle.scenario.specs.declared.playing.Played.{Played};
-ghost use Rattle.scenario.specs.Meaning.{pools_of, IsDocument, IsRefused, IsDraftRefused, IsLimited, AreVersionsRefused, AreStepsRefused, if_written, HasLimits, Means, plan_of, plan_of_draft, plan_view, plain_draft, pool_refused};
+ghost use Rattle.scenario.specs.Meaning.{pools_of, IsDocument, IsRefused, IsDraftRefused, IsLimited, IsSupported, AreVersionsRefused, AreStepsRefused, if_written, HasLimits, Means, plan_of, plan_of_draft, plan_view, plain_draft, pool_refused};
 
 use crate::building::catalogue_of;
 use crate::draft::{Draft, draft_in};
@@ -203,6 +203,7 @@ pub fn pools_in(
 pub fn read(alloc: Global, played: Played, text: &[u8]) -> Result<Scenario, ScenarioFault>
     ensures means { IfOk result (Means played text.now) }
     ensures limits { IfOk result HasLimits }
+    ensures supported { IfOk result (IsSupported played) }
     ensures refused { IfErr result (IsRefused played text.now) }
 {
     let table = document(alloc, text)?;

@@ -63,7 +63,8 @@ pub(crate) fn first_no_address(alloc: Global, values: &[Value]) -> Result<Option
     Ok(None)
 }
 
-fn texts_flaw(key: Key, value: &Value) -> Option<Flaw>
+/// What is wrong with an array of texts.
+pub(crate) fn texts_flaw(key: Key, value: &Value) -> Option<Flaw>
     ensures { result ≡ texts_flaw key (view value.now) }
 {
     let Some(values) = value.as_array() else {

@@ -143,10 +143,10 @@ fn add_number(numbers: &mut Vec<u64>, number: Option<u64>) -> Result<(), AllocEr
     let Some(number) = number else {
         return Ok(());
     };
-    match numbers.push(number) {
-        Ok(()) => Ok(()),
-        Err(e) => Err(e),
-    }
+    let Ok(()) = numbers.push(number) else {
+        return Err(AllocError);
+    };
+    Ok(())
 }
 
 // The first version whose base is no version before it.

@@ -1,5 +1,5 @@
 -- The versions that a document means in format 1 or 2 it means in each later format too.
-use Rattle.std.proofs.Common.{◌≡◌, ℕ, ◌&&◌, ◌||◌, Bool, true, false, cond, nat_eq, List, [], ◌∷◌, ◌++◌, Option, Some, None, Result, Ok, Err, option_map, option_and_then, codes, refl, sym, ap, ◌∙◌}
+use Rattle.std.proofs.Common.{◌≡◌, ℕ, Bool, true, false, nat_eq, List, [], ◌∷◌, ◌++◌, Option, Some, None, Result, Ok, Err, option_map, option_and_then, refl, sym, ap, ◌∙◌}
 use Rattle.std.specs.Prelude.{if◌then◌else◌}
 use Rattle.std.specs.Option.{option_or, ok_or}
 use Rattle.std.specs.List.{list_any}
@@ -26,7 +26,7 @@ use Rattle.scenario_keys.proofs.KeyNames.{HasMore, keys_grow}
 use Rattle.scenario_pools.specs.Plain.{PlainService, PlainVersion}
 use Rattle.scenario_pools.specs.Drafts.{PlainServiceDraft, PlainVersionDraft}
 use Rattle.scenario_pools.specs.Words.{member_in, served_member_of, servers_in}
-use Rattle.scenario_pools.specs.Reading.{Parts, of_members, word_of, has_change_key, members_in, parts_by, parts_of, service_draft, service_in, services_at, whole_draft, based_draft, draft_by, version_draft, version_in, are_in_order, in_order, versions_with, versions_in}
+use Rattle.scenario_pools.specs.Reading.{Parts, of_members, word_of, has_change_key, members_in, parts_by, parts_of, service_draft, service_in, services_at, whole_draft, draft_by, version_draft, version_in, are_in_order, in_order, versions_with, versions_in}
 use Rattle.scenario_pools.specs.Writing.{stated_with, stated, numbered_with, stated_version, left_by_version, after_version, beside, written_out, written_behind, most_places, versions_of}
 use Rattle.scenario_pools.specs.declared.fault.PoolsFault.{PoolsFault}
 use Rattle.scenario_pools.specs.declared.fault.PoolsFault.TheVariants as fault
@@ -155,7 +155,7 @@ missing_step name l keys Equal d o same here not_there rest =
     absurd (let e : false ≡ true = sym not_there ∙ both ∙ here in cc)
 missing_step name l keys Greater d o same here not_there rest = rest
 
-missing : (name : List ℕ) (keys : List (List ℕ)) (ms : Members) → has_only keys ms ≡ true → list_any (pointwise nat_eq name) keys ≡ false → get_member name ms ≡ None
+pub missing : (name : List ℕ) (keys : List (List ℕ)) (ms : Members) → has_only keys ms ≡ true → list_any (pointwise nat_eq name) keys ≡ false → get_member name ms ≡ None
 missing name keys no_members only not_there = refl
 missing name keys (member l d ms) only not_there =
     let p = and_parts (list_any (pointwise nat_eq l) keys) (has_only keys ms) only in

@@ -4,5 +4,6 @@ pub mod Drafts
 pub mod Writing
 pub mod Words
 pub mod Reading
+pub mod Older
 pub mod Laws
 pub mod BadWords

@@ -1,7 +1,7 @@
 -- The drafts of versions that a document holds. None: a key isn't as it should be.
 use Rattle.std.specs.Prelude.{ℕ, Bool, true, false, ◌&&◌, ◌==◌, if◌then◌else◌, List, [], ◌∷◌, ◌++◌, Option, Some, None, is_some, option_and_then, option_map}
 use Rattle.std.specs.List.{list_any}
-use Rattle.toml.specs.Data.{Data, Items, Members, get_member, as_str, as_table, as_array}
+use Rattle.toml.specs.Data.{Data, Members, get_member, as_str, as_table, as_array}
 use Rattle.maglev_texts.specs.Parsing.{address_of}
 use Rattle.pool_versions.specs.declared.backend.Backend.{Backend}
 use Rattle.pool_versions.specs.declared.backend.Member.{Member}

@@ -19,7 +19,7 @@ pub use change::Change;
 pub use changes::{CHANGE_KEYS, has_change_key};
 pub use draft::{ServiceDraft, VersionDraft};
 pub use fault::PoolsFault;
-pub use laws::differences_are_written_out;
+pub use laws::{differences_are_written_out, older_formats_state_versions};
 pub use reading::{are_in_order, drafts_in};
 pub use words::{change_in, member_in, served_member, servers_in};
 pub use writing::{MOST_PLACES, versions_of};

@@ -168,7 +168,11 @@ static KEYS_OF_VERSIONS: [Row; 10] = [
 
 fn finds_keys(rt: &impl Abort, alloc: Global, row: &Row, at: usize) {
     let text = changed(rt, alloc, row);
-    let table = toml::table_from_str(alloc, text.as_str()).expect(rt, "a document");
+    finds_key_in(rt, alloc, text.as_str(), row, at);
+}
+
+fn finds_key_in(rt: &impl Abort, alloc: Global, text: &str, row: &Row, at: usize) {
+    let table = toml::table_from_str(alloc, text).expect(rt, "a document");
     let format = format_of(&table).expect(rt, "a format");
     let place = key_place(alloc, format, &table).expect(rt, "memory");
     let fault = scenario::read(alloc, Played::InTurn, text.as_bytes()).err();
@@ -215,7 +219,11 @@ static MEMBERS: [Row; 5] = [
 
 fn finds_members(rt: &impl Abort, alloc: Global, row: &Row, at: usize) {
     let text = changed(rt, alloc, row);
-    let table = toml::table_from_str(alloc, text.as_str()).expect(rt, "a document");
+    finds_member_in(rt, alloc, text.as_str(), row, at);
+}
+
+fn finds_member_in(rt: &impl Abort, alloc: Global, text: &str, row: &Row, at: usize) {
+    let table = toml::table_from_str(alloc, text).expect(rt, "a document");
     let format = format_of(&table).expect(rt, "a format");
     let place = member_place(alloc, format, &table).expect(rt, "memory");
     let fault = scenario::read(alloc, Played::InTurn, text.as_bytes()).err();
@@ -226,6 +234,169 @@ fn finds_members(rt: &impl Abort, alloc: Global, row: &Row, at: usize) {
 fn places_of_members(rt: HostRuntime) {
     for (at, row) in MEMBERS.iter().enumerate() {
         finds_members(&rt, rt.alloc(), row, at);
+    }
+}
+
+static DIFFERENCES: &str = "format = 3
+size = 7
+hash = 'sum'
+scheme = 'maglev'
+spread = 'turn'
+workers = 1
+capacity = 2
+nodes = ['10.9.0.1']
+steps = ['install 0 1', 'until 1']
+servers = { C = '10.8.0.3' }
+[[versions]]
+number = 1
+[[versions.services]]
+vip = '192.0.2.1'
+proto = 'tcp'
+port = 80
+members = ['A@10.8.0.1', 'B@10.8.0.2']
+[[versions]]
+number = 2
+base = 1
+down = ['A']
+[[versions.services]]
+vip = '192.0.2.1'
+proto = 'tcp'
+port = 80
+remove = ['B']
+weights = ['A*2']
+add = ['C', 'D@10.8.0.4']
+";
+
+static KEYS_OF_DIFFERENCES: [Row; 14] = [
+    ("", "", None),
+    (
+        "'10.8.0.3'",
+        "'10.8.0'",
+        Some(Place::Root(Flaw::Value(Key::Servers))),
+    ),
+    (
+        "base = 1",
+        "base = 2",
+        Some(Place::Version(1, Flaw::Value(Key::Base))),
+    ),
+    (
+        "base = 1",
+        "base = -1",
+        Some(Place::Version(1, Flaw::Value(Key::Base))),
+    ),
+    (
+        "number = 1\n",
+        "number = 1\nbase = 2\n",
+        Some(Place::Version(0, Flaw::Value(Key::Base))),
+    ),
+    (
+        "base = 1\n",
+        "",
+        Some(Place::Version(1, Flaw::Misplaced(Key::Down))),
+    ),
+    (
+        "down = ['A']",
+        "down = 'A'",
+        Some(Place::Version(1, Flaw::Value(Key::Down))),
+    ),
+    (
+        "down = ['A']",
+        "down = ['A', 7]",
+        Some(Place::Version(1, Flaw::Item(Key::Down, 1))),
+    ),
+    (
+        "add = ['C', 'D@10.8.0.4']",
+        "add = ['C', 'D@10.8.0.4']\nmembers = []",
+        Some(Place::Service(1, 0, Flaw::Misplaced(Key::Remove))),
+    ),
+    (
+        "members = ['A@10.8.0.1', 'B@10.8.0.2']",
+        "members = []\nup = []",
+        Some(Place::Service(0, 0, Flaw::Misplaced(Key::Up))),
+    ),
+    (
+        "members = ['A@10.8.0.1', 'B@10.8.0.2']\n",
+        "",
+        Some(Place::Service(0, 0, Flaw::Value(Key::Members))),
+    ),
+    (
+        "weights = ['A*2']",
+        "weights = [2]",
+        Some(Place::Service(1, 0, Flaw::Item(Key::Weights, 0))),
+    ),
+    ("remove = ['B']", "remove = ['E']", None),
+    ("format = 3", "format = 2", UNKNOWN),
+];
+
+static WORDS_OF_DIFFERENCES: [Row; 11] = [
+    ("", "", None),
+    (
+        "down = ['A']",
+        "down = ['A', 'E']",
+        Some(Place::Version(1, Flaw::Item(Key::Down, 1))),
+    ),
+    (
+        "down = ['A']",
+        "down = ['A']\ndrain = ['-']",
+        Some(Place::Version(1, Flaw::Item(Key::Drain, 0))),
+    ),
+    (
+        "down = ['A']",
+        "down = ['A']\nremove = ['A']",
+        Some(Place::Version(1, Flaw::Item(Key::Down, 0))),
+    ),
+    (
+        "remove = ['B']",
+        "remove = ['E']",
+        Some(Place::Service(1, 0, Flaw::Item(Key::Remove, 0))),
+    ),
+    (
+        "weights = ['A*2']",
+        "weights = ['A*2', 'B*3']",
+        Some(Place::Service(1, 0, Flaw::Item(Key::Weights, 1))),
+    ),
+    (
+        "weights = ['A*2']",
+        "weights = ['A']",
+        Some(Place::Service(1, 0, Flaw::Item(Key::Weights, 0))),
+    ),
+    (
+        "add = ['C',",
+        "add = ['E',",
+        Some(Place::Service(1, 0, Flaw::Item(Key::Add, 0))),
+    ),
+    (
+        "port = 80\nremove",
+        "port = 81\nremove",
+        Some(Place::Service(1, 0, Flaw::Value(Key::Members))),
+    ),
+    (
+        "'B@10.8.0.2'",
+        "'B@10.8.0.02'",
+        Some(Place::Service(0, 0, Flaw::Item(Key::Members, 1))),
+    ),
+    (
+        "'B@10.8.0.2'",
+        "'C'",
+        Some(Place::Service(1, 0, Flaw::Item(Key::Remove, 0))),
+    ),
+];
+
+fn different(rt: &impl Abort, alloc: Global, row: &Row) -> String {
+    DIFFERENCES
+        .replacen(alloc, row.0, row.1, 1)
+        .expect(rt, "memory")
+}
+
+#[test]
+fn places_of_differences(rt: HostRuntime) {
+    for (at, row) in KEYS_OF_DIFFERENCES.iter().enumerate() {
+        let text = different(&rt, rt.alloc(), row);
+        finds_key_in(&rt, rt.alloc(), text.as_str(), row, at);
+    }
+    for (at, row) in WORDS_OF_DIFFERENCES.iter().enumerate() {
+        let text = different(&rt, rt.alloc(), row);
+        finds_member_in(&rt, rt.alloc(), text.as_str(), row, at);
     }
 }
 

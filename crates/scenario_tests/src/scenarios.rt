@@ -4,7 +4,9 @@ use five_tuple::Flow;
 use hash_laws::AnyHash;
 use pool_versions::{Catalogue, PoolFault};
 use scenario::ScenarioFault::{BadFormat, BadKey, BadMember, BadStep, BadToml, Pool, TooLong};
-use scenario::{Played, Scenario, ScenarioFault, ScenarioStep, SchemeKind, SpreadKind, read};
+use scenario::{
+    Played, Scenario, ScenarioFault, ScenarioStep, SchemeKind, SpreadKind, TimedStep, read,
+};
 use std::alloc::Global;
 use std::process::Abort;
 
@@ -246,8 +248,16 @@ fn number_of_marks(marks: &[bool; 16]) -> u32 {
 
 type StepRow = (&'static str, u32, u32);
 
+// A step's word, and two numbers. A step by time isn't told here.
+fn told(step: &TimedStep) -> StepRow {
+    match step {
+        TimedStep::Counted(step) => told_counted(step),
+        TimedStep::Until(_) => ("until", 0, 0),
+    }
+}
+
 // A step's word, and two numbers: a node and a version, a node and its marks as bits, or the places of nodes, from 1.
-fn told(step: &ScenarioStep) -> StepRow {
+fn told_counted(step: &ScenarioStep) -> StepRow {
     match step {
         ScenarioStep::Install { node, version } => ("install", u32::from(*node), *version),
         ScenarioStep::Live(nodes) => ("live", number_of(nodes.as_slice()), 0),
@@ -279,7 +289,7 @@ static STEPS: [StepRow; 11] = [
     ("restart", 1, 0),
 ];
 
-fn has_steps(rt: &impl Abort, steps: &[ScenarioStep]) {
+fn has_steps(rt: &impl Abort, steps: &[TimedStep]) {
     same_number(rt, steps.len() as u64, 11, "steps");
     for (step, wanted) in steps.iter().zip(STEPS.iter()) {
         assert_eq!(rt; told(step), *wanted);
@@ -585,7 +595,7 @@ static STARRED: [StepRow; 8] = [
 
 const STARS: &str = "'install * 7', 'take *', 'restart *', 'stop *', 'restart 1'";
 
-fn has_starred_steps(rt: &impl Abort, steps: &[ScenarioStep]) {
+fn has_starred_steps(rt: &impl Abort, steps: &[TimedStep]) {
     same_number(rt, steps.len() as u64, 8, "steps");
     for (step, wanted) in steps.iter().zip(STARRED.iter()) {
         assert_eq!(rt; told(step), *wanted);
@@ -735,7 +745,125 @@ fn a_stop_is_read(rt: HostRuntime) {
     );
     holds(
         &rt,
-        matches!(scenario.steps.get(0), Some(ScenarioStep::Stop(1))),
+        matches!(
+            scenario.steps.get(0),
+            Some(TimedStep::Counted(ScenarioStep::Stop(1)))
+        ),
         "stop 1",
     );
+}
+
+// The microseconds of the first step, where it is by time.
+fn until_with(
+    rt: &impl Abort,
+    alloc: Global,
+    format: &str,
+    played: Played,
+    step: &str,
+) -> Result<Option<u64>, ScenarioFault> {
+    let steps = format!(in alloc; "'{step}'").expect(rt, "memory");
+    match read_in(rt, alloc, format, played, steps.as_str())?
+        .steps
+        .get(0)
+    {
+        Some(TimedStep::Until(micros)) => Ok(Some(*micros)),
+        _ => Ok(None),
+    }
+}
+
+// A step of format 3, and its time in microseconds.
+static TIMES: [(&str, u64); 11] = [
+    ("until 0", 0),
+    ("until 0.0", 0),
+    ("until 0.5", 500_000),
+    ("until 0.000001", 1),
+    ("until 1.25", 1_250_000),
+    ("until 9.999999", 9_999_999),
+    ("until 10.090000", 10_090_000),
+    ("until 120", 120_000_000),
+    ("until 120.000001", 120_000_001),
+    ("until 4294967295", 4_294_967_295_000_000),
+    ("until 4294967295.000000", 4_294_967_295_000_000),
+];
+
+#[test]
+fn a_time_is_seconds_in_microseconds(rt: HostRuntime) {
+    for (step, micros) in TIMES.iter() {
+        let in_turn = until_with(&rt, rt.alloc(), "format = 3", Played::InTurn, step);
+        let on_threads = until_with(&rt, rt.alloc(), "format = 3", Played::OnThreads, step);
+        assert_eq!(rt; in_turn, Ok(Some(*micros)));
+        assert_eq!(rt; on_threads, Ok(Some(*micros)));
+    }
+}
+
+static NO_TIMES: [&str; 24] = [
+    "until",
+    "until ",
+    "until  1",
+    "until 1 ",
+    "until 1 2",
+    "until *",
+    "Until 1",
+    "until1",
+    "until 01",
+    "until 00.5",
+    "until .5",
+    "until 5.",
+    "until .",
+    "until 1.2.3",
+    "until 1.0000000",
+    "until 1.5a",
+    "until 1. 5",
+    "until 1,5",
+    "until -1",
+    "until +1",
+    "until 1e3",
+    "until 0x1",
+    "until 4294967296",
+    "until 4294967295.000001",
+];
+
+#[test]
+fn words_that_are_no_time(rt: HostRuntime) {
+    for step in NO_TIMES.iter() {
+        let found = until_with(&rt, rt.alloc(), "format = 3", Played::InTurn, step);
+        assert_eq!(rt; found, Err(BadStep(0)));
+    }
+}
+
+#[test]
+fn older_formats_know_no_time(rt: HostRuntime) {
+    for format in ["format = 1", "format = 2"].iter() {
+        let found = until_with(&rt, rt.alloc(), format, Played::InTurn, "until 1");
+        assert_eq!(rt; found, Err(BadStep(0)));
+    }
+}
+
+// A line in a document of a format, and whether a scenario may have it.
+static NEWER_KEYS: [(&str, &str, Option<ScenarioFault>); 5] = [
+    (
+        "format = 1",
+        "format = 2\n[servers]\nA = '10.8.0.1'",
+        Some(BadKey),
+    ),
+    (
+        "format = 1",
+        "format = 3\nservers = { A = '10.8.0.1' }",
+        None,
+    ),
+    (
+        "format = 1",
+        "format = 3\nservers = { A = '10.8.0' }",
+        Some(BadKey),
+    ),
+    ("number = 2", "number = 2\nbase = 1", Some(BadKey)),
+    ("port = 80", "port = 80\ndown = []", Some(BadKey)),
+];
+
+#[test]
+fn keys_of_the_newest_format(rt: HostRuntime) {
+    for (at, (from, to, wanted)) in NEWER_KEYS.iter().enumerate() {
+        let found = fault(&rt, rt.alloc(), (*from, *to), NOTHING);
+        same_fault(&rt, found, *wanted, at);
+    }
 }

@@ -2,6 +2,7 @@ use Rattle.std.proofs.Common.{◌∙◌, sym, ap, option_map}
 use Rattle.toml.specs.View.{table_view}
 use Rattle.scenario.specs.Meaning.{plain_draft, IsRefused}
 use Rattle.scenario.proofs.Refusals.{passed_on, refused_above}
+use Rattle.scenario.proofs.Allowed.{draft_supported}
 use Rattle.scenario.proofs.reading.read.Goals as goal
 use Rattle.std.proofs.Common.{arith}
 use Rattle.std.proofs.lemmas.Grind.{common_steps}
@@ -44,3 +45,6 @@ returns-in_default-2-clause-limits c = grind (arith, common_steps)
 
 pub returns-clause-limits : goal.returns-clause-limits
 returns-clause-limits c = grind (arith, common_steps)
+
+pub returns-clause-supported : goal.returns-clause-supported
+returns-clause-supported c = draft_supported c.in-Some.format c.args.played (plain_draft c.in-Some-2.draft) c.scenario_of.result c.scenario_of.ensures.ok

@@ -40,7 +40,6 @@ returns-clause-limits c = grind (arith, common_steps)
 pub returns-clause-refused : goal.returns-clause-refused
 returns-clause-refused c = grind (arith, common_steps)
 
-
 pub returns-in_err-versions-clause-refused : goal.returns-in_err-versions-clause-refused
 returns-in_err-versions-clause-refused c =
     versions_refused c.args.format c.args.played (plain_draft c.args.draft) _ c.from_residual.result c.in_err-versions.field-0.0 (search rules) c.from_residual.ensures.1 c.in_err-versions.ensures.refused

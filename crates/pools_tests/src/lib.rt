@@ -1,0 +1,5 @@
+//! Tests of versions by difference and of servers.
+#![tactic(auto)]
+
+#[cfg(test)]
+mod differences;
