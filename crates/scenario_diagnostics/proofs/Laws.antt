@@ -11,7 +11,8 @@ use Rattle.maglev_texts.specs.Parsing.{address_of}
 use Rattle.hash_laws.specs.Any.{hash_of_word}
 use Rattle.scenario_keys.specs.Lookups.{number_at, text_at, items_at, all_items, given_or, has_only}
 use Rattle.scenario_keys.specs.Words.{size_of, scheme_of_word, spread_of_word, protocol_of_word}
-use Rattle.scenario_keys.specs.Keys.{holds, key_name, number_of, number_if_of, flag_of, root_keys, version_keys, service_keys}
+use Rattle.scenario_keys.specs.declared.words.WordList.TheVariants as words
+use Rattle.scenario_keys.specs.Keys.{holds, listed_or_false, key_name, number_of, number_if_of, flag_of, root_keys, version_keys, service_keys}
 use Rattle.scenario_keys.specs.declared.key.Key.{Key}
 use Rattle.scenario_keys.specs.declared.key.Key.TheVariants as key
 use Rattle.scenario_keys.specs.declared.formats.Format.{Format}
@@ -105,6 +106,23 @@ bad_law : (ks : List Key) (ms : Members) → is_none (first_bad ks ms) ≡ all_h
 bad_law [] ms = refl
 bad_law (k ∷ ks) ms = none_if (holds k ms) (first_bad ks ms) k ∙ ap (λ b. holds k ms && b) (bad_law ks ms)
 
+-- words of lists
+is_hash : (o : Option (List ℕ)) → listed_or_false words.Hash o ≡ is_some (option_and_then hash_of_word o)
+is_hash None = refl
+is_hash (Some word) = refl
+
+is_scheme : (o : Option (List ℕ)) → listed_or_false words.Scheme o ≡ is_some (option_and_then scheme_of_word o)
+is_scheme None = refl
+is_scheme (Some word) = refl
+
+is_spread : (o : Option (List ℕ)) → listed_or_false words.Spread o ≡ is_some (option_and_then spread_of_word o)
+is_spread None = refl
+is_spread (Some word) = refl
+
+is_protocol : (o : Option (List ℕ)) → listed_or_false words.Protocol o ≡ is_some (option_and_then protocol_of_word o)
+is_protocol None = refl
+is_protocol (Some word) = refl
+
 -- lists of texts
 texts_law : {B : Type 0} (k : Key) (f : List ℕ → B) (d : Data) → is_none (texts_flaw k d) ≡ is_some (option_and_then (all_items (λ d. option_map f (as_str d))) (as_array d))
 texts_law k f d = given_law (flaw.Value k) (λ ds. option_map (λ n. flaw.Item k n) (item_from is_text 0 ds)) (all_items (λ d. option_map f (as_str d)))
@@ -173,7 +191,7 @@ unfolding service_draft
 service_draft_law format servers based ms =
     let keys : List Key = key.Vip ∷ key.Proto ∷ key.Port ∷ [] in
     none_or (option_map (λ k. flaw.Value k) (first_bad keys ms)) (parts_flaw based ms (get_member (key_name key.Members) ms))
-    ∙ and_both _ _ _ _ (none_map (λ k. flaw.Value k) (first_bad keys ms) ∙ bad_law keys ms) (parts_law format servers based ms (get_member (key_name key.Members) ms))
+    ∙ and_both _ _ _ _ (none_map (λ k. flaw.Value k) (first_bad keys ms) ∙ bad_law keys ms ∙ ap (λ b. holds key.Vip ms && (b && (holds key.Port ms && true))) (is_protocol (text_at (key_name key.Proto) ms))) (parts_law format servers based ms (get_member (key_name key.Members) ms))
     ∙ service_cases (option_and_then address_of (text_at (key_name key.Vip) ms)) (option_and_then protocol_of_word (text_at (key_name key.Proto) ms)) (number_of key.Port ms) (parts_of format servers based ms)
 
 service_law : (format : Format) (servers : List Backend) (based : Bool) (d : Data) → is_none (service_flaw format based d) ≡ is_some (service_in format servers based d)
@@ -325,7 +343,10 @@ some_five f (Some x) b c d e = some_four (f x) b c d e
 
 choices_law : (ms : Members) → is_some (choices_of ms) ≡ (holds key.Size ms && (holds key.Hash ms && (holds key.Scheme ms && holds key.Spread ms)))
 unfolding choices_of
-choices_law ms = some_four _ (option_and_then size_of (number_at 0 65537 (codes "size") ms)) (option_and_then hash_of_word (text_at (codes "hash") ms)) (option_and_then scheme_of_word (text_at (codes "scheme") ms)) (option_and_then spread_of_word (text_at (codes "spread") ms))
+choices_law ms =
+    some_four _ (option_and_then size_of (number_at 0 65537 (key_name key.Size) ms)) (option_and_then hash_of_word (text_at (key_name key.Hash) ms)) (option_and_then scheme_of_word (text_at (key_name key.Scheme) ms)) (option_and_then spread_of_word (text_at (key_name key.Spread) ms))
+    ∙ ap (λ b. holds key.Size ms && b)
+    (and_both _ _ _ _ (sym (is_hash (text_at (key_name key.Hash) ms))) (and_both _ _ _ _ (sym (is_scheme (text_at (key_name key.Scheme) ms))) (sym (is_spread (text_at (key_name key.Spread) ms)))))
 
 limits_law : (ms : Members) → is_some (limits_of ms) ≡ (holds key.Workers ms && (holds key.Capacity ms && (holds key.Ring ms && (holds key.Check ms && holds key.Idle ms))))
 unfolding limits_of
