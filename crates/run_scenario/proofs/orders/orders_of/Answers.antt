@@ -25,7 +25,7 @@ returns-clause-commands c =
     let packets = c.args.packets.now in
     let n = length s.nodes.items in
     let same = ap (λ (l : List ScenarioStep). orders_of (choice_in s) packets l n) c.as_slice.ensures.value
-        ∙ orders_copies (choice_in s) packets c.in_ok-steps.steps.items (steps_in s c.args.records.now) n c.in_ok-steps.ensures in
+    ∙ orders_copies (choice_in s) packets c.in_ok-steps.steps.items (steps_in s c.args.records.now) n c.in_ok-steps.ensures in
     subst (λ (x : List (List Command)). IfOk c.orders_by.result (λ o. map (λ l. l.items) o.commands.items ≡ x)) same c.orders_by.ensures.commands
 
 pub returns-clause-tally : goal.returns-clause-tally
@@ -34,5 +34,5 @@ returns-clause-tally c =
     let packets = c.args.packets.now in
     let n = length s.nodes.items in
     let same = ap (λ (l : List ScenarioStep). tally_of (length packets) (plan_of (choice_in s) packets l n)) c.as_slice.ensures.value
-        ∙ ap (λ (t : Trace). tally_of (length packets) t) (plan_copies (choice_in s) packets c.in_ok-steps.steps.items (steps_in s c.args.records.now) n c.in_ok-steps.ensures) in
+    ∙ ap (λ (t : Trace). tally_of (length packets) t) (plan_copies (choice_in s) packets c.in_ok-steps.steps.items (steps_in s c.args.records.now) n c.in_ok-steps.ensures) in
     subst (λ (x : Tally). IfOk c.orders_by.result (λ o. o.tally ≡ x)) same c.orders_by.ensures.tally
