@@ -1,5 +1,6 @@
 #!/usr/bin/env python3
-"""format_three.py [FIRST COUNT]: what scenarios of format 3 say: members that drain, steps with `*`, the cause `drained`.
+"""format_three.py [FIRST COUNT]: what scenarios of format 3 say: members that drain, steps with `*` and by time, versions by
+difference, servers, the cause `drained`.
 
 Rows are worked out by hand. So many random scenarios, 2,000 in the gate, print and write what tests/model.py says; some more
 run on threads and are judged as tests/soak_run.py does. What the other tests make of formats 1 and 2 prints the same bytes in
@@ -75,7 +76,8 @@ def test_draining():
     text = alone(1, 2, 1, versions=[ALL, A_DRAINS, A_DOWN])
     line = split(1000, "5 10", 6, "A1", "B3", "drained")
     plays("a draining member keeps its flow, and gets no other", text, "yyxy", {2: a1, 5: a1, 7: c2, 10: forward("B", 3)}, line + counts(2, drained=1))
-    explains("why it left", text, "yyxy", 5, 10, "split slot 6 version 1 A@10.8.0.1 version 3 B@10.8.0.2")
+    explains("why it left", text, "yyxy", 5, 10, "split slot 6 version 1 A@10.8.0.1 version 3 B@10.8.0.2 drained")
+    explains("the other way round", text, "yyxy", 10, 5, "split slot 6 version 3 B@10.8.0.2 version 1 A@10.8.0.1")
     explains("that it stayed", text, "yyxy", 2, 5, "same")
     text = alone(1, 1, 2, versions=[ALL, A_DRAINS, ALL])
     plays("a member drains and is back", text, "yyyx", {2: a1, 5: a1, 8: a1, 10: forward("A", 3)}, counts(2))
@@ -204,7 +206,231 @@ def test_steps():
             check(f"each node stops, turn {turn}", found == [], repr(found))
 
 
-NO_STEPS = [
+# When a packet came, in microseconds after 1,000,000,000 seconds.
+TIMES = [0, 1_500_000, 1_500_000, 2_000_000, 1_000_000, 3_000_000]
+
+
+def at(times, letters="yyyyyyyyyyyy"):
+    """A packet for each of these times."""
+    return HEAD + b"".join(rows.record(rows.packet(letter), 1_000_000_000 + time // 1_000_000, time % 1_000_000 * 1000) for time, letter in zip(times, letters))
+
+
+def reads(name, steps, expected, times=TIMES):
+    """Which records the steps deliver on node 0, one serving after another, and how many are left."""
+    text = three(scenario(["live 0", "install * 1", *steps]))
+    data = at(times)
+    status, out, err, _ = rows.simulated(text, data, ["--list"])
+    lines = out.decode().splitlines()
+    delivered = [int(line.split(": ")[0].rsplit(" ", 1)[1]) for line in lines if " arrive " in line]
+    left = next((int(line.split(" ")[1]) for line in lines if line.startswith("left ")), None)
+    check(name, (status, err, (delivered, left)) == (0, b"", expected), f"{status} {delivered} {left} {err!r}")
+    run = model.Run(text, data)
+    check(f"{name}, in full", out.decode() == run.listing() + run.report(), repr(out))
+    rows.runs(f"{name}, on threads", text, data, run.report())
+
+
+def test_until():
+    """The records that come less than so long after the first, up to one that doesn't; the next step goes on with that one."""
+    reads("up to a time", ["until 2"], ([0, 1, 2], 3))
+    reads("what came at that time isn't earlier", ["until 1.5"], ([0], 5))
+    reads("a microsecond more", ["until 1.500001"], ([0, 1, 2], 3))
+    reads("the record that was looked at is the next", ["until 2", "take 1"], ([0, 1, 2, 3], 2))
+    reads("one after another", ["until 1", "until 1.5", "until 2", "until 3", "until 4"], ([0, 1, 2, 3, 4, 5], 0))
+    reads("a time that was passed", ["until 2", "until 1", "until 2"], ([0, 1, 2], 3))
+    reads("a step back comes early", ["until 2", "take 1", "until 1.5"], ([0, 1, 2, 3, 4], 1))
+    reads("behind one that comes too late none is looked at", ["until 1.5", "until 1.2"], ([0], 5))
+    reads("nothing", ["until 0"], ([], 6))
+    reads("all", ["until 3.000001"], ([0, 1, 2, 3, 4, 5], 0))
+    reads("all but the last", ["until 3"], ([0, 1, 2, 3, 4], 1))
+    reads("the longest time", ["until 4294967295.999999"], ([0, 1, 2, 3, 4, 5], 0))
+    reads("the first record is lost", ["lose 1", "until 2"], ([1, 2], 3))
+    reads("a loss from where it ended", ["until 2", "lose 1", "until 2"], ([0, 1, 2, 4], 1))
+    reads("the record that was looked at, lost", ["until 2", "lose 2", "take *"], ([0, 1, 2, 5], 0))
+    reads("a repeat of what was delivered", ["until 2", "again 2", "take 1", "again 3"], ([0, 1, 2, 2, 3, 3], 2))
+    reads("a repeat of what was only looked at", ["until 2", "again 3", "take 1"], ([0, 1, 2, 3], 2))
+    reads("by count and by time", ["take 2", "until 2", "take 1", "until 3.5"], ([0, 1, 2, 3, 4, 5], 0))
+    reads("an empty capture", ["until 5", "take 1"], ([], 0), times=[])
+    reads("the first comes last", ["until 0.000001", "take 1"], ([0, 1, 2, 3], 0), times=[5_000_000, 0, 4_999_999, 5_000_000])
+    reads("the first comes last, and none is less", ["until 0"], ([], 4), times=[5_000_000, 0, 4_999_999, 5_000_000])
+    text = three(scenario(["live 0", "install * 1", "until 2", "install * 2", "take *"]))
+    expected = model.Run(text, at(TIMES, "yyyxxx"))
+    simulates("an install at two seconds", text, at(TIMES, "yyyxxx"), expected.listing() + expected.splits() + expected.report(), expected.output(), ["--list", "--splits"])
+    check("which comes between", [event for event, _, _ in expected.events].index("install 0 2") == 8, repr(expected.events))
+    nanos = bytes.fromhex("a1b23c4d") + HEAD[4:]
+    simulates("by nanoseconds, cut to microseconds", three(scenario(["live 0", "install * 1", "until 0.000001"])), nanos + b"".join(rows.record(rows.packet("y"), 5, nano) for nano in [1500, 1999, 2000]), report(3, 2, received=2, left=1))
+    cut = at(TIMES)[:-1]
+    simulates("a capture that is cut behind the time", three(scenario(["live 0", "install * 1", "until 2"])), cut, report(5, 3, received=3, left=2, cut="yes"))
+    long = at(TIMES[:3]) + bytes.fromhex("3b9aca05000000000004000100040001")
+    wanted = model.Run(three(scenario(["live 0", "install * 1", "take 3"])), at(TIMES[:3])).output()
+    stops("until a record that is too long", three(scenario(["live 0", "install * 1", "until 2", "take 1"])), long, "TooLong", wanted)
+
+
+NO_TIMES = [
+    "until", "until ", "until *", "until -1", "until +1", "until 1.", "until .5", "until 1.0000001", "until 1.1234567", "until 01", "until 1e3", "until 1,5",
+    "until 1 2", "until 1.5.2", "until 4294967296", "until 4294967296.0", "until 99999999999999999999", "until 0x1", "until 1s", "until 1. 5", "until 1.-5", "until NaN",
+    "until 1.5 ", " until 1", "Until 1", "until  1", "until00",
+]
+
+SERVERS = """
+[servers]
+A = "10.8.0.1"
+B = "10.8.0.2"
+C = "10.8.0.3"
+"""
+
+SERVICE = 'vip = "192.0.2.1"\nproto = "tcp"\nport = 80\n'
+
+
+def written_as(versions, servers="", steps=("live 0", "install * 1", "take *")):
+    """A scenario of format 3 with these versions as text."""
+    return three(scenario(list(steps), [])) + servers + versions
+
+
+def version(number, *lines):
+    """A version's table."""
+    return f"[[versions]]\nnumber = {number}\n" + "".join(line + "\n" for line in lines)
+
+
+def service(*lines):
+    """A service's table in a version."""
+    return "[[versions.services]]\n" + SERVICE + "".join(line + "\n" for line in lines)
+
+
+def means_as(name, text, members):
+    """A scenario's versions are these, one after another, written out as words of the one service: it plays, plans and explains
+    alike."""
+    written = three(scenario(model.tomllib.loads(text)["steps"], members))
+    data = capture("yzxyzxyzx")
+    words = ["--list", "--splits"]
+    check(name, rows.simulated(text, data, words) == rows.simulated(written, data, words), f"{rows.simulated(text, data, words)}")
+    expected = model.Run(text, data)
+    check(f"{name}, by the model", expected.listing() == model.Run(written, data).listing(), expected.listing())
+    for number in range(1, len(members) + 1):
+        plans = [rows.run(["plan", "-", str(number)], stdin=one.encode()) for one in (text, written)]
+        check(f"{name}, version {number}", plans[0] == plans[1] and plans[0][0] == 0, repr(plans))
+
+
+FIRST_VERSION = version(1) + service(f"members = {rows.listed(ALL)}")
+STEPS = ("live 0", "install * 1", "take 3", "install * 2", "take 3", "install * 3", "take *")
+
+
+def follows(name, members, *lines, more=""):
+    """What a version by difference is that stands behind A, B and C, and what another behind it is that changes nothing."""
+    text = written_as(FIRST_VERSION + version(2, "base = 1", *lines) + more + version(3, "base = 2"), steps=STEPS)
+    means_as(name, text, [ALL, members, members])
+
+
+def test_differences():
+    """Versions by difference, and what they are written out."""
+    a, b, c = ALL
+    follows("nothing changes", ALL)
+    follows("one goes down", [a, b + "/down", c], 'down = ["B"]')
+    follows("one drains", [a + "/drain", b, c], 'drain = ["A"]')
+    follows("two go down, one drains", [a + "/down", b + "/drain", c + "/down"], 'down = ["C", "A"]', 'drain = ["B"]')
+    follows("one comes, behind the others", [a, b, c, "D@10.8.0.4"], 'add = ["D@10.8.0.4"]')
+    follows("several come", [a, b, c, "E@10.8.0.5*3", "D@10.8.0.4/down"], 'add = ["E@10.8.0.5*3", "D@10.8.0.4/down"]')
+    follows("one leaves", [a, c], 'remove = ["B"]')
+    follows("all leave", [], 'remove = ["B", "C", "A"]')
+    follows("weights", [a + "*16", b, c + "*2"], 'weights = ["A*16", "C*2"]')
+    follows("another address", [a, c, "B@10.8.0.9"], 'remove = ["B"]', 'add = ["B@10.8.0.9"]')
+    lists = ['add = ["D@10.8.0.4*2"]', 'weights = ["A*4"]', 'up = ["A"]', 'drain = ["A", "C"]', 'down = ["C", "A"]', 'remove = ["B"]']
+    follows("all at once, in whatever order they are written", [a + "*4", c + "/drain", "D@10.8.0.4*2"], *lists)
+    follows("empty lists", ALL, "down = []", "drain = []", "up = []", "add = []", "remove = []", "weights = []")
+    follows("the service alone", [a, b + "/drain", c], more=service('drain = ["B"]'))
+    follows("the version and then the service", [a + "/down", b + "/drain", c], 'down = ["A", "B"]', more=service('drain = ["B"]'))
+    follows("the service anew", [c, a], 'down = ["A"]', more=service(f"members = {rows.listed([c, a])}"))
+    text = written_as(FIRST_VERSION + version(2, "base = 1", 'down = ["A"]') + version(3, "base = 2", 'up = ["A"]', 'drain = ["B"]'), steps=STEPS)
+    means_as("up again", text, [ALL, [a + "/down", b, c], [a, b + "/drain", c]])
+    text = written_as(FIRST_VERSION + version(2, "base = 1", 'down = ["A"]') + version(3, "base = 1", 'down = ["B"]'), steps=STEPS)
+    means_as("two of one base", text, [ALL, [a + "/down", b, c], [a, b + "/down", c]])
+    text = written_as(FIRST_VERSION.replace("number = 1", "number = 7") + version(3, "base = 7", 'remove = ["C"]'), steps=["live 0", "install * 3", "take *"])
+    expected = model.Run(text, capture("yzx"))
+    simulates("a base of a greater number", text, capture("yzx"), expected.listing() + expected.report(), expected.output(), ["--list"])
+
+
+def test_servers():
+    """Members whose addresses stand in one place."""
+    a, b, c = ALL
+    short = version(1) + service('members = ["A", "B*1", "C"]') + version(2, "base = 1", 'drain = ["A"]', 'remove = ["C"]', 'add = ["C*3/down"]')
+    text = written_as(short + version(3) + service('members = ["A/down", "B@10.8.0.9*2", "C*16/drain"]'), SERVERS, STEPS)
+    means_as("names alone", text, [ALL, [a + "/drain", b, c + "*3/down"], [a + "/down", "B@10.8.0.9*2", c + "*16/drain"]])
+    means_as("servers that nobody names", written_as(FIRST_VERSION, SERVERS), [ALL])
+    means_as("no servers", written_as(FIRST_VERSION, "[servers]\n"), [ALL])
+    dotted = version(1) + service('members = ["web.1", "web-2*2"]')
+    text = written_as(dotted, '[servers]\n"web.1" = "10.8.0.1"\nweb-2 = "10.8.0.2"\n')
+    means_as("a name with a dot", text, [["web.1@10.8.0.1", "web-2@10.8.0.2*2"]])
+
+
+def test_two_services():
+    """What a version's own lists change in each of its services, and what a service's lists change in it alone."""
+    udp = '[[versions.services]]\nvip = "192.0.2.1"\nproto = "udp"\nport = 53\n'
+    first = FIRST_VERSION + udp + 'members = ["A@10.8.0.1", "D@10.8.0.4"]\n'
+    for name, lines, tcp, dns in [
+        ("both", ['down = ["A", "D"]'], ["A@10.8.0.1/down", *ALL[1:]], ["A@10.8.0.1/down", "D@10.8.0.4/down"]),
+        ("one", ['drain = ["B"]'], [ALL[0], ALL[1] + "/drain", ALL[2]], ["A@10.8.0.1", "D@10.8.0.4"]),
+        ("each gets one more", ['add = ["E@10.8.0.5"]'], [*ALL, "E@10.8.0.5"], ["A@10.8.0.1", "D@10.8.0.4", "E@10.8.0.5"]),
+        ("the second alone", [udp + 'remove = ["A"]'], ALL, ["D@10.8.0.4"]),
+        ("the second anew", ['down = ["A"]', udp + "members = []"], ["A@10.8.0.1/down", *ALL[1:]], []),
+        ("a third", [udp.replace("53", "54") + 'members = ["F@10.8.0.6"]'], ALL, ["A@10.8.0.1", "D@10.8.0.4"]),
+    ]:
+        text = written_as(first + version(2, "base = 1", *lines))
+        both = FIRST_VERSION.replace(rows.listed(ALL), rows.listed(tcp)).replace("number = 1", "number = 2") + udp + f"members = {rows.listed(dns)}\n"
+        both += udp.replace("53", "54") + 'members = ["F@10.8.0.6"]\n' if name == "a third" else ""
+        written = written_as(first + both)
+        for words in (["plan", "-", "1", "2"], ["plan", "-", "2"]):
+            answers = [rows.run(words, stdin=one.encode()) for one in (text, written)]
+            check(f"{name}: {words[2:]}", answers[0] == answers[1] and answers[0][0] == 0, repr(answers))
+        check(f"{name}, by the model", answers[0][1].decode() == model.planned(text, 2), repr(answers))
+
+
+BAD_DIFFERENCES = [
+    ("base = 2", "BadKey"), ("base = 0", "BadKey"), ("base = 9", "BadKey"), ('base = "1"', "BadKey"), ("base = -1", "BadKey"), ("", "BadKey"),
+    ("base = 1\ndown = 1", "BadKey"), ('base = 1\ndown = "A"', "BadKey"), ("base = 1\ndown = [1]", "BadKey"), ("base = 1\nadd = [[]]", "BadKey"),
+    ("base = 1\nweights = { A = 3 }", "BadKey"), ("base = 1\nmembers = []", "BadKey"), ("base = 1\nvip = 1", "BadKey"), ("base = 1\nservices = 1", "BadKey"),
+    ('down = ["A"]\nservices = []', "BadKey"), ("add = []\nservices = []", "BadKey"),
+    ('base = 1\ndown = ["D"]', "BadMember"), ('base = 1\ndrain = ["a"]', "BadMember"), ('base = 1\nup = ["A "]', "BadMember"), ('base = 1\nremove = ["A@10.8.0.1"]', "BadMember"),
+    ('base = 1\nremove = ["A", "A"]', "BadMember"), ('base = 1\nremove = ["A"]\ndown = ["A"]', "BadMember"), ('base = 1\ndown = [""]', "BadMember"),
+    ('base = 1\nweights = ["A"]', "BadMember"), ('base = 1\nweights = ["A*0"]', "BadMember"), ('base = 1\nweights = ["A*17"]', "BadMember"),
+    ('base = 1\nweights = ["D*2"]', "BadMember"), ('base = 1\nweights = ["A*2/down"]', "BadMember"), ('base = 1\nadd = ["D"]', "BadMember"),
+    ('base = 1\nadd = ["D@10.8.0"]', "BadMember"), ('base = 1\nadd = ["D@10.8.0.4/up"]', "BadMember"), ('base = 1\nadd = ["D@10.8.0.4"]\ndown = ["D"]', "BadMember"),
+    ('base = 1\nadd = ["A@10.8.0.1"]', "DoubleName"), ('base = 1\nadd = ["D@10.8.0.4", "D@10.8.0.5"]', "DoubleName"),
+    ('base = 1\nadd = ["D@10.8.0.4", "E@10.8.0.5", "F@10.8.0.6", "G@10.8.0.7", "H@10.8.0.8"]', "TooMany"),
+]
+
+BAD_SERVICES = [
+    ("", "BadKey"), ('members = []\ndown = []', "BadKey"), ('down = ["D"]', "BadMember"), ('members = ["A"]', "BadMember"), ("base = 1", "BadKey"),
+]
+
+BAD_SERVERS = [
+    ("servers = 1", "BadKey"), ("servers = []", "BadKey"), ('[servers]\nA = 1', "BadKey"), ('[servers]\nA = "10.8.0"', "BadKey"), ('[servers]\n"A b" = "10.8.0.1"', "BadKey"),
+    ('[servers]\n"" = "10.8.0.1"', "BadKey"), (f'[servers]\n{"a" * 33} = "10.8.0.1"', "BadKey"), ('[servers]\nA = "10.8.0.1*2"', "BadKey"), ('[servers]\n_a = "10.8.0.1"', "BadKey"),
+]
+
+
+def test_refused_differences():
+    for lines, fault in BAD_DIFFERENCES:
+        breaks_off(f"the version {lines!r}", written_as(FIRST_VERSION + version(2, lines)), fault)
+    for lines, fault in BAD_SERVICES:
+        breaks_off(f"the service {lines!r}", written_as(FIRST_VERSION + version(2, "base = 1") + service(lines)), fault)
+    other = service('down = ["A"]').replace("80", "81")
+    breaks_off("a service that the base lacks", written_as(FIRST_VERSION + version(2, "base = 1") + other), "BadMember")
+    for lines, fault in BAD_SERVERS:
+        text = three(scenario([], [])).replace("nodes =", f"{lines}\nnodes =") if lines.startswith("servers") else written_as(FIRST_VERSION, lines + "\n")
+        breaks_off(f"servers: {lines!r}", text, fault)
+    for word in ["A", "A*2", "A/down", "A/drain", "A*2/drain"]:
+        breaks_off(f"the member {word} without servers", written_as(version(1) + service(f'members = ["{word}"]')), "BadMember")
+        breaks_off(f"the member {word} of other servers", written_as(version(1) + service(f'members = ["{word}"]'), '[servers]\nB = "10.8.0.1"\n'), "BadMember")
+    for number in (1, 2):
+        for text in [written_as(FIRST_VERSION + version(2, "base = 1")), written_as(FIRST_VERSION, SERVERS), written_as(FIRST_VERSION + version(2, "base = 1", 'down = ["A"]'))]:
+            breaks_off(f"differences and servers in format {number}", text.replace("format = 3", f"format = {number}"), "BadKey")
+        for step in ["until 1", "until 0.5"]:
+            for command in ("simulate", "run"):
+                text = scenario(["install 0 1", step]).replace("format = 1", f"format = {number}")
+                breaks_off(f"the step {step} in format {number}, {command}", text, "BadStep 1", command)
+    breaks_off("a base that stands behind", written_as(version(2, "base = 1") + FIRST_VERSION), "BadKey")
+
+
+NO_STEPS = NO_TIMES + [
     "take * 1", "take **", "take  *", "take*", "take * ", "lose *", "again *", "live *", "live 0 *", "full *", "full * 0", "full 0 *", "hold *",
     "drain *", "install *", "install 0 *", "install * *", "install * 1 2", "install * -1", "install * 01", "install * 4294967296", "restart * 0",
     "restart 0 *", "restart **", "*", "* 1",
@@ -288,7 +514,12 @@ def other_step(source, nodes, workers, newest):
     live = " ".join(map(str, source.sample(range(nodes), source.randrange(1, nodes + 1))))
     kinds = [f"install {one} {newest}", f"install {node} {source.randrange(17)}", f"live {live}", f"again {source.randrange(30)}", "again 0"]
     kinds += [f"restart {node}", f"full {one} {some}".strip(), f"hold {one}", f"drain {one}", f"drain {one}", f"lose {source.randrange(3)}"]
-    return source.choice(kinds)
+    return source.choice(kinds + [until(source)])
+
+
+def until(source):
+    """A step by time."""
+    return f"until {source.randrange(40)}{source.choice(['', '', '.0', '.5', f'.{source.randrange(1_000_000):06}'])}"
 
 
 def random_steps(source, nodes, workers, numbers):
@@ -298,7 +529,7 @@ def random_steps(source, nodes, workers, numbers):
         kind = source.choice(["take"] * 11 + ["install"] * 6 + ["other"] * 3)
         newest = min(newest + (kind == "install"), len(numbers) - 1)
         node = source.choice(["*", "*", source.randrange(nodes)])
-        words = {"take": f"take {source.randrange(1, 7)}", "install": f"install {node} {numbers[newest]}"}
+        words = {"take": until(source) if source.random() < 0.1 else f"take {source.randrange(1, 7)}", "install": f"install {node} {numbers[newest]}"}
         steps.append(words.get(kind) or other_step(source, nodes, workers, numbers[newest]))
     return steps + ["take *"] * (source.random() < 0.5)
 
@@ -313,6 +544,84 @@ def random_scenario(source):
     text += f"workers = {workers}\ncapacity = {source.choice([1, 2, 4, 8, 8, 16])}\n"
     text += f"nodes = {rows.listed([f'10.9.0.{node}' for node in range(nodes)])}\nsteps = {rows.listed(random_steps(source, nodes, workers, numbers))}\n"
     return text + random_versions(source, numbers), limit
+
+
+def listed_changes(members, wanted):
+    """The lists by which a service's members become these, but for their order; those that are empty are left out."""
+    old, new = ({one.name: one for one in some} for some in (members, wanted))
+    moved = [name for name in old if name not in new or old[name].at != new[name].at]
+    stay = [name for name in old if name not in moved]
+    lists = {"remove": moved, "add": [word_of(new[name]) for name in new if name not in stay]}
+    lists |= {state: [name for name in stay if new[name].state == state != old[name].state] for state in ["down", "drain", "up"]}
+    lists["weights"] = [f"{name}*{new[name].weight}" for name in stay if new[name].weight != old[name].weight]
+    return {key: names for key, names in lists.items() if names}
+
+
+def word_of(member):
+    """A member's word, whole."""
+    return f"{member.name}@{member.at}*{member.weight}" + f"/{member.state}" * (member.state != "up")
+
+
+def changes_of(base, wanted):
+    """The lists of a version that change each service of its base alike, as the first service that has the name wants it."""
+    found = {}
+    for place, members in base.items():
+        for state, names in listed_changes(members, wanted[place]).items():
+            for name in names if state in ("down", "drain", "up") else []:
+                found.setdefault(name, state)
+    return {state: [name for name in found if found[name] == state] for state in set(found.values())}
+
+
+def table_of(keys):
+    return ", ".join(f"{key} = {rows.listed(words)}" for key, words in keys.items())
+
+
+def difference(source, number, base, before, wanted):
+    """A version by difference, which is what is wanted but for the order of members."""
+    own = changes_of(before, wanted) if source.random() < 0.5 else {}
+    services = []
+    for place, members in wanted.items():
+        at, _, rest = place.partition(":")
+        port, proto = rest.split("/")
+        if place not in before or source.random() < 0.1:
+            keys = {"members": list(map(word_of, members))}
+        else:
+            keys = listed_changes(model.changed(before[place], own, {}), members)
+        if keys or source.random() < 0.1:
+            services.append(", ".join([f'{{ vip = "{at}", proto = "{proto}", port = {port}', *([table_of(keys)] if keys else [])]) + " }")
+    lines = [f"number = {number}", f"base = {base}", *(f"{key} = {rows.listed(names)}" for key, names in own.items())]
+    if services or source.random() < 0.5:
+        lines.append(f"services = [{', '.join(services)}]")
+    source.shuffle(lines)
+    return "[[versions]]\n" + "".join(line + "\n" for line in lines)
+
+
+def short(source, text):
+    """The same scenario with versions by difference and with servers."""
+    versions = model.versions_of(model.tomllib.loads(text))
+    head, *blocks = re.split(r"(?=\[\[versions\]\])", text)
+    made, earlier = [], []
+    for block, (number, wanted) in zip(blocks, versions.items()):
+        bases = [base for base in earlier if set(versions[base]) <= set(wanted)]
+        if bases and source.random() < 0.8:
+            base = source.choice(bases)
+            block = difference(source, number, base, versions[base], wanted)
+        made.append(block)
+        earlier.append(number)
+    servers = {}
+    for name, at in re.findall(r"([A-E])@(10\.8\.\d+\.\d+)", "".join(made)):
+        servers.setdefault(name, at)
+    for name, at in servers.items():
+        if source.random() < 0.7:
+            made = [block.replace(f"{name}@{at}", name) for block in made]
+    table = "".join(f'{name} = "{at}"\n' for name, at in servers.items())
+    return head + f"[servers]\n{table}" + "".join(made)
+
+
+def members_in_order(text):
+    """The versions of a scenario, without the order of members."""
+    versions = model.versions_of(model.tomllib.loads(text))
+    return {number: {place: sorted(members) for place, members in services.items()} for number, services in versions.items()}
 
 
 def random_packet(source):
@@ -346,6 +655,9 @@ def test_against_the_model():
     for seed in range(FIRST, FIRST + COUNT):
         source, text, data = random_case(seed)
         expected = model.Run(text, data)
+        if seed % 2:
+            written, text = text, short(source, text)
+            check(f"scenario {seed} by differences", members_in_order(text) == members_in_order(written), text)
         lines = expected.splits()
         simulates(f"scenario {seed}", text, data, expected.listing() + lines + expected.report(), expected.output(), ["--list", "--splits"])
         kept += kept_by_drain(expected) > 0
@@ -431,11 +743,11 @@ def ends(expected):
     return found
 
 
-def drains_of(text):
+def drains_of(text, records):
     """Of each server that drains, by name and address, how many packets come before the drain and before its end."""
     found, taken, number = {}, 0, 0
     document = model.tomllib.loads(text)
-    members = {one["number"]: list(map(model.member_of, one["services"][0]["members"])) for one in document["versions"]}
+    members = {number: next(iter(services.values())) for number, services in model.versions_of(document).items()}
     for step in document["steps"]:
         word, *numbers = step.split(" ")
         if word == "install":
@@ -443,7 +755,8 @@ def drains_of(text):
             number = int(numbers[1])
             found |= {one: (*found[one], taken) for one in before}
             found |= {one[:2]: (taken,) for one in members[number] if one.state == "drain"}
-        taken += int(numbers[0]) if word == "take" and numbers != ["*"] else 0
+        if word == "until":
+            taken = sum(secs + micros / 1_000_000 < records[0][0] + records[0][1] / 1_000_000 + int(numbers[0]) for secs, micros, _ in records)
     return found
 
 
@@ -459,17 +772,17 @@ def test_rollout():
     """Three of twenty servers are replaced. No connection breaks that ends while its server drains. Where the servers go down in
     place of draining all of these break that have a packet behind it."""
     text, data, drained = rows.example("draining", "draining")
-    without = text.replace("/drain", "/down")
+    without = text.replace("drain =", "down =")
     downed = model.Run(without, data)
     broken = 0
-    for server, (start, end) in drains_of(text).items():
+    for server, (start, end) in drains_of(text, drained.records).items():
         on_it = {flow for _, place, flow, backend, _ in drained.sends() if backend == server and place < start}
         ending = {flow for flow in on_it if start <= ends(drained)[flow][1] < end}
         check(f"{server}: connections end while it drains", len(ending) > 1, repr(ending))
         check(f"{server}: they stay together", not ending & sent_apart(drained))
         check(f"{server}: without the drain they break", ending <= sent_apart(downed))
         broken += len(ending)
-    check("three servers drain", len(drains_of(text)) == 3, repr(drains_of(text)))
+    check("three servers drain", len(drains_of(text, drained.records)) == 3)
     check("what outlasts a drain", drained.splits().splitlines()[-4:] == ["split 3", "down 0", "moved 0", "drained 3"], drained.splits())
     check("what goes down", downed.splits().splitlines()[-3:] == ["split 16", "down 16", "moved 0"] and broken == 13, downed.splits())
     for name, one, expected in [("with a drain", text, drained), ("without a drain", without, downed)]:
@@ -480,7 +793,7 @@ def test_rollout():
 def test_pages():
     """The pages show the example's steps and what is printed of it, with a drain and without one."""
     text, data, drained = rows.example("draining", "draining")
-    runs = [drained, model.Run(text.replace("/drain", "/down"), data)]
+    runs = [drained, model.Run(text.replace("drain =", "down ="), data)]
     counted = ["".join(line for line in run.splits().splitlines(True) if not line.startswith("split tcp")) for run in runs]
     for name, expected in [("README.md", counted), ("docs/USING.md", counted[:1])]:
         page = (rows.TOP / name).read_text()

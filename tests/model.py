@@ -5,6 +5,7 @@ are lists, and a capture is read whole. It reads only scenarios and captures tha
 """
 import collections
 import copy
+import fractions
 import hashlib
 import struct
 import tomllib
@@ -14,6 +15,9 @@ CAUSES = [
     "NotIpv4", "Truncated", "BadHeader", "BadChecksum", "Fragment", "NotTcpUdp", "BadTransport", "TooLarge", "NoService",
     "NoBackend", "NoVersion", "RingsFull", "LostAtRestart",
 ]
+
+
+WORDS = {6: "tcp", 17: "udp"}
 
 
 def fnv(data):
@@ -53,12 +57,44 @@ def filled(weights, size, plain):
 Member = collections.namedtuple("Member", "name at weight state")
 
 
-def member_of(word):
-    """The member of a member word."""
+def member_of(word, servers=None):
+    """The member of a member word. One without an address is the server of its name."""
     word, _, state = word.partition("/")
     word, _, weight = word.partition("*")
-    name, at = word.split("@")
-    return Member(name, at, int(weight or 1), state or "up")
+    name, _, at = word.partition("@")
+    return Member(name, at or servers[name], int(weight or 1), state or "up")
+
+
+def changed(members, changes, servers):
+    """The members of a service that a version by difference, or one of its services, changes."""
+    listed = {key: changes.get(key, []) for key in ["remove", "down", "drain", "up", "weights", "add"]}
+    members = [member for member in members if member.name not in listed["remove"]]
+    for state in ["down", "drain", "up"]:
+        members = [member._replace(state=state) if member.name in listed[state] else member for member in members]
+    weights = dict(word.split("*") for word in listed["weights"])
+    members = [member._replace(weight=int(weights.get(member.name, member.weight))) for member in members]
+    return members + [member_of(word, servers) for word in listed["add"]]
+
+
+def place_of(service):
+    """What a service is for, as `plan` prints it."""
+    return f"{service['vip']}:{service['port']}/{service['proto']}"
+
+
+def versions_of(document):
+    """The versions of a scenario by number, written out: of each the members of its services in order, by what a service is for."""
+    servers, versions = document.get("servers", {}), {}
+    for version in document["versions"]:
+        base = versions.get(version.get("base"), {})
+        services = {place: changed(members, version, servers) for place, members in base.items()}
+        for service in version.get("services", []):
+            place = place_of(service)
+            if "members" in service:
+                services[place] = [member_of(word, servers) for word in service["members"]]
+            else:
+                services[place] = changed(services[place], service, servers)
+        versions[version["number"]] = services
+    return versions
 
 
 def address(text):
@@ -157,7 +193,7 @@ class Run:
         self.scenario = tomllib.loads(scenario)
         self.plain = HASHES[self.scenario["hash"]]
         self.link, self.records, self.cut = read_capture(capture)
-        self.versions = {version["number"]: version for version in self.scenario["versions"]}
+        self.versions = versions_of(self.scenario)
         count = len(self.scenario["nodes"])
         self.workers = self.scenario["workers"]
         self.forwarders = [[FRESH] * self.workers for _ in range(count)]
@@ -174,16 +210,18 @@ class Run:
         for step in self.scenario["steps"]:
             word, *numbers = step.split(" ")
             for own in self.spelled_out(word, numbers):
-                getattr(self, "step_" + word)(*map(int, own))
+                getattr(self, "step_" + word)(*own)
         self.left = len(self.records) - self.read
 
     def spelled_out(self, word, numbers):
         """The numbers of each step that a step stands for: a `*` is as many records as there are, or each node in order."""
+        if word == "until":
+            return [map(fractions.Fraction, numbers)]
         if "*" not in numbers:
-            return [numbers]
+            return [map(int, numbers)]
         if word == "take":
             return [[len(self.records)]]
-        return [[node, *numbers[1:]] for node in range(len(self.scenario["nodes"]))]
+        return [[node, *map(int, numbers[1:])] for node in range(len(self.scenario["nodes"]))]
 
     def say(self, event, outcome, sent=None):
         self.events.append((event, outcome, sent))
@@ -202,6 +240,16 @@ class Run:
         for _ in range(min(count, len(self.records) - self.read)):
             self.read += 1
             self.deliver(self.read - 1)
+
+    def time(self, place):
+        """When a record came, in microseconds."""
+        secs, micros, _ = self.records[place]
+        return secs * 1_000_000 + micros
+
+    def step_until(self, end):
+        """Takes records up to the first that came so many seconds, or more, after the first of all."""
+        while self.read < len(self.records) and max(self.time(self.read) - self.time(0), 0) < end * 1_000_000:
+            self.step_take(1)
 
     def step_lose(self, count):
         count = min(count, len(self.records) - self.read)
@@ -275,11 +323,8 @@ class Run:
 
     def members(self, number, flow):
         """The members of a flow's service in a version, or None where it has no such service."""
-        for service in self.versions[number]["services"]:
-            key = address(service["vip"]), {"tcp": 6, "udp": 17}[service["proto"]], service["port"]
-            if key == (flow[4:8], flow[12], int.from_bytes(flow[10:12], "big")):
-                return [member_of(word) for word in service["members"]]
-        return None
+        place = f"{dotted(flow[4:8])}:{int.from_bytes(flow[10:12], 'big')}/{WORDS[flow[12]]}"
+        return self.versions[number].get(place)
 
     def service(self, number, flow):
         """The up members of a flow's service, as (name, address, weight), in ascending order; None where there is no service."""
@@ -307,8 +352,7 @@ class Run:
     def answered(self, forwarder, place, flow, number):
         """What a worker does with a record's packet under a version: what it knows then, and the entry by which the packet is
         sent, or the cause of its drop."""
-        secs, micros, _ = self.records[place]
-        forwarder = forwarder._replace(clock=max(forwarder.clock, secs * 1_000_000 + micros))
+        forwarder = forwarder._replace(clock=max(forwarder.clock, self.time(place)))
         ups = self.service(number, flow)
         if ups is None:
             return forwarder, "NoService"
@@ -388,8 +432,8 @@ class Run:
 
     def drains(self):
         """Whether some member of some version drains."""
-        services = [service for version in self.versions.values() for service in version["services"]]
-        return any(member_of(word).state == "drain" for service in services for word in service["members"])
+        services = [members for services in self.versions.values() for members in services.values()]
+        return any(member.state == "drain" for members in services for member in members)
 
     def splits(self):
         """A line for each two sends of one flow, with none of that flow between them, to different backends, and their counts."""
@@ -401,7 +445,7 @@ class Run:
                 continue
             place1, _, (_, _, _, backend1, origin1) = before[-1]
             causes.append(self.cause(flow, backend1, origin1, int(event.split(" ")[3])))
-            name = {6: "tcp", 17: "udp"}[flow[12]]
+            name = WORDS[flow[12]]
             ports = int.from_bytes(flow[8:10], "big"), int.from_bytes(flow[10:12], "big")
             who = f"{name} {dotted(flow[:4])}:{ports[0]}>{dotted(flow[4:8])}:{ports[1]}"
             halves = f"version {origin1} {'@'.join(backend1)} version {origin2} {'@'.join(backend2)}"
@@ -421,7 +465,9 @@ class Run:
         if backend1 == backend2:
             return "same\n"
         halves = f"version {origin1} {'@'.join(backend1)} version {origin2} {'@'.join(backend2)}"
-        return f"split slot {self.slot(flow)} {halves}\n"
+        later = int(self.events[other][0].split(" ")[3])
+        drained = self.cause(flow, backend1, origin1, later) == "drained"
+        return f"split slot {self.slot(flow)} {halves}{' drained' if drained else ''}\n"
 
 
 def named_slots(document, members):
@@ -438,17 +484,11 @@ def named_slots(document, members):
     return [by_name[owner[slot]] for slot in range(size)]
 
 
-def services_of(document, number):
-    """The members of a version's services, by the text of the service, in order."""
-    version = next(version for version in document["versions"] if version["number"] == number)
-    return {f"{one['vip']}:{one['port']}/{one['proto']}": [member_of(word) for word in one["members"]] for one in version["services"]}
-
-
 def planned(scenario, number):
     """What `plan` prints of one version."""
     document = tomllib.loads(scenario)
     lines = []
-    for service, members in services_of(document, number).items():
+    for service, members in versions_of(document)[number].items():
         named = named_slots(document, members)
         lines += [f"service {service}", f"slots {len(named)}"]
         for name, at, weight, state in sorted(members):
@@ -460,7 +500,8 @@ def planned(scenario, number):
 def plan(scenario, first, second):
     """What `plan` prints of two versions."""
     document = tomllib.loads(scenario)
-    before, after = services_of(document, first), services_of(document, second)
+    versions = versions_of(document)
+    before, after = versions[first], versions[second]
     lines = []
     for service in [*after, *(service for service in before if service not in after)]:
         old, new = before.get(service, []), after.get(service, [])
@@ -512,8 +553,7 @@ def sketched(data):
     counts = collections.Counter(places)
     first = {place: at for at, place in reversed(list(enumerate(places)))}
     busy = sorted((place for place in counts if counts[place] > 5), key=lambda place: (-counts[place], first[place]))
-    words = {6: "tcp", 17: "udp"}
-    services = [(dotted(vip), words[proto], int.from_bytes(port, "big")) for vip, proto, port in busy[:256]]
+    services = [(dotted(vip), WORDS[proto], int.from_bytes(port, "big")) for vip, proto, port in busy[:256]]
     text = SKETCH.format(all=len(counts), busy=len(busy), records=len(records))
     for place, (vip, proto, port) in zip(busy, services):
         text += SKETCHED_SERVICE.format(packets=counts[place], vip=vip, proto=proto, port=port)

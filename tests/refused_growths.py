@@ -10,6 +10,7 @@ The last line is 'N passed, N failed', which counts runs.
 import dataclasses
 import os
 import pathlib
+import re
 import subprocess
 import sys
 import tempfile
@@ -60,6 +61,11 @@ SPLIT = {"s.toml": APART, "in.pcap": CAPTURE + CAPTURE[24:]}
 FLOW = "split tcp 10.0.0.1:1000>192.0.2.1:80 events {} slot 6 version 1 A@10.8.0.1 version 2 B@10.8.0.2 down\nflows 1\nsplit 1\ndown 1\nmoved 0\n"
 TWO = REPORT.replace(" 1\n", " 2\n")
 LOST = (1, b"", b"fault: ThreadLost\n")
+# The same in format 3, of one node: servers, a version by difference, and a step by time, which ends before the second packet.
+THREES = SCENARIO.replace(b"format = 1", b"format = 3").replace(b'"install 0 1", "take 1"', b'"live 0", "install * 1", "until 1", "install * 2", "take *"')
+THREES = re.sub(rb"([ABC])@10.8.0.\d", rb"\1", THREES).replace(b"[[", b'[servers]\nA = "10.8.0.1"\nB = "10.8.0.2"\nC = "10.8.0.3"\n[[', 1)
+THREES += b'[[versions]]\nnumber = 2\nbase = 1\ndown = ["A"]\n'
+LATER = {"s.toml": THREES, "in.pcap": CAPTURE + CAPTURE[24:27] + b"\x03" + CAPTURE[28:]}
 # What changes between these versions: B A B C C A A is the table of all three, B B B C C C B that of B and C.
 SHOWN = "service 192.0.2.1:80/tcp\nslots 7\nA@10.8.0.1 weight 1 slots 3\nB@10.8.0.2 weight 1 slots 2\nC@10.8.0.3 weight 1 slots 2\n"
 CHANGED = "service 192.0.2.1:80/tcp\nslots 7 changed 3 down 3 moved 0 least 3\n"
@@ -115,6 +121,9 @@ CASES = [
     Case(["simulate", "s.toml", "in.pcap", "out.pcap"], REPORT, files=FILES, written={"out.pcap": SENT}),
     Case(["simulate", "--list", "s.toml", "in.pcap", "out.pcap"], EVENTS + REPORT, files=FILES, written={"out.pcap": SENT}),
     Case(["simulate", "--splits", "s.toml", "in.pcap", "out.pcap"], FLOW.format("3 5") + TWO, files=SPLIT),
+    Case(["simulate", "--splits", "s.toml", "in.pcap", "out.pcap"], FLOW.format("3 7") + TWO, files=LATER),
+    Case(["plan", "s.toml", "1", "2"], CHANGED, files=LATER),
+    Case(["run", "s.toml", "in.pcap", "out.pcap"], TWO + "audit agrees\n", files=LATER, faults=[LOST]),
     Case(["explain", "s.toml", "in.pcap", "2", "2"], "same\n", files=FILES),
     Case(["run", "s.toml", "in.pcap", "out.pcap"], AUDITED, files=FILES, written={"out.pcap": SENT}, faults=[LOST]),
     Case(["run", "s.toml", "in.pcap", "out.pcap"], TWO + "audit agrees\n", files=NODES, written={"out.pcap": SENT_BY_TWO}, faults=[LOST]),

@@ -9,6 +9,7 @@ use spreader::TurnSpread;
 use std::alloc::Global;
 use std::process::Abort;
 use thread_records::Command;
+use timed_steps::TimedStep;
 
 // A step, as the rows have it.
 #[derive(Clone, Copy)]
@@ -216,6 +217,17 @@ fn orders_of_steps(rt: HostRuntime) {
     }
 }
 
+// The same steps behind one by time.
+fn timed_steps_of(rt: &impl Abort, alloc: Global, moves: &[Move]) -> Vec<TimedStep> {
+    let mut steps = Vec::new(alloc);
+    steps.push(TimedStep::Until(5)).expect(rt, "memory");
+    for step in moves {
+        let step = step_of(rt, alloc, *step);
+        steps.push(TimedStep::Counted(step)).expect(rt, "memory");
+    }
+    steps
+}
+
 // Workers that refuse, that are held and that are drained can't be ordered; all else can.
 static UNKNOWN: [(&[Move], Option<u32>, &str); 4] = [
     (
@@ -233,14 +245,14 @@ static UNKNOWN: [(&[Move], Option<u32>, &str); 4] = [
     ),
     (
         &[Move::Install(0, 1), Move::Hold(0), Move::Drain(0)],
-        Some(1),
+        Some(2),
         "a hold",
     ),
-    (&[Move::Take(1), Move::Drain(0)], Some(1), "a drain"),
-    (&[Move::Full(0)], Some(0), "a worker that refuses"),
+    (&[Move::Take(1), Move::Drain(0)], Some(2), "a drain"),
+    (&[Move::Full(0)], Some(1), "a worker that refuses"),
 ];
 
-fn has_unknown(rt: &impl Abort, steps: &[ScenarioStep], wanted: Option<u32>, what: &str) {
+fn has_unknown(rt: &impl Abort, steps: &[TimedStep], wanted: Option<u32>, what: &str) {
     assert!(rt; steps.len() < 100);
     assert_eq!(rt; first_unsupported_step(steps), wanted, "{what}");
 }
@@ -248,7 +260,7 @@ fn has_unknown(rt: &impl Abort, steps: &[ScenarioStep], wanted: Option<u32>, wha
 #[test]
 fn unknown_steps(rt: HostRuntime) {
     for (moves, wanted, what) in UNKNOWN.iter() {
-        let steps = steps_of(&rt, rt.alloc(), moves);
+        let steps = timed_steps_of(&rt, rt.alloc(), moves);
         has_unknown(&rt, steps.as_slice(), *wanted, what);
     }
 }

@@ -20,14 +20,14 @@ Steps of a scenario, of balancers N, versions V, workers W and records P:
   hold N         N's workers serve nothing
   drain N        N's workers serve what waits, and go on
   restart N      N's workers begin anew, without what waits
-In format 3 install and restart take * as N, which is each balancer, and take takes it as K, which is all that remain.
+In format 3 install and restart take * as N, which is each balancer, and take takes it as K, which is all that remain. There until T delivers what came less than T seconds after the first record, as in until 90 or until 0.5.
 
 Faults, and what to do:
   OpenScenario, OpenInput      check the path, and who may read the file
   OpenOutput                   check the path; a file that is read can't be OUTPUT
   ReadScenario, Read           check the disk
   BadToml, BadFormat, BadKey   correct the scenario: docs/FORMATS.md has each key
-  BadMember                    write NAME@ADDRESS or NAME@ADDRESS/down; from format 2 on also *W before /down, in format 3 also /drain for /down
+  BadMember                    write NAME@ADDRESS or NAME@ADDRESS/down; from format 2 on also *W before /down, in format 3 also /drain for /down, and NAME alone for one of [servers]
   BadNumber, NumberTaken       give each version a number of its own, from 1
   DoubleService, DoubleName    give each service its address, protocol and port, each member its name
   TooMany                      take fewer members than slots, or fewer services or versions

@@ -4,3 +4,5 @@ pub mod Offered
 pub mod Unmarked
 pub mod Ending
 pub mod Lives
+pub mod Anytime
+pub mod Copied

@@ -1,4 +1,5 @@
 //! What is true of every list of commands.
+ghost use Rattle.driver_commands.specs.Knowing.{KnownAtAnyTime};
 ghost use Rattle.driver_commands.specs.Orders.{KnownStepsAreTold, EndsAreTold};
 
 /// Where [`first_unsupported_step`](crate::first_unsupported_step) finds nothing, the commands leave out the servings
@@ -12,4 +13,10 @@ pub fn known_steps_are_told()
 /// The clause is the law; the body does nothing.
 pub fn ends_are_told()
     ensures { EndsAreTold }
+{}
+
+/// A step is known to a cluster on threads, or it isn't, whenever the records came. The clause is the law; the body does
+/// nothing.
+pub fn known_at_any_time()
+    ensures { KnownAtAnyTime }
 {}

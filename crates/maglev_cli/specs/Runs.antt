@@ -7,7 +7,7 @@ use Rattle.thread_roles.specs.declared.fault.RunFault.TheVariants as threads
 use Rattle.scenario.specs.declared.playing.Played.TheVariants.{OnThreads}
 use Rattle.scenario.specs.declared.reading.Scenario.{Scenario}
 use Rattle.scenario.specs.Meaning.{Means}
-use Rattle.driver_commands.specs.Knowing.{first_unsupported_of}
+use Rattle.driver_commands.specs.Knowing.{first_unsupported_in}
 use Rattle.run_scenario.specs.declared.failure.RunFailure.{RunFailure}
 use Rattle.run_scenario.specs.declared.failure.RunFailure.TheVariants.{UnsupportedStep, Simulation, Threads}
 use Rattle.run_scenario.specs.Runs.{Ran, Halted}
@@ -45,7 +45,7 @@ pub record Runs (splits : Bool) (text : List ℕ) (input input' output output' r
 pub record RunFails (fault : CliFault) (text : List ℕ) (input input' output output' : Tape) : Type 0 where
   pub scenario : Scenario
   pub means : Means OnThreads text scenario
-  pub known : first_unsupported_of scenario.steps.items ≡ None
+  pub known : first_unsupported_in scenario.steps.items ≡ None
   pub why : RunFailure
   pub named : fault ≡ failure_fault why
   pub stopped : Halted scenario input input' output output' why

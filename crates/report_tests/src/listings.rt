@@ -6,7 +6,7 @@ use cluster_node::{Cause, Event, LogEntry, Outcome, Reason};
 use event_trace::Tally;
 use five_tuple::Flow;
 use pool_versions::Backend;
-use run_report::{push_line, report_text, verdict_text};
+use run_report::{explained_text, push_line, report_text, verdict_text};
 use std::alloc::{AllocError, Global};
 use std::process::Abort;
 
@@ -357,6 +357,18 @@ fn verdicts(rt: HostRuntime) {
         "other flow\n",
     );
     shows(&rt, verdict_text(rt.alloc(), &Verdict::Same), "same\n");
+}
+
+#[test]
+fn a_drain_is_told_behind_a_split_alone(rt: HostRuntime) {
+    let moved = split(&rt, (1, 3), ("A", 0x0a08_0001), ("C", 0x0a08_0003));
+    let line = "split slot 5 version 1 A@10.8.0.1 version 3 C@10.8.0.3 drained\n";
+    shows(&rt, explained_text(rt.alloc(), &moved, true), line);
+    let line = "split slot 5 version 1 A@10.8.0.1 version 3 C@10.8.0.3\n";
+    shows(&rt, explained_text(rt.alloc(), &moved, false), line);
+    for (verdict, line) in [(Verdict::NotSent, "not sent\n"), (Verdict::Same, "same\n")] {
+        shows(&rt, explained_text(rt.alloc(), &verdict, true), line);
+    }
 }
 
 static CAUSES: [(Cause, &str); 13] = [

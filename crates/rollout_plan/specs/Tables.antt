@@ -7,8 +7,8 @@ use Rattle.pool_versions.specs.declared.backend.Backend.{Backend}
 use Rattle.pool_versions.specs.declared.backend.Member.{Member}
 use Rattle.pool_versions.specs.Pool.{ups, weights}
 use Rattle.selection.specs.Picks.{NamedTable, slots_among}
-use Rattle.scenario.specs.declared.words.SchemeKind.{SchemeKind}
-use Rattle.scenario.specs.declared.words.SchemeKind.TheVariants.{Maglev, Plain, Round}
+use Rattle.scenario_keys.specs.declared.words.SchemeKind.{SchemeKind}
+use Rattle.scenario_keys.specs.declared.words.SchemeKind.TheVariants.{Maglev, Plain, Round}
 use Rattle.scenario.specs.declared.reading.Scenario.{Scenario}
 use Rattle.rollout_plan.specs.declared.slots.TableRule.{TableRule}
 

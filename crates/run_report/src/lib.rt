@@ -24,6 +24,6 @@ pub use laws::{splits_are_all_pairs, splits_are_explained, splits_follow_picks};
 pub use lines::push_line;
 pub use names::CauseText;
 pub use reports::report_text;
-pub use sending::{Sending, Split};
+pub use sending::{Sending, Split, sent_by};
 pub use split_lines::push_splits;
-pub use verdicts::verdict_text;
+pub use verdicts::{explained_text, left_drained, verdict_text};

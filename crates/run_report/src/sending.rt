@@ -35,7 +35,7 @@ fn version_of(event: &Event) -> u32
 }
 
 /// What was sent at the event of a number.
-pub(crate) fn sent_by(number: u64, event: &Event, outcome: &Outcome) -> Option<Sending>
+pub fn sent_by(number: u64, event: &Event, outcome: &Outcome) -> Option<Sending>
     ensures { result ≡ sent_by number event.now outcome.now }
 {
     match *outcome {

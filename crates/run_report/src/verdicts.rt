@@ -1,10 +1,14 @@
 //! Why two packets went where they went.
 ghost use Rattle.std.specs.Prelude.{◌≡◌, IfOk, string_bytes};
-ghost use Rattle.run_report.specs.Verdicts.{verdict_text};
+ghost use Rattle.run_report.specs.Verdicts.{verdict_text, is_split, drained_end, left_drained, explained_text};
+ghost use Rattle.run_report.specs.Causes.{Lookups};
+ghost use Rattle.selection.specs.Candidates.{candidates_of};
 
+use crate::cause::{SplitCause, cause_of};
+use crate::sending::{Sending, Split};
 use cluster_core::Verdict;
 use maglev_texts::BackendText;
-use pool_versions::Backend;
+use pool_versions::{Backend, Catalogue};
 use std::alloc::{AllocError, Global};
 use std::fmt;
 
@@ -60,4 +64,42 @@ pub fn verdict_text(alloc: Global, verdict: &Verdict) -> Result<String, AllocErr
 {
     let verdict = VerdictText(*verdict);
     format!(in alloc; "{verdict}\n")
+}
+
+fn is_split(verdict: &Verdict) -> bool
+    ensures { result ≡ is_split verdict.now }
+{
+    match verdict {
+        Verdict::Split { .. } => true,
+        Verdict::NotSent | Verdict::OtherFlow | Verdict::Same => false,
+    }
+}
+
+/// Whether two packets were sent, and the first one's server had left after it had drained when the later one was served.
+pub fn left_drained(catalogue: &Catalogue, first: Option<Sending>, later: Option<Sending>) -> bool
+    ensures { (lookups : Lookups) → lookups.ups ≡ (λ v x. candidates_of catalogue.now v x) → lookups.versions ≡ catalogue.now.versions →
+        result ≡ left_drained lookups first later }
+{
+    let (Some(first), Some(later)) = (first, later) else {
+        return false;
+    };
+    match cause_of(catalogue, &Split { first, later }) {
+        SplitCause::Drained => true,
+        SplitCause::Down | SplitCause::Moved => false,
+    }
+}
+
+fn drained_end(drained: bool) -> &'static str
+    ensures { result.now ≡ drained_end drained }
+{
+    if drained { " drained" } else { "" }
+}
+
+/// The line that a verdict is. Behind a split it says that the first packet's server left after it had drained, where it did.
+pub fn explained_text(alloc: Global, verdict: &Verdict, drained: bool) -> Result<String, AllocError>
+    ensures { IfOk result (λ s. string_bytes s ≡ explained_text verdict.now drained) }
+{
+    let end = drained_end(is_split(verdict) && drained);
+    let verdict = VerdictText(*verdict);
+    format!(in alloc; "{verdict}{end}\n")
 }

@@ -24,7 +24,7 @@ use Rattle.simulation.specs.Sent.{packets_of}
 use Rattle.simulation.specs.Simulated.{traffic_of}
 use Rattle.simulation.specs.Wires.{traffic}
 use Rattle.spreader.specs.Choices.{Choice}
-use Rattle.run_scenario.specs.Runs.{packets_in, tally_in}
+use Rattle.run_scenario.specs.Runs.{packets_in, tally_in, steps_in}
 use Rattle.run_scenario.specs.Sends.{sent_by_nodes}
 
 pub same_orders : {X E : Type 0} (r : Result X E) (cs : X → List (List Command)) (choice choice' : Choice) (packets : List Packet) (steps steps' : List ScenarioStep) (n n' : ℕ) → choice ≡ choice' → steps ≡ steps' → n ≡ n'
@@ -39,10 +39,10 @@ packets_are s w link records e f =
     ap (λ (l : Link). packets_of l w.check records) e
     ∙ ap (λ b. packets_of link b records) f
 
-pub tally_is : (s : Scenario) (link : Link) (records : List Record) (ps : List Packet) → ps ≡ packets_in s link records → tally_of (length ps) (plan_of (choice_in s) ps s.steps.items (length s.nodes.items)) ≡ tally_in s link records
+pub tally_is : (s : Scenario) (link : Link) (records : List Record) (ps : List Packet) → ps ≡ packets_in s link records → tally_of (length ps) (plan_of (choice_in s) ps (steps_in s records) (length s.nodes.items)) ≡ tally_in s link records
 tally_is s link records ps e =
-    ap (λ (l : List Packet). tally_of (length l) (plan_of (choice_in s) l s.steps.items (length s.nodes.items))) e
-    ∙ ap (λ (n : ℕ). tally_of n (plan_of (choice_in s) (packets_in s link records) s.steps.items (length s.nodes.items))) (length-map records _)
+    ap (λ (l : List Packet). tally_of (length l) (plan_of (choice_in s) l (steps_in s records) (length s.nodes.items))) e
+    ∙ ap (λ (n : ℕ). tally_of n (plan_of (choice_in s) (packets_in s link records) (steps_in s records) (length s.nodes.items))) (length-map records _)
 
 pub same_sends : (s : Scenario) (w : Wire) (link : Link) (records : List Record) (ns ns' : List NodeRecord) → w.nodes.now ≡ s.nodes.items → w.link ≡ link → w.check ≡ s.check → ns ≡ ns'
     → sent_by_nodes (traffic w records) ns ≡ sent_by_nodes (traffic_of (plan_in s) link records) ns'

@@ -22,8 +22,8 @@ use Rattle.thread_records.specs.declared.nodes.NodeRecord.{NodeRecord}
 use Rattle.thread_records.specs.declared.nodes.History.{History}
 use Rattle.thread_records.specs.Runs.{JoinsRuns}
 use Rattle.scenario.specs.declared.reading.Scenario.{Scenario}
-use Rattle.scenario.specs.declared.words.SchemeKind.{SchemeKind}
-use Rattle.scenario.specs.declared.words.SchemeKind.TheVariants.{Maglev}
+use Rattle.scenario_keys.specs.declared.words.SchemeKind.{SchemeKind}
+use Rattle.scenario_keys.specs.declared.words.SchemeKind.TheVariants.{Maglev}
 use Rattle.simulate_scenario.specs.Described.{pick_by, rules_in}
 use Rattle.run_scenario.specs.Runs.{packets_in}
 use Rattle.run_scenario.specs.Kept.{KeepsPromises}

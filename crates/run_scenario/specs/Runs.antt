@@ -1,5 +1,5 @@
 -- The run of a scenario's cluster on threads over a capture that was read whole.
-use Rattle.std.specs.Prelude.{◌≡◌, ◌⊎◌, ℕ, Bool, true, false, List, [], ◌++◌, length, reverse, codes, Some, None}
+use Rattle.std.specs.Prelude.{◌≡◌, ◌⊎◌, ℕ, Bool, true, false, List, [], ◌++◌, length, map, reverse, codes, Some, None}
 use Rattle.std.specs.Io.KnownBytes.{Appends}
 use Rattle.ip_headers.specs.declared.Link.{Link}
 use Rattle.pcap_file.specs.declared.format.Head.{Head}
@@ -13,7 +13,9 @@ use Rattle.run_report.specs.Texts.{splits_text}
 use Rattle.cluster_core.specs.declared.counts.Totals.{Totals}
 use Rattle.event_trace.specs.declared.play.Tally.{Tally}
 use Rattle.event_trace.specs.Tally.{tally_of}
-use Rattle.driver_commands.specs.Knowing.{first_unsupported_of}
+use Rattle.event_trace.specs.declared.steps.ScenarioStep.{ScenarioStep}
+use Rattle.timed_steps.specs.Timed.{counted}
+use Rattle.driver_commands.specs.Knowing.{first_unsupported_in}
 use Rattle.driver_commands.specs.Orders.{orders_of, plan_of}
 use Rattle.thread_records.specs.declared.command.Command.{Command}
 use Rattle.thread_records.specs.declared.nodes.NodeRecord.{NodeRecord}
@@ -25,7 +27,7 @@ use Rattle.simulate_scenario.specs.Answers.{totals_in, is_cut}
 use Rattle.run_report.specs.Report.{report_text}
 use Rattle.simulation.specs.declared.fault.SimulationFault.{SimulationFault}
 use Rattle.simulation.specs.declared.fault.SimulationFault.TheVariants.{Memory}
-use Rattle.simulation.specs.Sent.{packets_of, capture_text}
+use Rattle.simulation.specs.Sent.{time_of, packets_of, capture_text}
 use Rattle.simulation.specs.Simulated.{traffic_of, CaptureUntil, IsOfRun}
 use Rattle.run_scenario.specs.declared.failure.RunFailure.{RunFailure}
 use Rattle.run_scenario.specs.declared.failure.RunFailure.TheVariants.{UnsupportedStep, Simulation, Threads}
@@ -35,12 +37,16 @@ use Rattle.run_scenario.specs.Sends.{sent_by_nodes}
 abbrev pub packets_in : Scenario → Link → List Record → List Packet
 packets_in s link records = packets_of link s.check records
 
+-- the steps by count that the scenario's steps are over the records
+abbrev pub steps_in : Scenario → List Record → List ScenarioStep
+steps_in s records = counted (map time_of records) s.steps.items
+
 -- what the scenario's steps, with the choices of its spreader, tell each node, and what they mean for the records
 abbrev pub commands_in : Scenario → Link → List Record → List (List Command)
-commands_in s link records = orders_of (choice_in s) (packets_in s link records) s.steps.items (length s.nodes.items)
+commands_in s link records = orders_of (choice_in s) (packets_in s link records) (steps_in s records) (length s.nodes.items)
 
 abbrev pub tally_in : Scenario → Link → List Record → Tally
-tally_in s link records = tally_of (length records) (plan_of (choice_in s) (packets_in s link records) s.steps.items (length s.nodes.items))
+tally_in s link records = tally_of (length records) (plan_of (choice_in s) (packets_in s link records) (steps_in s records) (length s.nodes.items))
 
 -- the records and the history of a run in which each node did what the steps tell it
 pub record AreOfRun (s : Scenario) (link : Link) (records : List Record) (nodes : List NodeRecord) (history : History) : Type 0 where
@@ -68,7 +74,7 @@ audited_report tally totals cut agrees = report_text tally totals cut ++ audit_l
 -- node by node and life by life. The text is the report of that run, after what is reported of its splits where it is asked
 -- for.
 pub record Ran (s : Scenario) (splits : Bool) (input input' output output' : Tape) (text : List ℕ) : Type 0 where
-  pub known : first_unsupported_of s.steps.items ≡ None
+  pub known : first_unsupported_in s.steps.items ≡ None
   pub head : Head
   pub records : List Record
   pub ending : InputEnd
@@ -95,7 +101,7 @@ pub record BreaksOff (fault : SimulationFault) (s : Scenario) (input input' outp
 -- The run stopped by this fault. No device is called where a step is one that no cluster on threads knows. A fault of
 -- reading, a fault of the threads, and a refusal of memory before the output was begun leave the output as it was.
 abbrev pub Halted : Scenario → Tape → Tape → Tape → Tape → RunFailure → Type 0
-Halted s input input' output output' (UnsupportedStep place) = (first_unsupported_of s.steps.items ≡ Some place) × (input' ≡ input) × (output' ≡ output)
+Halted s input input' output output' (UnsupportedStep place) = (first_unsupported_in s.steps.items ≡ Some place) × (input' ≡ input) × (output' ≡ output)
 Halted s input input' output output' (Threads fault) = WholeWasRead input input' × (output' ≡ output)
 Halted s input input' output output' (Simulation fault) =
     (ReadingFails fault input input' × (output' ≡ output))

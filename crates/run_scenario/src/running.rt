@@ -1,7 +1,7 @@
 //! A scenario's cluster runs on threads over a capture.
 ghost use Rattle.std.specs.Prelude.{◌≡◌, ◌≤◌, ℕ, length, Some, Err, IfOk, IfErr, string_bytes};
 ghost use Rattle.pcap_file.specs.Format.{max_records};
-ghost use Rattle.driver_commands.specs.Knowing.{first_unsupported_of};
+ghost use Rattle.driver_commands.specs.Knowing.{first_unsupported_in};
 ghost use Rattle.scenario.specs.Meaning.{HasLimits};
 ghost use Rattle.run_scenario.specs.Runs.{Ran, Halted};
 ghost use Rattle.run_scenario.specs.Kept.{KeepsPromises};
@@ -63,7 +63,7 @@ fn run_over<R: Threads + Wait + Sync>(
 {
     let wire = wire_of(scenario, captured.head.link);
     let packets = packets_of(alloc, &wire, &captured.records)?;
-    let orders = orders_of(alloc, scenario, packets.as_slice())?;
+    let orders = orders_of(alloc, scenario, &captured.records, packets.as_slice())?;
     let task = Task {
         key,
         scenario,
@@ -120,7 +120,7 @@ pub fn run_scenario<R: Threads + Wait + Sync, I: Source, O: Sink>(
     requires size { scenario.now.catalogue.size ≡ scenario.now.size }
     ensures ok { IfOk result (λ s. Ran scenario.now splits (I.tape input.old) (I.tape input.new) (O.tape output.old) (O.tape output.new) (string_bytes s)) }
     ensures kept { IfOk result (λ s. (ran : Ran scenario.now splits (I.tape input.old) (I.tape input.new) (O.tape output.old) (O.tape output.new) (string_bytes s)) → KeepsPromises scenario.now ran.head.link ran.records ran.history) }
-    ensures unknown { (place : ℕ) → first_unsupported_of scenario.now.steps.items ≡ Some place → result ≡ Err (RunFailure.UnsupportedStep place) }
+    ensures unknown { (place : ℕ) → first_unsupported_in scenario.now.steps.items ≡ Some place → result ≡ Err (RunFailure.UnsupportedStep place) }
     ensures stopped { IfErr result (Halted scenario.now (I.tape input.old) (I.tape input.new) (O.tape output.old) (O.tape output.new)) }
 {
     let _slots = scenario.size.slots();

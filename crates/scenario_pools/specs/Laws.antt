@@ -26,9 +26,11 @@ version_words v = record { number = v.number; services = map service_words v.ser
 
 -- the versions that drafts mean are those that the drafts written out mean
 abbrev pub DifferencesAreWrittenOut : Type 0
-DifferencesAreWrittenOut = (ds : List PlainVersionDraft) (vs : List (PlainVersion Member)) → versions_of ds ≡ Ok vs → versions_of (map (λ v. whole_version (version_words v)) vs) ≡ Ok vs
+DifferencesAreWrittenOut = (ds : List PlainVersionDraft) (vs : List (PlainVersion Member)) → versions_of ds ≡ Ok vs
+    → versions_of (map (λ v. whole_version (version_words v)) vs) ≡ Ok vs
 
 -- the versions that a document means in format 1 or 2 it means in each later format too
 abbrev pub VersionsMeanTheSame : Type 0
 VersionsMeanTheSame = (f g : Format) → (f ≡ Three → ⊥) → ((since : Format) → has f since ≡ true → has g since ≡ true)
-    → (ms : Members) (ds : List PlainVersionDraft) (vs : List (PlainVersion Member)) → versions_in f ms ≡ Some ds → versions_of ds ≡ Ok vs → versions_in g ms ≡ Some ds
+    → (ms : Members) (ds : List PlainVersionDraft) (vs : List (PlainVersion Member))
+    → versions_in f ms ≡ Some ds → versions_of ds ≡ Ok vs → versions_in g ms ≡ Some ds

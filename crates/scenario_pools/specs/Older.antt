@@ -52,4 +52,5 @@ old_versions_in f ms = option_and_then (all_items (old_version_in f)) (items_at 
 
 -- in formats 1 and 2, which have no servers, a document's drafts are the versions that it states
 abbrev pub OlderFormatsStateVersions : Type 0
-OlderFormatsStateVersions = (f : Format) (ms : Members) → (f ≡ Three → ⊥) → get_member (codes "servers") ms ≡ None → versions_in f ms ≡ option_map (map whole_version) (old_versions_in f ms)
+OlderFormatsStateVersions = (f : Format) (ms : Members) → (f ≡ Three → ⊥) → get_member (codes "servers") ms ≡ None
+    → versions_in f ms ≡ option_map (map whole_version) (old_versions_in f ms)

@@ -46,7 +46,8 @@ with_changed d (s ∷ ss) = if same_key (draft_key d) (plain_key s)
     else option_map (λ rest. s ∷ rest) (with_changed d ss)
 
 -- services with a draft, which has these words or is of changes
-abbrev pub with_words : List PlainServiceDraft → PlainServiceDraft → List (PlainService Member) → Option (List (Option Member)) → Option (List (PlainService Member))
+abbrev pub with_words : List PlainServiceDraft → PlainServiceDraft → List (PlainService Member) → Option (List (Option Member))
+    → Option (List (PlainService Member))
 with_words before d ss None = with_changed d ss
 with_words before d ss (Some words) = option_map (with_stated before ss) (stated_with d words)
 
@@ -119,7 +120,8 @@ abbrev pub written_out : ℕ → List (PlainVersion Member) → PlainVersionDraf
 written_out room earlier d = beside room earlier d d.base
 
 -- all versions, where those of some drafts come behind others, or the fault of the first draft that has one
-abbrev pub after_version : Result (PlainVersion Member) PoolsFault → (PlainVersion Member → Result (List (PlainVersion Member)) PoolsFault) → Result (List (PlainVersion Member)) PoolsFault
+abbrev pub after_version : Result (PlainVersion Member) PoolsFault → (PlainVersion Member → Result (List (PlainVersion Member)) PoolsFault)
+    → Result (List (PlainVersion Member)) PoolsFault
 after_version (Ok v) rest = rest v
 after_version (Err e) rest = Err e
 

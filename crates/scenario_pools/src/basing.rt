@@ -111,7 +111,8 @@ fn add_stated(
     before: &[ServiceDraft],
     service: Service,
 ) -> Result<(), AllocError>
-    ensures { IfOk result (λ _. map plain_service services.new.items ≡ with_stated (map plain_service_draft before.now) (map plain_service services.old.items) (plain_service service)) }
+    ensures { IfOk result (λ _. map plain_service services.new.items
+        ≡ with_stated (map plain_service_draft before.now) (map plain_service services.old.items) (plain_service service)) }
 {
     if some_is_for(&service.key(), before) {
         match append(services, service) {
@@ -152,7 +153,8 @@ fn change_one(
     services: &mut Vec<Service>,
     draft: &ServiceDraft,
 ) -> Result<bool, AllocError>
-    ensures { IfOk result (λ b. (if b then Some (map plain_service services.new.items) else None) ≡ with_changed (plain_service_draft draft.now) (map plain_service services.old.items)) }
+    ensures { IfOk result (λ b. (if b then Some (map plain_service services.new.items) else None)
+        ≡ with_changed (plain_service_draft draft.now) (map plain_service services.old.items)) }
 {
     let place = place_of(&key_of(draft), services.as_slice());
     if place >= services.len() {
@@ -172,7 +174,8 @@ pub(crate) fn add_draft(
     before: &[ServiceDraft],
     draft: &ServiceDraft,
 ) -> Result<bool, AllocError>
-    ensures { IfOk result (λ b. (if b then Some (map plain_service services.new.items) else None) ≡ with_draft (map plain_service_draft before.now) (plain_service_draft draft.now) (map plain_service services.old.items)) }
+    ensures { IfOk result (λ b. (if b then Some (map plain_service services.new.items) else None)
+        ≡ with_draft (map plain_service_draft before.now) (plain_service_draft draft.now) (map plain_service services.old.items)) }
 {
     let Some(words) = &draft.members else {
         return change_one(alloc, services, draft);
@@ -190,7 +193,8 @@ pub(crate) fn with_drafts(
     mut services: Vec<Service>,
     drafts: &[ServiceDraft],
 ) -> Result<Option<Vec<Service>>, AllocError>
-    ensures { IfOk result (λ o. option_map (λ v. map plain_service v.items) o ≡ with_drafts [] (map plain_service_draft drafts.now) (map plain_service services.items)) }
+    ensures { IfOk result (λ o. option_map (λ v. map plain_service v.items) o
+        ≡ with_drafts [] (map plain_service_draft drafts.now) (map plain_service services.items)) }
 {
     for (place, draft) in drafts.iter().enumerate() {
         if !add_draft(alloc, &mut services, &drafts[..place], draft)? {

@@ -11,14 +11,15 @@ use Rattle.cluster_node.specs.Rules.{Rules}
 use Rattle.cluster_core.specs.Setups.{Fixed}
 use Rattle.cluster_core.specs.Deployed.{Deployed, rules_of}
 use Rattle.cluster_core.specs.Runs.{cluster_by}
-use Rattle.event_trace.specs.declared.steps.ScenarioStep.{ScenarioStep}
+use Rattle.timed_steps.specs.declared.TimedStep.{TimedStep}
 use Rattle.scenario.specs.declared.reading.Scenario.{Scenario}
 use Rattle.pcap_file.specs.Device.{Tape}
 use Rattle.simulation.specs.declared.fault.SimulationFault.{SimulationFault}
 use Rattle.simulation.specs.Plans.{Planned}
 use Rattle.simulation.specs.Simulated.{Stopped}
 use Rattle.simulate_scenario.specs.declared.asking.Query.{Query}
-use Rattle.simulate_scenario.specs.Described.{pick_by, rules_in, cluster_in, choice_by, choice_in, plan_in, lookups_in}
+use Rattle.simulate_scenario.specs.Described.{pick_by, rules_in, cluster_in, choice_in, plan_in, lookups_in}
+use Rattle.named_spread.specs.Choosing.{choice_by}
 use Rattle.simulate_scenario.specs.Answers.{Answers}
 
 abbrev pub fixed_of : {S : Type 0} → S → Scenario → Fixed S AnyHash
@@ -60,5 +61,5 @@ stops {S} pick_of scheme s r plan i i' o o' fault e f g h =
     (subst (λ (q : Deployed S AnyHash). Stopped (cluster_by (rules_of pick_of plain_of q)) (choice_by s.spread (plain_of q.setup.hash)) (plan_in s) i i' o o' fault) f
     (subst (λ (p : Planned). Stopped (cluster_by (rules_of pick_of plain_of r)) (choice_by s.spread (plain_of r.setup.hash)) p i i' o o' fault) g h))
 
-pub planned_as : (s : Scenario) (ns : List ℕ) (steps : List ScenarioStep) → ns ≡ s.nodes.items → steps ≡ s.steps.items → record { nodes = ns; check = s.check; steps = steps } ≡ plan_in s
-planned_as s ns steps e f = ap (λ (l : List ℕ). record { nodes = l; check = s.check; steps = steps }) e ∙ ap (λ (l : List ScenarioStep). record { nodes = s.nodes.items; check = s.check; steps = l }) f
+pub planned_as : (s : Scenario) (ns : List ℕ) (steps : List TimedStep) → ns ≡ s.nodes.items → steps ≡ s.steps.items → record { nodes = ns; check = s.check; steps = steps } ≡ plan_in s
+planned_as s ns steps e f = ap (λ (l : List ℕ). record { nodes = l; check = s.check; steps = steps }) e ∙ ap (λ (l : List TimedStep). record { nodes = s.nodes.items; check = s.check; steps = l }) f

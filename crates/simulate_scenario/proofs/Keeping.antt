@@ -15,8 +15,8 @@ use Rattle.cluster_core.proofs.Promised.{histories_keep, maglev_keeps}
 use Rattle.event_trace.specs.Trace.{Trace}
 use Rattle.scenario.specs.declared.reading.Scenario.{Scenario}
 use Rattle.run_report.proofs.Agreed.{follow_picks, follow_tables}
-use Rattle.scenario.specs.declared.words.SchemeKind.{SchemeKind}
-use Rattle.scenario.specs.declared.words.SchemeKind.TheVariants.{Maglev}
+use Rattle.scenario_keys.specs.declared.words.SchemeKind.{SchemeKind}
+use Rattle.scenario_keys.specs.declared.words.SchemeKind.TheVariants.{Maglev}
 use Rattle.simulation.specs.Plans.{Planned}
 use Rattle.simulation.specs.Simulated.{Simulated}
 use Rattle.simulate_scenario.specs.Described.{pick_by, rules_in, cluster_in}

@@ -13,6 +13,8 @@ use Rattle.run_report.specs.Lines.{line_text, listing}
 use Rattle.run_report.proofs.Walks.{lines_push}
 use Rattle.run_report.specs.declared.book.SplitBook.{SplitBook}
 use Rattle.run_report.specs.Books.{IsBookOf}
+use Rattle.run_report.specs.Splits.{sent_by, sent_at}
+use Rattle.run_report.specs.declared.sending.Sending.{Sending}
 use Rattle.simulate_scenario.specs.declared.notes.Notebook.{Notebook}
 use Rattle.simulate_scenario.specs.declared.asking.Query.{Query}
 use Rattle.simulate_scenario.specs.declared.asking.Query.TheVariants.{Report, Events}
@@ -27,9 +29,9 @@ none_booked : (b : SplitBook) → IsBookOf [] b → (splits : Bool) → BookIf s
 none_booked b h true = h
 none_booked b h false = tt
 
-pub none_noted : (n : Notebook) → CountsAre [] n.counts → n.number ≡ 0 → string_bytes n.lines ≡ [] → IsBookOf [] n.book → n.one ≡ None → n.other ≡ None → (asked : Query) → AreOf asked [] n
-none_noted n c k l b o p (Report wanted) = (c, none_listed n k l wanted.list, none_booked n.book b wanted.splits)
-none_noted n c k l b o p (Events i j) = record { number = k; one_is = o; other_is = p }
+pub none_noted : (n : Notebook) → CountsAre [] n.counts → n.number ≡ 0 → string_bytes n.lines ≡ [] → IsBookOf [] n.book → n.one ≡ None → n.other ≡ None → n.first ≡ None → n.later ≡ None → (asked : Query) → AreOf asked [] n
+none_noted n c k l b o p q r (Report wanted) = (c, none_listed n k l wanted.list, none_booked n.book b wanted.splits)
+none_noted n c k l b o p q r (Events i j) = record { number = k; one_is = o; other_is = p; first_is = q; later_is = r }
 
 -- the lines are the same
 pub lists_same : (list : Bool) (past : List LogEntry) (n m : Notebook) → m.number ≡ n.number → m.lines ≡ n.lines → ListsIf list past n → ListsIf list past m
@@ -78,11 +80,22 @@ kept_more past s number asked was e f = go (number == asked) refl
     go false h =
         f ∙ sym (not_at_end (outcomes_of (reverse past)) s.outcome asked (λ k. true≢false (sym (eq-eqb number asked (e ∙ sym (outcomes_length past) ∙ sym k)) ∙ h))) ∙ ap (λ (l : List Outcome). slice_get l asked) (sym (outcomes_more past s))
 
-pub keeps_more : (one other : ℕ) (past : List LogEntry) (s : LogEntry) (n m : Notebook) → KeepsTwo one other past n → m.number ≡ n.number + 1 → m.one ≡ (if n.number == one then Some s.outcome else n.one) → m.other ≡ (if n.number == other then Some s.outcome else n.other) → KeepsTwo one other (s ∷ past) m
-keeps_more one other past s n m k e f g = record {
+sends_more : (past : List LogEntry) (s : LogEntry) (number asked : ℕ) (was : Option Sending) → number ≡ length past → was ≡ sent_at past asked
+    → (if asked == number then sent_by number s.event s.outcome else was) ≡ sent_at (s ∷ past) asked
+sends_more past s number asked was e f =
+    ap (λ k. if asked == k then sent_by k s.event s.outcome else was) e
+    ∙ ap (λ (w : Option Sending). if asked == length past then sent_by (length past) s.event s.outcome else w) f
+
+pub keeps_more : (one other : ℕ) (past : List LogEntry) (s : LogEntry) (n m : Notebook) → KeepsTwo one other past n → m.number ≡ n.number + 1
+    → m.one ≡ (if n.number == one then Some s.outcome else n.one) → m.other ≡ (if n.number == other then Some s.outcome else n.other)
+    → m.first ≡ (if one == n.number then sent_by n.number s.event s.outcome else n.first) → m.later ≡ (if other == n.number then sent_by n.number s.event s.outcome else n.later)
+    → KeepsTwo one other (s ∷ past) m
+keeps_more one other past s n m k e f g h i = record {
   number = omega (arith, e, k.number);
   one_is = f ∙ kept_more past s n.number one n.one k.number k.one_is;
   other_is = g ∙ kept_more past s n.number other n.other k.number k.other_is;
+  first_is = h ∙ sends_more past s n.number one n.first k.number k.first_is;
+  later_is = i ∙ sends_more past s n.number other n.later k.number k.later_is;
 }
 
 -- the totals of a history, by the counts of its record

@@ -1,5 +1,5 @@
 -- What a run that came to its end is.
-use Rattle.std.proofs.Common.{◌≡◌, ℕ, Bool, List, length, sym, subst, Result}
+use Rattle.std.proofs.Common.{◌≡◌, ℕ, Bool, List, length, map, sym, subst, Result}
 use Rattle.std.specs.Prelude.{IfOk}
 use Rattle.std.specs.declared.alloc.AllocError.{AllocError}
 use Rattle.pcap_file.specs.declared.format.InputEnd.{InputEnd}
@@ -15,12 +15,13 @@ use Rattle.event_trace.specs.declared.play.Tally.{Tally}
 use Rattle.event_trace.proofs.Judging.{run_told}
 use Rattle.run_report.specs.Report.{report_text}
 use Rattle.simulation.specs.Plans.{Planned}
-use Rattle.simulation.specs.Sent.{packets_of}
+use Rattle.timed_steps.specs.Timed.{counted}
+use Rattle.simulation.specs.Sent.{time_of, packets_of}
 use Rattle.simulation.specs.Simulated.{trace_of, Simulated}
 
 trace_told : (cluster : Cluster) (choice : Choice) (plan : Planned) (link : _) (records : List Record) → Judged cluster.judge (trace_of cluster choice plan link records).past
 unfolding trace_of
-trace_told cluster choice plan link records = run_told (world_of cluster choice (packets_of link plan.check records)) plan.steps (start (length plan.nodes)) tt
+trace_told cluster choice plan link records = run_told (world_of cluster choice (packets_of link plan.check records)) (counted (map time_of records) plan.steps) (start (length plan.nodes)) tt
 
 pub judged : (cluster : Cluster) (choice : Choice) (plan : Planned) (i i' o o' : Tape) (c : Trace) (n : ℕ) (e : InputEnd) → Simulated cluster choice plan i i' o o' c n e → Judged cluster.judge c.past
 judged cluster choice plan i i' o o' c n e s = subst (λ (d : Trace). Judged cluster.judge d.past) (sym s.trace_is) (trace_told cluster choice plan s.head.link s.records)

@@ -1,6 +1,5 @@
 -- What is asked of a scenario's run, and the text that answers it.
 use Rattle.std.specs.Prelude.{◌≡◌, ℕ, ◌-◌, Bool, true, false, List, [], ◌++◌, reverse, Option, option_and_then, slice_get}
-use Rattle.five_tuple.specs.declared.Flow.{Flow}
 use Rattle.pcap_file.specs.declared.format.InputEnd.{InputEnd}
 use Rattle.pcap_file.specs.declared.format.InputEnd.TheVariants.{End, Cut}
 use Rattle.pcap_file.specs.Device.{Tape}
@@ -17,7 +16,8 @@ use Rattle.event_trace.specs.Trace.{Trace}
 use Rattle.event_trace.specs.Tally.{tally_of}
 use Rattle.run_report.specs.Lines.{listing}
 use Rattle.run_report.specs.Report.{report_text}
-use Rattle.run_report.specs.Verdicts.{verdict_text}
+use Rattle.run_report.specs.Verdicts.{explained_text, left_drained}
+use Rattle.run_report.specs.Splits.{sent_at}
 use Rattle.simulation.specs.Plans.{Planned}
 use Rattle.simulation.specs.Simulated.{Simulated}
 use Rattle.run_report.specs.Causes.{Lookups}
@@ -66,12 +66,14 @@ abbrev pub send_at : List LogEntry → ℕ → Option Send
 send_at history k = option_and_then (λ s. send_of s.outcome) (slice_get history k)
 
 -- why the packets of two events went where they went
-abbrev pub line_of : (Flow → ℕ) → Trace → ℕ → ℕ → List ℕ
-line_of slot trace one other = verdict_text (explained slot (send_at (reverse trace.past) one) (send_at (reverse trace.past) other))
+abbrev pub line_of : Lookups → Trace → ℕ → ℕ → List ℕ
+line_of lookups trace one other =
+    explained_text (explained lookups.slot (send_at (reverse trace.past) one) (send_at (reverse trace.past) other))
+    (left_drained lookups (sent_at trace.past one) (sent_at trace.past other))
 
 abbrev pub answer_of : Lookups → Query → Trace → ℕ → InputEnd → List ℕ
 answer_of lookups (Report wanted) trace packets ending = report_of lookups wanted trace packets ending
-answer_of lookups (Events one other) trace packets ending = line_of lookups.slot trace one other
+answer_of lookups (Events one other) trace packets ending = line_of lookups trace one other
 
 -- the scenario ran over the whole input, the output got what was sent, and the text answers what was asked
 pub record Answers (cluster : Cluster) (choice : Choice) (plan : Planned) (lookups : Lookups) (asked : Query) (input input' output output' : Tape) (text : List ℕ) : Type 0 where

@@ -5,15 +5,14 @@ use Rattle.pool_versions.specs.Pool.{version_at}
 use Rattle.selection.specs.Candidates.{candidates_of}
 use Rattle.selection.specs.Picks.{pick_at, flow_hash, table_pick}
 use Rattle.forwarder.specs.Serving.{Pick}
-use Rattle.spreader.specs.Choices.{Choice, node_by_hash, node_by_turn}
+use Rattle.spreader.specs.Choices.{Choice}
+use Rattle.named_spread.specs.Choosing.{choice_by}
 use Rattle.cluster_node.specs.Rules.{Rules}
 use Rattle.cluster_core.specs.Cluster.{Cluster}
 use Rattle.cluster_core.specs.Runs.{cluster_by}
 use Rattle.run_report.specs.Causes.{Lookups, lookups_of}
-use Rattle.scenario.specs.declared.words.SchemeKind.{SchemeKind}
-use Rattle.scenario.specs.declared.words.SchemeKind.TheVariants.{Maglev, Plain, Round}
-use Rattle.scenario.specs.declared.words.SpreadKind.{SpreadKind}
-use Rattle.scenario.specs.declared.words.SpreadKind.TheVariants as spreads
+use Rattle.scenario_keys.specs.declared.words.SchemeKind.{SchemeKind}
+use Rattle.scenario_keys.specs.declared.words.SchemeKind.TheVariants.{Maglev, Plain, Round}
 use Rattle.scenario.specs.declared.reading.Scenario.{Scenario}
 use Rattle.pcap_file.specs.Device.{Tape}
 use Rattle.simulation.specs.declared.fault.SimulationFault.{SimulationFault}
@@ -42,10 +41,6 @@ abbrev pub cluster_in : Scenario → Cluster
 cluster_in s = cluster_by (rules_in s)
 
 -- which node a packet goes to
-abbrev pub choice_by : SpreadKind → (List ℕ → ℕ) → Choice
-choice_by spreads.Hash plain = node_by_hash plain
-choice_by spreads.Turn plain = node_by_turn
-
 abbrev pub choice_in : Scenario → Choice
 choice_in s = choice_by s.spread (plain_of s.hash)
 

@@ -8,7 +8,7 @@ use Rattle.event_trace.specs.Trace.{Trace}
 use Rattle.run_report.specs.Splits.{splits_of}
 use Rattle.run_report.specs.Agreeing.{FollowsPicks, FollowsTables}
 use Rattle.scenario.specs.declared.reading.Scenario.{Scenario}
-use Rattle.scenario.specs.declared.words.SchemeKind.TheVariants.{Maglev}
+use Rattle.scenario_keys.specs.declared.words.SchemeKind.TheVariants.{Maglev}
 use Rattle.simulate_scenario.specs.Described.{rules_in}
 
 -- Its history keeps the promises, and for Maglev in terms of the tables' slots. So do its splits. Where the turn doesn't

@@ -6,6 +6,7 @@ use Rattle.event_trace.specs.Counting.{CountsAre}
 use Rattle.run_report.specs.Lines.{listing}
 use Rattle.run_report.specs.declared.book.SplitBook.{SplitBook}
 use Rattle.run_report.specs.Books.{IsBookOf}
+use Rattle.run_report.specs.Splits.{sent_at}
 use Rattle.simulate_scenario.specs.declared.asking.Query.{Query}
 use Rattle.simulate_scenario.specs.declared.asking.Query.TheVariants.{Report, Events}
 use Rattle.simulate_scenario.specs.declared.notes.Notebook.{Notebook}
@@ -25,11 +26,14 @@ abbrev pub BookIf : Bool → List LogEntry → SplitBook → Type 0
 BookIf true past b = IsBookOf past b
 BookIf false past b = Unit {0}
 
--- of a record, which has so many events, the outcomes of two are kept: those of these numbers, the oldest of number 0
+-- Of a record, which has so many events, the outcomes of two are kept: those of these numbers, the oldest of number 0. What
+-- they sent is kept too.
 pub record KeepsTwo (one other : ℕ) (past : List LogEntry) (n : Notebook) : Type 0 where
   pub number : n.number ≡ length past
   pub one_is : n.one ≡ slice_get (outcomes_of (reverse past)) one
   pub other_is : n.other ≡ slice_get (outcomes_of (reverse past)) other
+  pub first_is : n.first ≡ sent_at past one
+  pub later_is : n.later ≡ sent_at past other
 
 -- the notes are those of a record, for what is asked
 abbrev pub AreOf : Query → List LogEntry → Notebook → Type 0

@@ -8,7 +8,7 @@ ghost use Rattle.cluster_core.specs.Explain.{send_of, explained, PickedSend};
 ghost use Rattle.cluster_core.specs.Deployed.{rules_of, cluster_of, IsBalanced};
 ghost use Rattle.event_trace.specs.Counting.{CountsAre};
 ghost use Rattle.simulate_scenario.specs.declared.asking.Query.TheVariants.{Report};
-ghost use Rattle.run_report.specs.Verdicts.{verdict_text};
+ghost use Rattle.run_report.specs.Verdicts.{explained_text, left_drained};
 ghost use Rattle.run_report.specs.Causes.{lookups_of};
 ghost use Rattle.event_trace.specs.Trace.{Trace};
 ghost use Rattle.simulate_scenario.specs.Answers.{is_cut, plain_report, splits_if, report_of, answer_of};
@@ -21,7 +21,7 @@ use cluster_node::Outcome;
 use event_trace::{Counts, Task};
 use hash_laws::FlowHash;
 use pcap_file::InputEnd;
-use run_report::{SplitBook, push_splits, report_text, verdict_text};
+use run_report::{SplitBook, explained_text, left_drained, push_splits, report_text};
 use selection::Scheme;
 use simulation::Played;
 use spreader::Spread;
@@ -118,10 +118,13 @@ fn line<S: Scheme, H: FlowHash>(
 ) -> Result<String, AllocError>
     requires one { S.STEADY ≡ true → IfSome notes.now.one (λ o. PickedSend (rules_of (λ s z. S.pick s z) (λ h. H.plain h) deployment.now) (send_of o)) }
     requires other { S.STEADY ≡ true → IfSome notes.now.other (λ o. PickedSend (rules_of (λ s z. S.pick s z) (λ h. H.plain h) deployment.now) (send_of o)) }
-    ensures { IfOk result (λ s. string_bytes s ≡ verdict_text (explained (λ x. slot_of_flow (H.plain deployment.now.setup.hash) deployment.now.setup.size x) (option_and_then (λ o. send_of o) notes.now.one) (option_and_then (λ o. send_of o) notes.now.other))) }
+    ensures { let lookups = lookups_of (H.plain deployment.now.setup.hash) deployment.now.setup.size deployment.now.catalogue in
+        let one = option_and_then (λ o. send_of o) notes.now.one in let other = option_and_then (λ o. send_of o) notes.now.other in
+        IfOk result (λ s. string_bytes s ≡ explained_text (explained lookups.slot one other) (left_drained lookups notes.now.first notes.now.later)) }
 {
     let verdict = verdict(deployment, notes.one, notes.other);
-    verdict_text(alloc, &verdict)
+    let drained = left_drained(deployment.catalogue(), notes.first, notes.later);
+    explained_text(alloc, &verdict, drained)
 }
 
 /// The text that answers what is asked of a run, of whose events these are the notes.

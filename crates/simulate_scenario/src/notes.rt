@@ -5,16 +5,17 @@ ghost use Rattle.simulate_scenario.specs.declared.asking.Query.{Query};
 ghost use Rattle.cluster_node.specs.declared.events.LogEntry.{LogEntry};
 ghost use Rattle.cluster_node.specs.declared.packets.Packet.{Packet};
 ghost use Rattle.event_trace.specs.Noting.{said_by};
+ghost use Rattle.run_report.specs.Splits.{sent_by};
 
 use crate::asking::Query;
 use cluster_node::{Event, Outcome};
 use connection_table::TableKey;
 use event_trace::{Counts, Notes};
-use run_report::{SplitBook, push_line};
+use run_report::{Sending, SplitBook, push_line, sent_by};
 use std::alloc::{AllocError, Global};
 
-/// For a report the counts, and the lines and the splits where it has them; else the outcomes of two events. How many events
-/// there were is kept where it is needed.
+/// For a report the counts, and the lines and the splits where it has them; else the outcomes of two events, and what they
+/// sent. How many events there were is kept where it is needed.
 #[derive(Drop)]
 pub(crate) struct Notebook {
     pub(crate) counts: Counts,
@@ -23,6 +24,8 @@ pub(crate) struct Notebook {
     pub(crate) number: u64,
     pub(crate) one: Option<Outcome>,
     pub(crate) other: Option<Outcome>,
+    pub(crate) first: Option<Sending>,
+    pub(crate) later: Option<Sending>,
 }
 
 // The number of the next event. Where it has no room it is refused, as memory is.
@@ -42,6 +45,23 @@ fn kept(was: Option<Outcome>, number: u64, asked: u64, outcome: &Outcome) -> Opt
     if number == asked { Some(*outcome) } else { was }
 }
 
+// The same of what was sent.
+fn kept_send(
+    was: Option<Sending>,
+    number: u64,
+    asked: u64,
+    event: &Event,
+    outcome: &Outcome,
+) -> Option<Sending>
+    ensures { result ≡ (if asked == number then sent_by number event.now outcome.now else was) }
+{
+    if asked == number {
+        sent_by(number, event, outcome)
+    } else {
+        was
+    }
+}
+
 impl Notebook {
     ghost use Rattle.simulate_scenario.specs.Notebooks.{Lists, ListsIf, BookIf, KeepsTwo, AreOf};
 
@@ -56,6 +76,8 @@ impl Notebook {
             number: 0,
             one: None,
             other: None,
+            first: None,
+            later: None,
         }
     }
 
@@ -99,10 +121,19 @@ impl Notebook {
         }
     }
 
-    // The outcome of an event, where it is one of the two that are asked for.
-    fn keep(&mut self, one: u64, other: u64, outcome: &Outcome) -> Result<(), AllocError>
-        ensures { (past : List LogEntry) (event : Event) (packet : Option Packet) → KeepsTwo one other past self.old → OnOk result (KeepsTwo one other (said_by event packet outcome.now ∷ past) self.new) }
+    // What an event did, where it is one of the two that are asked for.
+    fn keep(
+        &mut self,
+        one: u64,
+        other: u64,
+        event: &Event,
+        outcome: &Outcome,
+    ) -> Result<(), AllocError>
+        ensures { (past : List LogEntry) (packet : Option Packet) → KeepsTwo one other past self.old →
+            OnOk result (KeepsTwo one other (said_by event.now packet outcome.now ∷ past) self.new) }
     {
+        self.first = kept_send(self.first, self.number, one, event, outcome);
+        self.later = kept_send(self.later, self.number, other, event, outcome);
         self.one = kept(self.one, self.number, one, outcome);
         self.other = kept(self.other, self.number, other, outcome);
         self.number = next(self.number)?;
@@ -125,7 +156,7 @@ impl Notes for Notebook {
                 self.list_if(wanted.list, event, outcome)?;
                 self.book_if(wanted.splits, event, outcome)
             }
-            Query::Events { one, other } => self.keep(one, other, outcome),
+            Query::Events { one, other } => self.keep(one, other, event, outcome),
         }
     }
 }

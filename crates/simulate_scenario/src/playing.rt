@@ -7,7 +7,8 @@ ghost use Rattle.scenario.specs.Meaning.{HasLimits};
 ghost use Rattle.simulation.specs.Plans.{planned};
 ghost use Rattle.simulation.specs.Simulated.{Stopped};
 ghost use Rattle.run_report.specs.Causes.{lookups_of};
-ghost use Rattle.simulate_scenario.specs.Described.{pick_by, choice_by, StoppedIn};
+ghost use Rattle.simulate_scenario.specs.Described.{pick_by, StoppedIn};
+ghost use Rattle.named_spread.specs.Choosing.{choice_by};
 ghost use Rattle.simulate_scenario.specs.Answers.{Answers, AnswersIn};
 ghost use Rattle.simulate_scenario.specs.Kept.{KeepsPromises};
 
@@ -16,13 +17,14 @@ use crate::asking::Query;
 use crate::notes::Notebook;
 use cluster_core::{Deployment, Setup};
 use connection_table::{PlaceTable, TableKey};
-use event_trace::{Balancers, Task, all_live};
+use event_trace::{Balancers, Task};
 use hash_laws::AnyHash;
+use named_spread::spread_of;
 use pcap_file::Source;
 use scenario::{Scenario, SchemeKind, SpreadKind};
 use selection::{Maglev, PlainHash, RoundRobin, Scheme};
 use simulation::{Outlet, Plan, RunContext, SimulationFault, play_capture};
-use spreader::{HashSpread, Spread, TurnSpread};
+use spreader::Spread;
 use std::alloc::Global;
 
 // Plays the steps with this spreader, and answers.
@@ -91,17 +93,9 @@ fn play_over<S: Scheme, I: Source, O: Outlet>(
         IfErr result (Stopped k (choice_by spread (plain_of d.setup.hash)) (planned plan.entry)
         (I.tape input.old) (I.tape input.new) (O.tape output.old) (O.tape output.new)) }
 {
-    let live = all_live(alloc, plan.nodes.len() as u16)?;
-    match spread {
-        SpreadKind::Hash => {
-            let spread = HashSpread::new(task.deployment.setup().hash(), live);
-            play_with(alloc, task, spread, plan, input, output)
-        }
-        SpreadKind::Turn => {
-            let spread = TurnSpread::new(live);
-            play_with(alloc, task, spread, plan, input, output)
-        }
-    }
+    let hash = task.deployment.setup().hash();
+    let spread = spread_of(alloc, spread, hash, plan.nodes.len() as u16)?;
+    play_with(alloc, task, spread, plan, input, output)
 }
 
 // Plays with this scheme.

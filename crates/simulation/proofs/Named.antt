@@ -9,20 +9,21 @@ use Rattle.pcap_file.specs.Format.{Record}
 use Rattle.event_trace.specs.declared.steps.ScenarioStep.{ScenarioStep}
 use Rattle.event_trace.specs.declared.steps.ScenarioStep.TheVariants as steps
 use Rattle.event_trace.specs.PrivateStreams.{again_of}
+use Rattle.timed_steps.specs.declared.TimedStep.{TimedStep}
 use Rattle.simulation.specs.declared.keeping.KeptRecords.{KeptRecords}
-use Rattle.simulation.specs.PrivateKeeping.{names, times_named, kept_at, times_in, to_keep, KeepsNamed}
+use Rattle.simulation.specs.PrivateKeeping.{names_again, names, is_at, times_named, kept_at, times_in, to_keep, KeepsNamed}
 
-times_count : (q : ℕ) (ss : List ScenarioStep) → times_named q ss ≡ count_by (names q) ss
+times_count : (q : ℕ) (ss : List TimedStep) → times_named q ss ≡ count_by (names q) ss
 times_count q ss = is_count_by (times_named q) (names q) refl (λ s rest. ap (λ (n : ℕ). if names q s then n else times_named q rest) (omega arith)) ss
 
-pub times_few : (q : ℕ) (ss : List ScenarioStep) (i : ℕ) → times_named q (take i ss) ≤ i
+pub times_few : (q : ℕ) (ss : List TimedStep) (i : ℕ) → times_named q (take i ss) ≤ i
 times_few q ss i = omega (arith, times_count q (take i ss), count_by-le-length (names q) (take i ss), length-take i ss)
 
 -- the count with one step more
-times_more : (q : ℕ) (ss : List ScenarioStep) (i : ℕ) (s : ScenarioStep) → i < length ss → s ≡ get_or ss i s → names q s ≡ true → times_named q (take (i + 1) ss) ≡ suc (times_named q (take i ss))
+times_more : (q : ℕ) (ss : List TimedStep) (i : ℕ) (s : TimedStep) → i < length ss → s ≡ get_or ss i s → names q s ≡ true → times_named q (take (i + 1) ss) ≡ suc (times_named q (take i ss))
 times_more q ss i s lt e y = omega (arith, times_count q (take (i + 1) ss), times_count q (take i ss), count_by_more_yes (names q) ss i s lt (ap (names q) (sym e) ∙ y))
 
-times_same : (q : ℕ) (ss : List ScenarioStep) (i : ℕ) (s : ScenarioStep) → i < length ss → s ≡ get_or ss i s → names q s ≡ false → times_named q (take (i + 1) ss) ≡ times_named q (take i ss)
+times_same : (q : ℕ) (ss : List TimedStep) (i : ℕ) (s : TimedStep) → i < length ss → s ≡ get_or ss i s → names q s ≡ false → times_named q (take (i + 1) ss) ≡ times_named q (take i ss)
 times_same q ss i s lt e n = times_count q (take (i + 1) ss) ∙ count_by_more_no (names q) ss i s lt (ap (names q) (sym e) ∙ n) ∙ sym (times_count q (take i ss))
 
 pub times_kept : (n : ℕ) (r : Option Record) → times_in (to_keep n r) ≡ n
@@ -34,7 +35,7 @@ some_kept zero r bad = absurd (bad refl)
 some_kept (suc n) r bad = refl
 
 -- a step that names a place was counted
-pub counted_again : (ss : List ScenarioStep) (i : ℕ) (s : ScenarioStep) (place times : ℕ) (old new : KeptRecords) → i < length ss → s ≡ get_or ss i s → s ≡ again_of place
+pub counted_again : (ss : List TimedStep) (i : ℕ) (s : TimedStep) (place times : ℕ) (old new : KeptRecords) → i < length ss → s ≡ get_or ss i s → ((q : ℕ) → names q s ≡ is_at q (Some place))
     → ((q : ℕ) → kept_at old q ≡ to_keep (times_named q (take i ss)) None) → times ≡ times_in (kept_at old place) + 1
     → ((q : ℕ) → kept_at new q ≡ (if q == place then Some (times, None) else kept_at old q)) → (q : ℕ) → kept_at new q ≡ to_keep (times_named q (take (i + 1) ss)) None
 counted_again ss i s place times old new lt e a h t n q = go (cases_eq q place)
@@ -43,14 +44,14 @@ counted_again ss i s place times old new lt e a h t n q = go (cases_eq q place)
     go (inl f) =
         let before : times_in (kept_at old q) ≡ times_named q (take i ss) = ap times_in (h q) ∙ times_kept (times_named q (take i ss)) None in
         let count : times ≡ suc (times_named q (take i ss)) = omega (arith, t, before, ap (λ (p : ℕ). times_in (kept_at old p)) f) in
-        let more : times_named q (take (i + 1) ss) ≡ suc (times_named q (take i ss)) = times_more q ss i s lt e (ap (names q) a ∙ eq-eqb q place f) in
+        let more : times_named q (take (i + 1) ss) ≡ suc (times_named q (take i ss)) = times_more q ss i s lt e (a q ∙ eq-eqb q place f) in
         n q ∙ cond-true (q == place) (Some (times, None)) (kept_at old q) (eq-eqb q place f) ∙ ap (λ (m : ℕ). Some (m, None)) count ∙ sym (ap (λ (m : ℕ). to_keep m None) more)
     go (inr f) =
         n q ∙ cond-false (q == place) (Some (times, None)) (kept_at old q) (ne_eqb q place f) ∙ h q
-        ∙ ap (λ (m : ℕ). to_keep m None) (sym (times_same q ss i s lt e (ap (names q) a ∙ ne_eqb q place f)))
+        ∙ ap (λ (m : ℕ). to_keep m None) (sym (times_same q ss i s lt e (a q ∙ ne_eqb q place f)))
 
 -- a step that delivers nothing again names no place
-pub names_none : (place : ℕ) (s : ScenarioStep) → ((k : ℕ) → s ≡ again_of k → ⊥) → names place s ≡ false
+pub names_none : (place : ℕ) (s : ScenarioStep) → ((k : ℕ) → s ≡ again_of k → ⊥) → names_again place s ≡ false
 names_none place (steps.Install n v) bad = refl
 names_none place (steps.Live ns) bad = refl
 names_none place (steps.Take k) bad = refl
@@ -63,7 +64,7 @@ names_none place (steps.Restart n) bad = refl
 names_none place (steps.Stop n) bad = refl
 
 -- another step was
-pub counted_other : (ss : List ScenarioStep) (i : ℕ) (s : ScenarioStep) (k : KeptRecords) → i < length ss → s ≡ get_or ss i s → ((q : ℕ) → names q s ≡ false)
+pub counted_other : (ss : List TimedStep) (i : ℕ) (s : TimedStep) (k : KeptRecords) → i < length ss → s ≡ get_or ss i s → ((q : ℕ) → names q s ≡ false)
     → ((q : ℕ) → kept_at k q ≡ to_keep (times_named q (take i ss)) None) → (q : ℕ) → kept_at k q ≡ to_keep (times_named q (take (i + 1) ss)) None
 counted_other ss i s k lt e n h q = h q ∙ ap (λ (m : ℕ). to_keep m None) (sym (times_same q ss i s lt e (n q)))
 
@@ -78,7 +79,7 @@ apart_place (y ∷ seen) x zero bad = refl
 apart_place (y ∷ seen) x (suc q) bad = apart_place seen x q (λ e. bad (ap suc e))
 
 -- the next record was read, and a step that is left names it
-pub noted_some : (seen : List Record) (ss : List ScenarioStep) (x : Record) (old new : KeptRecords) (place times : ℕ) → place ≡ length seen → times ≡ times_in (kept_at old place) → (times ≡ 0 → ⊥)
+pub noted_some : (seen : List Record) (ss : List TimedStep) (x : Record) (old new : KeptRecords) (place times : ℕ) → place ≡ length seen → times ≡ times_in (kept_at old place) → (times ≡ 0 → ⊥)
     → ((q : ℕ) → kept_at new q ≡ (if q == place then Some (times, Some x) else kept_at old q)) → KeepsNamed seen ss old → KeepsNamed (seen ++ x ∷ []) ss new
 noted_some seen ss x old new place times e t bad n h q = go (cases_eq q place)
   where
@@ -90,3 +91,7 @@ noted_some seen ss x old new place times e t bad n h q = go (cases_eq q place)
     go (inr f) =
         n q ∙ cond-false (q == place) (Some (times, Some x)) (kept_at old q) (ne_eqb q place f) ∙ h q
         ∙ ap (to_keep (times_named q ss)) (sym (apart_place seen x q (λ g. f (g ∙ sym e))))
+
+pub not_some : (o : Option ℕ) → ((n : ℕ) → o ≡ Some n → ⊥) → o ≡ None
+not_some None bad = refl
+not_some (Some n) bad = absurd (bad n refl)

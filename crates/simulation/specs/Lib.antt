@@ -2,6 +2,7 @@ pub mod Sent
 pub mod Intake
 pub mod PrivateKeeping
 pub mod Plans
+pub mod PrivateSteps
 pub mod Wires
 pub mod Simulated
 pub mod PrivateGoing

@@ -1,19 +1,21 @@
 -- A run over a capture on its way.
-use Rattle.std.specs.Prelude.{◌≡◌, List, [], ◌∷◌, reverse}
+use Rattle.std.specs.Prelude.{◌≡◌, List, [], ◌∷◌, map, drop, reverse}
 use Rattle.ip_headers.specs.declared.Link.{Link}
 use Rattle.pcap_file.specs.declared.format.Head.{Head}
 use Rattle.pcap_file.specs.Device.{Tape}
 use Rattle.pcap_file.specs.Format.{Record}
 use Rattle.spreader.specs.Choices.{Choice}
 use Rattle.event_trace.specs.declared.steps.ScenarioStep.{ScenarioStep}
+use Rattle.timed_steps.specs.declared.TimedStep.{TimedStep}
+use Rattle.timed_steps.specs.Timed.{counted_from}
 use Rattle.cluster_node.specs.declared.events.LogEntry.{LogEntry}
 use Rattle.cluster_core.specs.Cluster.{Cluster}
 use Rattle.event_trace.specs.Trace.{Trace}
 use Rattle.event_trace.specs.Steps.{world_of, run}
 use Rattle.simulation.specs.Plans.{Planned}
 use Rattle.simulation.specs.declared.fault.SimulationFault.{SimulationFault}
-use Rattle.simulation.specs.Intake.{StopsAt}
-use Rattle.simulation.specs.Sent.{packets_of, sent, Wrote, WroteUntil}
+use Rattle.simulation.specs.Intake.{StopsAt, first_time}
+use Rattle.simulation.specs.Sent.{time_of, packets_of, sent, Wrote, WroteUntil}
 use Rattle.simulation.specs.Simulated.{trace_of, traffic_of, sendings}
 
 -- a record with these events after it, the oldest of them first
@@ -21,9 +23,13 @@ abbrev pub onto : List LogEntry → List LogEntry → List LogEntry
 onto past [] = past
 onto past (s ∷ ss) = onto (s ∷ past) ss
 
+-- the steps by count that steps are from here, where all the records are these
+abbrev pub counted_here : List Record → List TimedStep → Trace → List ScenarioStep
+counted_here all ss trace = counted_from (first_time all) (drop trace.read (map time_of all)) ss
+
 -- to run the steps that are left from here is to run the plan
-abbrev pub Left : Cluster → Choice → Planned → Link → List Record → List ScenarioStep → Trace → Type 0
-Left cluster choice plan link all ss trace = run (world_of cluster choice (packets_of link plan.check all)) ss trace ≡ trace_of cluster choice plan link all
+abbrev pub Left : Cluster → Choice → Planned → Link → List Record → List TimedStep → Trace → Type 0
+Left cluster choice plan link all ss trace = run (world_of cluster choice (packets_of link plan.check all)) (counted_here all ss trace) trace ≡ trace_of cluster choice plan link all
 
 -- after the header the output got what was sent so far
 abbrev pub SentSoFar : Planned → Link → List Record → Trace → Tape → Tape → Type 0

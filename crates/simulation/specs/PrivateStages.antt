@@ -1,5 +1,5 @@
 -- A run record by record, between two of its moves.
-use Rattle.std.specs.Prelude.{◌≡◌, ◌≤◌, ℕ, ◌*◌, Bool, true, false, List, [], ◌∷◌, ◌++◌, length, reverse, is_some, Result, OnOk, IfErr}
+use Rattle.std.specs.Prelude.{◌≡◌, ◌≤◌, ℕ, ◌*◌, Bool, true, false, List, ◌∷◌, ◌++◌, length, reverse, Result, OnOk, IfErr}
 use Rattle.ip_headers.specs.declared.Link.{Link}
 use Rattle.pcap_file.specs.declared.format.Head.{Head}
 use Rattle.pcap_file.specs.declared.format.InputEnd.{InputEnd}
@@ -7,17 +7,17 @@ use Rattle.pcap_file.specs.Device.{Tape, Unfailed}
 use Rattle.pcap_file.specs.Format.{Record}
 use Rattle.pcap_file.specs.Text.{IsTold}
 use Rattle.spreader.specs.Choices.{Choice}
-use Rattle.event_trace.specs.declared.steps.ScenarioStep.{ScenarioStep}
+use Rattle.timed_steps.specs.declared.TimedStep.{TimedStep}
 use Rattle.cluster_node.specs.Records.{Judged}
 use Rattle.cluster_core.specs.Cluster.{Cluster, Orderly}
 use Rattle.event_trace.specs.Trace.{Trace}
 use Rattle.event_trace.specs.Steps.{World}
-use Rattle.event_trace.specs.PrivateStreams.{take_of, lose_of}
 use Rattle.waiting_frames.specs.Mirrors.{Mirrors}
 use Rattle.simulation.specs.Plans.{Planned}
+use Rattle.simulation.specs.PrivateSteps.{take_of, lose_of, until_of}
 use Rattle.simulation.specs.Sent.{sent, Wrote, WroteUntil}
 use Rattle.simulation.specs.Simulated.{trace_of, traffic_of, sendings}
-use Rattle.simulation.specs.Intake.{Seen}
+use Rattle.simulation.specs.Intake.{CanCome, Seen}
 use Rattle.simulation.specs.PrivateKeeping.{KeepsNamed}
 use Rattle.simulation.specs.PrivateGoing.{Left, SentSoFar}
 use Rattle.simulation.specs.declared.fault.SimulationFault.{SimulationFault}
@@ -53,28 +53,38 @@ CutIn result cluster plan move old out out' = (w : World) (all : List Record) (b
     → IfErr result (λ fault. SentUntil fault plan old.intake.head.link all (move w old.play.trace) begun out')
 
 -- where all the records are these: what is left to be done leads to the trace of the whole plan
-pub record Going {P : Type 0} (cluster : Cluster) (choice : Choice) (plan : Planned) (link : Link) (all : List Record) (ss : List ScenarioStep) (stage : Stage P) (begun out : Tape) : Type 0 where
+pub record Going {P : Type 0} (cluster : Cluster) (choice : Choice) (plan : Planned) (link : Link) (all : List Record) (ss : List TimedStep) (stage : Stage P) (begun out : Tape) : Type 0 where
   pub left : Left cluster choice plan link all ss stage.play.trace
   pub sound : Sound cluster plan link all stage.play.trace stage.relay.waiting begun out
 
--- With these steps left: some records were read, and just those of them are kept that a step left names. Whatever comes
--- after them, the run is going.
-pub record Reached {P : Type 0} (cluster : Cluster) (choice : Choice) (plan : Planned) (text begun : Tape) (ss : List ScenarioStep) (stage : Stage P) (left out : Tape) : Type 0 where
+-- With these steps left: some records were handed out, and just those of them are kept that a step left names. Whatever can
+-- come after them, the run is going.
+pub record Reached {P : Type 0} (cluster : Cluster) (choice : Choice) (plan : Planned) (text begun : Tape) (ss : List TimedStep) (stage : Stage P) (left out : Tape) : Type 0 where
   pub seen : List Record
   pub read : Seen text seen left stage.intake
   pub place : stage.play.trace.read ≡ length seen
   pub kept : KeepsNamed seen ss stage.kept
-  pub going : (more : List Record) → (is_some stage.intake.ended ≡ true → more ≡ []) → Going cluster choice plan stage.intake.head.link (seen ++ more) ss stage begun out
+  pub going : (more : List Record) → CanCome stage.intake more → Going cluster choice plan stage.intake.head.link (seen ++ more) ss stage begun out
 
 -- a record was taken, so that one fewer is to be taken; or the input has ended, so that none is
-abbrev pub still_to_take : Bool → ℕ → List ScenarioStep → List ScenarioStep
+abbrev pub still_to_take : Bool → ℕ → List TimedStep → List TimedStep
 still_to_take true k ss = take_of k ∷ ss
 still_to_take false k ss = ss
 
 -- the same of records that are lost
-abbrev pub still_to_lose : Bool → ℕ → List ScenarioStep → List ScenarioStep
+abbrev pub still_to_lose : Bool → ℕ → List TimedStep → List TimedStep
 still_to_lose true k ss = lose_of k ∷ ss
 still_to_lose false k ss = ss
+
+-- a step by time whose next record comes early enough is one record and itself; else it is over
+abbrev pub one_of_until : Bool → ℕ → List TimedStep → List TimedStep
+one_of_until true end ss = take_of 1 ∷ until_of end ∷ ss
+one_of_until false end ss = ss
+
+-- and what is left of it after that record
+abbrev pub still_until : Bool → ℕ → List TimedStep → List TimedStep
+still_until true end ss = until_of end ∷ ss
+still_until false end ss = ss
 
 -- The steps are done and the input was read to its end. The records after the header are these, the trace is the plan's
 -- over them, and the output got all that it sends.

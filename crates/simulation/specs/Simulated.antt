@@ -1,5 +1,5 @@
 -- What the run of a scenario over a capture results in.
-use Rattle.std.specs.Prelude.{◌≡◌, ◌⊎◌, ℕ, List, length, drop, reverse, Option, Some, None, Ok, Err}
+use Rattle.std.specs.Prelude.{◌≡◌, ◌⊎◌, ℕ, List, length, map, drop, reverse, Option, Some, None, Ok, Err}
 use Rattle.std.specs.Io.KnownBytes.{Appends}
 use Rattle.ip_headers.specs.declared.Link.{Link}
 use Rattle.pcap_file.specs.declared.format.Head.{Head}
@@ -12,21 +12,22 @@ use Rattle.spreader.specs.Choices.{Choice}
 use Rattle.cluster_core.specs.Cluster.{Cluster}
 use Rattle.event_trace.specs.Trace.{Trace}
 use Rattle.event_trace.specs.Steps.{world_of, run, start}
+use Rattle.timed_steps.specs.Timed.{counted}
 use Rattle.simulation.specs.declared.fault.SimulationFault.{SimulationFault}
 use Rattle.simulation.specs.declared.fault.SimulationFault.TheVariants.{Capture, Write, Memory}
 use Rattle.simulation.specs.Plans.{Planned}
 use Rattle.simulation.specs.Intake.{StopsAt}
-use Rattle.simulation.specs.Sent.{Traffic, Sending, packets_of, sent, capture_text, WroteUntil}
+use Rattle.simulation.specs.Sent.{Traffic, Sending, time_of, packets_of, sent, capture_text, WroteUntil}
 
 -- an input that is known has this header, these records and this ending
 abbrev pub InputIs : Option (List ℕ) → Head → List Record → InputEnd → Type 0
 InputIs None head records ending = Unit {0}
 InputIs (Some text) head records ending = (head_answer text ≡ Ok head) × Reads head 0 (drop 24 text) records (ending_of ending)
 
--- the trace of the plan's steps over these records
+-- the trace over these records of the steps by count that the plan's are by the records' times
 unfoldable pub trace_of : Cluster → Choice → Planned → Link → List Record → Trace
 trace_of cluster choice plan link records =
-    run (world_of cluster choice (packets_of link plan.check records)) plan.steps (start (length plan.nodes))
+    run (world_of cluster choice (packets_of link plan.check records)) (counted (map time_of records) plan.steps) (start (length plan.nodes))
 
 abbrev pub traffic_of : Planned → Link → List Record → Traffic
 traffic_of plan link records = record { nodes = plan.nodes; link = link; check = plan.check; records = records }

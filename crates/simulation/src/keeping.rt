@@ -1,15 +1,16 @@
 //! Records that are kept since a step that is left delivers them again.
 ghost use Rattle.std.specs.Prelude.{◌≡◌, ◌==◌, ◌++◌, ◌∷◌, [], ℕ, List, Some, None, IfOk, OnOk, if◌then◌else◌, option_map, length, slice_get};
 ghost use Rattle.pcap_file.specs.Format.{Record, packet};
-ghost use Rattle.event_trace.specs.declared.steps.ScenarioStep.{ScenarioStep};
-ghost use Rattle.event_trace.specs.PrivateStreams.{again_of};
-ghost use Rattle.simulation.specs.PrivateKeeping.{kept_of, kept_at, times_in, KeepsNamed};
+ghost use Rattle.timed_steps.specs.declared.TimedStep.{TimedStep};
+ghost use Rattle.simulation.specs.PrivateSteps.{again_of};
+ghost use Rattle.simulation.specs.PrivateKeeping.{names_again, names, is_at, kept_of, kept_at, times_in, KeepsNamed};
 
 use event_trace::ScenarioStep;
 use pcap_file::Frame;
 use std::alloc::{AllocError, Global};
 use std::collections::BTreeMap;
 use std::rc::Rc;
+use timed_steps::TimedStep;
 
 /// How many steps that are left deliver a record again, and the record, once it was read. Its bytes are shared by all that
 /// have it.
@@ -23,6 +24,26 @@ pub(crate) struct Later {
 #[derive(Drop)]
 pub(crate) struct KeptRecords {
     places: BTreeMap<u32, Later>,
+}
+
+// The place of the record that a step by count delivers again.
+fn again_at(step: &ScenarioStep) -> Option<u32>
+    ensures { (place : ℕ) → names_again place step.now ≡ is_at place result }
+{
+    match step {
+        ScenarioStep::Again(place) => Some(*place),
+        _ => None,
+    }
+}
+
+// The place of the record that a step delivers again.
+fn named(step: &TimedStep) -> Option<u32>
+    ensures { (place : ℕ) → names place step.now ≡ is_at place result }
+{
+    match step {
+        TimedStep::Counted(step) => again_at(step),
+        TimedStep::Until(_) => None,
+    }
 }
 
 // A record once more, to be shared.
@@ -77,16 +98,16 @@ impl KeptRecords {
     }
 
     // No record was read, and all steps are left.
-    pub(crate) fn of_steps(alloc: Global, steps: &[ScenarioStep]) -> Result<KeptRecords, AllocError>
+    pub(crate) fn of_steps(alloc: Global, steps: &[TimedStep]) -> Result<KeptRecords, AllocError>
         ensures { IfOk result (KeepsNamed [] steps.now) }
     {
         let mut kept = KeptRecords {
             places: BTreeMap::new(alloc),
         };
         for step in steps {
-            if let ScenarioStep::Again(place) = step {
-                let times = kept.times(*place) + 1;
-                kept.set(*place, Later { times, frame: None })?;
+            if let Some(place) = named(step) {
+                let times = kept.times(place) + 1;
+                kept.set(place, Later { times, frame: None })?;
             }
         }
         Ok(kept)
@@ -100,7 +121,7 @@ impl KeptRecords {
         place: u32,
         frame: &Frame,
     ) -> Result<(), AllocError>
-        ensures { (seen : List Record) (ss : List ScenarioStep) → place ≡ length seen → KeepsNamed seen ss self.old →
+        ensures { (seen : List Record) (ss : List TimedStep) → place ≡ length seen → KeepsNamed seen ss self.old →
             OnOk result (KeepsNamed (seen ++ packet frame.now ∷ []) ss self.new) }
     {
         let times = self.times(place);
@@ -113,9 +134,9 @@ impl KeptRecords {
 
     // A step that names a place is done: the record, if it was read. With the last of these steps it is let go.
     pub(crate) fn take(&mut self, place: u32) -> Result<Option<Rc<Frame>>, AllocError>
-        ensures record { (seen : List Record) (ss : List ScenarioStep) → KeepsNamed seen (again_of place ∷ ss) self.old →
+        ensures record { (seen : List Record) (ss : List TimedStep) → KeepsNamed seen (again_of place ∷ ss) self.old →
             IfOk result (λ o. option_map (λ f. packet f.value) o ≡ slice_get seen place) }
-        ensures keeps { (seen : List Record) (ss : List ScenarioStep) → KeepsNamed seen (again_of place ∷ ss) self.old →
+        ensures keeps { (seen : List Record) (ss : List TimedStep) → KeepsNamed seen (again_of place ∷ ss) self.old →
             OnOk result (KeepsNamed seen ss self.new) }
     {
         let Some(Later { times, frame }) = self.let_go(place) else {

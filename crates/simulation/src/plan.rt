@@ -1,6 +1,6 @@
-use event_trace::ScenarioStep;
 use std::alloc::Global;
 use std::fmt;
+use timed_steps::TimedStep;
 
 /// What a run takes of a scenario.
 #[derive(Clone, Copy, Debug)]
@@ -10,7 +10,7 @@ pub struct Plan<'a> {
     /// Whether the IPv4 headers' checksums are tested.
     pub check: bool,
     /// The steps, in order.
-    pub steps: &'a [ScenarioStep],
+    pub steps: &'a [TimedStep],
 }
 
 /// What is fixed for a run over a capture.

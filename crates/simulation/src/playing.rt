@@ -34,7 +34,8 @@ impl<P: Spread> fmt::Debug for Played<P> {
 
 /// Runs a scenario's steps over a capture, record by record. What the cluster sends goes to the outlet, whose capture
 /// is begun once the input's header was accepted. Of the records only those are kept that a later step delivers again, and
-/// those of packets that wait. Whatever goes wrong but a write, the output is cut between records.
+/// those of packets that wait. A step by time keeps the record that it looked at for the step behind. Whatever goes wrong
+/// but a write, the output is cut between records.
 pub fn play_capture<C: Core, P: Spread, I: Source, O: Outlet>(
     run: &RunContext<'_, C::Setup>,
     core: &mut C,

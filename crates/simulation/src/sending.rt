@@ -25,7 +25,7 @@ pub struct Wire<'a> {
 
 // A record's time in microseconds.
 #[inline(always)]
-fn time_of(lent: LentRecord<'_>) -> u64
+pub(crate) fn time_of(lent: LentRecord<'_>) -> u64
     ensures { result ≡ time_of (lent_record lent.entry) }
 {
     let secs = lent.secs as u64;

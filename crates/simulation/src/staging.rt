@@ -1,21 +1,21 @@
 //! A run record by record.
-ghost use Rattle.std.specs.Prelude.{◌≡◌, ◌≢◌, ◌<◌, ◌≤◌, ◌+◌, ◌^◌, ◌∷◌, ◌++◌, [], ℕ, List, Some, true, false, length, slice_get, IfOk, IfErr, OnOk};
+ghost use Rattle.std.specs.Prelude.{is_some, None, ◌≡◌, ◌≢◌, ◌<◌, ◌≤◌, ◌+◌, ◌^◌, ◌∷◌, ◌++◌, [], ℕ, List, Some, true, false, length, slice_get, IfOk, IfErr, OnOk};
 ghost use Rattle.pcap_file.specs.Device.{Tape};
 ghost use Rattle.pcap_file.specs.Format.{Record, packet, max_records};
-ghost use Rattle.event_trace.specs.declared.steps.ScenarioStep.{ScenarioStep};
+ghost use Rattle.timed_steps.specs.declared.TimedStep.{TimedStep};
 ghost use Rattle.event_trace.specs.Steps.{World, SameChoice, deliver, serve, serve_times, drain_from, after, names_records, says_many, start, below};
-ghost use Rattle.event_trace.specs.PrivateStreams.{take_of, lose_of, again_of};
 ghost use Rattle.event_trace.specs.Room.{Counted};
 ghost use Rattle.event_trace.specs.Going.{Goes, GoesBy, GoesWhere};
 ghost use Rattle.simulation.specs.Plans.{Planned, planned};
+ghost use Rattle.simulation.specs.PrivateSteps.{by_count, take_of, lose_of, again_of, until_of};
 ghost use Rattle.spreader.specs.Choices.{Choice};
 ghost use Rattle.cluster_core.specs.Cluster.{Cluster, Orderly};
 ghost use Rattle.simulation.specs.Sent.{packet_in};
 ghost use Rattle.simulation.specs.Simulated.{IsOfRun};
 ghost use Rattle.simulation.specs.PrivateGoing.{Shortened};
-ghost use Rattle.simulation.specs.Intake.{Seen, SeenMore, StandsStill, ReadStops};
+ghost use Rattle.simulation.specs.Intake.{IsNext, Seen, SeenMore, StandsStill, ReadStops};
 ghost use Rattle.simulation.specs.PrivateKeeping.{KeepsNamed};
-ghost use Rattle.simulation.specs.PrivateStages.{SoundAt, StaysSound, SentUntil, CutIn, Reached, IsOver, still_to_take, still_to_lose};
+ghost use Rattle.simulation.specs.PrivateStages.{SoundAt, StaysSound, SentUntil, CutIn, Reached, IsOver, still_to_take, still_to_lose, one_of_until, still_until};
 
 use crate::fault::SimulationFault;
 use crate::intake::Intake;
@@ -30,6 +30,7 @@ use event_trace::{Core, Delivery, Play, ScenarioStep};
 use pcap_file::{Head, Source};
 use spreader::Spread;
 use std::alloc::{AllocError, Global};
+use timed_steps::TimedStep;
 
 /// The trace so far, and what one delivery reports. Beside these: the frames that wait, the records that come again, and
 /// those that are read.
@@ -262,7 +263,9 @@ impl<P: Spread> Stage<P> {
         ensures same { let old = self.old.intake in let new = self.new.intake in
             IfOk result (λ more. more ≡ true → (new.ended ≡ old.ended) × (new.given ≡ old.given + 1)) }
         ensures none { IfOk result (λ more. more ≡ false → (self.new.intake.given ≡ self.old.intake.given) × (self.new.kept ≡ self.old.kept)) }
-        ensures keeps { (seen : List Record) (ss : List ScenarioStep) → self.old.intake.given ≡ length seen → KeepsNamed seen ss self.old.kept →
+        ensures clear { IfOk result (λ more. more ≡ false → self.old.intake.ahead ≡ None) }
+        ensures is_next { IfOk result (λ more. more ≡ true → IsNext self.old.intake.ahead self.new.intake.record_read) }
+        ensures keeps { (seen : List Record) (ss : List TimedStep) → self.old.intake.given ≡ length seen → KeepsNamed seen ss self.old.kept →
             IfOk result (λ more. more ≡ true → KeepsNamed (seen ++ self.new.intake.record_read ∷ []) ss self.new.kept) }
         ensures few { self.new.intake.given ≤ max_records }
         ensures unwritten { IfErr result (λ fault. fault ≢ SimulationFault.Write) }
@@ -293,12 +296,15 @@ impl<P: Spread> Stage<P> {
         ensures spread { self.new.play.spread ≡ self.old.play.spread }
         ensures few { (n : ℕ) → Counted self.old.intake.given n self.old.play.trace → OnOk result (Counted self.new.intake.given n self.new.play.trace) }
         ensures head { self.new.intake.head ≡ self.old.intake.head }
+        ensures clear { IfOk result (λ more. more ≡ false → self.old.intake.ahead ≡ None) }
+        ensures grows { let old = self.old.intake in let new = self.new.intake in
+            IfOk result (λ more. more ≡ true → (new.given ≡ old.given + 1) × (new.given ≤ max_records)) }
         ensures reached { let cluster = C.cluster run.now.setup.now in let plan = planned run.now.plan in
-            (choice : Choice) (text begun : Tape) (ss : List ScenarioStep) (k : ℕ) → SameChoice choice (P.choice self.old.play.spread) →
+            (choice : Choice) (text begun : Tape) (ss : List TimedStep) (k : ℕ) → SameChoice choice (P.choice self.old.play.spread) →
             Reached cluster choice plan text begun (take_of (k + 1) ∷ ss) self.old (I.tape input.old) (O.tape output.old) →
             IfOk result (λ more. Reached cluster choice plan text begun (still_to_take more k ss) self.new (I.tape input.new) (O.tape output.new)) }
         ensures short { let cluster = C.cluster run.now.setup.now in let plan = planned run.now.plan in
-            (choice : Choice) (text begun : Tape) (ss : List ScenarioStep) (k : ℕ) → SameChoice choice (P.choice self.old.play.spread) →
+            (choice : Choice) (text begun : Tape) (ss : List TimedStep) (k : ℕ) → SameChoice choice (P.choice self.old.play.spread) →
             Reached cluster choice plan text begun (take_of (k + 1) ∷ ss) self.old (I.tape input.old) (O.tape output.old) →
             IfErr result (λ fault. Shortened cluster choice plan self.old.intake.head text (I.tape input.new) begun (O.tape output.new) fault) }
     {
@@ -327,11 +333,11 @@ impl<P: Spread> Stage<P> {
         ensures few { (n : ℕ) → Counted self.old.intake.given n self.old.play.trace → OnOk result (Counted self.new.intake.given n self.new.play.trace) }
         ensures head { self.new.intake.head ≡ self.old.intake.head }
         ensures reached { let cluster = C.cluster run.now.setup.now in let plan = planned run.now.plan in
-            (choice : Choice) (text begun : Tape) (ss : List ScenarioStep) → SameChoice choice (P.choice self.old.play.spread) →
+            (choice : Choice) (text begun : Tape) (ss : List TimedStep) → SameChoice choice (P.choice self.old.play.spread) →
             Reached cluster choice plan text begun (take_of count ∷ ss) self.old (I.tape input.old) (O.tape output.old) →
             OnOk result (Reached cluster choice plan text begun ss self.new (I.tape input.new) (O.tape output.new)) }
         ensures short { let cluster = C.cluster run.now.setup.now in let plan = planned run.now.plan in
-            (choice : Choice) (text begun : Tape) (ss : List ScenarioStep) → SameChoice choice (P.choice self.old.play.spread) →
+            (choice : Choice) (text begun : Tape) (ss : List TimedStep) → SameChoice choice (P.choice self.old.play.spread) →
             Reached cluster choice plan text begun (take_of count ∷ ss) self.old (I.tape input.old) (O.tape output.old) →
             IfErr result (λ fault. Shortened cluster choice plan self.old.intake.head text (I.tape input.new) begun (O.tape output.new) fault) }
     {
@@ -344,6 +350,88 @@ impl<P: Spread> Stage<P> {
         Ok(())
     }
 
+    // Reads the next record ahead. Says whether there is one that came less than so long after the first.
+    fn comes_early<I: Source>(
+        &mut self,
+        micros: u64,
+        input: &mut I,
+    ) -> Result<bool, SimulationFault>
+        ensures play { self.new.play ≡ self.old.play }
+        ensures given { self.new.intake.given ≡ self.old.intake.given }
+        ensures head { self.new.intake.head ≡ self.old.intake.head }
+        ensures ahead { IfOk result (λ early. early ≡ true → is_some self.new.intake.ahead ≡ true) }
+        ensures reached { (cluster : Cluster) (choice : Choice) (plan : Planned) (text begun out : Tape) (ss : List TimedStep) →
+            Reached cluster choice plan text begun (until_of micros ∷ ss) self.old (I.tape input.old) out →
+            IfOk result (λ early. Reached cluster choice plan text begun (one_of_until early micros ss) self.new (I.tape input.new) out) }
+        ensures short { (cluster : Cluster) (choice : Choice) (plan : Planned) (text begun out : Tape) (ss : List TimedStep) →
+            Reached cluster choice plan text begun ss self.old (I.tape input.old) out →
+            IfErr result (λ fault. Shortened cluster choice plan self.old.intake.head text (I.tape input.new) begun out fault) }
+    {
+        self.intake.look(input)?;
+        Ok(self.intake.is_early(micros))
+    }
+
+    // Takes the next record if it came less than so long after the first. Says whether it did.
+    fn take_early<C: Core, I: Source, O: Outlet>(
+        &mut self,
+        run: &RunContext<'_, C::Setup>,
+        core: &mut C,
+        micros: u64,
+        input: &mut I,
+        output: &mut O,
+    ) -> Result<bool, SimulationFault>
+        requires stands { C.stands run.now.setup.now self.old.play.trace.past core.old }
+        requires few { (n : ℕ) × (n < 2 ^ 32) × Counted self.old.intake.given n self.old.play.trace }
+        ensures stands { OnOk result (C.stands run.now.setup.now self.new.play.trace.past core.new) }
+        ensures spread { self.new.play.spread ≡ self.old.play.spread }
+        ensures few { (n : ℕ) → Counted self.old.intake.given n self.old.play.trace → OnOk result (Counted self.new.intake.given n self.new.play.trace) }
+        ensures head { self.new.intake.head ≡ self.old.intake.head }
+        ensures grows { let old = self.old.intake in let new = self.new.intake in
+            IfOk result (λ more. more ≡ true → (new.given ≡ old.given + 1) × (new.given ≤ max_records)) }
+        ensures reached { let cluster = C.cluster run.now.setup.now in let plan = planned run.now.plan in
+            (choice : Choice) (text begun : Tape) (ss : List TimedStep) → SameChoice choice (P.choice self.old.play.spread) →
+            Reached cluster choice plan text begun (until_of micros ∷ ss) self.old (I.tape input.old) (O.tape output.old) →
+            IfOk result (λ more. Reached cluster choice plan text begun (still_until more micros ss) self.new (I.tape input.new) (O.tape output.new)) }
+        ensures short { let cluster = C.cluster run.now.setup.now in let plan = planned run.now.plan in
+            (choice : Choice) (text begun : Tape) (ss : List TimedStep) → SameChoice choice (P.choice self.old.play.spread) →
+            Reached cluster choice plan text begun (until_of micros ∷ ss) self.old (I.tape input.old) (O.tape output.old) →
+            IfErr result (λ fault. Shortened cluster choice plan self.old.intake.head text (I.tape input.new) begun (O.tape output.new) fault) }
+    {
+        let early = self.comes_early(micros, input)?;
+        if !early {
+            return Ok(false);
+        }
+        self.take_one(run, core, input, output)
+    }
+
+    // Takes the next records, up to the first that came so long after the first of all, or later.
+    fn until<C: Core, I: Source, O: Outlet>(
+        &mut self,
+        run: &RunContext<'_, C::Setup>,
+        core: &mut C,
+        micros: u64,
+        input: &mut I,
+        output: &mut O,
+    ) -> Result<(), SimulationFault>
+        requires stands { C.stands run.now.setup.now self.old.play.trace.past core.old }
+        requires few { (n : ℕ) × (n < 2 ^ 32) × Counted self.old.intake.given n self.old.play.trace }
+        ensures stands { OnOk result (C.stands run.now.setup.now self.new.play.trace.past core.new) }
+        ensures spread { self.new.play.spread ≡ self.old.play.spread }
+        ensures few { (n : ℕ) → Counted self.old.intake.given n self.old.play.trace → OnOk result (Counted self.new.intake.given n self.new.play.trace) }
+        ensures head { self.new.intake.head ≡ self.old.intake.head }
+        ensures reached { let cluster = C.cluster run.now.setup.now in let plan = planned run.now.plan in
+            (choice : Choice) (text begun : Tape) (ss : List TimedStep) → SameChoice choice (P.choice self.old.play.spread) →
+            Reached cluster choice plan text begun (until_of micros ∷ ss) self.old (I.tape input.old) (O.tape output.old) →
+            OnOk result (Reached cluster choice plan text begun ss self.new (I.tape input.new) (O.tape output.new)) }
+        ensures short { let cluster = C.cluster run.now.setup.now in let plan = planned run.now.plan in
+            (choice : Choice) (text begun : Tape) (ss : List TimedStep) → SameChoice choice (P.choice self.old.play.spread) →
+            Reached cluster choice plan text begun (until_of micros ∷ ss) self.old (I.tape input.old) (O.tape output.old) →
+            IfErr result (λ fault. Shortened cluster choice plan self.old.intake.head text (I.tape input.new) begun (O.tape output.new) fault) }
+    {
+        while self.take_early(run, core, micros, input, output)? {}
+        Ok(())
+    }
+
     // Reads the next record and loses it. Says whether there was one.
     fn lose_one<I: Source>(&mut self, alloc: Global, input: &mut I) -> Result<bool, SimulationFault>
         requires few { (n : ℕ) × (n < 2 ^ 32) × Counted self.old.intake.given n self.old.play.trace }
@@ -351,10 +439,10 @@ impl<P: Spread> Stage<P> {
         ensures spread { self.new.play.spread ≡ self.old.play.spread }
         ensures few { (n : ℕ) → Counted self.old.intake.given n self.old.play.trace → OnOk result (Counted self.new.intake.given n self.new.play.trace) }
         ensures head { self.new.intake.head ≡ self.old.intake.head }
-        ensures reached { (cluster : Cluster) (choice : Choice) (plan : Planned) (text begun out : Tape) (ss : List ScenarioStep) (k : ℕ) →
+        ensures reached { (cluster : Cluster) (choice : Choice) (plan : Planned) (text begun out : Tape) (ss : List TimedStep) (k : ℕ) →
             Reached cluster choice plan text begun (lose_of (k + 1) ∷ ss) self.old (I.tape input.old) out →
             IfOk result (λ more. Reached cluster choice plan text begun (still_to_lose more k ss) self.new (I.tape input.new) out) }
-        ensures short { (cluster : Cluster) (choice : Choice) (plan : Planned) (text begun out : Tape) (ss : List ScenarioStep) →
+        ensures short { (cluster : Cluster) (choice : Choice) (plan : Planned) (text begun out : Tape) (ss : List TimedStep) →
             Reached cluster choice plan text begun ss self.old (I.tape input.old) out →
             IfErr result (λ fault. Shortened cluster choice plan self.old.intake.head text (I.tape input.new) begun out fault) }
     {
@@ -378,10 +466,10 @@ impl<P: Spread> Stage<P> {
         ensures spread { self.new.play.spread ≡ self.old.play.spread }
         ensures few { (n : ℕ) → Counted self.old.intake.given n self.old.play.trace → OnOk result (Counted self.new.intake.given n self.new.play.trace) }
         ensures head { self.new.intake.head ≡ self.old.intake.head }
-        ensures reached { (cluster : Cluster) (choice : Choice) (plan : Planned) (text begun out : Tape) (ss : List ScenarioStep) →
+        ensures reached { (cluster : Cluster) (choice : Choice) (plan : Planned) (text begun out : Tape) (ss : List TimedStep) →
             Reached cluster choice plan text begun (lose_of count ∷ ss) self.old (I.tape input.old) out →
             OnOk result (Reached cluster choice plan text begun ss self.new (I.tape input.new) out) }
-        ensures short { (cluster : Cluster) (choice : Choice) (plan : Planned) (text begun out : Tape) (ss : List ScenarioStep) →
+        ensures short { (cluster : Cluster) (choice : Choice) (plan : Planned) (text begun out : Tape) (ss : List TimedStep) →
             Reached cluster choice plan text begun (lose_of count ∷ ss) self.old (I.tape input.old) out →
             IfErr result (λ fault. Shortened cluster choice plan self.old.intake.head text (I.tape input.new) begun out fault) }
     {
@@ -410,11 +498,11 @@ impl<P: Spread> Stage<P> {
         ensures head { self.new.intake.head ≡ self.old.intake.head }
         ensures named { IfErr result IsOfRun }
         ensures reached { let cluster = C.cluster run.now.setup.now in let plan = planned run.now.plan in
-            (choice : Choice) (text begun left : Tape) (ss : List ScenarioStep) → SameChoice choice (P.choice self.old.play.spread) →
+            (choice : Choice) (text begun left : Tape) (ss : List TimedStep) → SameChoice choice (P.choice self.old.play.spread) →
             Reached cluster choice plan text begun (again_of place ∷ ss) self.old left (O.tape output.old) →
             OnOk result (Reached cluster choice plan text begun ss self.new left (O.tape output.new)) }
         ensures short { let cluster = C.cluster run.now.setup.now in let plan = planned run.now.plan in
-            (choice : Choice) (text begun left : Tape) (ss : List ScenarioStep) → SameChoice choice (P.choice self.old.play.spread) →
+            (choice : Choice) (text begun left : Tape) (ss : List TimedStep) → SameChoice choice (P.choice self.old.play.spread) →
             Reached cluster choice plan text begun (again_of place ∷ ss) self.old left (O.tape output.old) →
             IfErr result (λ fault. Shortened cluster choice plan self.old.intake.head text left begun (O.tape output.new) fault) }
     {
@@ -448,19 +536,19 @@ impl<P: Spread> Stage<P> {
         ensures head { self.new.intake.head ≡ self.old.intake.head }
         ensures named { IfErr result IsOfRun }
         ensures reached { let cluster = C.cluster run.now.setup.now in let plan = planned run.now.plan in
-            (choice : Choice) (text begun left : Tape) (ss : List ScenarioStep) →
-            Reached cluster choice plan text begun (step.now ∷ ss) self.old left (O.tape output.old) →
+            (choice : Choice) (text begun left : Tape) (ss : List TimedStep) →
+            Reached cluster choice plan text begun (by_count step.now ∷ ss) self.old left (O.tape output.old) →
             OnOk result (Reached cluster choice plan text begun ss self.new left (O.tape output.new)) }
         ensures short { let cluster = C.cluster run.now.setup.now in let plan = planned run.now.plan in
-            (choice : Choice) (text begun left : Tape) (ss : List ScenarioStep) →
-            Reached cluster choice plan text begun (step.now ∷ ss) self.old left (O.tape output.old) →
+            (choice : Choice) (text begun left : Tape) (ss : List TimedStep) →
+            Reached cluster choice plan text begun (by_count step.now ∷ ss) self.old left (O.tape output.old) →
             IfErr result (λ fault. Shortened cluster choice plan self.old.intake.head text left begun (O.tape output.new) fault) }
     {
         self.settle_without_record(run, core, step, output)
     }
 
-    // A step.
-    fn step<C: Core, I: Source, O: Outlet>(
+    // A step by count.
+    fn step_by_count<C: Core, I: Source, O: Outlet>(
         &mut self,
         run: &RunContext<'_, C::Setup>,
         core: &mut C,
@@ -475,12 +563,12 @@ impl<P: Spread> Stage<P> {
         ensures few { (n : ℕ) → Counted self.old.intake.given n self.old.play.trace → OnOk result (Counted self.new.intake.given (n + 1) self.new.play.trace) }
         ensures head { self.new.intake.head ≡ self.old.intake.head }
         ensures reached { let cluster = C.cluster run.now.setup.now in let plan = planned run.now.plan in
-            (choice : Choice) (text begun : Tape) (ss : List ScenarioStep) → SameChoice choice (P.choice self.old.play.spread) →
-            Reached cluster choice plan text begun (step.now ∷ ss) self.old (I.tape input.old) (O.tape output.old) →
+            (choice : Choice) (text begun : Tape) (ss : List TimedStep) → SameChoice choice (P.choice self.old.play.spread) →
+            Reached cluster choice plan text begun (by_count step.now ∷ ss) self.old (I.tape input.old) (O.tape output.old) →
             OnOk result (Reached cluster choice plan text begun ss self.new (I.tape input.new) (O.tape output.new)) }
         ensures short { let cluster = C.cluster run.now.setup.now in let plan = planned run.now.plan in
-            (choice : Choice) (text begun : Tape) (ss : List ScenarioStep) → SameChoice choice (P.choice self.old.play.spread) →
-            Reached cluster choice plan text begun (step.now ∷ ss) self.old (I.tape input.old) (O.tape output.old) →
+            (choice : Choice) (text begun : Tape) (ss : List TimedStep) → SameChoice choice (P.choice self.old.play.spread) →
+            Reached cluster choice plan text begun (by_count step.now ∷ ss) self.old (I.tape input.old) (O.tape output.old) →
             IfErr result (λ fault. Shortened cluster choice plan self.old.intake.head text (I.tape input.new) begun (O.tape output.new) fault) }
     {
         match step {
@@ -488,6 +576,36 @@ impl<P: Spread> Stage<P> {
             ScenarioStep::Lose(count) => self.lose(run.alloc, *count, input),
             ScenarioStep::Again(place) => self.again(run, core, *place, output),
             _ => self.step_without_record(run, core, step, output),
+        }
+    }
+
+    // A step.
+    fn step<C: Core, I: Source, O: Outlet>(
+        &mut self,
+        run: &RunContext<'_, C::Setup>,
+        core: &mut C,
+        step: &TimedStep,
+        input: &mut I,
+        output: &mut O,
+    ) -> Result<(), SimulationFault>
+        requires stands { C.stands run.now.setup.now self.old.play.trace.past core.old }
+        requires few { (n : ℕ) × (n < 2 ^ 32) × Counted self.old.intake.given n self.old.play.trace }
+        ensures stands { OnOk result (C.stands run.now.setup.now self.new.play.trace.past core.new) }
+        ensures choice { SameChoice (P.choice self.old.play.spread) (P.choice self.new.play.spread) }
+        ensures few { (n : ℕ) → Counted self.old.intake.given n self.old.play.trace → OnOk result (Counted self.new.intake.given (n + 1) self.new.play.trace) }
+        ensures head { self.new.intake.head ≡ self.old.intake.head }
+        ensures reached { let cluster = C.cluster run.now.setup.now in let plan = planned run.now.plan in
+            (choice : Choice) (text begun : Tape) (ss : List TimedStep) → SameChoice choice (P.choice self.old.play.spread) →
+            Reached cluster choice plan text begun (step.now ∷ ss) self.old (I.tape input.old) (O.tape output.old) →
+            OnOk result (Reached cluster choice plan text begun ss self.new (I.tape input.new) (O.tape output.new)) }
+        ensures short { let cluster = C.cluster run.now.setup.now in let plan = planned run.now.plan in
+            (choice : Choice) (text begun : Tape) (ss : List TimedStep) → SameChoice choice (P.choice self.old.play.spread) →
+            Reached cluster choice plan text begun (step.now ∷ ss) self.old (I.tape input.old) (O.tape output.old) →
+            IfErr result (λ fault. Shortened cluster choice plan self.old.intake.head text (I.tape input.new) begun (O.tape output.new) fault) }
+    {
+        match step {
+            TimedStep::Counted(step) => self.step_by_count(run, core, step, input, output),
+            TimedStep::Until(micros) => self.until(run, core, *micros, input, output),
         }
     }
 

@@ -14,7 +14,7 @@ use Rattle.simulate_scenario.specs.Answers.{totals_in, is_cut}
 use Rattle.simulate_scenario.specs.Described.{rules_in, choice_in}
 use Rattle.node_threads.proofs.Settled.{all_settled}
 use Rattle.run_scenario.specs.PrivateHistories.{AreEven}
-use Rattle.run_scenario.specs.Runs.{audited_report, splits_if, tally_in, packets_in, commands_in}
+use Rattle.run_scenario.specs.Runs.{audited_report, splits_if, tally_in, packets_in, commands_in, steps_in}
 use Rattle.run_scenario.proofs.InWords.{packets_are, tally_is}
 use Rattle.run_scenario.proofs.OneByOne.{are_even, history_of, joins, same_splits, same_outcomes}
 use Rattle.run_scenario.proofs.running.run_over.Goals as goal
@@ -23,7 +23,7 @@ pub run_named-requires-clause-nodes : goal.run_named-requires-clause-nodes
 run_named-requires-clause-nodes g c κs within =
     let one : length c.as_slice-3.result.now ≡ length c.in_ok-orders.orders.commands.items = ap (λ l. length l) c.as_slice-3.ensures.value in
     one ∙ sym (length-map c.in_ok-orders.orders.commands.items (λ l. l.items)) ∙ ap (λ l. length l) c.in_ok-orders.ensures.commands
-    ∙ length-map (below (length c.args.scenario.now.nodes.items)) (orders_on (choice_in c.args.scenario.now) c.as_slice.result.now c.args.scenario.now.steps.items (length c.args.scenario.now.nodes.items)) ∙ below_long (length c.args.scenario.now.nodes.items)
+    ∙ length-map (below (length c.args.scenario.now.nodes.items)) (orders_on (choice_in c.args.scenario.now) c.as_slice.result.now (steps_in c.args.scenario.now c.args.captured.now.records) (length c.args.scenario.now.nodes.items)) ∙ below_long (length c.args.scenario.now.nodes.items)
 
 pub totals_of-totals-requires-clause-settled : goal.totals_of-totals-requires-clause-settled
 totals_of-totals-requires-clause-settled g c =
@@ -35,7 +35,7 @@ totals_of-totals-requires-clause-settled g c =
     let one : length c.as_slice-3.result.now ≡ length c.in_ok-orders.orders.commands.items = ap (λ l. length l) c.as_slice-3.ensures.value in
     let asked : length c.as_slice-3.result.now ≡ length s.nodes.items =
     one ∙ sym (length-map c.in_ok-orders.orders.commands.items (λ l. l.items)) ∙ ap (λ l. length l) c.in_ok-orders.ensures.commands
-    ∙ length-map (below (length s.nodes.items)) (orders_on (choice_in s) c.as_slice.result.now s.steps.items (length s.nodes.items)) ∙ below_long (length s.nodes.items) in
+    ∙ length-map (below (length s.nodes.items)) (orders_on (choice_in s) c.as_slice.result.now (steps_in s c.args.captured.now.records) (length s.nodes.items)) ∙ below_long (length s.nodes.items) in
     let within : 0 + length commands ≤ length s.nodes.items = omega (arith, lists, asked) in
     all_settled (rules_in s) c.as_slice-2.result.now s.ring 0 commands nodes within (subst (λ (ps : List Packet). AreRead ps) (sym c.as_slice-2.ensures.value) c.in_ok-packets.ensures.read) runs
 
@@ -51,7 +51,7 @@ returns-clause-over g c =
     let first : c.as_slice.result.now ≡ packets_in s link records = c.as_slice.ensures.value ∙ read in
     let are : c.as_slice-2.result.now ≡ packets_in s link records = c.as_slice-2.ensures.value ∙ read in
     let told : commands ≡ commands_in s link records =
-    ap (λ l. map (λ k. k.items) l) c.as_slice-3.ensures.value ∙ c.in_ok-orders.ensures.commands ∙ ap (λ (l : List Packet). orders_of (choice_in s) l s.steps.items (length s.nodes.items)) first in
+    ap (λ l. map (λ k. k.items) l) c.as_slice-3.ensures.value ∙ c.in_ok-orders.ensures.commands ∙ ap (λ (l : List Packet). orders_of (choice_in s) l (steps_in s records) (length s.nodes.items)) first in
     let runs : AreRuns (rules_in s) (packets_in s link records) s.ring 0 (commands_in s link records) run.nodes.items =
     subst (λ (ps : List Packet). AreRuns (rules_in s) ps s.ring 0 (commands_in s link records) run.nodes.items) are
     (subst (λ (cs : List (List Command)). AreRuns (rules_in s) c.as_slice-2.result.now s.ring 0 cs run.nodes.items) told c.in_ok-audited.ensures.runs) in

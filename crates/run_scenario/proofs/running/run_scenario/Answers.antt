@@ -2,7 +2,7 @@ use Rattle.std.proofs.Common.{List, ap, sym, ◌∙◌, subst, inr}
 use Rattle.std.specs.Io.KnownBytes.{Appends}
 use Rattle.simulation.specs.Sent.{Sending, capture_text}
 use Rattle.simulation.specs.Simulated.{CaptureUntil}
-use Rattle.driver_commands.specs.Knowing.{first_unsupported_of}
+use Rattle.driver_commands.specs.Knowing.{first_unsupported_in}
 use Rattle.run_scenario.proofs.Ruled.{keeps}
 use Rattle.run_scenario.proofs.InWords.{same_sends}
 use Rattle.run_scenario.proofs.running.run_scenario.Goals as goal
@@ -12,7 +12,7 @@ returns-in-Ok-clause-ok g c =
     let same = same_sends c.args.scenario.now c.wire_of-wire.result c.in_ok-captured.captured.head.link c.in_ok-captured.captured.records c.as_slice-nodes.result.now c.in_ok-done.done.nodes.items
     c.wire_of-wire.ensures.nodes c.wire_of-wire.ensures.link c.wire_of-wire.ensures.check c.as_slice-nodes.ensures.value in
     record {
-      known = ap (λ l. first_unsupported_of l) (sym c.as_slice.ensures.value) ∙ sym c.in-None.ensures;
+      known = ap (λ l. first_unsupported_in l) (sym c.as_slice.ensures.value) ∙ sym c.in-None.ensures;
       head = c.in_ok-captured.captured.head;
       records = _;
       ending = c.in_ok-captured.captured.ending;

@@ -3,11 +3,11 @@ use Rattle.pcap_file.specs.Format.{packet}
 use Rattle.event_trace.specs.Trace.{Trace}
 use Rattle.event_trace.specs.Room.{Counted}
 use Rattle.event_trace.specs.Steps.{world_of, deliver}
-use Rattle.event_trace.specs.PrivateStreams.{again_of}
+use Rattle.simulation.specs.PrivateSteps.{again_of}
 use Rattle.event_trace.proofs.Moves.{deliver_hands}
 use Rattle.event_trace.proofs.Coming.{repeat_some, repeat_none}
 use Rattle.simulation.specs.Plans.{planned}
-use Rattle.simulation.specs.Intake.{Taking}
+use Rattle.simulation.specs.Intake.{Taking, listed}
 use Rattle.simulation.specs.Sent.{packet_in, packets_of, sent, WroteUntil}
 use Rattle.simulation.specs.Simulated.{traffic_of}
 use Rattle.simulation.specs.PrivateKeeping.{KeepsNamed}
@@ -43,7 +43,7 @@ returns-in-None-clause-reached g c = λ choice text begun left ss same r.
     let new : Stage _ = record { play = c.skip.new.self; delivery = old.delivery; relay = old.relay; kept = c.take.new.self; intake = old.intake } in
     let skip = c.skip.ensures.after in
     let none : None ≡ slice_get r.seen c.args.place = sym (ap (λ o. option_map (λ f. packet f.value) o) c.in-None.is) ∙ c.in_ok-frame.ensures.record r.seen ss r.kept in
-    reached_same cluster choice plan text begun (again_of c.args.place ∷ ss) ss old new left _ _ r (refl, refl, refl) (ap (λ (x : Trace). x.read) skip) (c.in_ok-frame.ensures.keeps r.seen ss r.kept)
+    reached_same cluster choice plan text begun (again_of c.args.place ∷ ss) ss old new left _ _ r (refl, refl, refl, refl, refl) (ap (λ (x : Trace). x.read) skip) (c.in_ok-frame.ensures.keeps r.seen ss r.kept)
     (λ more l. let w = world_of cluster choice (packets_of old.intake.head.link plan.check (r.seen ++ more)) in
     repeated cluster choice plan old.intake.head.link (r.seen ++ more) c.args.place ss old.play.trace new.play.trace None
     (packet_none old.intake.head.link plan.check r.seen more c.args.place old.play.trace.read r.place none)
@@ -70,7 +70,7 @@ returns-in-Some-clause-reached g c = λ choice text begun left ss same r. where_
     let w0 = world_of cluster choice [] in
     let after = done _ c.deliver.ensures.play in
     reached_same cluster choice plan text begun (again_of c.args.place ∷ ss) ss old new left _ _ r
-    (c.deliver.ensures.intake.0 ∙ ap (λ (t : Taking). t.given) rest, c.deliver.ensures.intake.1 ∙ ap (λ (t : Taking). t.ended) rest, c.deliver.ensures.intake.2 ∙ ap (λ (t : Taking). t.head) rest)
+    (c.deliver.ensures.intake.0 ∙ ap (λ (t : Taking). t.given) rest, c.deliver.ensures.intake.1 ∙ ap (λ (t : Taking). t.ended) rest, c.deliver.ensures.intake.2 ∙ ap (λ (t : Taking). t.head) rest, c.deliver.ensures.intake.3 ∙ ap (λ (t : Taking). t.ahead) rest, c.deliver.ensures.intake.4 ∙ ap (λ (t : Taking). t.first) rest)
     (ap (λ (y : Trace). y.read) (after w0 refl same) ∙ (deliver_hands w0 c.args.place _ old.play.trace).read)
     (subst (KeepsNamed r.seen ss) (sym c.deliver.ensures.kept) (c.in_ok-frame.ensures.keeps r.seen ss r.kept))
     (λ more l. let all = r.seen ++ more in
@@ -93,15 +93,16 @@ returns-in-Some-clause-short g c = λ choice text begun left ss same r. where_fa
     let link = old.intake.head.link in
     let x = packet c.in-Some.frame.value in
     let got : Some x ≡ slice_get r.seen c.args.place = sym (ap (λ o. option_map (λ f. packet f.value) o) c.in-Some.is) ∙ c.in_ok-frame.ensures.record r.seen ss r.kept in
-    let lt = (is_there r.seen [] c.args.place x got).0 in
+    let all = r.seen ++ listed old.intake.ahead in
+    let there = is_there r.seen (listed old.intake.ahead) c.args.place x got in
     let rest = c.lend.ensures in
-    let w = world_of cluster choice (packets_of link plan.check r.seen) in
+    let w = world_of cluster choice (packets_of link plan.check all) in
     let d : Trace = deliver w c.args.place (packet_in link plan.check x) old.play.trace in
     short_same cluster choice plan text begun (again_of c.args.place ∷ ss) ss old left _ _ d fault r (failed _ c.deliver.ensures.named)
-    (λ l. repeated cluster choice plan link r.seen c.args.place ss old.play.trace d (Some (packet_in link plan.check x))
-    (packet_there link plan.check r.seen c.args.place old.play.trace.read (Some x) (omega (arith, lt, r.place)) (sym got))
+    (λ l. repeated cluster choice plan link all c.args.place ss old.play.trace d (Some (packet_in link plan.check x))
+    (packet_there link plan.check all c.args.place old.play.trace.read (Some x) (omega (arith, there.0, r.place)) there.1)
     (sym (repeat_some w c.args.place (packet_in link plan.check x) old.play.trace)) l)
-    (λ s. subst (λ (t : Taking). WroteUntil fault begun (g.O.Outlet.tape c.deliver.new.output) (sent (traffic_of plan t.head.link r.seen) (reverse (deliver w c.args.place (packet_in t.head.link plan.check t.record_read) old.play.trace).past))) rest
-    (failed _ (c.deliver.ensures.cut w r.seen begun refl same
-    (subst (λ (t : Taking). Sound cluster plan t.head.link r.seen old.play.trace old.relay.waiting begun (g.O.Outlet.tape c.args.output.now)) (sym rest) s)
-    (sym got ∙ ap (λ (t : Taking). Some t.record_read) (sym rest))))))
+    (λ s. subst (λ (t : Taking). WroteUntil fault begun (g.O.Outlet.tape c.deliver.new.output) (sent (traffic_of plan t.head.link all) (reverse (deliver w c.args.place (packet_in t.head.link plan.check t.record_read) old.play.trace).past))) rest
+    (failed _ (c.deliver.ensures.cut w all begun refl same
+    (subst (λ (t : Taking). Sound cluster plan t.head.link all old.play.trace old.relay.waiting begun (g.O.Outlet.tape c.args.output.now)) (sym rest) s)
+    (there.1 ∙ ap (λ (t : Taking). Some t.record_read) (sym rest))))))

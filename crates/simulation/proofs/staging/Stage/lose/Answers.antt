@@ -1,5 +1,5 @@
 use Rattle.std.proofs.Common.{Bool, ◌+◌, ◌-◌, ◌∷◌, ℕ, subst, ◌∙◌, arith}
-use Rattle.event_trace.specs.PrivateStreams.{lose_of}
+use Rattle.simulation.specs.PrivateSteps.{lose_of}
 use Rattle.pcap_file.specs.declared.format.Head.{Head}
 use Rattle.simulation.specs.PrivateGoing.{Shortened}
 use Rattle.simulation.specs.PrivateStages.{Reached, still_to_lose}

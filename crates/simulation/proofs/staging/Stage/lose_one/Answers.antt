@@ -1,6 +1,6 @@
 use Rattle.std.proofs.Common.{Bool, ◌≡◌, ◌+◌, ◌∷◌, ◌++◌, sym, subst, ap, ◌∙◌}
 use Rattle.event_trace.specs.Trace.{Trace}
-use Rattle.event_trace.specs.PrivateStreams.{lose_of}
+use Rattle.simulation.specs.PrivateSteps.{lose_of}
 use Rattle.simulation.specs.Intake.{SeenMore}
 use Rattle.simulation.specs.PrivateKeeping.{KeepsNamed}
 use Rattle.simulation.specs.declared.staging.Stage.{Stage}
@@ -11,7 +11,7 @@ use Rattle.simulation.proofs.staging.Stage.lose_one.Goals as goal
 pub returns-then-not-more-clause-reached : goal.returns-then-not-more-clause-reached
 returns-then-not-more-clause-reached g c = λ cluster choice plan text begun out ss k r.
     reached_end cluster choice plan text begun (lose_of (k + 1)) ss c.args.self.now c.read_one.new.self _ _ _ r
-    (subst (λ (b : Bool). SeenMore b text r.seen (g.I.Source.tape c.read_one.new.input) c.read_one.new.self.intake) c.if-not-more.true (c.in_ok-more.ensures.more text r.seen r.read))
+    (subst (λ (b : Bool). SeenMore b text r.seen (g.I.Source.tape c.read_one.new.input) c.read_one.new.self.intake) c.if-not-more.true (c.in_ok-more.ensures.more text r.seen r.read)) (c.in_ok-more.ensures.clear c.if-not-more.true)
     (same_trace c.in_ok-more.ensures.play) c.in_ok-more.ensures.relay (subst (KeepsNamed r.seen ss) (sym (c.in_ok-more.ensures.none c.if-not-more.true).1) r.kept) c.in_ok-more.ensures.head
     (λ link l. lost_all cluster choice plan link r.seen (k + 1) ss c.args.self.now.play.trace r.place l)
 
@@ -26,6 +26,8 @@ returns-clause-reached g c = λ cluster choice plan text begun out ss k r.
     let more : OneMore text r.seen x old new (g.I.Source.tape c.read_one.new.input) = record {
       read = read.0;
       going = sym (c.in_ok-more.ensures.same c.if-not-more.false).0 ∙ read.1;
+      next = c.in_ok-more.ensures.is_next c.if-not-more.false;
+      clear = read.2;
       head = c.in_ok-more.ensures.head;
     } in
     reached_more cluster choice plan text begun (lose_of (k + 1) ∷ ss) (lose_of k ∷ ss) old new _ _ _ _ x r more

@@ -3,7 +3,8 @@ use Rattle.event_trace.specs.Trace.{Trace}
 use Rattle.event_trace.specs.Room.{Counted}
 use Rattle.event_trace.specs.Steps.{world_of, after}
 use Rattle.simulation.specs.Plans.{planned}
-use Rattle.simulation.specs.Intake.{Taking}
+use Rattle.simulation.specs.Intake.{Taking, listed}
+use Rattle.simulation.specs.PrivateSteps.{by_count}
 use Rattle.simulation.specs.Sent.{packets_of}
 use Rattle.simulation.specs.PrivateKeeping.{KeepsNamed}
 use Rattle.simulation.proofs.Exits.{where_done, where_failed}
@@ -25,11 +26,11 @@ returns-clause-reached g c = λ choice text begun left ss r. where_done c.settle
     let same = c.settle_without_record.ensures.intake in
     let w0 = world_of cluster choice [] in
     let after = got _ c.settle_without_record.ensures.play in
-    reached_same cluster choice plan text begun (c.args.step.now ∷ ss) ss old new left _ _ r
-    (ap (λ (t : Taking). t.given) same, ap (λ (t : Taking). t.ended) same, ap (λ (t : Taking). t.head) same)
+    reached_same cluster choice plan text begun (by_count c.args.step.now ∷ ss) ss old new left _ _ r
+    (ap (λ (t : Taking). t.given) same, ap (λ (t : Taking). t.ended) same, ap (λ (t : Taking). t.head) same, ap (λ (t : Taking). t.ahead) same, ap (λ (t : Taking). t.first) same)
     (read_apart w0 c.args.step.now old.play.trace new.play.trace c.requires.apart (after w0 refl c.requires.apart))
     (subst (KeepsNamed r.seen ss) (sym c.settle_without_record.ensures.kept) (kept_apart r.seen c.args.step.now ss old.kept c.requires.apart r.kept))
-    (λ more l. stepped_left cluster choice plan old.intake.head.link (r.seen ++ more) c.args.step.now ss old.play.trace new.play.trace (after (world_of cluster choice (packets_of old.intake.head.link plan.check (r.seen ++ more))) refl c.requires.apart) l)
+    (λ more l. stepped_left cluster choice plan old.intake.head.link (r.seen ++ more) c.args.step.now ss old.play.trace new.play.trace c.requires.apart (after (world_of cluster choice (packets_of old.intake.head.link plan.check (r.seen ++ more))) refl c.requires.apart) l)
     (λ more s. got _ (c.settle_without_record.ensures.sound c.requires.apart (r.seen ++ more) begun s)))
 
 pub returns-clause-short : goal.returns-clause-short
@@ -37,8 +38,9 @@ returns-clause-short g c = λ choice text begun left ss r. where_failed c.settle
     let cluster = g.C.Core.cluster c.args.run.now.setup.now in
     let plan = planned c.args.run.now.plan in
     let old = c.args.self.now in
-    let w = world_of cluster choice (packets_of old.intake.head.link plan.check r.seen) in
+    let all = r.seen ++ listed old.intake.ahead in
+    let w = world_of cluster choice (packets_of old.intake.head.link plan.check all) in
     let d : Trace = after w c.args.step.now old.play.trace in
-    short_same cluster choice plan text begun (c.args.step.now ∷ ss) ss old left _ _ d fault r (got _ c.settle_without_record.ensures.named)
-    (λ l. stepped_left cluster choice plan old.intake.head.link r.seen c.args.step.now ss old.play.trace d refl l)
-    (λ s. got _ (c.settle_without_record.ensures.cut c.requires.apart w r.seen begun refl s)))
+    short_same cluster choice plan text begun (by_count c.args.step.now ∷ ss) ss old left _ _ d fault r (got _ c.settle_without_record.ensures.named)
+    (λ l. stepped_left cluster choice plan old.intake.head.link all c.args.step.now ss old.play.trace d c.requires.apart refl l)
+    (λ s. got _ (c.settle_without_record.ensures.cut c.requires.apart w all begun refl s)))

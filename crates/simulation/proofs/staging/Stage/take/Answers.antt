@@ -1,6 +1,6 @@
 use Rattle.std.proofs.Common.{Bool, ◌+◌, ◌-◌, ◌∷◌, ℕ, subst, ◌∙◌, arith}
 use Rattle.pcap_file.specs.declared.format.Head.{Head}
-use Rattle.event_trace.specs.PrivateStreams.{take_of}
+use Rattle.simulation.specs.PrivateSteps.{take_of}
 use Rattle.event_trace.proofs.Choosing.{chosen_still}
 use Rattle.simulation.specs.Plans.{planned}
 use Rattle.simulation.specs.PrivateGoing.{Shortened}

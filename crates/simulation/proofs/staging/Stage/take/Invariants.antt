@@ -1,9 +1,9 @@
 use Rattle.std.proofs.Common.{◌≡◌, ◌-◌, ◌∷◌, ℕ, List}
-use Rattle.event_trace.specs.declared.steps.ScenarioStep.{ScenarioStep}
+use Rattle.timed_steps.specs.declared.TimedStep.{TimedStep}
 use Rattle.spreader.specs.Choices.{Choice}
 use Rattle.event_trace.specs.Steps.{SameChoice}
 use Rattle.event_trace.specs.Room.{Counted}
-use Rattle.event_trace.specs.PrivateStreams.{take_of}
+use Rattle.simulation.specs.PrivateSteps.{take_of}
 use Rattle.simulation.specs.Plans.{planned}
 use Rattle.pcap_file.specs.Device.{Tape}
 use Rattle.simulation.specs.PrivateStages.{Reached}
@@ -15,7 +15,7 @@ invariant-loop g l = record {
   spread : l.self.play.spread ≡ l.initial.self.play.spread;
   few : (n : ℕ) → Counted l.initial.self.intake.given n l.initial.self.play.trace → Counted l.self.intake.given n l.self.play.trace;
   head : l.self.intake.head ≡ l.initial.self.intake.head;
-  reached : (choice : Choice) (text begun : Tape) (ss : List ScenarioStep) → SameChoice choice (g.P.Spread.choice l.initial.self.play.spread) →
+  reached : (choice : Choice) (text begun : Tape) (ss : List TimedStep) → SameChoice choice (g.P.Spread.choice l.initial.self.play.spread) →
       Reached (g.C.Core.cluster l.run.setup.now) choice (planned l.run.plan) text begun (take_of l.count ∷ ss) l.initial.self (g.I.Source.tape l.initial.input) (g.O.Outlet.tape l.initial.output) →
       Reached (g.C.Core.cluster l.run.setup.now) choice (planned l.run.plan) text begun (take_of (l.count - l.counter) ∷ ss) l.self (g.I.Source.tape l.input) (g.O.Outlet.tape l.output);
 }

@@ -5,7 +5,7 @@ use Rattle.event_trace.proofs.Moves.{handed_next}
 use Rattle.event_trace.proofs.Choosing.{same_choice, chosen_still}
 use Rattle.event_trace.specs.Room.{Counted}
 use Rattle.event_trace.specs.Steps.{world_of, deliver}
-use Rattle.event_trace.specs.PrivateStreams.{take_of}
+use Rattle.simulation.specs.PrivateSteps.{take_of}
 use Rattle.simulation.specs.Plans.{planned}
 use Rattle.simulation.specs.Sent.{packet_in, packets_of, sent, WroteUntil}
 use Rattle.simulation.specs.Simulated.{traffic_of}
@@ -20,7 +20,7 @@ use Rattle.simulation.proofs.staging.Stage.take_one.Goals as goal
 pub returns-then-not-more-clause-reached : goal.returns-then-not-more-clause-reached
 returns-then-not-more-clause-reached g c = λ choice text begun ss k same r.
     let cluster = g.C.Core.cluster c.args.run.now.setup.now in
-    reached_end cluster choice (planned c.args.run.now.plan) text begun (take_of (k + 1)) ss c.args.self.now c.read_one.new.self _ _ _ r (subst (λ (b : Bool). SeenMore b text r.seen (g.I.Source.tape c.read_one.new.input) c.read_one.new.self.intake) c.if-not-more.true (c.in_ok-more.ensures.more text r.seen r.read))
+    reached_end cluster choice (planned c.args.run.now.plan) text begun (take_of (k + 1)) ss c.args.self.now c.read_one.new.self _ _ _ r (subst (λ (b : Bool). SeenMore b text r.seen (g.I.Source.tape c.read_one.new.input) c.read_one.new.self.intake) c.if-not-more.true (c.in_ok-more.ensures.more text r.seen r.read)) (c.in_ok-more.ensures.clear c.if-not-more.true)
     (same_trace c.in_ok-more.ensures.play) c.in_ok-more.ensures.relay (subst (KeepsNamed r.seen ss) (sym (c.in_ok-more.ensures.none c.if-not-more.true).1) r.kept) c.in_ok-more.ensures.head
     (λ link l. took_all cluster choice (planned c.args.run.now.plan) link r.seen (k + 1) ss c.args.self.now.play.trace r.place l)
 
@@ -54,8 +54,10 @@ returns-clause-reached g c = λ choice text begun ss k same r.
     let moved : s ≡ record old.play.trace { read = old.play.trace.read + 1 } = c.next_place-place.ensures.after ∙ ap (λ (y : Trace). record y { read = y.read + 1 }) (same_trace c.in_ok-more.ensures.play) in
     let place : c.next_place-place.result ≡ old.play.trace.read = c.next_place-place.ensures.place ∙ ap (λ (y : Trace). y.read) (same_trace c.in_ok-more.ensures.play) in
     let more : OneMore text r.seen x old new (g.I.Source.tape c.read_one.new.input) = record {
-      read = seen_same mid.intake new.intake text _ (r.seen ++ x ∷ []) c.in_ok-deliver.ensures.intake.2 c.in_ok-deliver.ensures.intake.1 c.in_ok-deliver.ensures.intake.0 read.0;
+      read = seen_same mid.intake new.intake text _ (r.seen ++ x ∷ []) c.in_ok-deliver.ensures.intake read.0;
       going = sym (c.in_ok-more.ensures.same c.if-not-more.false).0 ∙ read.1;
+      next = c.in_ok-more.ensures.is_next c.if-not-more.false;
+      clear = c.in_ok-deliver.ensures.intake.3 ∙ read.2;
       head = c.in_ok-deliver.ensures.intake.2 ∙ c.in_ok-more.ensures.head;
     } in
     reached_more cluster choice plan text begun (take_of (k + 1) ∷ ss) (take_of k ∷ ss) old new _ _ _ _ x r more
@@ -85,6 +87,8 @@ returns-in_err-deliver-clause-short g c = λ choice text begun ss k same r.
     let more : OneMore text r.seen x old mid (g.I.Source.tape c.read_one.new.input) = record {
       read = read.0;
       going = sym (c.in_ok-more.ensures.same c.if-not-more.false).0 ∙ read.1;
+      next = c.in_ok-more.ensures.is_next c.if-not-more.false;
+      clear = read.2;
       head = c.in_ok-more.ensures.head;
     } in
     let w = world_of cluster choice (packets_of link plan.check (r.seen ++ x ∷ [])) in
@@ -99,3 +103,6 @@ returns-in_err-deliver-clause-short g c = λ choice text begun ss k same r.
     (subst (λ (h : Head). Sound cluster plan h.link (r.seen ++ x ∷ []) s mid.relay.waiting begun (g.O.Outlet.tape c.args.output.now)) (sym c.in_ok-more.ensures.head)
     (sound_same cluster plan link (r.seen ++ x ∷ []) old.play.trace s old.relay.waiting mid.relay.waiting begun (g.O.Outlet.tape c.args.output.now) (ap (λ (y : Trace). y.past) moved) (ap (λ y. y.waiting) c.in_ok-more.ensures.relay) sound))
     (at_place r.seen [] x c.next_place-place.result (place ∙ r.place))))))
+
+pub returns-clause-grows : goal.returns-clause-grows
+returns-clause-grows g c = λ more. (c.in_ok-deliver.ensures.intake.0 ∙ (c.in_ok-more.ensures.same c.if-not-more.false).1, omega (arith, c.in_ok-deliver.ensures.intake.0, c.in_ok-more.ensures.few))
