@@ -1,3 +1,0 @@
-mod Laws
-mod MemberLaws
-pub mod PoolLaws

@@ -1,13 +1,10 @@
 //! The words.
-use crate::flaws::is_address;
-use crate::member_words::member_place;
-use crate::place::{Flaw, Place, key_place};
-use crate::pools::pool_place;
 use crate::spots::{below, line_of, spot_of};
 use backend_names::Name;
 use pool_versions::PoolFault;
 use scenario::{ScenarioFault, pools_in};
 use scenario_keys::{Form, Format, Key, Owner, format_of, value_at};
+use scenario_places::{Flaw, Place, is_address, key_place, member_place, pool_place};
 use shown_text::shown;
 use std::alloc::Global;
 use toml::{Table, Value};

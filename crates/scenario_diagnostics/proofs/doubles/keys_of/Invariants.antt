@@ -1,7 +1,0 @@
-use Rattle.std.proofs.Common.{◌≡◌, ◌++◌, drop, map}
-use Rattle.scenario_pools.specs.Plain.{plain_service}
-use Rattle.scenario_diagnostics.specs.PoolPlaces.{key_of}
-use Rattle.scenario_diagnostics.proofs.doubles.keys_of.Given as goal
-
-abbrev pub invariant-loop-service : goal.invariant-loop-service
-invariant-loop-service l = l.keys.items ++ map key_of (map plain_service (drop l.service-index l.services)) ≡ map key_of (map plain_service l.services)

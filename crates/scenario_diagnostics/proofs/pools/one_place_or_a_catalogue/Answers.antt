@@ -1,5 +1,0 @@
-use Rattle.scenario_diagnostics.proofs.PoolLaws.{one_place}
-use Rattle.scenario_diagnostics.proofs.pools.one_place_or_a_catalogue.Goals as goal
-
-pub returns : goal.returns
-returns c = one_place

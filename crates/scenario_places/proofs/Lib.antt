@@ -1,0 +1,3 @@
+mod Laws
+mod MemberLaws
+pub mod PoolLaws

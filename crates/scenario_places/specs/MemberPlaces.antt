@@ -1,0 +1,60 @@
+-- Where a word of a document's versions is no member or change, or names what isn't there.
+use Rattle.std.specs.Prelude.{◌≡◌, ℕ, ◌+◌, ◌-◌, ◌==◌, nat_lt, if◌then◌else◌, List, [], ◌∷◌, Option, Some, None, is_some, option_and_then, option_map, IfSome}
+use Rattle.toml.specs.Data.{Data, Items, no_items, item, Members, as_table}
+use Rattle.scenario_keys.specs.Lookups.{items_at}
+use Rattle.scenario_keys.specs.Keys.{key_name}
+use Rattle.scenario_keys.specs.declared.key.Key.{Key}
+use Rattle.scenario_keys.specs.declared.key.Key.TheVariants as key
+use Rattle.scenario_keys.specs.declared.formats.Format.{Format}
+use Rattle.scenario_pools.specs.Words.{change_keys}
+use Rattle.scenario_pools.specs.Reading.{versions_in}
+use Rattle.scenario_pools.specs.Writing.{versions_of}
+use Rattle.scenario_pools.specs.BadWords.{bad_word_of, is_bad_member}
+use Rattle.scenario_pools.specs.declared.bad_words.BadWord.{BadWord}
+use Rattle.scenario_pools.specs.declared.bad_words.BadWord.TheVariants as bad
+use Rattle.scenario.specs.Meaning.{draft_in}
+use Rattle.scenario_places.specs.Places.{count}
+use Rattle.scenario_places.specs.declared.place.Flaw.{Flaw}
+use Rattle.scenario_places.specs.declared.place.Flaw.TheVariants as flaw
+use Rattle.scenario_places.specs.declared.place.Place.{Place}
+use Rattle.scenario_places.specs.declared.place.Place.TheVariants as place
+
+-- the item of a number, the first being n
+abbrev pub item_number : ℕ → ℕ → Items → Option Data
+item_number n wanted no_items = None
+item_number n wanted (item d ds) = if n == wanted then Some d else item_number (n + 1) wanted ds
+
+-- the table of a number in the array at a key
+abbrev pub table_number : Key → ℕ → Members → Option Members
+table_number k n ms = option_and_then as_table (option_and_then (item_number 0 n) (items_at (key_name k) ms))
+
+abbrev pub count_if : Option Items → ℕ
+count_if None = 0
+count_if (Some ds) = count ds
+
+-- the item of a number, where the arrays at some keys stand one after another
+abbrev pub item_among : List Key → ℕ → Members → Flaw
+item_among [] n ms = flaw.Value key.Add
+item_among (k ∷ ks) n ms =
+    if nat_lt n (count_if (items_at (key_name k) ms)) then flaw.Item k n else item_among ks (n - count_if (items_at (key_name k) ms)) ms
+
+-- the change of a number in a table
+abbrev pub change_flaw : ℕ → Option Members → Flaw
+change_flaw n None = flaw.Value key.Base
+change_flaw n (Some ms) = item_among change_keys n ms
+
+-- the place of a bad word in version v of a document
+abbrev pub word_place : Members → ℕ → BadWord → Place
+word_place ms v bad.Base = place.Version v (flaw.Value key.Base)
+word_place ms v (bad.Change n) = place.Version v (change_flaw n (table_number key.Versions v ms))
+word_place ms v (bad.Service m) = place.Service v m (flaw.Value key.Members)
+word_place ms v (bad.Member m n) = place.Service v m (flaw.Item key.Members n)
+word_place ms v (bad.ServiceChange m n) = place.Service v m (change_flaw n (option_and_then (table_number key.Services m) (table_number key.Versions v ms)))
+
+-- the first place in a document of a format
+abbrev pub member_place_in : Format → Members → Option Place
+member_place_in format ms = option_and_then (λ ds. option_map (λ p. word_place ms p.0 p.1) (bad_word_of ds)) (versions_in format ms)
+
+-- a document of a format whose keys are as they should be has such a place exactly where it is refused as BadMember
+abbrev pub OneWordOrAllMembers : Type 0
+OneWordOrAllMembers = (format : Format) (ms : Members) → IfSome (draft_in format ms) (λ d. is_some (member_place_in format ms) ≡ is_bad_member (versions_of d.versions))
