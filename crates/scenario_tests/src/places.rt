@@ -1,7 +1,7 @@
 //! The places at which a scenario is refused, and that reading refuses it there.
 
 use scenario::{Played, ScenarioFault, format_of, pools_in};
-use scenario_diagnostics::{Flaw, Key, Place, key_place, member_place, pool_place};
+use scenario_diagnostics::{Flaw, Key, Place, key_place, member_place, pool_place, words_of};
 use std::alloc::Global;
 use std::process::Abort;
 
@@ -397,6 +397,79 @@ fn places_of_differences(rt: HostRuntime) {
     for (at, row) in WORDS_OF_DIFFERENCES.iter().enumerate() {
         let text = different(&rt, rt.alloc(), row);
         finds_member_in(&rt, rt.alloc(), text.as_str(), row, at);
+    }
+}
+
+// A text, what stands in its first place among the differences, and what is said of the fault.
+type Said = (&'static str, &'static str, &'static str);
+
+static SAID_OF_DIFFERENCES: [Said; 10] = [
+    (
+        "'10.8.0.3'",
+        "'10.8.0'",
+        "servers.C, line 10: found '10.8.0', expected an address, as \"10.8.0.1\"",
+    ),
+    (
+        "{ C =",
+        "{ C_ =",
+        "servers.C_, line 10: found '10.8.0.3', expected a name of 1 to 32 letters, digits, - and ., the first a letter or digit",
+    ),
+    (
+        "base = 1",
+        "base = 2",
+        "versions[1].base, line 20: found 2, expected the number of an earlier version",
+    ),
+    (
+        "base = 1\n",
+        "",
+        "versions[1].down, line 20: found an array, expected no such key without a base or beside members",
+    ),
+    (
+        "down = ['A']",
+        "down = ['A', 'E']",
+        "versions[1].down[1], line 21: found 'E', expected a server of version 1 that no change has taken out",
+    ),
+    (
+        "remove = ['B']",
+        "remove = ['E']",
+        "versions[1].services[0].remove[0], line 26: found 'E', expected a server that this service has in version 1 and no change has taken out",
+    ),
+    (
+        "weights = ['A*2']",
+        "weights = ['A']",
+        "versions[1].services[0].weights[0], line 27: found 'A', expected NAME*W, with W from *1 to *16 and NAME a server that this service has in version 1 and no change has taken out",
+    ),
+    (
+        "port = 80\nremove",
+        "port = 81\nremove",
+        "versions[1].services[0].members is missing, expected members, or a base with this service",
+    ),
+    (
+        "'D@10.8.0.4'",
+        "'A@10.8.0.4'",
+        "versions[1], line 18: found a table, expected a name that no earlier member of the service has",
+    ),
+    (
+        "'until 1'",
+        "'until 1.'",
+        "steps[1], line 9: found 'until 1.', expected until T, with T in seconds from 0 to 4294967295, and one to six digits behind a point or no point",
+    ),
+];
+
+fn says(rt: &impl Abort, alloc: Global, row: &Said) {
+    let text = DIFFERENCES
+        .replacen(alloc, row.0, row.1, 1)
+        .expect(rt, "memory");
+    let read = scenario::read(alloc, Played::InTurn, text.as_bytes());
+    let fault = read.err().expect(rt, "a fault");
+    let words = words_of(alloc, text.as_bytes(), fault).expect(rt, "words");
+    assert_eq!(rt; words.as_str(), row.2);
+}
+
+#[test]
+fn words_of_differences(rt: HostRuntime) {
+    for row in SAID_OF_DIFFERENCES.iter() {
+        says(&rt, rt.alloc(), row);
     }
 }
 
