@@ -1,5 +1,5 @@
 -- What is sent of a list, item by item, and the packets of a list of records.
-use Rattle.std.proofs.Common.{◌≡◌, ◌<◌, ◌≤◌, ℕ, ◌+◌, Bool, zero, suc, List, [], ◌∷◌, ◌++◌, length, take, drop, get_or, Option, Some, sym, ap, ◌∙◌, subst, append-nil, take-append-drop}
+use Rattle.std.proofs.Common.{◌≡◌, ◌<◌, ◌≤◌, ℕ, ◌+◌, Bool, zero, suc, List, [], ◌∷◌, ◌++◌, length, map, take, drop, get_or, Option, Some, sym, ap, ◌∙◌, subst, append-nil, take-append-drop}
 use Rattle.std.specs.List.{flat_map, slice_get}
 use Rattle.std.proofs.lemmas.List.{take_more, take_all, map_push}
 use Rattle.std.proofs.lemmas.List.Concat.{flat_map-append}
@@ -41,6 +41,12 @@ pub packets_more : (link : Link) (check : Bool) (rs : List Record) (i : ℕ) (r 
 packets_more link check rs i r lt is =
     ap (λ (l : List Record). packets_of link check l) (take_more rs i r lt ∙ ap (λ (q : Record). take i rs ++ q ∷ []) (get_or_from_slice_get rs i r r is))
     ∙ map_push (packet_in link check) (take i rs) r
+
+-- its time
+pub times_more : (rs : List Record) (i : ℕ) (r : Record) → i < length rs → slice_get rs i ≡ Some r → map time_of (take (i + 1) rs) ≡ map time_of (take i rs) ++ time_of r ∷ []
+times_more rs i r lt is =
+    ap (λ (l : List Record). map time_of l) (take_more rs i r lt ∙ ap (λ (q : Record). take i rs ++ q ∷ []) (get_or_from_slice_get rs i r r is))
+    ∙ map_push time_of (take i rs) r
 
 pub all_read : (link : Link) (check : Bool) (rs : List Record) → WereRead (packets_of link check rs)
 all_read link check [] k p e = absurd (none-some p e)

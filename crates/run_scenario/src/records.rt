@@ -1,7 +1,6 @@
 //! The records of a capture, in one store.
-ghost use Rattle.std.specs.Prelude.{◌≡◌, ◌<◌, ◌++◌, ◌∷◌, [], length, OnOk, OnErr, Some, slice_get, option_map};
+ghost use Rattle.std.specs.Prelude.{◌≡◌, ◌<◌, ◌++◌, ◌∷◌, [], length, OnOk, OnErr, Some, slice_get};
 ghost use Rattle.pcap_file.specs.Format.{packet};
-ghost use Rattle.simulation.specs.Sent.{time_of};
 ghost use Rattle.simulation.specs.Wires.{lent_record};
 
 use crate::blocks::{ByteBlocks, Place};
@@ -90,14 +89,5 @@ impl Records {
             original: entry.original,
             bytes: self.blocks.at(entry.place),
         }
-    }
-
-    /// When the record at a place came, in microseconds.
-    pub(crate) fn time(&self, at: usize) -> u64
-        requires { at < length self.now }
-        ensures { option_map time_of (slice_get self.now at) ≡ Some result }
-    {
-        let record = self.at(at);
-        u64::from(record.secs) * 1_000_000 + u64::from(record.micros)
     }
 }
