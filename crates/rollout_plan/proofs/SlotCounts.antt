@@ -16,7 +16,7 @@ use Rattle.maglev_table.specs.Weights.{weighted_maglev}
 use Rattle.selection.specs.Picks.{NamedTable, preferences, slots_among}
 use Rattle.selection.specs.Readied.{same_backend}
 use Rattle.table_commands.specs.Compare.{name_alike, is_moved, named_at}
-use Rattle.rollout_plan.specs.Counts.{slots_naming, stays_up, changed, down, moved}
+use Rattle.rollout_plan.specs.Counts.{slots_naming, stays_up, who_drains, changed, down, moved, drained}
 
 lt_true : (a b : ℕ) → a < b → nat_lt a b ≡ true
 lt_true a b h = grind (arith, nat_tests)
@@ -166,16 +166,30 @@ pub count_read : (ups : List Backend) (owners counts : List ℕ) (k : ℕ) (x : 
 count_read ups owners counts k x are low read =
     read ∙ ap (λ (xs : List ℕ). get_or xs k x) are ∙ get_or-map-range_with_len (λ who. slots_of who owners) 0 (length ups) k k x low (omega arith)
 
-causes_of_one : (m s : Bool) → cond {A = ℕ} m 1 0 ≡ cond (m && not s) 1 0 + cond (m && s) 1 0
-causes_of_one true true = refl
-causes_of_one true false = refl
-causes_of_one false s = refl
+-- a test that is three tests of which at most one holds
+count_three : {X : Type 0} (p q r s : X → Bool) → ((x : X) → cond {A = ℕ} (p x) 1 0 ≡ cond (q x) 1 0 + cond (r x) 1 0 + cond (s x) 1 0) → (xs : List X) → count_by p xs ≡ count_by q xs + count_by r xs + count_by s xs
+count_three p q r s h [] = refl
+count_three p q r s h (x ∷ xs) =
+    let a = sum_by-cons (λ y. cond {A = ℕ} (p y) 1 0) x xs in
+    let b = sum_by-cons (λ y. cond {A = ℕ} (q y) 1 0) x xs in
+    let c = sum_by-cons (λ y. cond {A = ℕ} (r y) 1 0) x xs in
+    let d = sum_by-cons (λ y. cond {A = ℕ} (s y) 1 0) x xs in
+    omega (arith, a, b, c, d, h x, count_three p q r s h xs)
+
+causes_of_one : (m s d : Bool) → cond {A = ℕ} m 1 0 ≡ cond (m && (not s && not d)) 1 0 + cond (m && s) 1 0 + cond (m && (not s && d)) 1 0
+causes_of_one true true d = refl
+causes_of_one true false true = refl
+causes_of_one true false false = refl
+causes_of_one false s d = refl
 
 -- each slot that changes has one cause
-pub causes_add_up : (before after : NamedTable) → changed before after ≡ down before after + moved before after
-causes_add_up before after =
-    count_sum (is_moved before after) (λ slot. is_moved before after slot && not (stays_up after (named_at before slot))) (λ slot. is_moved before after slot && stays_up after (named_at before slot))
-    (λ slot. causes_of_one (is_moved before after slot) (stays_up after (named_at before slot))) (range_with_len 0 before.size)
+pub causes_add_up : (before after : NamedTable) (draining : List Backend) → changed before after ≡ down before after draining + moved before after + drained before after draining
+causes_add_up before after draining =
+    count_three (is_moved before after)
+    (λ slot. is_moved before after slot && (not (stays_up after (named_at before slot)) && not (who_drains draining (named_at before slot))))
+    (λ slot. is_moved before after slot && stays_up after (named_at before slot))
+    (λ slot. is_moved before after slot && (not (stays_up after (named_at before slot)) && who_drains draining (named_at before slot)))
+    (λ slot. causes_of_one (is_moved before after slot) (stays_up after (named_at before slot)) (who_drains draining (named_at before slot))) (range_with_len 0 before.size)
 
 at_place : (b : Backend) (ups : List Backend) (k : ℕ) (u : Backend) → k < length ups → u ≡ get_or ups k u → name_alike (Some b) (slice_get ups k) ≡ same_backend b u
 at_place b ups k u low read = ap (name_alike (Some b)) (slice_get-get_or ups k u low ∙ ap Some (sym read))

@@ -1,5 +1,5 @@
 -- What changes from one table to another of its size, counted.
-use Rattle.std.specs.Prelude.{ℕ, ◌+◌, ◌-◌, Bool, false, not, ◌&&◌, Option, Some, None}
+use Rattle.std.specs.Prelude.{ℕ, ◌+◌, ◌-◌, Bool, false, not, ◌&&◌, List, Option, Some, None}
 use Rattle.std.specs.List.{list_any, range_with_len, count_by, sum_by}
 use Rattle.pool_versions.specs.declared.backend.Backend.{Backend}
 use Rattle.selection.specs.Picks.{NamedTable}
@@ -23,13 +23,28 @@ abbrev pub stays_up : NamedTable → Option Backend → Bool
 stays_up t None = false
 stays_up t (Some b) = is_up t b
 
+-- a backend is among those that drain
+abbrev pub drains : List Backend → Backend → Bool
+drains draining b = list_any (λ d. same_backend d b) draining
+
+-- who a slot named drains
+abbrev pub who_drains : List Backend → Option Backend → Bool
+who_drains draining None = false
+who_drains draining (Some b) = drains draining b
+
 -- how many slots name somebody else after than before
 abbrev pub changed : NamedTable → NamedTable → ℕ
 changed before after = slots_where (is_moved before after) before.size
 
--- how many of these named nobody, or one who is up no more
-abbrev pub down : NamedTable → NamedTable → ℕ
-down before after = slots_where (λ slot. is_moved before after slot && not (stays_up after (named_at before slot))) before.size
+-- how many of these named nobody, or one who is up no more and doesn't drain
+abbrev pub down : NamedTable → NamedTable → List Backend → ℕ
+down before after draining =
+    slots_where (λ slot. is_moved before after slot && (not (stays_up after (named_at before slot)) && not (who_drains draining (named_at before slot)))) before.size
+
+-- how many named one who is up no more but drains
+abbrev pub drained : NamedTable → NamedTable → List Backend → ℕ
+drained before after draining =
+    slots_where (λ slot. is_moved before after slot && (not (stays_up after (named_at before slot)) && who_drains draining (named_at before slot))) before.size
 
 -- how many named one who is up still
 abbrev pub moved : NamedTable → NamedTable → ℕ

@@ -8,7 +8,7 @@ use Rattle.selection.specs.Readied.{same_backend}
 use Rattle.table_commands.specs.Compare.{moved_slots}
 use Rattle.rollout_plan.specs.declared.slots.TableRule.{TableRule}
 use Rattle.rollout_plan.specs.Tables.{table_by, turn_slots}
-use Rattle.rollout_plan.specs.Counts.{changed, down, moved, least, slots_naming}
+use Rattle.rollout_plan.specs.Counts.{changed, down, moved, drained, least, slots_naming}
 
 -- the slots that change are those that `compare` lists
 abbrev pub ChangedAreCompared : Type 0
@@ -16,7 +16,8 @@ ChangedAreCompared = (before after : NamedTable) → changed before after ≡ le
 
 -- each slot that changes has one cause
 abbrev pub CausesAddUp : Type 0
-CausesAddUp = (before after : NamedTable) → changed before after ≡ down before after + moved before after
+CausesAddUp =
+    (before after : NamedTable) (draining : List Backend) → changed before after ≡ down before after draining + moved before after + drained before after draining
 
 -- no backend is in the list twice
 abbrev pub NamesOnce : List Backend → Type 0

@@ -1,5 +1,5 @@
 -- The text of the command `plan`, as a list of bytes.
-use Rattle.std.specs.Prelude.{ℕ, Bool, true, false, not, List, [], ◌++◌, map, filter, find, Option, Some, None, codes}
+use Rattle.std.specs.Prelude.{ℕ, Bool, true, false, not, List, [], ◌∷◌, ◌++◌, map, filter, find, Option, Some, None, codes}
 use Rattle.std.specs.List.{flat_map, list_any}
 use Rattle.std.specs.Fmt.{decimal}
 use Rattle.maglev_texts.specs.Printing.{backend_text, end_text, protocol_text}
@@ -8,12 +8,12 @@ use Rattle.pool_versions.specs.declared.backend.Member.{Member}
 use Rattle.pool_versions.specs.declared.key.ServiceKey.{ServiceKey}
 use Rattle.pool_versions.specs.declared.service.Service.{Service}
 use Rattle.pool_versions.specs.declared.service.Version.{Version}
-use Rattle.pool_versions.specs.Pool.{key_of, same_key, ranked}
+use Rattle.pool_versions.specs.Pool.{key_of, same_key, ranked, draining_backends}
 use Rattle.selection.specs.Picks.{NamedTable}
 use Rattle.selection.specs.Readied.{same_backend}
 use Rattle.rollout_plan.specs.declared.slots.TableRule.{TableRule}
 use Rattle.rollout_plan.specs.Tables.{table_by}
-use Rattle.rollout_plan.specs.Counts.{slots_naming, is_up, changed, down, moved, least}
+use Rattle.rollout_plan.specs.Counts.{slots_naming, is_up, drains, changed, down, moved, drained, least}
 
 -- a backend is that of one of some members
 abbrev pub has_member : List Member → Backend → Bool
@@ -51,25 +51,38 @@ members_under key v = members_in (service_by key v)
 unfoldable pub service_line : ServiceKey → List ℕ
 service_line key = codes "service " ++ (end_text key.vip key.port ++ (codes "/" ++ (protocol_text key.proto ++ codes "\n")))
 
--- what stands behind a backend that isn't up
-abbrev pub state_text : Bool → List ℕ
-state_text true = []
-state_text false = codes " down"
+-- what stands behind a backend that isn't up, whether it drains or not
+abbrev pub state_text : Bool → Bool → List ℕ
+state_text true drains = []
+state_text false true = codes " drain"
+state_text false false = codes " down"
 
--- `slots M changed C down D moved V least L`
-unfoldable pub counts_line : NamedTable → NamedTable → List ℕ
-counts_line before after =
-    codes "slots " ++ (decimal before.size ++ (codes " changed " ++ (decimal (changed before after) ++ (codes " down " ++ (decimal (down before after) ++ (codes " moved " ++ (decimal (moved before after) ++ (codes " least " ++ (decimal (least before after) ++ codes "\n")))))))))
+-- a count that is told where some drain
+abbrev pub told : List Backend → ℕ → Option ℕ
+told [] n = None
+told (d ∷ ds) n = Some n
 
--- `BACKEND weight W before N after N`, and ` down` where it isn't up after
-unfoldable pub change_line : NamedTable → NamedTable → Member → List ℕ
-change_line before after m =
-    backend_text m.backend ++ (codes " weight " ++ (decimal m.weight ++ (codes " before " ++ (decimal (slots_naming (Some m.backend) before) ++ (codes " after " ++ (decimal (slots_naming (Some m.backend) after) ++ (state_text (is_up after m.backend) ++ codes "\n")))))))
+-- ` drained N`, where it is told
+abbrev pub drained_text : Option ℕ → List ℕ
+drained_text None = []
+drained_text (Some n) = codes " drained " ++ decimal n
+
+-- `slots M changed C down D moved V least L`, and ` drained N` where a member drains after
+unfoldable pub counts_line : NamedTable → NamedTable → List Backend → List ℕ
+counts_line before after draining =
+    codes "slots " ++ (decimal before.size ++ (codes " changed " ++ (decimal (changed before after) ++ (codes " down " ++ (decimal (down before after draining) ++ (codes " moved " ++ (decimal (moved before after) ++ (codes " least " ++ (decimal (least before after) ++ (drained_text (told draining (drained before after draining)) ++ codes "\n"))))))))))
+
+-- `BACKEND weight W before N after N`, and ` drain` or ` down` where it isn't up after
+unfoldable pub change_line : NamedTable → NamedTable → List Backend → Member → List ℕ
+change_line before after draining m =
+    backend_text m.backend ++ (codes " weight " ++ (decimal m.weight ++ (codes " before " ++ (decimal (slots_naming (Some m.backend) before) ++ (codes " after " ++ (decimal (slots_naming (Some m.backend) after) ++ (state_text (is_up after m.backend) (drains draining m.backend) ++ codes "\n")))))))
 
 -- what changes for a service, between the members before and after
 unfoldable pub change_text : TableRule → ServiceKey → List Member → List Member → List ℕ
 change_text rule key before after =
-    service_line key ++ (counts_line (table_by rule before) (table_by rule after) ++ flat_map (change_line (table_by rule before) (table_by rule after)) (members_of_both before after))
+    service_line key ++
+    (counts_line (table_by rule before) (table_by rule after) (draining_backends after) ++
+    flat_map (change_line (table_by rule before) (table_by rule after) (draining_backends after)) (members_of_both before after))
 
 -- of a service of the later version
 abbrev pub kept_text : TableRule → Version → Service → List ℕ
@@ -96,14 +109,16 @@ plan_text rule before after =
 abbrev pub slots_line : ℕ → List ℕ
 slots_line size = codes "slots " ++ (decimal size ++ codes "\n")
 
--- `BACKEND weight W slots N`, and ` down` where it isn't up
-unfoldable pub backend_line : NamedTable → Member → List ℕ
-backend_line t m =
-    backend_text m.backend ++ (codes " weight " ++ (decimal m.weight ++ (codes " slots " ++ (decimal (slots_naming (Some m.backend) t) ++ (state_text (is_up t m.backend) ++ codes "\n")))))
+-- `BACKEND weight W slots N`, and ` drain` or ` down` where it isn't up
+unfoldable pub backend_line : NamedTable → List Backend → Member → List ℕ
+backend_line t draining m =
+    backend_text m.backend ++ (codes " weight " ++ (decimal m.weight ++ (codes " slots " ++ (decimal (slots_naming (Some m.backend) t) ++ (state_text (is_up t m.backend) (drains draining m.backend) ++ codes "\n")))))
 
 -- what a service has
 unfoldable pub service_text : TableRule → Service → List ℕ
-service_text rule s = service_line (key_of s) ++ (slots_line rule.size ++ flat_map (backend_line (table_by rule s.members.items)) (in_order s.members.items))
+service_text rule s =
+    service_line (key_of s) ++
+    (slots_line rule.size ++ flat_map (backend_line (table_by rule s.members.items) (draining_backends s.members.items)) (in_order s.members.items))
 
 -- what one version has
 abbrev pub version_text : TableRule → Version → List ℕ

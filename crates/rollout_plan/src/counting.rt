@@ -1,9 +1,11 @@
 //! What changes from one table to another, counted.
-ghost use Rattle.std.specs.Prelude.{◌≡◌, ◌+◌, ◌<◌, ◌≤◌, Some, None, IfOk, map};
+ghost use Rattle.std.specs.Prelude.{◌≡◌, ◌+◌, ◌<◌, ◌≤◌, List, Some, None, IfOk, map};
+ghost use Rattle.pool_versions.specs.declared.backend.Backend.{Backend};
 ghost use Rattle.selection.specs.Picks.{NamedTable};
 ghost use Rattle.table_commands.specs.Compare.{name_alike, is_moved, named_at};
-ghost use Rattle.rollout_plan.specs.Counts.{is_up, stays_up, changed, down, moved, least, slots_lost};
+ghost use Rattle.rollout_plan.specs.Counts.{is_up, stays_up, drains, who_drains, changed, down, moved, drained, least, slots_lost};
 
+use crate::drains::Draining;
 use crate::slots::SlotTable;
 use pool_versions::Backend;
 use std::alloc::{AllocError, Global};
@@ -11,10 +13,12 @@ use std::alloc::{AllocError, Global};
 /// The slots that name somebody else, by cause.
 #[derive(Clone, Copy)]
 pub(crate) struct Causes {
-    /// Those that named nobody, or a backend that is up no more.
+    /// Those that named nobody, or a backend that is up no more and doesn't drain.
     pub(crate) down: u32,
     /// Those that named a backend that is up still.
     pub(crate) moved: u32,
+    /// Those that named a backend that is up no more but drains.
+    pub(crate) drained: u32,
 }
 
 fn name_alike(before: Option<Backend>, after: Option<Backend>) -> bool
@@ -61,31 +65,63 @@ fn stays_up(before: &SlotTable, staying: &[bool], slot: u32) -> bool
     }
 }
 
-/// How many slots of two tables of one size name somebody else, by cause.
+// For each up backend of a table whether it is among those that drain.
+fn leaving(alloc: Global, before: &SlotTable, draining: &Draining) -> Result<Vec<bool>, AllocError>
+    ensures { IfOk result (λ v. v.items ≡ map (drains draining.now) before.now.ups) }
+{
+    before
+        .ups()
+        .iter()
+        .map(|backend| draining.has(backend))
+        .collect(alloc)
+}
+
+// Whether a slot names a backend that is among those that drain.
+fn who_drains(before: &SlotTable, leaving: &[bool], slot: u32) -> bool
+    requires { slot < before.now.size }
+    ensures { (draining : List Backend) → leaving.now ≡ map (drains draining) before.now.ups → result ≡ who_drains draining (named_at before.now slot) }
+{
+    match before.place_at(slot) {
+        None => false,
+        Some(place) => leaving.get(place).copied().unwrap_or(false),
+    }
+}
+
+/// How many slots of two tables of one size name somebody else, by cause, where some drain after.
 pub(crate) fn causes_of(
     alloc: Global,
     before: &SlotTable,
     after: &SlotTable,
+    draining: &Draining,
 ) -> Result<Causes, AllocError>
     requires { before.now.size ≡ after.now.size }
-    ensures down { IfOk result (λ c. c.down ≡ down before.now after.now) }
+    ensures down { IfOk result (λ c. c.down ≡ down before.now after.now draining.now) }
     ensures moved { IfOk result (λ c. c.moved ≡ moved before.now after.now) }
-    ensures changed { IfOk result (λ c. c.down + c.moved ≡ changed before.now after.now) }
-    ensures few { IfOk result (λ c. c.down + c.moved ≤ 65537) }
+    ensures drained { IfOk result (λ c. c.drained ≡ drained before.now after.now draining.now) }
+    ensures changed { IfOk result (λ c. c.down + c.moved + c.drained ≡ changed before.now after.now) }
+    ensures few { IfOk result (λ c. c.down + c.moved + c.drained ≤ 65537) }
 {
     let staying = staying(alloc, before, after)?;
+    let leaving = leaving(alloc, before, draining)?;
     let mut down = 0u32;
     let mut moved = 0u32;
+    let mut drained = 0u32;
     for slot in 0..before.size() {
         if is_moved(before, after, slot) {
             if stays_up(before, staying.as_slice(), slot) {
                 moved += 1;
+            } else if who_drains(before, leaving.as_slice(), slot) {
+                drained += 1;
             } else {
                 down += 1;
             }
         }
     }
-    Ok(Causes { down, moved })
+    Ok(Causes {
+        down,
+        moved,
+        drained,
+    })
 }
 
 // How many slots fewer name a backend in the second table.

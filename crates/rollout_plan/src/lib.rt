@@ -6,6 +6,7 @@
 #![tactic(auto)]
 
 mod counting;
+mod drains;
 mod laws;
 mod members;
 mod plan_command;

@@ -77,9 +77,10 @@ fn text_for(alloc: Global, scenario: &[u8], from: u32, to: Option<u32>) -> Resul
 ///
 /// Of each service of either version it has a block: how many slots name somebody else, and how many of these named a backend
 /// that is up no more, or nobody, and how many one that is up still; the fewest that any table with the same counts would
-/// change; and each backend with its weight and its slots. A version without the service counts as one where it has no
-/// members. A scenario is one that is played in turn. Where it lacks a version the fault is BadNumber. The text is written in
-/// one piece once it is whole, so after any fault but `Write` nothing was written.
+/// change; and each backend with its weight and its slots. Where a member drains after, slots of backends that are up no more
+/// but drain are counted apart. A version without the service counts as one where it has no members. A scenario is one that is
+/// played in turn. Where it lacks a version the fault is BadNumber. The text is written in one piece once it is whole, so after
+/// any fault but `Write` nothing was written.
 pub fn plan<S: Sink>(
     alloc: Global,
     scenario: &[u8],

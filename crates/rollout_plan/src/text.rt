@@ -1,10 +1,12 @@
 //! The text of the command `plan`.
 ghost use Rattle.std.specs.Prelude.{◌≡◌, ◌++◌, [], IfOk, OnOk, string_bytes};
 ghost use Rattle.std.specs.List.{flat_map};
+ghost use Rattle.pool_versions.specs.Pool.{draining_backends};
 ghost use Rattle.rollout_plan.specs.Tables.{table_by};
-ghost use Rattle.rollout_plan.specs.Text.{service_line, state_text, counts_line, change_line, change_text, kept_text, gone_text, services_gone, has_service, plan_text, slots_line, backend_line, service_text, version_text};
+ghost use Rattle.rollout_plan.specs.Text.{service_line, counts_line, change_line, change_text, kept_text, gone_text, services_gone, has_service, plan_text, slots_line, backend_line, service_text, version_text};
 
 use crate::counting::{Causes, causes_of, least};
+use crate::drains::Draining;
 use crate::members::{in_order, members_of_both, members_under};
 use crate::slots::{SlotTable, TableRule};
 use maglev_texts::{AddressText, BackendText};
@@ -34,16 +36,43 @@ impl fmt::Display for ProtocolText {
 
 /// What stands behind a backend's numbers: nothing where it is up.
 #[derive(Clone, Copy)]
-struct StateText(bool);
+struct StateText {
+    up: bool,
+    drains: bool,
+}
 
 impl fmt::Display for StateText {
     ghost use Rattle.std.specs.Prelude.{Some};
     ghost use Rattle.rollout_plan.specs.Text.{state_text};
 
-    ghost output = { λ s. Some (state_text s.0) };
+    ghost output = { λ s. Some (state_text s.up s.drains) };
 
     fn fmt<W: fmt::Write>(&self, f: &mut fmt::Formatter<W>) -> fmt::Result {
-        if self.0 { Ok(()) } else { f.write_str(" down") }
+        if self.up {
+            Ok(())
+        } else if self.drains {
+            f.write_str(" drain")
+        } else {
+            f.write_str(" down")
+        }
+    }
+}
+
+/// What stands at the end of a line of counts: how many slots of servers that drain now, where that is told.
+#[derive(Clone, Copy)]
+struct DrainedText(Option<u32>);
+
+impl fmt::Display for DrainedText {
+    ghost use Rattle.std.specs.Prelude.{Some};
+    ghost use Rattle.rollout_plan.specs.Text.{drained_text};
+
+    ghost output = { λ d. Some (drained_text d.0) };
+
+    fn fmt<W: fmt::Write>(&self, f: &mut fmt::Formatter<W>) -> fmt::Result {
+        match self.0 {
+            None => Ok(()),
+            Some(count) => write!(f, " drained {count}"),
+        }
     }
 }
 
@@ -63,17 +92,23 @@ fn push_counts_line(
     text: &mut String,
     before: &SlotTable,
     after: &SlotTable,
+    draining: &Draining,
 ) -> Result<(), AllocError>
     requires { before.now.size ≡ after.now.size }
-    ensures { OnOk result (string_bytes text.new ≡ string_bytes text.old ++ counts_line before.now after.now) }
+    ensures { OnOk result (string_bytes text.new ≡ string_bytes text.old ++ counts_line before.now after.now draining.now) }
 {
     let slots = before.size();
-    let Causes { down, moved } = causes_of(alloc, before, after)?;
-    let changed = down + moved;
+    let Causes {
+        down,
+        moved,
+        drained,
+    } = causes_of(alloc, before, after, draining)?;
+    let changed = down + moved + drained;
     let least = least(before, after);
+    let drained = DrainedText(draining.told(drained));
     write!(
         text,
-        "slots {slots} changed {changed} down {down} moved {moved} least {least}\n"
+        "slots {slots} changed {changed} down {down} moved {moved} least {least}{drained}\n"
     )
 }
 
@@ -82,15 +117,19 @@ fn push_change_line(
     text: &mut String,
     before: &SlotTable,
     after: &SlotTable,
+    draining: &Draining,
     member: &Member,
 ) -> Result<(), AllocError>
-    ensures { OnOk result (string_bytes text.new ≡ string_bytes text.old ++ change_line before.now after.now member.now) }
+    ensures { OnOk result (string_bytes text.new ≡ string_bytes text.old ++ change_line before.now after.now draining.now member.now) }
 {
     let backend = BackendText(member.backend);
     let weight = member.weight.turns();
     let old = before.slots_of(&member.backend);
     let new = after.slots_of(&member.backend);
-    let state = StateText(after.is_up(&member.backend));
+    let state = StateText {
+        up: after.is_up(&member.backend),
+        drains: draining.has(&member.backend),
+    };
     write!(
         text,
         "{backend} weight {weight} before {old} after {new}{state}\n"
@@ -101,12 +140,13 @@ fn push_change_lines(
     text: &mut String,
     before: &SlotTable,
     after: &SlotTable,
+    draining: &Draining,
     members: &[Member],
 ) -> Result<(), AllocError>
-    ensures { OnOk result (string_bytes text.new ≡ string_bytes text.old ++ flat_map (change_line before.now after.now) members.now) }
+    ensures { OnOk result (string_bytes text.new ≡ string_bytes text.old ++ flat_map (change_line before.now after.now draining.now) members.now) }
 {
     for member in members {
-        push_change_line(text, before, after, member)?;
+        push_change_line(text, before, after, draining, member)?;
     }
     Ok(())
 }
@@ -125,10 +165,11 @@ fn push_change(
 {
     let old = rule.table(alloc, before)?;
     let new = rule.table(alloc, after)?;
+    let draining = Draining::of(alloc, after)?;
     let members = members_of_both(alloc, before, after)?;
     push_service_line(text, key)?;
-    push_counts_line(alloc, text, &old, &new)?;
-    push_change_lines(text, &old, &new, members.as_slice())
+    push_counts_line(alloc, text, &old, &new, &draining)?;
+    push_change_lines(text, &old, &new, &draining, members.as_slice())
 }
 
 // What changes for the services of the later version.
@@ -193,26 +234,31 @@ pub(crate) fn plan_text_of(
 fn push_backend_line(
     text: &mut String,
     table: &SlotTable,
+    draining: &Draining,
     member: &Member,
 ) -> Result<(), AllocError>
-    ensures { OnOk result (string_bytes text.new ≡ string_bytes text.old ++ backend_line table.now member.now) }
+    ensures { OnOk result (string_bytes text.new ≡ string_bytes text.old ++ backend_line table.now draining.now member.now) }
 {
     let backend = BackendText(member.backend);
     let weight = member.weight.turns();
     let slots = table.slots_of(&member.backend);
-    let state = StateText(table.is_up(&member.backend));
+    let state = StateText {
+        up: table.is_up(&member.backend),
+        drains: draining.has(&member.backend),
+    };
     write!(text, "{backend} weight {weight} slots {slots}{state}\n")
 }
 
 fn push_backend_lines(
     text: &mut String,
     table: &SlotTable,
+    draining: &Draining,
     members: &[Member],
 ) -> Result<(), AllocError>
-    ensures { OnOk result (string_bytes text.new ≡ string_bytes text.old ++ flat_map (backend_line table.now) members.now) }
+    ensures { OnOk result (string_bytes text.new ≡ string_bytes text.old ++ flat_map (backend_line table.now draining.now) members.now) }
 {
     for member in members {
-        push_backend_line(text, table, member)?;
+        push_backend_line(text, table, draining, member)?;
     }
     Ok(())
 }
@@ -228,11 +274,12 @@ fn push_service(
     ensures { OnOk result (string_bytes text.new ≡ string_bytes text.old ++ service_text rule.now service.now) }
 {
     let table = rule.table(alloc, service.members.as_slice())?;
+    let draining = Draining::of(alloc, service.members.as_slice())?;
     let members = in_order(alloc, service.members.as_slice())?;
     let slots = rule.size.slots();
     push_service_line(text, service.key())?;
     write!(text, "slots {slots}\n")?;
-    push_backend_lines(text, &table, members.as_slice())
+    push_backend_lines(text, &table, &draining, members.as_slice())
 }
 
 /// What one version has.

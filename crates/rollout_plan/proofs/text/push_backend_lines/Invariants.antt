@@ -4,4 +4,4 @@ use Rattle.rollout_plan.specs.Text.{backend_line}
 use Rattle.rollout_plan.proofs.text.push_backend_lines.Given as goal
 
 abbrev pub invariant-loop-member : goal.invariant-loop-member
-invariant-loop-member l = string_bytes l.text ≡ string_bytes l.initial.text ++ flat_map (backend_line l.table) (take l.member-index l.members)
+invariant-loop-member l = string_bytes l.text ≡ string_bytes l.initial.text ++ flat_map (backend_line l.table l.draining) (take l.member-index l.members)

@@ -4,4 +4,4 @@ use Rattle.rollout_plan.specs.Text.{change_line}
 use Rattle.rollout_plan.proofs.text.push_change_lines.Given as goal
 
 abbrev pub invariant-loop-member : goal.invariant-loop-member
-invariant-loop-member l = string_bytes l.text ≡ string_bytes l.initial.text ++ flat_map (change_line l.before l.after) (take l.member-index l.members)
+invariant-loop-member l = string_bytes l.text ≡ string_bytes l.initial.text ++ flat_map (change_line l.before l.after l.draining) (take l.member-index l.members)
