@@ -265,6 +265,26 @@ def test_until():
     stops("until a record that is too long", three(scenario(["live 0", "install * 1", "until 2", "take 1"])), long, "TooLong", wanted)
 
 
+def test_plans():
+    """The slots of servers that drain. B A B C C A A is the table of A, B and C, B B B C C C B that of B and C, and C alone has
+    all."""
+    text = three(scenario([], [ALL, A_DRAINS, ["A@10.8.0.1/drain", "B@10.8.0.2/down", "C@10.8.0.3"], A_DOWN, ALL_DRAIN, ["A@10.8.0.9/drain", *ALL[1:]]]))
+    for words, lines in [
+        ("1 2", "changed 3 down 0 moved 0 least 3 drained 3|A@10.8.0.1 weight 1 before 3 after 0 drain|B@10.8.0.2 weight 1 before 2 after 4|C@10.8.0.3 weight 1 before 2 after 3"),
+        ("1 3", "changed 5 down 2 moved 0 least 5 drained 3|A@10.8.0.1 weight 1 before 3 after 0 drain|B@10.8.0.2 weight 1 before 2 after 0 down|C@10.8.0.3 weight 1 before 2 after 7"),
+        ("2 4", "changed 0 down 0 moved 0 least 0|A@10.8.0.1 weight 1 before 0 after 0 down|B@10.8.0.2 weight 1 before 4 after 4|C@10.8.0.3 weight 1 before 3 after 3"),
+        ("2 1", "changed 3 down 0 moved 3 least 3|A@10.8.0.1 weight 1 before 0 after 3|B@10.8.0.2 weight 1 before 4 after 2|C@10.8.0.3 weight 1 before 3 after 2"),
+        ("1 5", "changed 7 down 0 moved 0 least 7 drained 7|A@10.8.0.1 weight 1 before 3 after 0 drain|B@10.8.0.2 weight 1 before 2 after 0 drain|C@10.8.0.3 weight 1 before 2 after 0 drain"),
+        ("4 5", "changed 7 down 0 moved 0 least 7 drained 7|A@10.8.0.1 weight 1 before 0 after 0 drain|B@10.8.0.2 weight 1 before 4 after 0 drain|C@10.8.0.3 weight 1 before 3 after 0 drain"),
+        ("1 6", "changed 3 down 3 moved 0 least 3 drained 0|A@10.8.0.1 weight 1 before 3 after 0 down|A@10.8.0.9 weight 1 before 0 after 0 drain|B@10.8.0.2 weight 1 before 2 after 4|C@10.8.0.3 weight 1 before 2 after 3"),
+        ("3", "|A@10.8.0.1 weight 1 slots 0 drain|B@10.8.0.2 weight 1 slots 0 down|C@10.8.0.3 weight 1 slots 7"),
+    ]:
+        expected = "service 192.0.2.1:80/tcp\nslots 7 ".rstrip() + (" " + lines if lines[0] != "|" else lines).replace("|", "\n") + "\n"
+        rows.plans(f"plan {words}", text, words.split(" "), expected)
+        told = model.planned(text, 3) if words == "3" else model.plan(text, *map(int, words.split(" ")))
+        check(f"plan {words} by the model", told == expected, told)
+
+
 NO_TIMES = [
     "until", "until ", "until *", "until -1", "until +1", "until 1.", "until .5", "until 1.0000001", "until 1.1234567", "until 01", "until 1e3", "until 1,5",
     "until 1 2", "until 1.5.2", "until 4294967296", "until 4294967296.0", "until 99999999999999999999", "until 0x1", "until 1s", "until 1. 5", "until 1.-5", "until NaN",
@@ -664,6 +684,9 @@ def test_against_the_model():
         causes.update(line.rsplit(" ", 1)[1] for line in lines.splitlines() if line.startswith("split tcp"))
         if seed % 4 == 0:
             explained(source, seed, text, data, expected)
+        if seed % 8 == 1:
+            first, second = (source.choice(sorted(expected.versions)) for _ in range(2))
+            rows.plans(f"plan of scenario {seed}", text, [str(first), str(second)], model.plan(text, first, second))
     print(f"of {COUNT} scenarios {kept} send to members that drain; splits of TCP flows: {dict(causes)}")
     check("enough is kept by a drain", COUNT < 100 or kept > COUNT / 4 and min(causes[one] for one in ["down", "moved", "drained"]) > COUNT / 20, f"{kept} {causes}")
 

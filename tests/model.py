@@ -493,7 +493,7 @@ def planned(scenario, number):
         lines += [f"service {service}", f"slots {len(named)}"]
         for name, at, weight, state in sorted(members):
             slots = sum(one is not None and one[:2] == (name, at) for one in named)
-            lines.append(f"{name}@{at} weight {weight} slots {slots}{'' if state == 'up' else ' down'}")
+            lines.append(f"{name}@{at} weight {weight} slots {slots}{'' if state == 'up' else f' {state}'}")
     return "".join(line + "\n" for line in lines)
 
 
@@ -507,14 +507,16 @@ def plan(scenario, first, second):
         old, new = before.get(service, []), after.get(service, [])
         olds = [one and one[:2] for one in named_slots(document, old)]
         news = [one and one[:2] for one in named_slots(document, new)]
-        ups = {member[:2] for member in new if member.state == "up"}
+        ups, drains = ({member[:2] for member in new if member.state == state} for state in ("up", "drain"))
         changed = [one for one, other in zip(olds, news) if one != other]
-        down = sum(one not in ups for one in changed)
+        moved, drained = (sum(one in some for one in changed) for some in (ups, drains))
         least = len(olds) - sum((collections.Counter(olds) & collections.Counter(news)).values())
-        lines += [f"service {service}", f"slots {len(olds)} changed {len(changed)} down {down} moved {len(changed) - down} least {least}"]
+        counts = f"slots {len(olds)} changed {len(changed)} down {len(changed) - moved - drained} moved {moved} least {least}"
+        lines += [f"service {service}", counts + (f" drained {drained}" if drains else "")]
         rows = {member[:2]: (0, member.weight) for member in old} | {member[:2]: (1, member.weight) for member in new}
         for (name, at), (_, weight) in sorted(rows.items(), key=lambda row: (row[0][0], row[1][0])):
-            one, end = (name, at), "" if (name, at) in ups else " down"
+            one = name, at
+            end = "" if one in ups else " drain" if one in drains else " down"
             lines.append(f"{name}@{at} weight {weight} before {olds.count(one)} after {news.count(one)}{end}")
     return "".join(line + "\n" for line in lines)
 
