@@ -1366,6 +1366,29 @@ def test_plan_against_the_model():
         plans(f"plan {first} of scenario {seed}", text, [str(first)], model.planned(text, first))
 
 
+def test_orders():
+    """Rows by hand, with the tables of `test_plan`: where B goes first, slot 5 moves from A to C. Then random scenarios."""
+    texts = [(ALL, ["C@10.8.0.3"]), (B_DOWN, ALL), (ALL, []), (ALL, ALL), ([], ALL)]
+    answers = ["servers 2 orders 2\nmoved 0 A B\nmoved 1 B A\n", "servers 0 orders 1\nmoved 3\n", None, "servers 0 orders 1\nmoved 0\n", "servers 0 orders 1\nmoved 0\n"]
+    for number, (versions, answer) in enumerate(zip(texts, answers)):
+        text = scenario([], versions)
+        expected = model.ordered(text, 1, 2)
+        check(f"orders {number} by the model", answer in (None, expected), expected)
+        plans(f"orders {number}", text, ["--order", "1", "2"], expected)
+    for seed in range(120):
+        source = random.Random(8000 + seed)
+        names = "ABCDEFGHJ"[: source.choice([3, 4, 5, 6, 9])]
+        versions = [[f"{name}@10.8.{source.choice([0, 0, 1])}.{ord(name)}{source.choice(['', '', '*2', '*9'])}{source.choice(['', '', '', '/down'])}" for name in names if source.random() < 0.8] for _ in range(2)]
+        text = scenario([], versions, scheme=source.choice(["maglev", "maglev", "plain"])).replace("format = 1", "format = 2").replace("size = 7", "size = 13")
+        udp = '[[versions.services]]\nvip = "192.0.2.1"\nproto = "udp"\nport = 53\n'
+        text += udp + f"members = {listed(versions[seed % 2])}\n"
+        plans(f"orders of scenario {seed}", text, ["--order", "1", "2"], model.ordered(text, 1, 2))
+    text = scenario([])
+    for words, fault in [(["3", "1"], "BadNumber"), (["1", "0"], "BadNumber")]:
+        faults(f"orders of {words}", ["plan", "--order", "-", *words], fault, stdin=text.encode())
+    misused("orders without a version to end in", ["plan", "--order", "s.toml", "1"])
+
+
 def test_plan_of_the_pages():
     """The documents show what is printed."""
     text = (EXAMPLES / "rolling.toml").read_text()

@@ -7,6 +7,7 @@ import collections
 import copy
 import fractions
 import hashlib
+import itertools
 import struct
 import tomllib
 
@@ -519,6 +520,62 @@ def plan(scenario, first, second):
             end = "" if one in ups else " drain" if one in drains else " down"
             lines.append(f"{name}@{at} weight {weight} before {olds.count(one)} after {news.count(one)}{end}")
     return "".join(line + "\n" for line in lines)
+
+
+def moved_slots(document, before, after):
+    """How many slots of all services name another server though theirs is up still, between two versions."""
+    count = 0
+    for place in {*before, *after}:
+        olds, news = ([one and one[:2] for one in named_slots(document, services.get(place, []))] for services in (before, after))
+        ups = {member[:2] for member in after.get(place, []) if member.state == "up"}
+        count += sum(one != other and one in ups for one, other in zip(olds, news))
+    return count
+
+
+def lost(before, after):
+    """The names of servers that are up in a service of the first version and, by name and address, not up in that of the second."""
+    ups = [{(place, *member[:2]) for place, members in services.items() for member in members if member.state == "up"} for services in (before, after)]
+    return sorted({name for _, name, _ in ups[0] - ups[1]})
+
+
+def between(before, after, leaving, joining, done):
+    """The version in which these of the servers that leave are replaced, and as many of those that join are there."""
+    if not done or len(done) >= len(leaving):
+        return after if done or not leaving else before
+    names = {*done, *joining[: len(done)]}
+    return {
+        place: [one for one in before.get(place, []) if one.name not in names] + [one for one in after.get(place, []) if one.name in names]
+        for place in [*after, *(place for place in before if place not in after)]
+    }
+
+
+def ordered(scenario, first, second):
+    """What `plan --order` prints of two versions: each order of up to six servers is walked step by step; of more each step is the
+    one that moves the fewest slots."""
+    document = tomllib.loads(scenario)
+    before, after = (versions_of(document)[number] for number in (first, second))
+    leaving, joining = lost(before, after), lost(after, before)
+    if not leaving:
+        return f"servers 0 orders 1\nmoved {moved_slots(document, before, after)}\n"
+    known = {}
+
+    def step(done, server):
+        """What one more server moves; it is asked for again with the same servers done in another order."""
+        key = frozenset(done), server
+        if key not in known:
+            known[key] = moved_slots(document, *(between(before, after, leaving, joining, some) for some in (done, [*done, server])))
+        return known[key]
+
+    def count(order):
+        return sum(step(order[:place], server) for place, server in enumerate(order))
+
+    if len(leaving) <= 6:
+        orders = sorted(map(list, itertools.permutations(leaving)), key=count)
+        return f"servers {len(leaving)} orders {len(orders)}\n" + "".join(f"moved {count(order)} {' '.join(order)}\n" for order in orders)
+    order = []
+    while len(order) < len(leaving):
+        order.append(min((server for server in leaving if server not in order), key=lambda server: step(order, server)))
+    return f"servers {len(leaving)} orders 1 greedy\nmoved {count(order)} {' '.join(order)}\n"
 
 
 SKETCH = """# Destinations: {all}. Of more than 5 packets: {busy}. The first 256 of these are services, the most frequent first.
