@@ -58,7 +58,9 @@ SCENARIO or INPUT may be -, which is standard input. Faults are those of simulat
 /// The end of the help of `plan`.
 const PLAN_HELP: &str = "Example: maglev plan examples/rolling.toml 1 2
 
-Each service has a block. Of its slots that name another server, down counts those whose server isn't up any more, moved those whose server is; no table with the same counts changes fewer than least. Without TO the slots of the version FROM are printed alone. A version that lacks a service counts as one where it has no members.
+Each service has a block. Of its slots that name another server, down counts those whose server isn't up any more, moved those whose server is; no table with the same counts changes fewer than least. Where a server drains in TO, drained counts the slots of such servers apart from down. Without TO the slots of the version FROM are printed alone. A version that lacks a service counts as one where it has no members.
+
+With --order the servers that leave from FROM to TO are replaced one by one, and with each the next by name that joins. Each order in which they can be has a line: how many slots name another server though theirs stays, over all steps and services, and the servers. The fewest come first. Of more than six servers there is one order, whose every step moves the fewest.
 
 SCENARIO may be -, which is standard input. Faults of the scenario are those of simulate. BadNumber comes also where it has no version FROM or TO.";
 
@@ -251,8 +253,16 @@ fn version<'a>(alloc: Global, id: &'a str, name: &'a str, help: &'a str) -> Arg<
         .value_parser(value_parser!(u32))
 }
 
+fn in_orders<'a>(alloc: Global) -> Arg<'a> {
+    Arg::new(alloc, "order")
+        .long("order")
+        .help("print in which orders servers can be replaced, and what each moves; it wants TO")
+        .action(ArgAction::SetTrue)
+}
+
 fn plan<'a>(alloc: Global) -> Result<Command<'a>, AllocError> {
     let args = [
+        in_orders(alloc),
         of_places(alloc),
         scenario(alloc),
         version(alloc, "from", "FROM", "number of the version before").required(true),

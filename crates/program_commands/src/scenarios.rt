@@ -9,6 +9,7 @@ use command_faults::CliFault;
 use connection_table::TableKey;
 use lazy_files::{InputFile, KeptText, OutputFile};
 use pcap_file::{FromRead, PcapFault, ToWrite};
+use rollout_order::order;
 use rollout_plan::plan;
 use scenario::{Played, read};
 use scenario_commands::simulate_keyed;
@@ -167,12 +168,44 @@ fn print_plan(rt: &HostRuntime, text: &[u8], from: u32, to: Option<u32>) -> Resu
     }
 }
 
+// In which orders a scenario's servers can be replaced, printed on standard output.
+fn print_orders(rt: &HostRuntime, text: &[u8], from: u32, to: u32) -> Result<(), Trouble> {
+    let mut report = ToWrite::new(io::writer(rt));
+    match order(rt.alloc(), text, from, to, &mut report) {
+        Ok(()) => Ok(()),
+        Err(fault) => Err(fault.into()),
+    }
+}
+
+// What is printed of a scenario's versions.
+fn planned(
+    rt: &HostRuntime,
+    matches: &ArgMatches<'_>,
+    text: &[u8],
+    from: u32,
+) -> Result<(), Trouble> {
+    let to = matches.get_one::<u32>("to");
+    match to {
+        Some(to) if matches.get_flag("order") => print_orders(rt, text, from, to),
+        _ => print_plan(rt, text, from, to),
+    }
+}
+
+// Whether orders are asked for, but not up to which version.
+fn lacks_end(matches: &ArgMatches<'_>) -> bool {
+    matches.get_flag("order") && matches.get_one::<u32>("to").is_none()
+}
+
 /// The command `plan`.
 pub(crate) fn run_plan(rt: &HostRuntime, matches: &ArgMatches<'_>) -> u8 {
     let (Some(scenario), Some(from)) = (matches.get_str("scenario"), matches.get_one::<u32>("from"))
     else {
         return USAGE;
     };
+    if lacks_end(matches) {
+        let _ = writeln!(rt.stderr(), "error: --order wants TO");
+        return USAGE;
+    }
     let paths = Paths {
         scenario,
         input: "",
@@ -181,7 +214,7 @@ pub(crate) fn run_plan(rt: &HostRuntime, matches: &ArgMatches<'_>) -> u8 {
     let (text, read) = read_scenario(rt, scenario);
     let text = text.as_slice();
     let outcome = match read {
-        Ok(()) => print_plan(rt, text, from, matches.get_one::<u32>("to")),
+        Ok(()) => planned(rt, matches, text, from),
         Err(trouble) => Err(trouble),
     };
     let verbose = says_more(rt, matches);

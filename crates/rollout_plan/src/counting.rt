@@ -124,6 +124,16 @@ pub(crate) fn causes_of(
     })
 }
 
+/// How many slots of two tables of one size name somebody else, though whom they named is up still.
+pub fn slots_moved(alloc: Global, before: &SlotTable, after: &SlotTable) -> Result<u32, AllocError>
+    requires { before.now.size ≡ after.now.size }
+    ensures { IfOk result (λ n. n ≡ moved before.now after.now) }
+{
+    let draining = Draining::of(alloc, &[])?;
+    let causes = causes_of(alloc, before, after, &draining)?;
+    Ok(causes.moved)
+}
+
 // How many slots fewer name a backend in the second table.
 fn slots_lost(before: &SlotTable, after: &SlotTable, backend: &Backend) -> u32
     ensures lost { result ≡ slots_lost before.now after.now (Some backend.now) }

@@ -13,5 +13,9 @@ mod plan_command;
 mod slots;
 mod text;
 
+pub use counting::slots_moved;
 pub use laws::plans_add_up;
-pub use plan_command::plan;
+pub use members::members_under;
+pub use plan_command::{plan, rule_of, version_of};
+pub use slots::{SlotTable, TableRule};
+pub use text::has_service;

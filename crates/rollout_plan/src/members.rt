@@ -93,7 +93,7 @@ fn service_by(key: ServiceKey, version: &Version) -> Option<&Service>
 }
 
 /// The members of a service under a version, none where the version lacks it.
-pub(crate) fn members_under(key: ServiceKey, version: &Version) -> &[Member]
+pub fn members_under(key: ServiceKey, version: &Version) -> &[Member]
     ensures { result.now ≡ members_under key version.entry.now }
 {
     match service_by(key, version) {

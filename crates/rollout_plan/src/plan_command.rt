@@ -13,7 +13,8 @@ use scenario::{Played, Scenario, read};
 use scenario_commands::scenario_fault;
 use std::alloc::Global;
 
-fn rule_of(scenario: &Scenario) -> TableRule
+/// How the tables of a scenario are made.
+pub fn rule_of(scenario: &Scenario) -> TableRule
     ensures { result ≡ rule_of scenario.now }
 {
     TableRule {
@@ -23,8 +24,8 @@ fn rule_of(scenario: &Scenario) -> TableRule
     }
 }
 
-// A scenario's version of a number.
-fn version_of(scenario: &Scenario, number: u32) -> Result<&Version, CliFault>
+/// A scenario's version of a number, or BadNumber.
+pub fn version_of(scenario: &Scenario, number: u32) -> Result<&Version, CliFault>
     ensures found { IfOk result (λ v. version_in scenario.entry.now number ≡ Some v.now) }
     ensures missing { IfErr result (λ fault. (fault ≡ CliFault.Pool PoolFault.BadNumber) × (version_in scenario.entry.now number ≡ None)) }
 {

@@ -18,7 +18,7 @@ use std::marker::Model;
 
 /// How the tables of a scenario are made.
 #[derive(Clone, Copy, Debug)]
-pub(crate) struct TableRule {
+pub struct TableRule {
     pub(crate) size: TableSize,
     pub(crate) hash: AnyHash,
     pub(crate) kind: SchemeKind,
@@ -27,7 +27,7 @@ pub(crate) struct TableRule {
 /// A table of slots, the backends that they name, and how many slots each of these has. Where nobody is up no slot names
 /// anybody.
 #[derive(Debug, Drop)]
-pub(crate) struct SlotTable {
+pub struct SlotTable {
     size: TableSize,
     ups: Vec<Backend>,
     owners: Vec<u32>,
@@ -170,7 +170,7 @@ impl TableRule {
     }
 
     /// The table of the up ones of some members.
-    pub(crate) fn table(&self, alloc: Global, members: &[Member]) -> Result<SlotTable, AllocError>
+    pub fn table(&self, alloc: Global, members: &[Member]) -> Result<SlotTable, AllocError>
         ensures { IfOk result (λ t. t ≡ table_by self.now members.now) }
     {
         let members = ranked(alloc, members)?;
@@ -189,7 +189,7 @@ impl TableRule {
 
 impl SlotTable {
     /// The number of slots.
-    pub(crate) fn size(&self) -> u32
+    pub fn size(&self) -> u32
         ensures size { result ≡ self.now.size }
         ensures high { self.now.size ≤ 65537 }
     {

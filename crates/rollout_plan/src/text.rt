@@ -190,7 +190,8 @@ fn push_kept(
     Ok(())
 }
 
-fn has_service(version: &Version, key: ServiceKey) -> bool
+/// Whether a version has the service of a key.
+pub fn has_service(version: &Version, key: ServiceKey) -> bool
     ensures { result ≡ has_service key version.now }
 {
     version.services.iter().any(|service| service.key() == key)

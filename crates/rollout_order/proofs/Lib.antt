@@ -1,0 +1,5 @@
+pub mod Best
+pub mod Lists
+pub mod Stable
+pub mod Texts
+pub mod Shown

@@ -1,0 +1,6 @@
+use Rattle.std.proofs.Common.{◌≡◌, ◌++◌, filter, not, take}
+use Rattle.rollout_order.specs.Steps.{is_named}
+use Rattle.rollout_order.proofs.counts.push_others.Given as goal
+
+abbrev pub invariant-loop-member : goal.invariant-loop-member
+invariant-loop-member l = l.found.items ≡ l.initial.found.items ++ filter (λ m. not (is_named l.names m)) (take l.member-index l.members)

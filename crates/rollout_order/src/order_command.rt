@@ -1,0 +1,71 @@
+//! The command `plan --order`.
+ghost use Rattle.std.specs.Prelude.{◌≡◌, ◌≢◌, Some, string_bytes, IfOk, OnOk, IfErr};
+ghost use Rattle.command_faults.specs.Printing.{Prints, BreaksOff};
+ghost use Rattle.rollout_plan.specs.Plans.{AskedFails, PlanFails, has_versions};
+ghost use Rattle.rollout_order.specs.OrderPlans.{ShowsOrders, IsOrderPlan};
+
+use crate::rollout::rollout_of;
+use crate::text::orders_text_of;
+use command_faults::{CliFault, put_text};
+use pcap_file::Sink;
+use rollout_plan::{rule_of, version_of};
+use scenario::{Played, Scenario, read};
+use scenario_commands::scenario_fault;
+use std::alloc::Global;
+
+// The text of the orders from one version of a scenario to another.
+fn text_of(alloc: Global, scenario: &Scenario, from: u32, to: u32) -> Result<String, CliFault>
+    ensures text { IfOk result (λ s. ShowsOrders scenario.now from to (string_bytes s)) }
+    ensures fault { IfErr result (λ fault. AskedFails fault (has_versions scenario.now from (Some to))) }
+    ensures unwritten { IfErr result (λ fault. fault ≢ CliFault.Write) }
+{
+    let before = version_of(scenario, from)?;
+    let after = version_of(scenario, to)?;
+    let rollout = rollout_of(alloc, rule_of(scenario), before, after)?;
+    Ok(orders_text_of(alloc, &rollout)?)
+}
+
+// The same of the scenario that a text means.
+fn text_for(alloc: Global, scenario: &[u8], from: u32, to: u32) -> Result<String, CliFault>
+    ensures text { IfOk result (λ s. IsOrderPlan scenario.now from to (string_bytes s)) }
+    ensures fault { IfErr result (λ fault. PlanFails fault scenario.now from (Some to)) }
+    ensures unwritten { IfErr result (λ fault. fault ≢ CliFault.Write) }
+{
+    let scenario = match read(alloc, Played::InTurn, scenario) {
+        Ok(scenario) => scenario,
+        Err(fault) => return Err(scenario_fault(fault)),
+    };
+    match text_of(alloc, &scenario, from, to) {
+        Ok(text) => Ok(text),
+        Err(fault) => Err(fault),
+    }
+}
+
+/// The command `plan --order`: writes in which orders the servers that leave from a scenario's version `from` to its version
+/// `to` can be replaced one by one, and how many slots each order moves though their servers stay.
+///
+/// A step makes the next server that leaves, and the next by name of those that join, what they are after. After the last step
+/// all is as after. Of up to six servers all orders are written, the one that moves the fewest slots first; of more the one
+/// whose every step moves the fewest. A step's count is the sum of what `plan` counts as moved, over the services of both
+/// versions. Faults are those of `plan`; after any but `Write` nothing was written.
+pub fn order<S: Sink>(
+    alloc: Global,
+    scenario: &[u8],
+    from: u32,
+    to: u32,
+    out: &mut S,
+) -> Result<(), CliFault>
+    ensures written { OnOk result (Prints (IsOrderPlan scenario.now from to) (S.tape out.old) (S.tape out.new)) }
+    ensures broken { IfErr result (λ fault. fault ≡ CliFault.Write → BreaksOff (IsOrderPlan scenario.now from to) (S.tape out.old) (S.tape out.new)) }
+    ensures silent { IfErr result (λ fault. fault ≢ CliFault.Write → out.new ≡ out.old) }
+    ensures fault { IfErr result (λ fault. PlanFails fault scenario.now from (Some to)) }
+{
+    let text = match text_for(alloc, scenario, from, to) {
+        Ok(text) => text,
+        Err(fault) => return Err(fault),
+    };
+    match put_text(out, text.as_str()) {
+        Ok(()) => Ok(()),
+        Err(fault) => Err(fault),
+    }
+}
