@@ -25,6 +25,7 @@ complete -c maglev -n '__fish_seen_subcommand_from compare' -l new -x -d 'member
 complete -c maglev -n '__fish_seen_subcommand_from compare' -l verbose -d 'say which word is wrong and what was expected'
 complete -c maglev -n '__fish_seen_subcommand_from compare' -l help -d 'Print help'
 complete -c maglev -n '__fish_seen_subcommand_from plan' -F
+complete -c maglev -n '__fish_seen_subcommand_from plan' -l order -d 'print in which orders servers can be replaced, and what each moves; it wants TO'
 complete -c maglev -n '__fish_seen_subcommand_from plan' -l verbose -d 'say where a fault is and what was expected, or warn of what may not be meant'
 complete -c maglev -n '__fish_seen_subcommand_from plan' -l help -d 'Print help'
 complete -c maglev -n '__fish_seen_subcommand_from scenario' -F
