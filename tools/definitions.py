@@ -40,8 +40,8 @@ PROMISES = [
     ),
     (
         "`plan`: what a rollout moves",
-        "`plan` of `rollout_plan`, and the laws of its counts.",
-        [("rollout_plan", "plan_command", "plan"), ("rollout_plan", "laws", "plans_add_up")],
+        "`plan` of `rollout_plan`, and the laws of its counts; `order` of `rollout_order`.",
+        [("rollout_plan", "plan_command", "plan"), ("rollout_plan", "laws", "plans_add_up"), ("rollout_order", "order_command", "order")],
     ),
     (
         "libmaglev: the table for programs in other languages",

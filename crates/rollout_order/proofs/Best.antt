@@ -6,7 +6,7 @@ use Rattle.rollout_order.specs.declared.greedy.Step.{Step}
 use Rattle.rollout_order.specs.declared.rollout.Rollout.{Rollout}
 use Rattle.rollout_order.specs.Steps.{step_moved}
 use Rattle.rollout_order.specs.Orders.{is_open, IsBest}
-use Rattle.rollout_order.specs.Better.{better_of}
+use Rattle.rollout_order.specs.PrivateBetter.{better_of}
 
 -- a step is the best of those below a place
 pub record IsLeastBelow (r : Rollout) (marks : List Bool) (end : ℕ) (s : Step) : Type 0 where

@@ -1,6 +1,6 @@
 pub mod Rollouts
 pub mod Steps
 pub mod Orders
-pub mod Better
+pub mod PrivateBetter
 pub mod Text
 pub mod OrderPlans

@@ -2,7 +2,7 @@
 ghost use Rattle.std.specs.Prelude.{set, ◌≡◌, ◌<◌, ◌≤◌, true, length, IfOk, IfSome};
 ghost use Rattle.rollout_order.specs.Steps.{tables_at, all_moved, step_moved};
 ghost use Rattle.rollout_order.specs.Orders.{plain_order, width, is_open, IsBest, IsBestNext, IsGreedy};
-ghost use Rattle.rollout_order.specs.Better.{better_of};
+ghost use Rattle.rollout_order.specs.PrivateBetter.{better_of};
 
 use crate::counts::{all_moved, tables_at, with_mark};
 use crate::names::is_marked;
