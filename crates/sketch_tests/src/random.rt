@@ -10,6 +10,7 @@ use scenario::{Played, ScenarioStep, read};
 use scenario_sketch::sketch;
 use std::alloc::Global;
 use std::process::Abort;
+use timed_steps::TimedStep;
 
 // How many packets went to a destination.
 #[derive(Clone, Copy)]
@@ -91,9 +92,9 @@ fn are_busiest(rt: &impl Abort, services: &[Service], counts: &mut Vec<Count>, r
 }
 
 // Whether the steps play so many records.
-fn play_all(steps: &[ScenarioStep], records: u64) -> bool {
+fn play_all(steps: &[TimedStep], records: u64) -> bool {
     match steps.last() {
-        Some(ScenarioStep::Take(count)) => u64::from(*count) == records,
+        Some(TimedStep::Counted(ScenarioStep::Take(count))) => u64::from(*count) == records,
         _ => false,
     }
 }
