@@ -371,6 +371,41 @@ impl<P: Spread> Stage<P> {
         Ok(self.intake.is_early(micros))
     }
 
+    // The same for a step by time. So each of the two has one caller, into whose loop LLVM puts it: a plain run is timed.
+    fn take_ahead<C: Core, I: Source, O: Outlet>(
+        &mut self,
+        run: &RunContext<'_, C::Setup>,
+        core: &mut C,
+        input: &mut I,
+        output: &mut O,
+    ) -> Result<bool, SimulationFault>
+        requires stands { C.stands run.now.setup.now self.old.play.trace.past core.old }
+        requires few { (n : ℕ) × (n < 2 ^ 32) × Counted self.old.intake.given n self.old.play.trace }
+        ensures stands { OnOk result (C.stands run.now.setup.now self.new.play.trace.past core.new) }
+        ensures spread { self.new.play.spread ≡ self.old.play.spread }
+        ensures few { (n : ℕ) → Counted self.old.intake.given n self.old.play.trace → OnOk result (Counted self.new.intake.given n self.new.play.trace) }
+        ensures head { self.new.intake.head ≡ self.old.intake.head }
+        ensures clear { IfOk result (λ more. more ≡ false → self.old.intake.ahead ≡ None) }
+        ensures grows { let old = self.old.intake in let new = self.new.intake in
+            IfOk result (λ more. more ≡ true → (new.given ≡ old.given + 1) × (new.given ≤ max_records)) }
+        ensures reached { let cluster = C.cluster run.now.setup.now in let plan = planned run.now.plan in
+            (choice : Choice) (text begun : Tape) (ss : List TimedStep) (k : ℕ) → SameChoice choice (P.choice self.old.play.spread) →
+            Reached cluster choice plan text begun (take_of (k + 1) ∷ ss) self.old (I.tape input.old) (O.tape output.old) →
+            IfOk result (λ more. Reached cluster choice plan text begun (still_to_take more k ss) self.new (I.tape input.new) (O.tape output.new)) }
+        ensures short { let cluster = C.cluster run.now.setup.now in let plan = planned run.now.plan in
+            (choice : Choice) (text begun : Tape) (ss : List TimedStep) (k : ℕ) → SameChoice choice (P.choice self.old.play.spread) →
+            Reached cluster choice plan text begun (take_of (k + 1) ∷ ss) self.old (I.tape input.old) (O.tape output.old) →
+            IfErr result (λ fault. Shortened cluster choice plan self.old.intake.head text (I.tape input.new) begun (O.tape output.new) fault) }
+    {
+        let more = self.read_one(run.alloc, input)?;
+        if !more {
+            return Ok(false);
+        }
+        let place = self.play.next_place();
+        self.deliver(run, core, place, output)?;
+        Ok(true)
+    }
+
     // Takes the next record if it came less than so long after the first. Says whether it did.
     fn take_early<C: Core, I: Source, O: Outlet>(
         &mut self,
@@ -401,7 +436,7 @@ impl<P: Spread> Stage<P> {
         if !early {
             return Ok(false);
         }
-        self.take_one(run, core, input, output)
+        self.take_ahead(run, core, input, output)
     }
 
     // Takes the next records, up to the first that came so long after the first of all, or later.
