@@ -186,6 +186,17 @@ Forwarder = collections.namedtuple("Forwarder", "entries turns clock")
 
 FRESH = Forwarder((), 0, 0)
 
+# Where a packet is sent: a node, which life of it, a worker, and what the worker's clock shows.
+At = collections.namedtuple("At", "node life worker clock")
+
+# Why a connection changes its server, in the order in which they are asked for.
+CHANGES = ["down", "drained", "node", "restart", "worker", "idle", "evicted"]
+
+
+class Sent(tuple):
+    """A packet that was sent: its node, its record, its flow, its backend and the version of its choice. `at` is where and when
+    it was sent: the node, its life, the worker and what its clock showed then."""
+
 
 class Run:
     """A scenario's run over a capture."""
@@ -204,6 +215,7 @@ class Run:
         self.live = list(range(count))
         self.full = [set() for _ in range(count)]
         self.held = [False] * count
+        self.lives = [0] * count
         self.read = self.spread = self.lost = self.unrouted = self.skipped = 0
         self.events = []
         self.stops = []
@@ -284,6 +296,7 @@ class Run:
         self.queues[node] = [[] for _ in range(self.workers)]
         self.refused_homes[node] = 0
         self.held[node] = False
+        self.lives[node] += 1
         self.say(f"restart {node}", f"restarted {waiting}", waiting)
 
     def step_stop(self, node):
@@ -379,7 +392,9 @@ class Run:
         if isinstance(answer, str):
             return self.say(event, f"drop {answer}")
         _, backend, origin, _ = answer
-        return self.say(event, f"forward {'@'.join(backend)} from {origin}", (node, place, flow, backend, origin))
+        sent = Sent((node, place, flow, backend, origin))
+        sent.at = At(node, self.lives[node], worker, self.forwarders[node][worker].clock)
+        return self.say(event, f"forward {'@'.join(backend)} from {origin}", sent)
 
     # what is asked
 
@@ -436,24 +451,60 @@ class Run:
         services = [members for services in self.versions.values() for members in services.values()]
         return any(member.state == "drain" for members in services for member in members)
 
-    def splits(self):
-        """A line for each two sends of one flow, with none of that flow between them, to different backends, and their counts."""
+    def pairs(self):
+        """Each two sends of one flow to different backends, with none of that flow between them: the number and the text of both
+        events, and what was sent."""
         sends = [(place, event, sent) for place, (event, outcome, sent) in enumerate(self.events) if outcome.startswith("forward")]
+        for later, one in enumerate(sends):
+            before = [other for other in sends[:later] if other[2][2] == one[2][2]]
+            if before and before[-1][2][3] != one[2][3]:
+                yield before[-1], one
+
+    def change(self, first, later):
+        """Why a connection changed its server between two sends."""
+        cause = self.cause(first[2][2], first[2][3], first[2][4], int(later[1].split(" ")[3]))
+        if cause != "moved":
+            return cause
+        one, other = first[2].at, later[2].at
+        if one.node != other.node:
+            return "node"
+        if one.life != other.life:
+            return "restart"
+        if one.worker != other.worker:
+            return "worker"
+        return "idle" if other.clock - one.clock > self.scenario.get("idle", other.clock) else "evicted"
+
+    def place(self, sent):
+        """Where and when a packet was sent, as a line of splits says it."""
+        micros = self.time(sent[1])
+        return f"{sent[1]} {micros // 1_000_000}.{micros % 1_000_000:06} {sent.at.node} {sent.at.worker}"
+
+    def splits(self, where=False):
+        """A line for each split, and their counts."""
         lines, causes = [], []
-        for later, (place2, event, (_, _, flow, backend2, origin2)) in enumerate(sends):
-            before = [one for one in sends[:later] if one[2][2] == flow]
-            if not before or before[-1][2][3] == backend2:
-                continue
-            place1, _, (_, _, _, backend1, origin1) = before[-1]
+        for first, later in self.pairs():
+            (place1, _, (_, _, flow, backend1, origin1)), (place2, event, (_, _, _, backend2, origin2)) = first, later
             causes.append(self.cause(flow, backend1, origin1, int(event.split(" ")[3])))
             name = WORDS[flow[12]]
             ports = int.from_bytes(flow[8:10], "big"), int.from_bytes(flow[10:12], "big")
             who = f"{name} {dotted(flow[:4])}:{ports[0]}>{dotted(flow[4:8])}:{ports[1]}"
             halves = f"version {origin1} {'@'.join(backend1)} version {origin2} {'@'.join(backend2)}"
-            lines.append(f"split {who} events {place1} {place2} slot {self.slot(flow)} {halves} {causes[-1]}")
-        flows = len({sent[2] for _, _, sent in sends})
+            line = f"split {who} events {place1} {place2} slot {self.slot(flow)} {halves} {causes[-1]}"
+            if where:
+                line += f" at {self.place(first[2])} {self.place(later[2])} {self.change(first, later)}"
+            lines.append(line)
+        flows = len({sent[2] for sent in self.sends()})
         lines += [f"flows {flows}", f"split {len(causes)}", f"down {causes.count('down')}", f"moved {causes.count('moved')}"]
         lines += [f"drained {causes.count('drained')}"] if self.drains() else []
+        return "".join(line + "\n" for line in lines)
+
+    def summary(self):
+        """How many connections changed their server, how often, and why."""
+        pairs = list(self.pairs())
+        causes = [self.change(first, later) for first, later in pairs]
+        changed = {first[2][2] for first, _ in pairs}
+        lines = [f"connections {len({sent[2] for sent in self.sends()})}", f"changed {len(changed)}", f"changes {len(pairs)}"]
+        lines += [f"changes {cause} {causes.count(cause)}" for cause in CHANGES]
         return "".join(line + "\n" for line in lines)
 
     def explained(self, one, other):
@@ -496,6 +547,49 @@ def planned(scenario, number):
             slots = sum(one is not None and one[:2] == (name, at) for one in named)
             lines.append(f"{name}@{at} weight {weight} slots {slots}{'' if state == 'up' else f' {state}'}")
     return "".join(line + "\n" for line in lines)
+
+
+def table_of(scenario, number, service):
+    """What `table` prints of a scenario's service."""
+    document = tomllib.loads(scenario)
+    members = versions_of(document)[number][service]
+    named = [one[0] if one else "-" for one in named_slots(document, members)]
+    ups = sorted(member[0] for member in members if member.state == "up")
+    lines = [f"size {len(named)} backends {len(ups)}"]
+    lines += [f"{slot} {name}" for slot, name in enumerate(named)]
+    lines += [f"count {name} {named.count(name)}" for name in ups]
+    return "".join(line + "\n" for line in lines)
+
+
+def compared(scenario, first, second, service):
+    """What `compare` prints of a scenario's service in two versions."""
+    document = tomllib.loads(scenario)
+    both = [versions_of(document)[number].get(service, []) for number in (first, second)]
+    olds, news = (["@".join(one[:2]) if one else "-" for one in named_slots(document, members)] for members in both)
+    counts = [sum(member.state == "up" for member in members) for members in both]
+    moved = [(slot, *pair) for slot, pair in enumerate(zip(olds, news)) if pair[0] != pair[1]]
+    lines = [f"size {len(olds)} old {counts[0]} new {counts[1]} differ {len(moved)}"]
+    lines += [f"{slot} {old} {new}" for slot, old, new in moved]
+    return "".join(line + "\n" for line in lines)
+
+
+def picked(scenario, number, datagram, check=True):
+    """What `pick` prints of a datagram under a version of a scenario of the scheme maglev."""
+    document = tomllib.loads(scenario)
+    flow, _ = read_packet("raw", datagram, check)
+    if isinstance(flow, str):
+        return f"drop {flow}\n"
+    place = f"{dotted(flow[4:8])}:{int.from_bytes(flow[10:12], 'big')}/{WORDS[flow[12]]}"
+    members = versions_of(document)[number].get(place)
+    if members is None:
+        return "drop NoService\n"
+    slot = HASHES[document["hash"]](b"f" + flow) % document["size"]
+    one = named_slots(document, members)[slot]
+    if one is None:
+        return "drop NoBackend\n"
+    ports = int.from_bytes(flow[8:10], "big"), int.from_bytes(flow[10:12], "big")
+    who = f"{WORDS[flow[12]]} {dotted(flow[:4])}:{ports[0]}>{dotted(flow[4:8])}:{ports[1]}"
+    return f"{who} slot {slot} backend {one[0]}\n"
 
 
 def plan(scenario, first, second):

@@ -8,7 +8,7 @@ use Rattle.pool_versions.specs.declared.catalogue.PoolFault.TheVariants as pool
 use Rattle.pcap_file.specs.declared.format.PcapFault.{PcapFault}
 use Rattle.pcap_file.specs.declared.format.PcapFault.TheVariants as capture
 use Rattle.command_faults.specs.declared.fault.CliFault.{CliFault}
-use Rattle.command_faults.specs.declared.fault.CliFault.TheVariants.{BadSize, BadHash, BadName, DoubleName, TooMany, Write, BadHex, TooLong, Read, BadMember, BadToml, BadFormat, BadKey, Pool, BadStep, Capture, OpenScenario, OpenInput, OpenOutput, ReadScenario, NoRandom, ThreadLost, Foreign, RingLost, BookLost, Memory}
+use Rattle.command_faults.specs.declared.fault.CliFault.TheVariants.{BadSize, BadHash, BadName, DoubleName, TooMany, Write, BadHex, TooLong, Read, BadMember, BadToml, BadFormat, BadKey, Pool, BadStep, BadService, BadScheme, Capture, OpenScenario, OpenInput, OpenOutput, ReadScenario, NoRandom, ThreadLost, Foreign, RingLost, BookLost, Memory}
 
 abbrev pub pool_name : PoolFault → List ℕ
 pool_name pool.BadNumber = codes "BadNumber"
@@ -45,6 +45,8 @@ fault_name BadFormat = codes "BadFormat"
 fault_name BadKey = codes "BadKey"
 fault_name (Pool fault) = pool_name fault
 fault_name (BadStep step) = codes "BadStep " ++ decimal step
+fault_name BadService = codes "BadService"
+fault_name BadScheme = codes "BadScheme"
 fault_name (Capture fault) = capture_name fault
 fault_name OpenScenario = codes "OpenScenario"
 fault_name OpenInput = codes "OpenInput"

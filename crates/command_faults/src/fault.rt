@@ -32,7 +32,7 @@ pub enum CliFault {
     BadMember,
     /// A scenario is no TOML document.
     BadToml,
-    /// A scenario's format is missing or neither 1 nor 2.
+    /// A scenario's format is missing or none of 1, 2 and 3.
     BadFormat,
     /// A key of a scenario is missing or unknown, or its value isn't one of those that it may have.
     BadKey,
@@ -40,6 +40,10 @@ pub enum CliFault {
     Pool(PoolFault),
     /// This step of a scenario, from 0, isn't one, and all before it are.
     BadStep(u32),
+    /// A scenario's version has no such service, or several where none is named.
+    BadService,
+    /// A scenario's scheme has no tables.
+    BadScheme,
     /// The input isn't a capture, or couldn't be read as one.
     Capture(PcapFault),
     /// The scenario's file couldn't be opened.
@@ -114,6 +118,8 @@ pub(crate) fn word_of(fault: &CliFault) -> &'static str
         CliFault::BadKey => "BadKey",
         CliFault::Pool(fault) => pool_name(*fault),
         CliFault::BadStep(_) => "BadStep ",
+        CliFault::BadService => "BadService",
+        CliFault::BadScheme => "BadScheme",
         CliFault::Capture(fault) => capture_name(*fault),
         CliFault::OpenScenario => "OpenScenario",
         CliFault::OpenInput => "OpenInput",

@@ -69,39 +69,116 @@ const SCENARIO_HELP: &str = "Example: maglev scenario examples/rolling.pcap > sc
 
 INPUT may be -, which is standard input. The scenario has a service for each address, protocol and port to which more than 5 packets went, the most frequent first. Fill in the members of each, and play it with simulate. Faults are those of simulate for INPUT, NoRandom, Write and Memory.";
 
+/// The end of the help of `table`.
+const TABLE_HELP: &str = "Example: maglev table --size 7 --hash sum A B C
+
+With --scenario FILE --version V the table is that of a service of the scenario's version V: --service names it where there are several.
+
+Example: maglev table --scenario examples/failover.toml --version 1";
+
+/// The end of the help of `compare`.
+const COMPARE_HELP: &str = "Example: maglev compare --size 7 --hash sum --old 'A@10.8.0.1 B@10.8.0.2' --new 'A@10.8.0.1 B@10.8.0.2/down'
+
+With --scenario FILE --from V --to W the members are those of a service in the scenario's versions V and W: --service names it where there are several.
+
+Example: maglev compare --scenario examples/failover.toml --from 1 --to 2";
+
 /// The end of the help of `pick`.
 const PICK_HELP: &str = "The datagram is read from standard input.
 
-Example: echo 4500001c000100004011aece0a000001c000020103e8003500080000 | maglev pick --size 7 --hash sum A B C";
+Example: echo 4500001c000100004011aece0a000001c000020103e8003500080000 | maglev pick --size 7 --hash sum A B C
 
-fn size<'a>(alloc: Global) -> Arg<'a> {
+With --scenario FILE --version V the backend is the one that a new flow gets in the scenario's version V.";
+
+fn size<'a>(alloc: Global) -> Result<Arg<'a>, AllocError> {
     Arg::new(alloc, "size")
         .long("size")
         .value_name("M")
         .help("slots of the table: 7, 13, 251, 1021, 8191 or 65537")
-        .required(true)
         .action(ArgAction::Set)
         .value_parser(value_parser!(u32))
+        .required_unless_present("described")
 }
 
-fn hash<'a>(alloc: Global) -> Arg<'a> {
+fn hash<'a>(alloc: Global) -> Result<Arg<'a>, AllocError> {
     Arg::new(alloc, "hash")
         .long("hash")
         .value_name("H")
         .help("hash of names and flows: fnv, sha256 or sum")
-        .required(true)
         .action(ArgAction::Set)
+        .required_unless_present("described")
 }
 
-fn names<'a>(alloc: Global) -> Arg<'a> {
+// The scenario whose size, hash and members a table has.
+fn described<'a>(alloc: Global) -> Result<Arg<'a>, AllocError> {
+    Arg::new(alloc, "described")
+        .long("scenario")
+        .value_name("FILE")
+        .help("take the size, the hash and the members from a scenario")
+        .action(ArgAction::Set)
+        .conflicts_with("size")?
+        .conflicts_with("hash")
+}
+
+// The same in place of names.
+fn with_names<'a>(alloc: Global) -> Result<Arg<'a>, AllocError> {
+    described(alloc)?
+        .requires_arg("version")?
+        .conflicts_with("names")
+}
+
+// The same in place of two lists of members.
+fn with_members<'a>(alloc: Global) -> Result<Arg<'a>, AllocError> {
+    described(alloc)?
+        .requires_arg("from")?
+        .requires_arg("to")?
+        .conflicts_with("old")?
+        .conflicts_with("new")
+}
+
+// A version of that scenario.
+fn version_by<'a>(
+    alloc: Global,
+    id: &'a str,
+    name: &'a str,
+    help: &'a str,
+) -> Result<Arg<'a>, AllocError> {
+    Arg::new(alloc, id)
+        .long(id)
+        .value_name(name)
+        .help(help)
+        .action(ArgAction::Set)
+        .value_parser(value_parser!(u32))
+        .requires_arg("described")
+}
+
+fn of_version<'a>(alloc: Global) -> Result<Arg<'a>, AllocError> {
+    version_by(
+        alloc,
+        "version",
+        "V",
+        "number of the scenario's version",
+    )
+}
+
+fn service<'a>(alloc: Global) -> Result<Arg<'a>, AllocError> {
+    Arg::new(alloc, "service")
+        .long("service")
+        .value_name("ADDRESS:PORT/PROTOCOL")
+        .help("the scenario's service, as plan prints it; the only one where it is left out")
+        .action(ArgAction::Set)
+        .requires_arg("described")
+}
+
+fn names<'a>(alloc: Global) -> Result<Arg<'a>, AllocError> {
     Arg::new(alloc, "names")
         .value_name("NAME")
         .help(
             "name of a backend: 1 to 32 letters, digits, '-' and '.', the first a letter or digit; NAME*W gives it a weight from 1 to 16",
         )
-        .required(true)
         .action(ArgAction::Append)
         .num_args(1..)
+        .required_unless_present("described")
 }
 
 fn no_check<'a>(alloc: Global) -> Arg<'a> {
@@ -112,23 +189,33 @@ fn no_check<'a>(alloc: Global) -> Arg<'a> {
 }
 
 fn table<'a>(alloc: Global) -> Result<Command<'a>, AllocError> {
-    let args = [size(alloc), hash(alloc), of_words(alloc), names(alloc)];
+    let args = [
+        size(alloc)?,
+        hash(alloc)?,
+        with_names(alloc)?,
+        of_version(alloc)?,
+        service(alloc)?,
+        of_words(alloc),
+        names(alloc)?,
+    ];
     let args = Vec::from_array(alloc, args)?;
     Command::new(alloc, "table")
         .about(
             "Prints which backend each slot of a table names, and how many slots each backend has",
         )
-        .after_help("Example: maglev table --size 7 --hash sum A B C")
+        .after_help(TABLE_HELP)
         .args(args)
 }
 
 fn pick<'a>(alloc: Global) -> Result<Command<'a>, AllocError> {
     let args = [
-        size(alloc),
-        hash(alloc),
+        size(alloc)?,
+        hash(alloc)?,
+        with_names(alloc)?,
+        of_version(alloc)?,
         no_check(alloc),
         of_words(alloc),
-        names(alloc),
+        names(alloc)?,
     ];
     let args = Vec::from_array(alloc, args)?;
     Command::new(alloc, "pick")
@@ -139,39 +226,41 @@ fn pick<'a>(alloc: Global) -> Result<Command<'a>, AllocError> {
         .args(args)
 }
 
-fn members<'a>(alloc: Global, id: &'a str, help: &'a str) -> Arg<'a> {
+fn members<'a>(alloc: Global, id: &'a str, help: &'a str) -> Result<Arg<'a>, AllocError> {
     Arg::new(alloc, id)
         .long(id)
         .value_name("MEMBERS")
         .help(help)
-        .required(true)
         .action(ArgAction::Set)
+        .required_unless_present("described")
 }
 
-fn old<'a>(alloc: Global) -> Arg<'a> {
+fn old<'a>(alloc: Global) -> Result<Arg<'a>, AllocError> {
     let help =
         "members before: NAME@ADDRESS, then *W for a weight from 1 to 16, then /down where it is down, joined by single spaces";
     members(alloc, "old", help)
 }
 
-fn new<'a>(alloc: Global) -> Arg<'a> {
+fn new<'a>(alloc: Global) -> Result<Arg<'a>, AllocError> {
     members(alloc, "new", "members after")
 }
 
 fn compare<'a>(alloc: Global) -> Result<Command<'a>, AllocError> {
     let args = [
-        size(alloc),
-        hash(alloc),
-        old(alloc),
-        new(alloc),
+        size(alloc)?,
+        hash(alloc)?,
+        old(alloc)?,
+        new(alloc)?,
+        with_members(alloc)?,
+        version_by(alloc, "from", "V", "number of the scenario's version before")?,
+        version_by(alloc, "to", "W", "number of the scenario's version after")?,
+        service(alloc)?,
         of_words(alloc),
     ];
     let args = Vec::from_array(alloc, args)?;
     Command::new(alloc, "compare")
         .about("Prints the slots that name another backend after a change of members")
-        .after_help(
-            "Example: maglev compare --size 7 --hash sum --old 'A@10.8.0.1 B@10.8.0.2' --new 'A@10.8.0.1 B@10.8.0.2/down'",
-        )
+        .after_help(COMPARE_HELP)
         .args(args)
 }
 

@@ -2,6 +2,7 @@
 //! them.
 #![tactic(auto)]
 
+mod described;
 mod files;
 mod reasons;
 mod scenarios;

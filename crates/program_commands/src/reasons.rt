@@ -117,6 +117,14 @@ fn reason_by(alloc: Global, trouble: &Trouble, files: &Files<'_, '_>) -> Option<
             let path = files.paths.scenario;
             format!(in alloc; "{path}: expected at most 1048576 bytes").ok()
         }
+        CliFault::BadService => plain(
+            alloc,
+            "--service: expected a service as plan prints it, or that the version has only one",
+        ),
+        CliFault::BadScheme => plain(
+            alloc,
+            "scheme: expected \"maglev\", since the others have no table",
+        ),
         CliFault::Capture(fault) => capture(alloc, fault, trouble, files),
         CliFault::Pool(PoolFault::BadNumber) => bad_number(alloc, files.text),
         fault => words_of(alloc, files.text, scenario_fault(fault)?),
@@ -129,7 +137,7 @@ fn bad_number(alloc: Global, text: &[u8]) -> Option<String> {
         Some(words) => Some(words),
         None => plain(
             alloc,
-            "FROM or TO: expected the number of a version that the scenario has",
+            "version: expected the number of one that the scenario has",
         ),
     }
 }

@@ -64,9 +64,9 @@ fn explain(rt: &HostRuntime, paths: Paths<'_>, text: &[u8], trouble: &Trouble) {
     say(rt, reason(rt.alloc(), trouble, &files));
 }
 
-// The end of a command over files. A fault is reported, and where more is said, where it is and what was expected. Without a
-// fault a scenario that may not mean what was meant is warned of then.
-fn ended(
+/// The end of a command over files. A fault is reported, and where more is said, where it is and what was expected. Without a
+/// fault a scenario that may not mean what was meant is warned of then.
+pub(crate) fn ended(
     rt: &HostRuntime,
     verbose: bool,
     paths: Paths<'_>,

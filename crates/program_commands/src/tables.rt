@@ -1,4 +1,5 @@
-//! The commands that need no scenario, from what the command line says.
+//! The commands about tables, from what the command line says.
+use crate::described::{compare_described, pick_described, table_described};
 use crate::word_reasons::{of_members, of_names};
 use crate::{USAGE, say, says_more, told_outcome};
 use clap::ArgMatches;
@@ -26,6 +27,9 @@ fn ended<F: FnOnce(CliFault) -> Option<String> + Drop>(
 
 /// The command `table`.
 pub(crate) fn run_table(rt: &HostRuntime, matches: &ArgMatches<'_>) -> u8 {
+    if let Some(scenario) = matches.get_str("described") {
+        return table_described(rt, matches, scenario);
+    }
     let (Some(size), Some(hash), Some(names)) = (
         matches.get_one::<u32>("size"),
         matches.get_str("hash"),
@@ -53,6 +57,9 @@ pub(crate) fn run_table(rt: &HostRuntime, matches: &ArgMatches<'_>) -> u8 {
 
 /// The command `pick`, over standard input.
 pub(crate) fn run_pick(rt: &HostRuntime, matches: &ArgMatches<'_>) -> u8 {
+    if let Some(scenario) = matches.get_str("described") {
+        return pick_described(rt, matches, scenario);
+    }
     let (Some(size), Some(hash), Some(names)) = (
         matches.get_one::<u32>("size"),
         matches.get_str("hash"),
@@ -83,6 +90,9 @@ pub(crate) fn run_pick(rt: &HostRuntime, matches: &ArgMatches<'_>) -> u8 {
 
 /// The command `compare`.
 pub(crate) fn run_compare(rt: &HostRuntime, matches: &ArgMatches<'_>) -> u8 {
+    if let Some(scenario) = matches.get_str("described") {
+        return compare_described(rt, matches, scenario);
+    }
     let (Some(size), Some(hash), Some(old), Some(new)) = (
         matches.get_one::<u32>("size"),
         matches.get_str("hash"),

@@ -47,9 +47,13 @@ members_in (Some s) = s.members.items
 abbrev pub members_under : ServiceKey → Version → List Member
 members_under key v = members_in (service_by key v)
 
+-- `ADDRESS:PORT/PROTOCOL`
+abbrev pub service_word : ServiceKey → List ℕ
+service_word key = end_text key.vip key.port ++ (codes "/" ++ protocol_text key.proto)
+
 -- `service ADDRESS:PORT/PROTOCOL`
 unfoldable pub service_line : ServiceKey → List ℕ
-service_line key = codes "service " ++ (end_text key.vip key.port ++ (codes "/" ++ (protocol_text key.proto ++ codes "\n")))
+service_line key = codes "service " ++ (service_word key ++ codes "\n")
 
 -- what stands behind a backend that isn't up, whether it drains or not
 abbrev pub state_text : Bool → Bool → List ℕ

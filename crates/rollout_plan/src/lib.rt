@@ -18,4 +18,4 @@ pub use laws::plans_add_up;
 pub use members::members_under;
 pub use plan_command::{plan, rule_of, version_of};
 pub use slots::{SlotTable, TableRule};
-pub use text::has_service;
+pub use text::{ServiceText, has_service};

@@ -15,6 +15,7 @@ use scenario::SchemeKind;
 use selection::{is_among, places_of_name};
 use std::alloc::{AllocError, Global};
 use std::marker::Model;
+use table_commands::NamedSlots;
 
 /// How the tables of a scenario are made.
 #[derive(Clone, Copy, Debug)]
@@ -187,6 +188,22 @@ impl TableRule {
     }
 }
 
+impl NamedSlots for SlotTable {
+    ghost table = { λ t. t };
+
+    fn slots(&self) -> u32 {
+        self.size()
+    }
+
+    fn up_count(&self) -> usize {
+        self.ups().len()
+    }
+
+    fn named_at(&self, slot: u32) -> Option<Backend> {
+        self.backend_at(slot)
+    }
+}
+
 impl SlotTable {
     /// The number of slots.
     pub fn size(&self) -> u32
@@ -197,7 +214,7 @@ impl SlotTable {
     }
 
     /// The up backends, in ascending order of name.
-    pub(crate) fn ups(&self) -> &[Backend]
+    pub fn ups(&self) -> &[Backend]
         ensures ups { result.now ≡ self.now.ups }
         ensures few { length self.now.ups ≤ 65537 }
     {
@@ -217,7 +234,7 @@ impl SlotTable {
     }
 
     /// The backend that a slot names, None where nobody is up. Slots begin at 0.
-    pub(crate) fn backend_at(&self, slot: u32) -> Option<Backend>
+    pub fn backend_at(&self, slot: u32) -> Option<Backend>
         requires { slot < self.now.size }
         ensures { result ≡ slot_names self.now.ups self.now.owners slot }
     {
@@ -233,7 +250,7 @@ impl SlotTable {
     }
 
     /// How many slots name a backend. Only those places are looked at that have its name.
-    pub(crate) fn slots_of(&self, backend: &Backend) -> u32
+    pub fn slots_of(&self, backend: &Backend) -> u32
         ensures slots { result ≡ slots_naming (Some backend.now) self.now }
         ensures few { result ≤ 65537 }
     {

@@ -34,6 +34,25 @@ impl fmt::Display for ProtocolText {
     }
 }
 
+/// A service: `ADDRESS:PORT/PROTOCOL`.
+#[derive(Clone, Copy)]
+pub struct ServiceText(pub ServiceKey);
+
+impl fmt::Display for ServiceText {
+    ghost use Rattle.std.specs.Prelude.{Some};
+    ghost use Rattle.rollout_plan.specs.Text.{service_word};
+
+    ghost output = { λ s. Some (service_word s.0) };
+
+    fn fmt<W: fmt::Write>(&self, f: &mut fmt::Formatter<W>) -> fmt::Result {
+        let key = self.0;
+        let address = AddressText(key.vip);
+        let port = key.port;
+        let protocol = ProtocolText(key.proto);
+        write!(f, "{address}:{port}/{protocol}")
+    }
+}
+
 /// What stands behind a backend's numbers: nothing where it is up.
 #[derive(Clone, Copy)]
 struct StateText {
@@ -80,10 +99,8 @@ impl fmt::Display for DrainedText {
 fn push_service_line(text: &mut String, key: ServiceKey) -> Result<(), AllocError>
     ensures { OnOk result (string_bytes text.new ≡ string_bytes text.old ++ service_line key) }
 {
-    let address = AddressText(key.vip);
-    let port = key.port;
-    let protocol = ProtocolText(key.proto);
-    write!(text, "service {address}:{port}/{protocol}\n")
+    let service = ServiceText(key);
+    write!(text, "service {service}\n")
 }
 
 #[tactic(auto, unfolding(crate::specs::Text::counts_line))]

@@ -12,5 +12,6 @@ mod table_command;
 mod table_text;
 
 pub use compare_command::compare;
-pub use pick_command::pick;
+pub use compare_text::{NamedSlots, compare_text_of};
+pub use pick_command::{datagram_of, pick};
 pub use table_command::table;

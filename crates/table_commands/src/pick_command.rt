@@ -117,8 +117,8 @@ fn line_of(
     }
 }
 
-// Reads a datagram as hexadecimal text.
-fn datagram_of<R: Source>(alloc: Global, input: &mut R) -> Result<Vec<u8>, CliFault>
+/// Reads a datagram as hexadecimal text, as `pick` does.
+pub fn datagram_of<R: Source>(alloc: Global, input: &mut R) -> Result<Vec<u8>, CliFault>
     ensures bytes { IfOk result (λ v. IfSome (R.tape input.old).bytes (λ text. IsHexOf v.items text)) }
     ensures short { OnOk result (IsShort (R.tape input.old).bytes) }
     ensures unfailed { OnOk result (Unfailed (R.tape input.old) (R.tape input.new)) }

@@ -4,4 +4,5 @@ use Rattle.table_commands.specs.Compare.{moved_line}
 use Rattle.table_commands.proofs.compare_text.push_moved_lines.Given as goal
 
 abbrev pub invariant-loop-slot : goal.invariant-loop-slot
-invariant-loop-slot l = string_bytes l.text ≡ string_bytes l.initial.text ++ flat_map (moved_line l.old l.new) (take l.slot-index l.slots)
+invariant-loop-slot g l =
+    string_bytes l.text ≡ string_bytes l.initial.text ++ flat_map (moved_line (g.T.NamedSlots.table l.old) (g.T.NamedSlots.table l.new)) (take l.slot-index l.slots)

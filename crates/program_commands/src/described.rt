@@ -1,0 +1,96 @@
+//! The commands about tables where a scenario has the size, the hash and the members.
+use crate::USAGE;
+use crate::files::{Paths, read_scenario};
+use crate::reasons::Trouble;
+use crate::scenarios::ended;
+use crate::says_more;
+use clap::ArgMatches;
+use command_faults::CliFault;
+use pcap_file::{FromRead, ToWrite};
+use scenario::Played;
+use scenario_tables::{Change, compare_in, pick_in, table_in};
+use std::io;
+
+// A command over the text of a scenario's file. `print` prints what is asked of it.
+fn over_text<F: FnOnce(&[u8]) -> Result<(), CliFault> + Drop>(
+    rt: &HostRuntime,
+    matches: &ArgMatches<'_>,
+    scenario: &str,
+    print: F,
+) -> u8
+    requires { F.IsAlwaysCallable print }
+{
+    let paths = Paths {
+        scenario,
+        input: "standard input",
+        output: "standard output",
+    };
+    let (text, read) = read_scenario(rt, scenario);
+    let text = text.as_slice();
+    let outcome = match read {
+        Ok(()) => print(text).map_err(Trouble::from),
+        Err(trouble) => Err(trouble),
+    };
+    ended(
+        rt,
+        says_more(rt, matches),
+        paths,
+        Played::InTurn,
+        text,
+        outcome,
+    )
+}
+
+/// The command `table` over a scenario.
+pub(crate) fn table_described(rt: &HostRuntime, matches: &ArgMatches<'_>, scenario: &str) -> u8 {
+    let Some(version) = matches.get_one::<u32>("version") else {
+        return USAGE;
+    };
+    let service = matches.get_str("service");
+    over_text(
+        rt,
+        matches,
+        scenario,
+        |text| {
+            let mut out = ToWrite::new(io::writer(rt));
+            table_in(rt.alloc(), text, version, service, &mut out)
+        },
+    )
+}
+
+/// The command `pick` over a scenario, with a datagram from standard input.
+pub(crate) fn pick_described(rt: &HostRuntime, matches: &ArgMatches<'_>, scenario: &str) -> u8 {
+    let Some(version) = matches.get_one::<u32>("version") else {
+        return USAGE;
+    };
+    let check = !matches.get_flag("no-check");
+    over_text(
+        rt,
+        matches,
+        scenario,
+        |text| {
+            let mut input = FromRead::new(rt.stdin());
+            let mut out = ToWrite::new(io::writer(rt));
+            pick_in(rt.alloc(), text, version, check, &mut input, &mut out)
+        },
+    )
+}
+
+/// The command `compare` over a scenario.
+pub(crate) fn compare_described(rt: &HostRuntime, matches: &ArgMatches<'_>, scenario: &str) -> u8 {
+    let (Some(from), Some(to)) = (matches.get_one::<u32>("from"), matches.get_one::<u32>("to"))
+    else {
+        return USAGE;
+    };
+    let service = matches.get_str("service");
+    let change = Change { from, to, service };
+    over_text(
+        rt,
+        matches,
+        scenario,
+        |text| {
+            let mut out = ToWrite::new(io::writer(rt));
+            compare_in(rt.alloc(), text, change, &mut out)
+        },
+    )
+}

@@ -1,0 +1,98 @@
+-- What `table` and `compare` print of a scenario's service, and when they give up, by which fault.
+use Rattle.std.specs.Prelude.{◌≡◌, ◌⊎◌, ℕ, ◌++◌, List, map, length, Option, Some, None, option_map, option_and_then, codes}
+use Rattle.std.specs.List.{flat_map, range_with_len}
+use Rattle.pool_versions.specs.declared.backend.Backend.{Backend}
+use Rattle.pool_versions.specs.declared.catalogue.PoolFault.TheVariants.{BadNumber}
+use Rattle.pool_versions.specs.declared.key.ServiceKey.{ServiceKey}
+use Rattle.pool_versions.specs.declared.service.Version.{Version}
+use Rattle.pool_versions.specs.Pool.{key_of}
+use Rattle.selection.specs.Picks.{NamedTable, slot_names}
+use Rattle.scenario.specs.declared.playing.Played.TheVariants.{InTurn}
+use Rattle.scenario.specs.declared.reading.Scenario.{Scenario}
+use Rattle.scenario.specs.Meaning.{Means}
+use Rattle.scenario_commands.specs.Scenarios.{ScenarioFails}
+use Rattle.command_faults.specs.declared.fault.CliFault.{CliFault}
+use Rattle.command_faults.specs.declared.fault.CliFault.TheVariants.{Pool, BadService, Write, Memory}
+use Rattle.table_commands.specs.Text.{head_line, slot_line, count_line}
+use Rattle.table_commands.specs.Compare.{compare_text}
+use Rattle.rollout_plan.specs.Counts.{slots_naming}
+use Rattle.rollout_plan.specs.Plans.{version_in}
+use Rattle.rollout_plan.specs.Tables.{rule_of, table_by}
+use Rattle.rollout_plan.specs.Text.{members_under}
+use Rattle.scenario_tables.specs.Services.{asked_key, keys_of_both}
+
+-- the name that a slot names, or a dash where nobody is up
+abbrev pub owner_name : Option Backend → List ℕ
+owner_name None = codes "-"
+owner_name (Some b) = b.name
+
+-- `I NAME`
+abbrev pub owner_line : NamedTable → ℕ → List ℕ
+owner_line t slot = slot_line slot (owner_name (slot_names t.ups t.owners slot))
+
+-- `count NAME C`
+abbrev pub share_line : NamedTable → Backend → List ℕ
+share_line t b = count_line b.name (slots_naming (Some b) t)
+
+-- the text of a table: its size and how many share it, a line for each slot, and for each backend its slots
+unfoldable pub slots_text : NamedTable → List ℕ
+slots_text t = head_line t.size (length t.ups) ++ (flat_map (owner_line t) (range_with_len 0 t.size) ++ flat_map (share_line t) t.ups)
+
+-- the text is that of the service's table under a version
+pub record ShowsTable (s : Scenario) (number : ℕ) (word : Option (List ℕ)) (text : List ℕ) : Type 0 where
+  pub version : Version
+  pub key : ServiceKey
+  pub of_number : version_in s number ≡ Some version
+  pub of_word : asked_key word (map key_of version.services.items) ≡ Some key
+  pub is : text ≡ slots_text (table_by (rule_of s) (members_under key version))
+
+-- the text is what changes for the service from one version to another; a version without it counts as one where it has no members
+pub record ShowsMoves (s : Scenario) (from to : ℕ) (word : Option (List ℕ)) (text : List ℕ) : Type 0 where
+  pub before : Version
+  pub after : Version
+  pub key : ServiceKey
+  pub of_from : version_in s from ≡ Some before
+  pub of_to : version_in s to ≡ Some after
+  pub of_word : asked_key word (keys_of_both before after) ≡ Some key
+  pub is : text ≡ compare_text (table_by (rule_of s) (members_under key before)) (table_by (rule_of s) (members_under key after))
+
+-- which services there are to ask for: those of one version, or of two; None where a version is missing
+abbrev pub keys_in : Option Version → Option (List ServiceKey)
+keys_in found = option_map (λ v. map key_of v.services.items) found
+
+abbrev pub keys_in_both : Option Version → Option Version → Option (List ServiceKey)
+keys_in_both before after = option_and_then (λ v. option_map (λ w. keys_of_both v w) after) before
+
+-- what there is to ask for where a command gives up: no such version, no such service, or all that it needs
+abbrev pub AskedFails : CliFault → Option (List ℕ) → Option (List ServiceKey) → Type 0
+AskedFails (Pool fault) word keys = (fault ≡ BadNumber) × (keys ≡ None)
+AskedFails BadService word keys = (found : List ServiceKey) × (keys ≡ Some found) × (asked_key word found ≡ None)
+AskedFails Memory word keys = Unit {0}
+AskedFails Write word keys = (found : List ServiceKey) × (key : ServiceKey) × (keys ≡ Some found) × (asked_key word found ≡ Some key)
+AskedFails _ word keys = ⊥
+
+-- the same of the scenario that a text means
+pub record IsTable (scenario : List ℕ) (number : ℕ) (word : Option (List ℕ)) (text : List ℕ) : Type 0 where
+  pub meant : Scenario
+  pub means : Means InTurn scenario meant
+  pub shows : ShowsTable meant number word text
+
+pub record AreMoves (scenario : List ℕ) (from to : ℕ) (word : Option (List ℕ)) (text : List ℕ) : Type 0 where
+  pub meant : Scenario
+  pub means : Means InTurn scenario meant
+  pub shows : ShowsMoves meant from to word text
+
+-- a scenario was read, and then the command gave up
+pub record LacksAsked (fault : CliFault) (scenario : List ℕ) (word : Option (List ℕ)) (keys : Scenario → Option (List ServiceKey)) : Type 0 where
+  pub meant : Scenario
+  pub means : Means InTurn scenario meant
+  pub why : AskedFails fault word (keys meant)
+
+-- when the commands give up, and by which fault
+abbrev pub TableFails : CliFault → List ℕ → ℕ → Option (List ℕ) → Type 0
+TableFails fault scenario number word =
+    ScenarioFails InTurn fault scenario ⊎ LacksAsked fault scenario word (λ s. keys_in (version_in s number))
+
+abbrev pub MovesFail : CliFault → List ℕ → ℕ → ℕ → Option (List ℕ) → Type 0
+MovesFail fault scenario from to word =
+    ScenarioFails InTurn fault scenario ⊎ LacksAsked fault scenario word (λ s. keys_in_both (version_in s from) (version_in s to))

@@ -1,0 +1,82 @@
+//! The command `compare` of a scenario's service.
+ghost use Rattle.std.specs.Prelude.{◌≡◌, ◌≢◌, option_map, IfOk, IfErr, OnOk, string_bytes};
+ghost use Rattle.command_faults.specs.Printing.{Prints, BreaksOff};
+ghost use Rattle.rollout_plan.specs.Plans.{version_in};
+ghost use Rattle.scenario_tables.specs.Tables.{ShowsMoves, AreMoves, AskedFails, MovesFail, keys_in_both};
+
+use crate::asking::{key_for, keys_of_both};
+use command_faults::{CliFault, put_text};
+use pcap_file::Sink;
+use rollout_plan::{members_under, rule_of, version_of};
+use scenario::{Played, Scenario, read};
+use scenario_commands::scenario_fault;
+use std::alloc::Global;
+use table_commands::compare_text_of;
+
+/// The versions that are compared, and the word of the service, where there is one.
+#[derive(Clone, Copy, Debug)]
+pub struct Change<'a> {
+    pub from: u32,
+    pub to: u32,
+    pub service: Option<&'a str>,
+}
+
+// The text of what changes for a scenario's service.
+fn text_of(alloc: Global, scenario: &Scenario, change: Change<'_>) -> Result<String, CliFault>
+    ensures text { IfOk result (λ s. ShowsMoves scenario.now change.from change.to (option_map (λ w. w.now) change.service) (string_bytes s)) }
+    ensures fault { IfErr result (λ fault. AskedFails fault (option_map (λ w. w.now) change.service) (keys_in_both (version_in scenario.now change.from) (version_in scenario.now change.to))) }
+    ensures unwritten { IfErr result (λ fault. fault ≢ CliFault.Write) }
+{
+    let before = version_of(scenario, change.from)?;
+    let after = version_of(scenario, change.to)?;
+    let keys = keys_of_both(alloc, before, after)?;
+    let key = key_for(alloc, keys.as_slice(), change.service)?;
+    let rule = rule_of(scenario);
+    let old = rule.table(alloc, members_under(key, before))?;
+    let new = rule.table(alloc, members_under(key, after))?;
+    Ok(compare_text_of(alloc, &old, &new)?)
+}
+
+// The same of the scenario that a text means.
+fn text_for(alloc: Global, scenario: &[u8], change: Change<'_>) -> Result<String, CliFault>
+    ensures text { IfOk result (λ s. AreMoves scenario.now change.from change.to (option_map (λ w. w.now) change.service) (string_bytes s)) }
+    ensures fault { IfErr result (λ fault. MovesFail fault scenario.now change.from change.to (option_map (λ w. w.now) change.service)) }
+    ensures unwritten { IfErr result (λ fault. fault ≢ CliFault.Write) }
+{
+    let scenario = match read(alloc, Played::InTurn, scenario) {
+        Ok(scenario) => scenario,
+        Err(fault) => return Err(scenario_fault(fault)),
+    };
+    match text_of(alloc, &scenario, change) {
+        Ok(text) => Ok(text),
+        Err(fault) => Err(fault),
+    }
+}
+
+/// The command `compare` over a scenario: writes the slots of a service's table whose backend changes from one version to
+/// another.
+///
+/// The service is that of the word `ADDRESS:PORT/PROTOCOL`, or where there is none the only one of both versions; else the fault
+/// is BadService. A version without it counts as one where it has no members. A scenario is one that is played in turn. Where it
+/// lacks a version the fault is BadNumber. The text is written in one piece once it is whole, so after any fault but `Write`
+/// nothing was written.
+pub fn compare_in<S: Sink>(
+    alloc: Global,
+    scenario: &[u8],
+    change: Change<'_>,
+    out: &mut S,
+) -> Result<(), CliFault>
+    ensures written { OnOk result (Prints (AreMoves scenario.now change.from change.to (option_map (λ w. w.now) change.service)) (S.tape out.old) (S.tape out.new)) }
+    ensures broken { IfErr result (λ fault. fault ≡ CliFault.Write → BreaksOff (AreMoves scenario.now change.from change.to (option_map (λ w. w.now) change.service)) (S.tape out.old) (S.tape out.new)) }
+    ensures silent { IfErr result (λ fault. fault ≢ CliFault.Write → out.new ≡ out.old) }
+    ensures fault { IfErr result (λ fault. MovesFail fault scenario.now change.from change.to (option_map (λ w. w.now) change.service)) }
+{
+    let text = match text_for(alloc, scenario, change) {
+        Ok(text) => text,
+        Err(fault) => return Err(fault),
+    };
+    match put_text(out, text.as_str()) {
+        Ok(()) => Ok(()),
+        Err(fault) => Err(fault),
+    }
+}

@@ -1,0 +1,155 @@
+//! The command `table` of a scenario's service.
+ghost use Rattle.std.specs.Prelude.{◌≡◌, ◌≢◌, ◌++◌, ◌<◌, map, option_map, IfOk, IfErr, OnOk, string_bytes};
+ghost use Rattle.std.specs.List.{flat_map, range_with_len};
+ghost use Rattle.selection.specs.Picks.{slot_names};
+ghost use Rattle.command_faults.specs.Printing.{Prints, BreaksOff};
+ghost use Rattle.rollout_plan.specs.Plans.{version_in};
+ghost use Rattle.scenario_tables.specs.Tables.{owner_name, owner_line, share_line, slots_text, ShowsTable, IsTable, AskedFails, TableFails, keys_in};
+
+use crate::asking::{key_for, keys_of};
+use command_faults::{CliFault, put_text};
+use pcap_file::Sink;
+use pool_versions::Backend;
+use rollout_plan::{SlotTable, members_under, rule_of, version_of};
+use scenario::{Played, Scenario, read};
+use scenario_commands::scenario_fault;
+use std::alloc::{AllocError, Global};
+use std::fmt;
+
+/// The name that a slot names: that of a backend, or a dash for nobody.
+#[derive(Clone, Copy)]
+struct OwnerText(Option<Backend>);
+
+impl fmt::Display for OwnerText {
+    ghost use Rattle.std.specs.Prelude.{Some};
+
+    ghost output = { λ o. Some (owner_name o.0) };
+
+    fn fmt<W: fmt::Write>(&self, f: &mut fmt::Formatter<W>) -> fmt::Result {
+        match self.0 {
+            None => f.write_str("-"),
+            Some(backend) => {
+                let name = backend.name;
+                write!(f, "{name}")
+            }
+        }
+    }
+}
+
+fn push_owner_line(text: &mut String, table: &SlotTable, slot: u32) -> Result<(), AllocError>
+    requires { slot < table.now.size }
+    ensures { OnOk result (string_bytes text.new ≡ string_bytes text.old ++ owner_line table.now slot) }
+{
+    let owner = OwnerText(table.backend_at(slot));
+    write!(text, "{slot} {owner}\n")
+}
+
+fn push_owner_lines(text: &mut String, table: &SlotTable) -> Result<(), AllocError>
+    ensures { OnOk result (string_bytes text.new ≡ string_bytes text.old ++ flat_map (owner_line table.now) (range_with_len 0 table.now.size)) }
+{
+    for slot in 0..table.size() {
+        push_owner_line(text, table, slot)?;
+    }
+    Ok(())
+}
+
+fn push_share_line(
+    text: &mut String,
+    table: &SlotTable,
+    backend: &Backend,
+) -> Result<(), AllocError>
+    ensures { OnOk result (string_bytes text.new ≡ string_bytes text.old ++ share_line table.now backend.now) }
+{
+    let name = backend.name;
+    let slots = table.slots_of(backend);
+    write!(text, "count {name} {slots}\n")
+}
+
+fn push_share_lines(text: &mut String, table: &SlotTable) -> Result<(), AllocError>
+    ensures { OnOk result (string_bytes text.new ≡ string_bytes text.old ++ flat_map (share_line table.now) table.now.ups) }
+{
+    for backend in table.ups() {
+        push_share_line(text, table, backend)?;
+    }
+    Ok(())
+}
+
+// The text of a table.
+#[tactic(auto, unfolding(crate::specs::Tables::slots_text))]
+fn slots_text_of(alloc: Global, table: &SlotTable) -> Result<String, AllocError>
+    ensures { IfOk result (λ s. string_bytes s ≡ slots_text table.now) }
+{
+    let size = table.size();
+    let backends = table.ups().len();
+    let mut text = format!(in alloc; "size {size} backends {backends}\n")?;
+    push_owner_lines(&mut text, table)?;
+    push_share_lines(&mut text, table)?;
+    Ok(text)
+}
+
+// The text of the table of a scenario's service.
+fn text_of(
+    alloc: Global,
+    scenario: &Scenario,
+    number: u32,
+    word: Option<&str>,
+) -> Result<String, CliFault>
+    ensures text { IfOk result (λ s. ShowsTable scenario.now number (option_map (λ w. w.now) word) (string_bytes s)) }
+    ensures fault { IfErr result (λ fault. AskedFails fault (option_map (λ w. w.now) word) (keys_in (version_in scenario.now number))) }
+    ensures unwritten { IfErr result (λ fault. fault ≢ CliFault.Write) }
+{
+    let version = version_of(scenario, number)?;
+    let keys = keys_of(alloc, version)?;
+    let key = key_for(alloc, keys.as_slice(), word)?;
+    let table = rule_of(scenario).table(alloc, members_under(key, version))?;
+    Ok(slots_text_of(alloc, &table)?)
+}
+
+// The same of the scenario that a text means.
+fn text_for(
+    alloc: Global,
+    scenario: &[u8],
+    number: u32,
+    word: Option<&str>,
+) -> Result<String, CliFault>
+    ensures text { IfOk result (λ s. IsTable scenario.now number (option_map (λ w. w.now) word) (string_bytes s)) }
+    ensures fault { IfErr result (λ fault. TableFails fault scenario.now number (option_map (λ w. w.now) word)) }
+    ensures unwritten { IfErr result (λ fault. fault ≢ CliFault.Write) }
+{
+    let scenario = match read(alloc, Played::InTurn, scenario) {
+        Ok(scenario) => scenario,
+        Err(fault) => return Err(scenario_fault(fault)),
+    };
+    match text_of(alloc, &scenario, number, word) {
+        Ok(text) => Ok(text),
+        Err(fault) => Err(fault),
+    }
+}
+
+/// The command `table` over a scenario: writes which backend each slot of a service's table names under a version, and how many
+/// slots each backend has.
+///
+/// The service is that of the word `ADDRESS:PORT/PROTOCOL`, or where there is none the version's only one; else the fault is
+/// BadService. A scenario is one that is played in turn. Where it lacks the version the fault is BadNumber. A slot that names
+/// nobody has a dash. The text is written in one piece once it is whole, so after any fault but `Write` nothing was written.
+pub fn table_in<S: Sink>(
+    alloc: Global,
+    scenario: &[u8],
+    version: u32,
+    service: Option<&str>,
+    out: &mut S,
+) -> Result<(), CliFault>
+    ensures written { OnOk result (Prints (IsTable scenario.now version (option_map (λ w. w.now) service)) (S.tape out.old) (S.tape out.new)) }
+    ensures broken { IfErr result (λ fault. fault ≡ CliFault.Write → BreaksOff (IsTable scenario.now version (option_map (λ w. w.now) service)) (S.tape out.old) (S.tape out.new)) }
+    ensures silent { IfErr result (λ fault. fault ≢ CliFault.Write → out.new ≡ out.old) }
+    ensures fault { IfErr result (λ fault. TableFails fault scenario.now version (option_map (λ w. w.now) service)) }
+{
+    let text = match text_for(alloc, scenario, version, service) {
+        Ok(text) => text,
+        Err(fault) => return Err(fault),
+    };
+    match put_text(out, text.as_str()) {
+        Ok(()) => Ok(()),
+        Err(fault) => Err(fault),
+    }
+}
