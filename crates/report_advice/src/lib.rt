@@ -1,0 +1,11 @@
+//! What may be amiss in a run, by the report that was printed of it: records that no step reads, events that were refused, rings
+//! that were full, packets that were nearly all dropped.
+//!
+//! The words are for people, and no contract fixes them: these functions are proved safe, and tests of the program compare what
+//! they say.
+#![tactic(auto)]
+
+mod counts;
+mod words;
+
+pub use words::advice_of;

@@ -1,0 +1,138 @@
+//! What is said of a report's counts.
+use crate::counts::Counts;
+use std::alloc::{AllocError, Global};
+
+// Why packets are dropped for a cause, and what helps.
+fn help_for(cause: &str) -> &'static str {
+    match cause {
+        "NotIpv4" => "their frames aren't IPv4: VLAN tags and IPv6 aren't read",
+        "Truncated" =>
+            "the capture has only the beginnings of its packets: capture whole ones, with tcpdump -s 0",
+        "BadHeader" | "BadTransport" => "their headers aren't those of a datagram",
+        "BadChecksum" =>
+            "their header checksums are wrong, as where a network card makes them: check = false in SCENARIO",
+        "Fragment" => "they are fragments, which have no ports",
+        "NotTcpUdp" => "they are neither TCP nor UDP",
+        "TooLarge" => "they don't fit into a tunnel's datagram",
+        "NoService" =>
+            "SCENARIO has no service of their address, protocol and port: maglev scenario INPUT lists those that INPUT has",
+        "NoBackend" => "every member of their service was down or drained",
+        "NoVersion" => "their balancer had no version yet: begin with a step install",
+        _ =>
+            "every ring was full: give more places by ring in SCENARIO, or let drivers wait by --pace",
+    }
+}
+
+// One in how many is one.
+fn plural(count: u64) -> &'static str {
+    if count == 1 { "" } else { "s" }
+}
+
+// One thing more.
+fn tell(advice: &mut Vec<String>, line: String) -> Result<(), AllocError> {
+    advice.push(line)?;
+    Ok(())
+}
+
+// Of packets that were nearly all dropped: fewer than one in ten were sent.
+fn advise_drops(
+    alloc: Global,
+    counts: &Counts<'_>,
+    advice: &mut Vec<String>,
+) -> Result<(), AllocError> {
+    let most = counts.most;
+    if most.count == 0 || counts.forwarded > counts.received / 10 {
+        return Ok(());
+    }
+    let received = counts.received;
+    let count = most.count;
+    let cause = most.cause;
+    let help = help_for(cause);
+    tell(
+        advice,
+        format!(in alloc; "of {received} packets {count} were dropped as {cause}: {help}")?,
+    )
+}
+
+// Of rings that were full, where not all packets were dropped.
+fn advise_rings(
+    alloc: Global,
+    counts: &Counts<'_>,
+    advice: &mut Vec<String>,
+) -> Result<(), AllocError> {
+    if counts.rings_full == 0 || counts.forwarded <= counts.received / 10 {
+        return Ok(());
+    }
+    let received = counts.received;
+    let count = counts.rings_full;
+    let help = help_for("RingsFull");
+    tell(
+        advice,
+        format!(in alloc; "of {received} packets {count} were dropped as RingsFull: {help}")?,
+    )
+}
+
+// Of records that no step reads.
+fn advise_left(
+    alloc: Global,
+    counts: &Counts<'_>,
+    advice: &mut Vec<String>,
+) -> Result<(), AllocError> {
+    let left = counts.left;
+    if left == 0 {
+        return Ok(());
+    }
+    let plural = plural(left);
+    tell(
+        advice,
+        format!(in alloc; "{left} record{plural} at the end of INPUT: no step reads them")?,
+    )
+}
+
+// Of packets that came when no balancer was live.
+fn advise_unrouted(
+    alloc: Global,
+    counts: &Counts<'_>,
+    advice: &mut Vec<String>,
+) -> Result<(), AllocError> {
+    let unrouted = counts.unrouted;
+    if unrouted == 0 {
+        return Ok(());
+    }
+    let plural = plural(unrouted);
+    tell(
+        advice,
+        format!(in alloc; "{unrouted} packet{plural} came when no balancer was live")?,
+    )
+}
+
+// Of events that were refused.
+fn advise_refused(
+    alloc: Global,
+    counts: &Counts<'_>,
+    advice: &mut Vec<String>,
+) -> Result<(), AllocError> {
+    let refused = counts.refused;
+    if refused == 0 {
+        return Ok(());
+    }
+    let plural = plural(refused);
+    tell(
+        advice,
+        format!(in alloc;
+            "{refused} event{plural} refused, as an install of a version that isn't newer: simulate --list shows which"
+        )?,
+    )
+}
+
+/// A line for each thing that may be amiss in a run, by the report that a text ends with: no line where nothing is.
+pub fn advice_of(alloc: Global, report: &str) -> Result<Vec<String>, AllocError> {
+    let counts = Counts::of_report(report);
+    let mut advice = Vec::new(alloc);
+    advise_drops(alloc, &counts, &mut advice)?;
+    advise_rings(alloc, &counts, &mut advice)?;
+    advise_unrouted(alloc, &counts, &mut advice)?;
+    advise_left(alloc, &counts, &mut advice)?;
+    advise_refused(alloc, &counts, &mut advice)?;
+    Ok(advice)
+}
