@@ -77,7 +77,8 @@ With --scenario FILE --version V the table is that of a service of the scenario'
 Example: maglev table --scenario examples/failover.toml --version 1";
 
 /// The end of the help of `compare`.
-const COMPARE_HELP: &str = "Example: maglev compare --size 7 --hash sum --old 'A@10.8.0.1 B@10.8.0.2' --new 'A@10.8.0.1 B@10.8.0.2/down'
+const COMPARE_HELP: &str =
+    "Example: maglev compare --size 7 --hash sum --old 'A@10.8.0.1 B@10.8.0.2' --new 'A@10.8.0.1 B@10.8.0.2/down'
 
 With --scenario FILE --from V --to W the members are those of a service in the scenario's versions V and W: --service names it where there are several.
 
@@ -153,12 +154,7 @@ fn version_by<'a>(
 }
 
 fn of_version<'a>(alloc: Global) -> Result<Arg<'a>, AllocError> {
-    version_by(
-        alloc,
-        "version",
-        "V",
-        "number of the scenario's version",
-    )
+    version_by(alloc, "version", "V", "number of the scenario's version")
 }
 
 fn service<'a>(alloc: Global) -> Result<Arg<'a>, AllocError> {
@@ -252,7 +248,12 @@ fn compare<'a>(alloc: Global) -> Result<Command<'a>, AllocError> {
         old(alloc)?,
         new(alloc)?,
         with_members(alloc)?,
-        version_by(alloc, "from", "V", "number of the scenario's version before")?,
+        version_by(
+            alloc,
+            "from",
+            "V",
+            "number of the scenario's version before",
+        )?,
         version_by(alloc, "to", "W", "number of the scenario's version after")?,
         service(alloc)?,
         of_words(alloc),

@@ -83,6 +83,11 @@ impl Refusal {
         self.code.is_none() && self.kind == ErrorKind::InvalidInput
     }
 
+    /// Whether whoever read a pipe went away.
+    pub fn is_of_reader(self) -> bool {
+        self.kind == ErrorKind::BrokenPipe
+    }
+
     /// The error, which prints the system's words.
     pub fn error(self) -> io::Error {
         match self.code {
@@ -372,6 +377,46 @@ impl Write for OutputFile<'_> {
 
     fn flush(&mut self) -> io::Result<()> {
         let flushed = self.flush_on();
+        if let Err(error) = &flushed {
+            self.refusal = Some(Refusal::of(error));
+        }
+        flushed
+    }
+}
+
+/// Standard output.
+#[derive(Drop)]
+pub struct StandardOutput<'a> {
+    writer: Printer<'a, HostRuntime>,
+    refusal: Option<Refusal>,
+}
+
+impl<'a> StandardOutput<'a> {
+    /// Nothing was written yet.
+    pub fn new(rt: &'a HostRuntime) -> StandardOutput<'a> {
+        StandardOutput {
+            writer: io::writer(rt),
+            refusal: None,
+        }
+    }
+
+    /// What the system answered at the last refusal.
+    pub fn refusal(&self) -> Option<Refusal> {
+        self.refusal
+    }
+}
+
+impl Write for StandardOutput<'_> {
+    fn write(&mut self, buf: &[u8]) -> io::Result<usize> {
+        let written = self.writer.write(buf);
+        if let Err(error) = &written {
+            self.refusal = Some(Refusal::of(error));
+        }
+        written
+    }
+
+    fn flush(&mut self) -> io::Result<()> {
+        let flushed = self.writer.flush();
         if let Err(error) = &flushed {
             self.refusal = Some(Refusal::of(error));
         }

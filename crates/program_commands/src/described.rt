@@ -1,23 +1,18 @@
 //! The commands about tables where a scenario has the size, the hash and the members.
-use crate::USAGE;
-use crate::files::{Paths, read_scenario};
-use crate::reasons::Trouble;
+use crate::files::{Paths, outcome_of, read_scenario};
 use crate::scenarios::ended;
-use crate::says_more;
+use crate::{USAGE, says_more};
 use clap::ArgMatches;
 use command_faults::CliFault;
+use lazy_files::StandardOutput;
 use pcap_file::{FromRead, ToWrite};
 use scenario::Played;
 use scenario_tables::{Change, compare_in, pick_in, table_in};
-use std::io;
 
 // A command over the text of a scenario's file. `print` prints what is asked of it.
-fn over_text<F: FnOnce(&[u8]) -> Result<(), CliFault> + Drop>(
-    rt: &HostRuntime,
-    matches: &ArgMatches<'_>,
-    scenario: &str,
-    print: F,
-) -> u8
+fn over_text<'x, F>(rt: &'x HostRuntime, matches: &ArgMatches<'_>, scenario: &str, print: F) -> u8
+where
+    F: FnOnce(&[u8], &mut ToWrite<StandardOutput<'x>>) -> Result<(), CliFault> + Drop,
     requires { F.IsAlwaysCallable print }
 {
     let paths = Paths {
@@ -28,7 +23,11 @@ fn over_text<F: FnOnce(&[u8]) -> Result<(), CliFault> + Drop>(
     let (text, read) = read_scenario(rt, scenario);
     let text = text.as_slice();
     let outcome = match read {
-        Ok(()) => print(text).map_err(Trouble::from),
+        Ok(()) => {
+            let mut out = ToWrite::new(StandardOutput::new(rt));
+            let outcome = print(text, &mut out);
+            outcome_of(outcome, &out.into_inner())
+        }
         Err(trouble) => Err(trouble),
     };
     ended(
@@ -51,10 +50,7 @@ pub(crate) fn table_described(rt: &HostRuntime, matches: &ArgMatches<'_>, scenar
         rt,
         matches,
         scenario,
-        |text| {
-            let mut out = ToWrite::new(io::writer(rt));
-            table_in(rt.alloc(), text, version, service, &mut out)
-        },
+        |text, out| table_in(rt.alloc(), text, version, service, out),
     )
 }
 
@@ -64,16 +60,10 @@ pub(crate) fn pick_described(rt: &HostRuntime, matches: &ArgMatches<'_>, scenari
         return USAGE;
     };
     let check = !matches.get_flag("no-check");
-    over_text(
-        rt,
-        matches,
-        scenario,
-        |text| {
-            let mut input = FromRead::new(rt.stdin());
-            let mut out = ToWrite::new(io::writer(rt));
-            pick_in(rt.alloc(), text, version, check, &mut input, &mut out)
-        },
-    )
+    over_text(rt, matches, scenario, |text, out| {
+        let mut input = FromRead::new(rt.stdin());
+        pick_in(rt.alloc(), text, version, check, &mut input, out)
+    })
 }
 
 /// The command `compare` over a scenario.
@@ -88,9 +78,6 @@ pub(crate) fn compare_described(rt: &HostRuntime, matches: &ArgMatches<'_>, scen
         rt,
         matches,
         scenario,
-        |text| {
-            let mut out = ToWrite::new(io::writer(rt));
-            compare_in(rt.alloc(), text, change, &mut out)
-        },
+        |text, out| compare_in(rt.alloc(), text, change, out),
     )
 }

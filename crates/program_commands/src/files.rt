@@ -6,7 +6,8 @@ use crate::reasons::Trouble;
 use command_faults::CliFault;
 use connection_table::TableKey;
 use lazy_files::{
-    FileFault, InputFile, KeptText, OutputFile, Refusal, is_standard, is_standard_output,
+    FileFault, InputFile, KeptText, OutputFile, Refusal, StandardOutput, is_standard,
+    is_standard_output,
 };
 use pcap_file::{Frame, FromRead, PcapFault, ToWrite, read_record_into, read_start};
 use scenario_commands::explain_keyed;
@@ -130,7 +131,7 @@ fn printed(rt: &HostRuntime, text: &[u8], to_error: bool) -> Result<(), Trouble>
     done.map_err(|error| Trouble::of_report(&error))
 }
 
-// The end of a command: the output is written out, and then the report is printed, or the fault is answered.
+// The end of a command: the output is written out, and then the report is printed and answered, or the fault is.
 fn finished(
     rt: &HostRuntime,
     files: &Paths<'_>,
@@ -138,11 +139,12 @@ fn finished(
     mut output: OutputFile<'_>,
     report: KeptText,
     outcome: Result<(), CliFault>,
-) -> Result<(), Trouble> {
+) -> Result<KeptText, Trouble> {
     let fault = match (flushed(&mut output), outcome) {
         (Err(fault), _) => fault,
         (Ok(()), Ok(())) => {
-            return printed(rt, report.text(), is_standard_output(rt, files.output));
+            printed(rt, report.text(), is_standard_output(rt, files.output))?;
+            return Ok(report);
         }
         (Ok(()), Err(fault)) => of_output(of_input(fault, &input), &output, &report),
     };
@@ -150,13 +152,13 @@ fn finished(
 }
 
 /// A command that reads a capture and writes another: `play` gets the tables' key, the scenario's text, and the devices, each
-/// of which is opened at its first call. The report is kept until the output is written out.
+/// of which is opened at its first call. The report is kept until the output is written out, and then printed and answered.
 pub(crate) fn between_files<'x, F>(
     rt: &'x HostRuntime,
     files: &Paths<'x>,
     text: &[u8],
     play: F,
-) -> Result<(), Trouble>
+) -> Result<KeptText, Trouble>
 where
     F: FnOnce(
         TableKey,
@@ -183,6 +185,36 @@ where
     )
 }
 
+/// What became of a command that printed on standard output.
+pub(crate) fn outcome_of(
+    outcome: Result<(), CliFault>,
+    output: &StandardOutput<'_>,
+) -> Result<(), Trouble> {
+    match outcome {
+        Ok(()) => Ok(()),
+        Err(CliFault::Write) => Err(Trouble {
+            system: output.refusal(),
+            of_report: true,
+            ..Trouble::from(CliFault::Write)
+        }),
+        Err(fault) => Err(fault.into()),
+    }
+}
+
+// The same of a command that reads a capture.
+fn outcome_over(
+    outcome: Result<(), CliFault>,
+    input: &InputFile<'_>,
+    output: &StandardOutput<'_>,
+) -> Result<(), Trouble> {
+    match outcome {
+        Err(fault) if fault != CliFault::Write => {
+            Err(trouble_of(of_input(fault, input), input, None))
+        }
+        outcome => outcome_of(outcome, output),
+    }
+}
+
 /// The command `explain` over files.
 pub(crate) fn explain_files(
     rt: &HostRuntime,
@@ -193,28 +225,18 @@ pub(crate) fn explain_files(
 ) -> Result<(), Trouble> {
     let key = table_key(rt)?;
     let mut input = FromRead::new(InputFile::new(rt, files.input));
-    let mut report = ToWrite::new(io::writer(rt));
-    match explain_keyed(rt.alloc(), key, text, &mut input, one, other, &mut report) {
-        Ok(()) => Ok(()),
-        Err(fault) => {
-            let input = input.into_inner();
-            Err(trouble_of(of_input(fault, &input), &input, None))
-        }
-    }
+    let mut report = ToWrite::new(StandardOutput::new(rt));
+    let outcome = explain_keyed(rt.alloc(), key, text, &mut input, one, other, &mut report);
+    outcome_over(outcome, &input.into_inner(), &report.into_inner())
 }
 
 /// The command `scenario` over a file.
 pub(crate) fn sketch_file(rt: &HostRuntime, path: &str) -> Result<(), Trouble> {
     let key = table_key(rt)?;
     let mut input = FromRead::new(InputFile::new(rt, path));
-    let mut out = ToWrite::new(io::writer(rt));
-    match sketch(rt.alloc(), key, &mut input, &mut out) {
-        Ok(()) => Ok(()),
-        Err(fault) => {
-            let input = input.into_inner();
-            Err(trouble_of(of_input(fault, &input), &input, None))
-        }
-    }
+    let mut out = ToWrite::new(StandardOutput::new(rt));
+    let outcome = sketch(rt.alloc(), key, &mut input, &mut out);
+    outcome_over(outcome, &input.into_inner(), &out.into_inner())
 }
 
 /// How many whole records are before the one at which reading a capture stops. Standard input can't be read again.

@@ -23,6 +23,9 @@ pub use words::{matches_of, refused, unread, words_of};
 /// The status of a command line that isn't one.
 const USAGE: u8 = 2;
 
+/// The status where whoever read standard output went away: that of a program which the signal of a broken pipe ends.
+const GONE: u8 = 141;
+
 // Reports what became of a command on standard error, and answers its status.
 fn told_outcome(rt: &HostRuntime, outcome: &Result<(), CliFault>) -> u8 {
     finish(outcome, &mut ToWrite::new(rt.stderr()))

@@ -31,6 +31,12 @@ impl Trouble {
         }
     }
 
+    /// Whether whoever read what is written went away.
+    pub(crate) fn is_of_reader(&self) -> bool {
+        let broken = self.system.is_some_and(|refusal| refusal.is_of_reader());
+        broken && self.fault == CliFault::Write
+    }
+
     /// That of a report which couldn't be written.
     pub(crate) fn of_report(error: &io::Error) -> Trouble {
         Trouble {

@@ -1,14 +1,15 @@
 //! The commands that play a scenario on one thread, from what the command line says, and the end of each command over files.
 use crate::files::{
-    Paths, between_files, explain_files, read_scenario, records_before, sketch_file,
+    Paths, between_files, explain_files, outcome_of, read_scenario, records_before, sketch_file,
 };
 use crate::reasons::{Files, Trouble, reason};
-use crate::{USAGE, say, says_more, told};
+use crate::{GONE, USAGE, say, says_more, told};
 use clap::ArgMatches;
 use command_faults::CliFault;
 use connection_table::TableKey;
-use lazy_files::{InputFile, KeptText, OutputFile};
+use lazy_files::{InputFile, KeptText, OutputFile, StandardOutput};
 use pcap_file::{FromRead, PcapFault, ToWrite};
+use report_advice::advice_of;
 use rollout_order::order;
 use rollout_plan::plan;
 use scenario::{Played, read};
@@ -17,7 +18,6 @@ use scenario_warnings::{warning_text, warnings};
 use shown_text::shown;
 use simulate_scenario::Wanted;
 use std::alloc::AllocError;
-use std::io;
 use std::io::Write;
 
 /// The paths that the command line names. What a command sends goes to `output`.
@@ -50,6 +50,26 @@ fn warn(rt: &HostRuntime, played: Played, text: &[u8]) -> Result<(), AllocError>
     Ok(())
 }
 
+/// More bytes than a report has, with what stands behind it.
+const REPORT: usize = 4096;
+
+// Tells what may be amiss in a run, by its report.
+fn advise(rt: &HostRuntime, report: Option<KeptText>) -> Result<(), AllocError> {
+    let Some(report) = report else {
+        return Ok(());
+    };
+    let text = report.text();
+    let start = text.len().saturating_sub(REPORT);
+    let Ok(text) = str::from_utf8(&text[start..]) else {
+        return Ok(());
+    };
+    let advice = advice_of(rt.alloc(), text)?;
+    for line in advice.iter() {
+        let _ = writeln!(rt.stderr(), "warning: {line}");
+    }
+    Ok(())
+}
+
 // Tells where a fault is, and what was expected there.
 fn explain(rt: &HostRuntime, paths: Paths<'_>, text: &[u8], trouble: &Trouble) {
     let records = match trouble.fault {
@@ -65,7 +85,7 @@ fn explain(rt: &HostRuntime, paths: Paths<'_>, text: &[u8], trouble: &Trouble) {
 }
 
 /// The end of a command over files. A fault is reported, and where more is said, where it is and what was expected. Without a
-/// fault a scenario that may not mean what was meant is warned of then.
+/// fault a scenario that may not mean what was meant is warned of then. Of a reader that went away nothing is said.
 pub(crate) fn ended(
     rt: &HostRuntime,
     verbose: bool,
@@ -80,6 +100,9 @@ pub(crate) fn ended(
         }
         return 0;
     };
+    if trouble.is_of_reader() {
+        return GONE;
+    }
     let status = told(rt, trouble.fault);
     if verbose {
         explain(rt, paths, text, &trouble);
@@ -119,7 +142,15 @@ where
         Err(trouble) => Err(trouble),
     };
     let verbose = says_more(rt, matches);
-    ended(rt, verbose, paths, played, text, outcome)
+    let (outcome, report) = match outcome {
+        Ok(report) => (Ok(()), Some(report)),
+        Err(trouble) => (Err(trouble), None),
+    };
+    let status = ended(rt, verbose, paths, played, text, outcome);
+    if verbose {
+        let _ = advise(rt, report);
+    }
+    status
 }
 
 /// The command `simulate`.
@@ -161,20 +192,16 @@ pub(crate) fn run_explain(rt: &HostRuntime, matches: &ArgMatches<'_>) -> u8 {
 
 // What a scenario's versions change, printed on standard output.
 fn print_plan(rt: &HostRuntime, text: &[u8], from: u32, to: Option<u32>) -> Result<(), Trouble> {
-    let mut report = ToWrite::new(io::writer(rt));
-    match plan(rt.alloc(), text, from, to, &mut report) {
-        Ok(()) => Ok(()),
-        Err(fault) => Err(fault.into()),
-    }
+    let mut report = ToWrite::new(StandardOutput::new(rt));
+    let outcome = plan(rt.alloc(), text, from, to, &mut report);
+    outcome_of(outcome, &report.into_inner())
 }
 
 // In which orders a scenario's servers can be replaced, printed on standard output.
 fn print_orders(rt: &HostRuntime, text: &[u8], from: u32, to: u32) -> Result<(), Trouble> {
-    let mut report = ToWrite::new(io::writer(rt));
-    match order(rt.alloc(), text, from, to, &mut report) {
-        Ok(()) => Ok(()),
-        Err(fault) => Err(fault.into()),
-    }
+    let mut report = ToWrite::new(StandardOutput::new(rt));
+    let outcome = order(rt.alloc(), text, from, to, &mut report);
+    outcome_of(outcome, &report.into_inner())
 }
 
 // What is printed of a scenario's versions.
