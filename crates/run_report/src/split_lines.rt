@@ -86,7 +86,7 @@ impl fmt::Display for SplitText {
     ghost output = { λ s. Some (split_words s.0 s.1 s.2) };
 
     fn fmt<W: fmt::Write>(&self, f: &mut fmt::Formatter<W>) -> fmt::Result {
-        let split = self.0;
+        let split = &self.0;
         let first = ChoiceText(split.first.origin, split.first.backend);
         let later = ChoiceText(split.later.origin, split.later.backend);
         let events = EventsText(split.later.flow, split.first.number, split.later.number);
