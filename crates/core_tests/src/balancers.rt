@@ -72,9 +72,16 @@ impl Notes for CountsAlone {
 
     ghost are_of = { λ asked past kept. CountsAre (outcomes_of past) kept.counts };
 
-    fn note(&mut self, asked: &(), event: &Event, outcome: &Outcome) -> Result<(), AllocError> {
+    fn note(
+        &mut self,
+        asked: &(),
+        event: &Event,
+        packet: Option<&Packet>,
+        outcome: &Outcome,
+    ) -> Result<(), AllocError> {
         let _ = asked;
         let _ = event;
+        let _ = packet;
         self.counts.count(outcome)
     }
 }

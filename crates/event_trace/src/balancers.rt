@@ -37,20 +37,27 @@ impl<S: Scheme, H: FlowHash, T: ConnTable, N: Notes> fmt::Debug for Balancers<S,
     }
 }
 
-// What came of an arrival at a node, and of its serving under a version where it was placed, is noted.
+// The node at which a packet is served, and the version under which it is.
+#[derive(Clone, Copy)]
+struct Under {
+    node: u16,
+    version: u32,
+}
+
+// What came of a packet's arrival, and of its serving where it was placed, is noted.
 #[inline(always)]
 fn note_passed<N: Notes>(
     notes: &mut N,
     asked: &N::Query,
-    node: u16,
     event: &Event,
-    version: u32,
+    body: &Packet,
+    under: Under,
     passed: &Passed,
 ) -> Result<(), AllocError>
-    ensures { (past : List LogEntry) (packet : Packet) → N.are_of asked.now past notes.old → OnOk result (N.are_of asked.now (with_told past event.now packet (λ w. Serve node w version false) passed.now) notes.new) }
+    ensures { (past : List LogEntry) → N.are_of asked.now past notes.old → OnOk result (N.are_of asked.now (with_told past event.now body.now (λ w. Serve under.node w under.version false) passed.now) notes.new) }
 {
     match passed {
-        Passed::Unplaced(outcome) => notes.note(asked, event, outcome),
+        Passed::Unplaced(outcome) => notes.note(asked, event, Some(body), outcome),
         Passed::Through {
             worker,
             floor,
@@ -60,14 +67,14 @@ fn note_passed<N: Notes>(
                 worker: *worker,
                 floor: *floor,
             };
-            notes.note(asked, event, &placed)?;
+            notes.note(asked, event, Some(body), &placed)?;
             let serving = Event::Serve {
-                node,
+                node: under.node,
                 worker: *worker,
-                version,
+                version: under.version,
                 refused: false,
             };
-            notes.note(asked, &serving, outcome)
+            notes.note(asked, &serving, None, outcome)
         }
     }
 }
@@ -124,10 +131,11 @@ impl<S: Scheme, H: FlowHash, T: ConnTable, N: Notes> Core for Balancers<S, H, T,
         packet: Option<Packet>,
     ) -> Result<Outcome, AllocError> {
         let fixed = &setup.deployment;
+        let body = packet.as_ref();
         let outcome = self
             .run
-            .step(fixed.setup(), fixed.catalogue(), &event, packet.as_ref())?;
-        self.notes.note(&setup.asked, &event, &outcome)?;
+            .step(fixed.setup(), fixed.catalogue(), &event, body)?;
+        self.notes.note(&setup.asked, &event, body, &outcome)?;
         Ok(outcome)
     }
 
@@ -150,7 +158,8 @@ impl<S: Scheme, H: FlowHash, T: ConnTable, N: Notes> Core for Balancers<S, H, T,
             packet,
             refused: *refused,
         };
-        note_passed(&mut self.notes, &setup.asked, node, &event, version, passed)
+        let under = Under { node, version };
+        note_passed(&mut self.notes, &setup.asked, &event, body, under, passed)
     }
 
     fn workers(setup: &Task<S, H, N::Query>) -> u16 {

@@ -26,7 +26,7 @@ use Rattle.run_report.specs.Pairs.{IsSplit, AreSplits, WasSent, AreFlows}
 
 -- ---- the sends of a record
 
-sent_number : (k : ℕ) (e : Event) (o : Outcome) (q : Sending) → sent_by k e o ≡ Some q → q.number ≡ k
+pub sent_number : (k : ℕ) (e : Event) (o : Outcome) (q : Sending) → sent_by k e o ≡ Some q → q.number ≡ k
 sent_number k e Installed q h = absurd cc
 sent_number k e (Placed w f) q h = absurd cc
 sent_number k e (Forward n w p x b v) q h = sym (ap (λ (z : Sending). z.number) (same_Some (record { number = k; flow = x; version = version_of e; backend = b; origin = v }) q h))

@@ -28,10 +28,13 @@ abbrev pub choices_text : ℕ → ℕ → Backend → ℕ → Backend → List �
 choices_text slot v₁ b₁ v₂ b₂ = codes "slot " ++ (decimal slot ++ (codes " " ++ (choice_text v₁ b₁ ++ (codes " " ++ choice_text v₂ b₂))))
 
 -- `split FLOW events I J slot S version V1 BACKEND1 version V2 BACKEND2 CAUSE`
-abbrev pub line_of : Split → ℕ → SplitCause → List ℕ
-line_of p slot cause =
+abbrev pub split_words : Split → ℕ → SplitCause → List ℕ
+split_words p slot cause =
     codes "split " ++ (events_text p.later.flow p.first.number p.later.number ++ (codes " "
-    ++ (choices_text slot p.first.origin p.first.backend p.later.origin p.later.backend ++ (codes " " ++ (cause_text cause ++ codes "\n")))))
+    ++ (choices_text slot p.first.origin p.first.backend p.later.origin p.later.backend ++ (codes " " ++ cause_text cause))))
+
+abbrev pub line_of : Split → ℕ → SplitCause → List ℕ
+line_of p slot cause = split_words p slot cause ++ codes "\n"
 
 abbrev pub split_line : Lookups → Split → List ℕ
 split_line lookups p = line_of p (lookups.slot p.later.flow) (cause_of lookups p)
@@ -45,9 +48,13 @@ abbrev pub drained_line : Bool → ℕ → List ℕ
 drained_line false drained = []
 drained_line true drained = count_line (codes "drained") drained
 
+-- the counts that come after the lines
+abbrev pub counts_text : Lookups → ℕ → List Split → List ℕ
+counts_text lookups flows ps = split_counts flows (length ps) (down_count lookups ps) (moved_count lookups ps) ++ drained_line (does_anybody_drain lookups.versions) (drained_count lookups ps)
+
 -- a line for each split, and after them the counts
 abbrev pub text_of : Lookups → ℕ → List Split → List ℕ
-text_of lookups flows ps = flat_map (split_line lookups) ps ++ (split_counts flows (length ps) (down_count lookups ps) (moved_count lookups ps) ++ drained_line (does_anybody_drain lookups.versions) (drained_count lookups ps))
+text_of lookups flows ps = flat_map (split_line lookups) ps ++ counts_text lookups flows ps
 
 -- those of a record
 abbrev pub splits_text : Lookups → List LogEntry → List ℕ

@@ -114,7 +114,7 @@ fn does_any_drain(versions: &[Version]) -> bool
 }
 
 /// Whether a member of a version of the catalogue drains.
-pub(crate) fn does_anybody_drain(catalogue: &Catalogue) -> bool
+pub fn does_anybody_drain(catalogue: &Catalogue) -> bool
     ensures { result ≡ does_anybody_drain catalogue.now.versions }
 {
     does_any_drain(catalogue.versions())
@@ -130,7 +130,7 @@ fn has_drained_in(catalogue: &Catalogue, drains: bool, split: &Split) -> bool
 }
 
 /// Why a flow was split, where it is known whether a member of a version drains.
-pub(crate) fn cause_where(catalogue: &Catalogue, drains: bool, split: &Split) -> SplitCause
+pub fn cause_where(catalogue: &Catalogue, drains: bool, split: &Split) -> SplitCause
     requires { drains ≡ does_anybody_drain catalogue.now.versions }
     ensures { (lookups : Lookups) → lookups.ups ≡ (λ v x. candidates_of catalogue.now v x) → lookups.versions ≡ catalogue.now.versions → result ≡ cause_of lookups split.now }
 {

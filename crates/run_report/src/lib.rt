@@ -19,11 +19,11 @@ mod split_lines;
 mod verdicts;
 
 pub use book::SplitBook;
-pub use cause::{SplitCause, cause_of};
+pub use cause::{SplitCause, cause_of, cause_where, does_anybody_drain};
 pub use laws::{splits_are_all_pairs, splits_are_explained, splits_follow_picks};
 pub use lines::push_line;
 pub use names::CauseText;
 pub use reports::report_text;
 pub use sending::{Sending, Split, sent_by};
-pub use split_lines::push_splits;
+pub use split_lines::{SplitText, push_split_counts, push_splits, slot_of};
 pub use verdicts::{explained_text, left_drained, verdict_text};

@@ -1,11 +1,13 @@
 //! The lines of the splits, and their counts.
-ghost use Rattle.std.specs.Prelude.{◌≡◌, ◌≤◌, ◌+◌, ◌-◌, ◌++◌, List, IfOk, OnOk, string_bytes};
+ghost use Rattle.std.specs.Prelude.{◌≡◌, ◌≤◌, ◌+◌, ◌-◌, ◌++◌, List, length, IfOk, OnOk, string_bytes};
 ghost use Rattle.std.specs.List.{flat_map};
 ghost use Rattle.cluster_node.specs.declared.events.LogEntry.{LogEntry};
+ghost use Rattle.selection.specs.Candidates.{candidates_of};
 ghost use Rattle.selection.specs.Picks.{slot_of_flow};
 ghost use Rattle.run_report.specs.Books.{IsBookOf};
-ghost use Rattle.run_report.specs.Causes.{lookups_of, down_one, drained_one, down_count, drained_count, does_anybody_drain};
-ghost use Rattle.run_report.specs.Texts.{line_of, split_line, split_counts, drained_line, splits_text};
+ghost use Rattle.run_report.specs.Splits.{splits_of, flows_of};
+ghost use Rattle.run_report.specs.Causes.{Lookups, lookups_of, down_one, drained_one, down_count, drained_count, does_anybody_drain};
+ghost use Rattle.run_report.specs.Texts.{line_of, split_line, split_counts, drained_line, counts_text, splits_text};
 
 use crate::book::SplitBook;
 use crate::cause::{SplitCause, cause_where, does_anybody_drain};
@@ -72,6 +74,28 @@ impl fmt::Display for ChoicesText {
     }
 }
 
+/// A split with its flow's slot and its cause, printed as
+/// `split FLOW events I J slot S version V1 BACKEND1 version V2 BACKEND2 CAUSE`.
+#[derive(Clone, Copy)]
+pub struct SplitText(pub Split, pub u32, pub SplitCause);
+
+impl fmt::Display for SplitText {
+    ghost use Rattle.std.specs.Prelude.{Some};
+    ghost use Rattle.run_report.specs.Texts.{split_words};
+
+    ghost output = { λ s. Some (split_words s.0 s.1 s.2) };
+
+    fn fmt<W: fmt::Write>(&self, f: &mut fmt::Formatter<W>) -> fmt::Result {
+        let split = &self.0;
+        let first = ChoiceText(split.first.origin, split.first.backend);
+        let later = ChoiceText(split.later.origin, split.later.backend);
+        let events = EventsText(split.later.flow, split.first.number, split.later.number);
+        let choices = ChoicesText(self.1, first, later);
+        let cause = CauseText(self.2);
+        write!(f, "split {events} {choices} {cause}")
+    }
+}
+
 // One for a split whose first backend is down.
 fn count_down(cause: SplitCause) -> usize
     ensures { result ≡ down_one cause }
@@ -99,8 +123,8 @@ struct Gone {
     drained: usize,
 }
 
-// The slot of a flow.
-fn slot_of<H: FlowHash>(hash: &H, catalogue: &Catalogue, flow: &Flow) -> u32
+/// The slot of a flow in tables of the catalogue's size.
+pub fn slot_of<H: FlowHash>(hash: &H, catalogue: &Catalogue, flow: &Flow) -> u32
     ensures { result ≡ slot_of_flow (H.plain hash.now) catalogue.now.size flow.now }
 {
     let size = catalogue.size().slots();
@@ -115,12 +139,8 @@ fn push_split(
 ) -> Result<(), AllocError>
     ensures { OnOk result (string_bytes text.new ≡ string_bytes text.old ++ line_of split.now slot cause) }
 {
-    let first = ChoiceText(split.first.origin, split.first.backend);
-    let later = ChoiceText(split.later.origin, split.later.backend);
-    let events = EventsText(split.later.flow, split.first.number, split.later.number);
-    let choices = ChoicesText(slot, first, later);
-    let cause = CauseText(cause);
-    write!(text, "split {events} {choices} {cause}\n")
+    let split = SplitText(*split, slot, cause);
+    write!(text, "{split}\n")
 }
 
 // Where a member of a version drains, the line of those that had drained.
@@ -175,6 +195,37 @@ fn push_lines<H: FlowHash>(
         drained += count_drained(cause);
     }
     Ok(Gone { down, drained })
+}
+
+// How many splits have the cause `down`, and how many `drained`.
+fn gone_of(catalogue: &Catalogue, drains: bool, splits: &[Split]) -> Gone
+    requires { drains ≡ does_anybody_drain catalogue.now.versions }
+    ensures down { (lookups : Lookups) → lookups.ups ≡ (λ v x. candidates_of catalogue.now v x) → lookups.versions ≡ catalogue.now.versions → result.down ≡ down_count lookups splits.now }
+    ensures drained { (lookups : Lookups) → lookups.ups ≡ (λ v x. candidates_of catalogue.now v x) → lookups.versions ≡ catalogue.now.versions → result.drained ≡ drained_count lookups splits.now }
+{
+    let mut down = 0;
+    let mut drained = 0;
+    for split in splits {
+        let cause = cause_where(catalogue, drains, split);
+        down += count_down(cause);
+        drained += count_drained(cause);
+    }
+    Gone { down, drained }
+}
+
+/// Puts the counts that come after the lines of a book's splits after a text: those of `push_splits`, without the lines.
+pub fn push_split_counts(
+    text: &mut String,
+    catalogue: &Catalogue,
+    book: &SplitBook,
+) -> Result<(), AllocError>
+    ensures { (past : List LogEntry) (lookups : Lookups) → lookups.ups ≡ (λ v x. candidates_of catalogue.now v x) → lookups.versions ≡ catalogue.now.versions → IsBookOf past book.now →
+        OnOk result (string_bytes text.new ≡ string_bytes text.old ++ counts_text lookups (length (flows_of past)) (splits_of past)) }
+{
+    let splits = book.splits();
+    let drains = does_anybody_drain(catalogue);
+    let gone = gone_of(catalogue, drains, splits);
+    push_counts(text, book.flows(), splits.len(), gone, drains)
 }
 
 /// Puts a line for each split of a book after a text. Then it puts how many flows were sent, how many splits there are, and

@@ -8,7 +8,7 @@ ghost use Rattle.event_trace.specs.Noting.{said_by};
 ghost use Rattle.run_report.specs.Splits.{sent_by};
 
 use crate::asking::Query;
-use cluster_node::{Event, Outcome};
+use cluster_node::{Event, Outcome, Packet};
 use connection_table::TableKey;
 use event_trace::{Counts, Notes};
 use run_report::{Sending, SplitBook, push_line, sent_by};
@@ -149,7 +149,14 @@ impl Notes for Notebook {
     ghost are_of = { λ asked past notes. AreOf asked past notes };
 
     #[inline(always)]
-    fn note(&mut self, asked: &Query, event: &Event, outcome: &Outcome) -> Result<(), AllocError> {
+    fn note(
+        &mut self,
+        asked: &Query,
+        event: &Event,
+        packet: Option<&Packet>,
+        outcome: &Outcome,
+    ) -> Result<(), AllocError> {
+        let _ = packet;
         match *asked {
             Query::Report(wanted) => {
                 self.counts.count(outcome)?;

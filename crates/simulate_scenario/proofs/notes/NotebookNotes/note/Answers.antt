@@ -1,4 +1,5 @@
 use Rattle.std.proofs.Common.{◌≡◌, ◌∷◌, refl, sym, ◌∙◌, subst}
+use Rattle.std.specs.Prelude.{option_copied}
 use Rattle.cluster_core.specs.Histories.{outcomes_of}
 use Rattle.event_trace.specs.declared.counts.Counts.{Counts}
 use Rattle.event_trace.specs.Noting.{said_by}
@@ -12,7 +13,8 @@ use Rattle.simulate_scenario.proofs.Noted.{lists_same}
 use Rattle.simulate_scenario.proofs.notes.NotebookNotes.note.Goals as goal
 
 pub returns-in_ok-list_if-in-Report : goal.returns-in_ok-list_if-in-Report
-returns-in_ok-list_if-in-Report c = λ past packet h.
+returns-in_ok-list_if-in-Report c = λ past h.
+    let packet = option_copied c.args.packet in
     let s = said_by c.args.event.now packet c.args.outcome.now in
     let is : c.args.asked.now ≡ Report c.in-Report.wanted = c.in-Report.is in
     let was = subst (λ (a : Query). AreOf a past c.args.self.now) is h in

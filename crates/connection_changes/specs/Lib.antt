@@ -1,0 +1,5 @@
+pub mod Sites
+pub mod Changes
+pub mod Texts
+pub mod Books
+pub mod Laws

@@ -1,0 +1,187 @@
+//! The times of records, the lives of nodes and the clocks of workers.
+ghost use Rattle.std.specs.Prelude.{◌≡◌, ◌==◌, ◌&&◌, ◌+◌, ◌∷◌, [], ℕ, List, IfOk, OnOk, slice_index, option_copied, if◌then◌else◌};
+ghost use Rattle.cluster_node.specs.declared.events.LogEntry.{LogEntry};
+ghost use Rattle.event_trace.specs.Noting.{said_by};
+ghost use Rattle.connection_changes.specs.Sites.{time_with, life_with, clock_with, site_in};
+ghost use Rattle.connection_changes.specs.Books.{clock_told, life_in, clock_in, AreYoung, AreClocksOf};
+
+use crate::numbers::Numbers;
+use crate::sites::{Arrived, Served, Site, arrived_by, begun_by, served_by};
+use cluster_node::{Event, Outcome, Packet};
+use std::alloc::{AllocError, Global};
+use std::collections::HashMap;
+
+#[derive(Clone, Copy, PartialEq, Eq, Hash)]
+struct WorkerKey {
+    node: u16,
+    worker: u16,
+}
+
+/// A worker's clock in a life of its node.
+#[derive(Clone, Copy)]
+struct LifeClock {
+    life: u64,
+    at: u64,
+}
+
+/// The time of each record that arrived, the life of each node, and the clock of each worker. A clock of an earlier life is
+/// left where it is, and counts for nothing.
+#[derive(Drop)]
+pub(crate) struct Clocks {
+    times: Numbers,
+    lives: Numbers,
+    clocks: HashMap<WorkerKey, LifeClock>,
+}
+
+// The number of the next life. Where it has no room it is refused, as memory is.
+fn next(life: u64) -> Result<u64, AllocError>
+    ensures { IfOk result (λ n. n ≡ life + 1) }
+{
+    match life.checked_add(1) {
+        Some(next) => Ok(next),
+        None => Err(AllocError),
+    }
+}
+
+// A worker's clock in this life, by what was put last.
+fn clock_told(life: u64, last: Option<LifeClock>) -> u64
+    ensures { result ≡ clock_told life last }
+{
+    match last {
+        None => 0,
+        Some(last) => {
+            if last.life == life {
+                last.at
+            } else {
+                0
+            }
+        }
+    }
+}
+
+impl Clocks {
+    /// Those of no events.
+    pub(crate) fn new(alloc: Global) -> Clocks
+        ensures { AreClocksOf [] result }
+    {
+        Clocks {
+            times: Numbers::new(alloc),
+            lives: Numbers::new(alloc),
+            clocks: HashMap::new(alloc),
+        }
+    }
+
+    // A worker's clock.
+    fn clock(&self, node: u16, worker: u16) -> u64
+        ensures { result ≡ clock_in self.now node worker }
+    {
+        let last = self.clocks.get(&WorkerKey { node, worker }).copied();
+        clock_told(self.lives.at(u32::from(node)), last)
+    }
+
+    // A record's time is known.
+    fn arrive(&mut self, arrived: Option<Arrived>) -> Result<(), AllocError>
+        ensures times { OnOk result ((k : ℕ) → slice_index self.new.times.all.items k ≡ time_with arrived k (slice_index self.old.times.all.items k)) }
+        ensures rest { self.new ≡ record self.old { times = self.new.times } }
+    {
+        match arrived {
+            None => Ok(()),
+            Some(arrived) => self.times.put(arrived.packet, arrived.at),
+        }
+    }
+
+    // A node's life begins.
+    fn begin(&mut self, begun: Option<u16>) -> Result<(), AllocError>
+        ensures lives { OnOk result ((n : ℕ) → life_in self.new n ≡ life_with begun n (life_in self.old n)) }
+        ensures rest { self.new ≡ record self.old { lives = self.new.lives } }
+    {
+        match begun {
+            None => Ok(()),
+            Some(node) => {
+                let node = u32::from(node);
+                let life = next(self.lives.at(node))?;
+                self.lives.put(node, life)
+            }
+        }
+    }
+
+    // A worker's clock is this in its node's life.
+    fn put(&mut self, node: u16, worker: u16, at: u64) -> Result<(), AllocError>
+        ensures clocks { OnOk result ((n w : ℕ) → clock_in self.new n w ≡ (if node == n && worker == w then at else clock_in self.old n w)) }
+        ensures young { AreYoung self.old → OnOk result (AreYoung self.new) }
+        ensures rest { self.new ≡ record self.old { clocks = self.new.clocks } }
+    {
+        let life = self.lives.at(u32::from(node));
+        let Ok(_) = self
+            .clocks
+            .insert(WorkerKey { node, worker }, LifeClock { life, at })
+        else {
+            return Err(AllocError);
+        };
+        Ok(())
+    }
+
+    // A worker serves a packet.
+    fn serve(&mut self, served: Option<Served>) -> Result<(), AllocError>
+        ensures clocks { OnOk result ((n w : ℕ) → clock_in self.new n w ≡ clock_with served (λ k. slice_index self.old.times.all.items k) n w (clock_in self.old n w)) }
+        ensures young { AreYoung self.old → OnOk result (AreYoung self.new) }
+        ensures rest { self.new ≡ record self.old { clocks = self.new.clocks } }
+    {
+        match served {
+            None => Ok(()),
+            Some(served) => {
+                let Served {
+                    node,
+                    worker,
+                    packet,
+                } = served;
+                let clock = self.clock(node, worker).max(self.times.at(packet));
+                self.put(node, worker, clock)
+            }
+        }
+    }
+
+    /// One event more, with the packet that it names where it is an arrival, and its outcome. Where memory is refused nothing
+    /// more is known of these.
+    pub(crate) fn note(
+        &mut self,
+        event: &Event,
+        packet: Option<&Packet>,
+        outcome: &Outcome,
+    ) -> Result<(), AllocError>
+        ensures { (past : List LogEntry) → AreClocksOf past self.old → OnOk result (AreClocksOf (said_by event.now (option_copied packet.entry) outcome.now ∷ past) self.new) }
+    {
+        self.arrive(arrived_by(event, packet))?;
+        self.begin(begun_by(event, outcome))?;
+        self.serve(served_by(event, outcome))
+    }
+
+    /// Where a packet was sent, at the last event, which has this outcome. Where none was sent all numbers are 0.
+    pub(crate) fn site(&self, outcome: &Outcome) -> Site
+        ensures { (past : List LogEntry) → AreClocksOf past self.now → result ≡ site_in past outcome.now }
+    {
+        match *outcome {
+            Outcome::Forward {
+                node,
+                worker,
+                packet,
+                ..
+            } => Site {
+                packet,
+                time: self.times.at(packet),
+                node,
+                worker,
+                life: self.lives.at(u32::from(node)),
+                clock: self.clock(node, worker),
+            },
+            _ => Site {
+                packet: 0,
+                time: 0,
+                node: 0,
+                worker: 0,
+                life: 0,
+                clock: 0,
+            },
+        }
+    }
+}

@@ -1,0 +1,23 @@
+//! Which connections changed their server: where both packets were sent, and why the later one went elsewhere.
+//!
+//! A change is a split with the sites of its two sends. `ChangeBook` finds them as a cluster's events come. It keeps the last
+//! site of each flow and the changes, the times of records, and a clock for each worker, and no event.
+#![tactic(auto)]
+
+mod book;
+mod causes;
+mod changed;
+mod clocks;
+mod last_sites;
+mod laws;
+mod lines;
+mod numbers;
+mod sites;
+mod summary;
+
+pub use book::ChangeBook;
+pub use causes::{Change, ChangeCause, cause_in};
+pub use laws::{causes_add_up, moves_of_one_worker_are_evictions};
+pub use lines::push_places;
+pub use sites::Site;
+pub use summary::push_summary;

@@ -1,0 +1,51 @@
+//! Numbers, each at a place.
+ghost use Rattle.std.specs.Prelude.{◌≡◌, ◌≤◌, ◌==◌, ℕ, OnOk, slice_index, vec_len, if◌then◌else◌};
+
+use std::alloc::{AllocError, Global};
+
+/// Numbers, each at a place. Where none was put it is 0.
+#[derive(Drop)]
+pub(crate) struct Numbers {
+    all: Vec<u64>,
+}
+
+impl Numbers {
+    /// None was put.
+    pub(crate) fn new(alloc: Global) -> Numbers
+        ensures { (k : ℕ) → slice_index result.all.items k ≡ 0 }
+    {
+        Numbers {
+            all: Vec::new(alloc),
+        }
+    }
+
+    /// The number at a place.
+    pub(crate) fn at(&self, place: u32) -> u64
+        ensures { result ≡ slice_index self.now.all.items place }
+    {
+        self.all.get(place as usize).copied().unwrap_or(0)
+    }
+
+    // Makes room for so many places.
+    fn reach(&mut self, len: usize) -> Result<(), AllocError>
+        ensures room { OnOk result (len ≤ vec_len self.new.all) }
+        ensures same { OnOk result ((k : ℕ) → slice_index self.new.all.items k ≡ slice_index self.old.all.items k) }
+    {
+        for _ in self.all.len()..len {
+            let Ok(()) = self.all.push(0) else {
+                return Err(AllocError);
+            };
+        }
+        Ok(())
+    }
+
+    /// Puts a number at a place. Where memory is refused the others are as they were.
+    pub(crate) fn put(&mut self, place: u32, number: u64) -> Result<(), AllocError>
+        ensures { OnOk result ((k : ℕ) → slice_index self.new.all.items k ≡ (if place == k then number else slice_index self.old.all.items k)) }
+    {
+        let at = place as usize;
+        self.reach(at + 1)?;
+        self.all[at] = number;
+        Ok(())
+    }
+}

@@ -1,0 +1,87 @@
+//! Where packets were sent, and what events tell of it.
+ghost use Rattle.std.specs.Prelude.{◌≡◌, option_copied};
+ghost use Rattle.connection_changes.specs.Sites.{arrived_by, begun_by, served_by};
+
+use cluster_node::{Event, Outcome, Packet};
+
+/// Where a packet was sent: its number in the capture, its time, the node and the worker that sent it, how many lives the
+/// node had before, and the worker's clock. Times and clocks are in microseconds. A clock is the greatest time of the packets
+/// that the worker served in this life, this one among them.
+#[derive(Clone, Copy, Debug, PartialEq, Eq)]
+pub struct Site {
+    pub packet: u32,
+    pub time: u64,
+    pub node: u16,
+    pub worker: u16,
+    pub life: u64,
+    pub clock: u64,
+}
+
+/// The time of a record, as its packet's arrival tells it.
+#[derive(Clone, Copy)]
+pub(crate) struct Arrived {
+    pub(crate) packet: u32,
+    pub(crate) at: u64,
+}
+
+/// A packet that a worker sent or dropped.
+#[derive(Clone, Copy)]
+pub(crate) struct Served {
+    pub(crate) node: u16,
+    pub(crate) worker: u16,
+    pub(crate) packet: u32,
+}
+
+/// The time of a record, where an event tells it.
+pub(crate) fn arrived_by(event: &Event, packet: Option<&Packet>) -> Option<Arrived>
+    ensures { result ≡ arrived_by event.now (option_copied packet.entry) }
+{
+    let Event::Arrive { packet: number, .. } = *event else {
+        return None;
+    };
+    match packet {
+        Some(Packet::Good { at, .. }) => Some(Arrived {
+            packet: number,
+            at: *at,
+        }),
+        Some(Packet::Bad(_)) => None,
+        None => None,
+    }
+}
+
+/// The node whose life an event begins.
+pub(crate) fn begun_by(event: &Event, outcome: &Outcome) -> Option<u16>
+    ensures { result ≡ begun_by event.now outcome.now }
+{
+    match (*event, *outcome) {
+        (Event::Restart { node }, Outcome::Restarted { .. }) => Some(node),
+        _ => None,
+    }
+}
+
+/// The packet that a worker serves by an event.
+pub(crate) fn served_by(event: &Event, outcome: &Outcome) -> Option<Served>
+    ensures { result ≡ served_by event.now outcome.now }
+{
+    match *outcome {
+        Outcome::Forward {
+            node,
+            worker,
+            packet,
+            ..
+        } => Some(Served {
+            node,
+            worker,
+            packet,
+        }),
+        Outcome::Dropped { packet, .. } => match *event {
+            Event::Serve { node, worker, .. } => Some(Served {
+                node,
+                worker,
+                packet,
+            }),
+            _ => None,
+        },
+        _ => None,
+    }
+}

@@ -1,0 +1,98 @@
+//! How many connections changed their server, how often, and why.
+ghost use Rattle.std.specs.Prelude.{◌≡◌, ◌++◌, List, map, codes, IfOk, OnOk, string_bytes};
+ghost use Rattle.std.specs.List.{flat_map, count_by};
+ghost use Rattle.cluster_node.specs.declared.events.LogEntry.{LogEntry};
+ghost use Rattle.selection.specs.Candidates.{candidates_of};
+ghost use Rattle.run_report.specs.Causes.{Lookups};
+ghost use Rattle.run_report.specs.Report.{count_line};
+ghost use Rattle.connection_changes.specs.declared.causes.ChangeCause.{ChangeCause};
+ghost use Rattle.connection_changes.specs.Books.{IsChangeBookOf};
+ghost use Rattle.connection_changes.specs.Changes.{same_cause, cause_in};
+ghost use Rattle.connection_changes.specs.Texts.{causes, cause_line, summary_text};
+
+use crate::book::ChangeBook;
+use crate::causes::{Change, ChangeCause, cause_with, same_cause};
+use crate::lines::CauseText;
+use pool_versions::Catalogue;
+use run_report::does_anybody_drain;
+use std::alloc::{AllocError, Global};
+
+const CAUSES: [ChangeCause; 7] = [
+    ChangeCause::Down,
+    ChangeCause::Drained,
+    ChangeCause::Node,
+    ChangeCause::Restart,
+    ChangeCause::Worker,
+    ChangeCause::Idle,
+    ChangeCause::Evicted,
+];
+
+// Why each connection changed its server.
+fn causes_of(
+    alloc: Global,
+    catalogue: &Catalogue,
+    idle: Option<u64>,
+    changes: &[Change],
+) -> Result<Vec<ChangeCause>, AllocError>
+    ensures { (lookups : Lookups) → lookups.ups ≡ (λ v x. candidates_of catalogue.now v x) → lookups.versions ≡ catalogue.now.versions → IfOk result (λ v. v.items ≡ map (λ c. cause_in lookups idle c) changes.now) }
+{
+    let drains = does_anybody_drain(catalogue);
+    let mut causes = Vec::new(alloc);
+    for change in changes {
+        let Ok(()) = causes.push(cause_with(catalogue, drains, idle, change)) else {
+            return Err(AllocError);
+        };
+    }
+    Ok(causes)
+}
+
+fn count_of(causes: &[ChangeCause], cause: ChangeCause) -> usize
+    ensures { result ≡ count_by (λ c. same_cause cause c) causes.now }
+{
+    causes.iter().filter(|one| same_cause(cause, **one)).count()
+}
+
+fn push_cause(text: &mut String, cause: ChangeCause, count: usize) -> Result<(), AllocError>
+    ensures { OnOk result (string_bytes text.new ≡ string_bytes text.old ++ cause_line cause count) }
+{
+    let cause = CauseText(cause);
+    write!(text, "changes {cause} {count}\n")
+}
+
+// How often there was each cause.
+fn push_causes(text: &mut String, made: &[ChangeCause]) -> Result<(), AllocError>
+    ensures { OnOk result (string_bytes text.new ≡ string_bytes text.old ++ flat_map (λ cause. cause_line cause (count_by (λ c. same_cause cause c) made.now)) causes) }
+{
+    for cause in CAUSES {
+        push_cause(text, cause, count_of(made, cause))?;
+    }
+    Ok(())
+}
+
+fn push_totals(text: &mut String, connections: usize, changed: usize, changes: usize) -> Result<(), AllocError>
+    ensures { OnOk result (string_bytes text.new ≡ string_bytes text.old ++ (count_line (codes "connections") connections ++ (count_line (codes "changed") changed ++ count_line (codes "changes") changes))) }
+{
+    write!(
+        text,
+        "connections {connections}\nchanged {changed}\nchanges {changes}\n"
+    )
+}
+
+/// Puts after a text how many connections there were, how many of them changed their server, how often they did, and how often
+/// for each cause. The causes' counts add up to that of the changes, by `causes_add_up`. `idle` is the limit in microseconds
+/// after which an entry of a connection table no longer counts.
+pub fn push_summary(
+    alloc: Global,
+    text: &mut String,
+    catalogue: &Catalogue,
+    idle: Option<u64>,
+    book: &ChangeBook,
+) -> Result<(), AllocError>
+    ensures { (past : List LogEntry) (lookups : Lookups) → lookups.ups ≡ (λ v x. candidates_of catalogue.now v x) → lookups.versions ≡ catalogue.now.versions → IsChangeBookOf past book.now →
+        OnOk result (string_bytes text.new ≡ string_bytes text.old ++ summary_text lookups idle past) }
+{
+    let changes = book.changes();
+    let causes = causes_of(alloc, catalogue, idle, changes)?;
+    push_totals(text, book.splits().flows(), book.changed(), changes.len())?;
+    push_causes(text, causes.as_slice())
+}
