@@ -5,7 +5,7 @@ use Rattle.std.proofs.lemmas.Bool.{and_from, and_parts}
 use Rattle.toml.specs.Data.{Members}
 use Rattle.pool_versions.specs.declared.backend.Member.{Member}
 use Rattle.pool_versions.specs.declared.catalogue.PoolFault.{PoolFault}
-use Rattle.scenario_pools.specs.Plain.{PlainVersion}
+use Rattle.version_drafts.specs.Plain.{PlainVersion}
 use Rattle.scenario_pools.specs.declared.fault.PoolsFault.{PoolsFault}
 use Rattle.scenario.specs.Steps.{PlainStep, plain_timed, allows}
 use Rattle.scenario.specs.Told.{PlainTold, once, each, at_node, steps_said, count_said, allows_told, told_of, after, said_before, steps_of}

@@ -1,7 +1,7 @@
 -- A draft's fault is its document's.
 use Rattle.std.proofs.Common.{◌≡◌, ℕ, List, Option, Some, None, Result, Ok, Err, IfErr, IsErrAnd, ◌∙◌, sym, ap, subst}
-use Rattle.scenario_pools.specs.Plain.{PlainVersion}
-use Rattle.scenario_pools.specs.Drafts.{PlainVersionDraft}
+use Rattle.version_drafts.specs.Plain.{PlainVersion}
+use Rattle.version_drafts.specs.Drafts.{PlainVersionDraft}
 use Rattle.scenario_pools.specs.declared.fault.PoolsFault.{PoolsFault}
 use Rattle.scenario_pools.specs.declared.fault.PoolsFault.TheVariants as written
 use Rattle.scenario.specs.Steps.{PlainStep}

@@ -13,9 +13,9 @@ use Rattle.scenario_keys.specs.Keys.{key_name, root_keys}
 use Rattle.scenario_keys.specs.Formats.{format_of}
 use Rattle.scenario_keys.specs.declared.key.Key.TheVariants as key
 use Rattle.scenario.specs.Setup.{choices_of, limits_of}
-use Rattle.scenario_pools.specs.Plain.{PlainVersion, plain_version}
-use Rattle.scenario_pools.specs.Drafts.{PlainVersionDraft, plain_version_drafts}
-use Rattle.scenario_pools.specs.Reading.{versions_in}
+use Rattle.version_drafts.specs.Plain.{PlainVersion, plain_version}
+use Rattle.version_drafts.specs.Drafts.{PlainVersionDraft, plain_version_drafts}
+use Rattle.version_drafts.specs.Reading.{versions_in}
 use Rattle.scenario_pools.specs.Writing.{versions_of}
 use Rattle.scenario_pools.specs.declared.fault.PoolsFault.{PoolsFault}
 use Rattle.scenario_pools.specs.declared.fault.PoolsFault.TheVariants as written

@@ -5,7 +5,7 @@ use Rattle.std.specs.Option.{option_or}
 use Rattle.pool_versions.specs.Pool.{has_double, same_name}
 use Rattle.pool_versions.specs.declared.backend.Member.{Member}
 use Rattle.pool_versions.specs.declared.catalogue.PoolFault.{PoolFault}
-use Rattle.scenario_pools.specs.Plain.{PlainService, PlainVersion}
+use Rattle.version_drafts.specs.Plain.{PlainService, PlainVersion}
 use Rattle.pool_versions.specs.declared.catalogue.PoolFault.TheVariants as fault
 
 -- two services are for the same flows

@@ -3,8 +3,8 @@ ghost use Rattle.std.specs.Prelude.{◌≡◌, ◌≤◌, length, map, string_by
 ghost use Rattle.toml.specs.View.{table_view};
 ghost use Rattle.scenario.specs.Steps.{plain_timed};
 ghost use Rattle.scenario.specs.Told.{steps_of};
-ghost use Rattle.scenario_pools.specs.Plain.{plain_version};
-ghost use Rattle.scenario_pools.specs.Drafts.{plain_version_draft};
+ghost use Rattle.version_drafts.specs.Plain.{plain_version};
+ghost use Rattle.version_drafts.specs.Drafts.{plain_version_draft};
 ghost use Rattle.scenario_pools.specs.Writing.{versions_of};
 ghost use Rattle.scenario.specs.declared.playing.Played.{Played};
 ghost use Rattle.scenario.specs.Meaning.{pools_of, IsDocument, IsRefused, IsDraftRefused, IsLimited, IsSupported, AreVersionsRefused, AreStepsRefused, if_written, HasLimits, Means, plan_of, plan_of_draft, plan_view, plain_draft, pool_refused};
@@ -18,10 +18,11 @@ use backend_names::TableSize;
 use hash_laws::AnyHash;
 use pool_versions::{Catalogue, PoolFault, Version};
 use scenario_keys::{Format, MOST_STEPS, SchemeKind, SpreadKind, format_of};
-use scenario_pools::{PoolsFault, VersionDraft, versions_of};
+use scenario_pools::{PoolsFault, versions_of};
 use std::alloc::{AllocError, Global};
 use timed_steps::TimedStep;
 use toml::Table;
+use version_drafts::VersionDraft;
 
 // The most bytes of a scenario's text.
 const LONGEST: usize = 1_048_576;

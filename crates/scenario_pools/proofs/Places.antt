@@ -7,8 +7,8 @@ use Rattle.pool_versions.specs.declared.backend.Member.{Member}
 use Rattle.pool_versions.specs.declared.service.Service.{Service}
 use Rattle.pool_versions.specs.declared.key.ServiceKey.{ServiceKey}
 use Rattle.pool_versions.specs.Pool.{same_key}
-use Rattle.scenario_pools.specs.Plain.{PlainService, plain_service, plain_key}
-use Rattle.scenario_pools.specs.Drafts.{PlainServiceDraft, draft_key}
+use Rattle.version_drafts.specs.Plain.{PlainService, plain_service, plain_key}
+use Rattle.version_drafts.specs.Drafts.{PlainServiceDraft, draft_key}
 use Rattle.scenario_pools.specs.Writing.{placed, changed_one, with_changed}
 
 -- one place further

@@ -1,20 +1,19 @@
 //! The word of drafts for which they are refused.
 ghost use Rattle.std.specs.Prelude.{◌≡◌, [], map, find, option_map, IfOk};
 ghost use Rattle.pool_versions.specs.Pool.{same_key};
-ghost use Rattle.scenario_pools.specs.Plain.{plain_service, plain_version, plain_key};
-ghost use Rattle.scenario_pools.specs.Drafts.{plain_service_draft, plain_version_draft, draft_key};
+ghost use Rattle.version_drafts.specs.Plain.{plain_service, plain_version, plain_key};
+ghost use Rattle.version_drafts.specs.Drafts.{plain_service_draft, plain_version_draft, draft_key};
 ghost use Rattle.scenario_pools.specs.BadWords.{first_none, bad_change, bad_change_of_all, service_for, bad_in_changes, bad_in_service, bad_in_drafts, bad_in_stated, bad_in_based, bad_in_version, bad_word_of, BadWordsAreBadMembers};
 
 use crate::basing::{add_draft, key_of};
-use crate::change::Change;
 use crate::changing::{
     all_changed, changed_services, copied_services, has_member, some_has_member,
 };
-use crate::draft::{ServiceDraft, VersionDraft};
 use crate::fault::PoolsFault;
 use crate::writing::{MOST_PLACES, left_by_version, stated, version_of_number, written_out};
 use pool_versions::{Member, Service, Version};
 use std::alloc::{AllocError, Global};
+use version_drafts::{Change, ServiceDraft, VersionDraft};
 
 /// Where a version's draft is wrong. Services, members and changes are numbered from 0, changes in the order in which they
 /// are made.

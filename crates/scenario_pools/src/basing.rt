@@ -3,14 +3,14 @@ ghost use Rattle.std.specs.Prelude.{◌≡◌, ◌≤◌, ◌++◌, ◌∷◌, S
 ghost use Rattle.std.specs.List.{list_any, position_or_len};
 ghost use Rattle.pool_versions.specs.Pool.{same_key};
 ghost use Rattle.scenario_keys.specs.Lookups.{all_of};
-ghost use Rattle.scenario_pools.specs.Plain.{plain_service, plain_key};
-ghost use Rattle.scenario_pools.specs.Drafts.{plain_service_draft, draft_key};
+ghost use Rattle.version_drafts.specs.Plain.{plain_service, plain_key};
+ghost use Rattle.version_drafts.specs.Drafts.{plain_service_draft, draft_key};
 ghost use Rattle.scenario_pools.specs.Writing.{stated_with, placed, with_stated, changed_one, with_changed, with_draft, with_drafts};
 
 use crate::changing::changed;
-use crate::draft::ServiceDraft;
 use pool_versions::{Member, Service, ServiceKey};
 use std::alloc::{AllocError, Global};
+use version_drafts::ServiceDraft;
 
 // The members that some words are, where each is one.
 fn members_of(alloc: Global, words: &[Option<Member>]) -> Result<Option<Vec<Member>>, AllocError>

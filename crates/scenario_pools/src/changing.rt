@@ -1,18 +1,19 @@
 //! Members and services after changes, one after another.
 ghost use Rattle.std.specs.Prelude.{◌≡◌, map, option_map, IfOk};
 ghost use Rattle.std.specs.List.{list_any};
-ghost use Rattle.scenario_pools.specs.Plain.{plain_service};
-ghost use Rattle.scenario_pools.specs.Changes.{is_of, has_member, some_has_member, changed, service_changed_by, all_changed};
+ghost use Rattle.version_drafts.specs.Plain.{plain_service};
+ghost use Rattle.version_drafts.specs.Changes.{is_of};
+ghost use Rattle.scenario_pools.specs.Changes.{has_member, some_has_member, changed, service_changed_by, all_changed};
 
-use crate::change::{Change, is_of};
 use backend_names::Name;
 use pool_versions::{Member, Service};
 use std::alloc::{AllocError, Global};
+use version_drafts::Change;
 
 fn has_name(name: Name, members: &[Member]) -> bool
     ensures { result ≡ list_any (is_of name) members.now }
 {
-    members.iter().any(|member| is_of(name, member))
+    members.iter().any(|member| name == member.backend.name)
 }
 
 pub(crate) fn has_member(name: Option<Name>, members: &[Member]) -> bool

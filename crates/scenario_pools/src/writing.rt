@@ -2,17 +2,16 @@
 ghost use Rattle.std.specs.Prelude.{◌≡◌, ◌+◌, ◌==◌, Ok, length, map, find, option_map, is_some, IfOk, IfErr};
 ghost use Rattle.pool_versions.specs.Pool.{same_key};
 ghost use Rattle.scenario_keys.specs.Lookups.{all_of};
-ghost use Rattle.scenario_pools.specs.Plain.{plain_service, plain_version};
-ghost use Rattle.scenario_pools.specs.Drafts.{plain_service_draft, plain_version_draft};
+ghost use Rattle.version_drafts.specs.Plain.{plain_service, plain_version};
+ghost use Rattle.version_drafts.specs.Drafts.{plain_service_draft, plain_version_draft};
 ghost use Rattle.scenario_pools.specs.Writing.{stated, stated_version, version_from, left, left_by_services, left_by_drafts, left_by_version, additions, is_addition, brought, has_room, based, written_out, versions_of, IsRefused};
 
 use crate::basing::{stated_with, with_drafts};
-use crate::change::Change;
 use crate::changing::all_changed;
-use crate::draft::{ServiceDraft, VersionDraft};
 use crate::fault::PoolsFault;
 use pool_versions::{Service, Version};
 use std::alloc::{AllocError, Global};
+use version_drafts::{Change, ServiceDraft, VersionDraft};
 
 /// The most services and members that versions may have in all, up to one with a base.
 pub const MOST_PLACES: usize = 1_048_576;

@@ -1,5 +1,5 @@
 use Rattle.std.proofs.Common.{◌≡◌, drop, map}
-use Rattle.scenario_pools.specs.Plain.{plain_service}
+use Rattle.version_drafts.specs.Plain.{plain_service}
 use Rattle.scenario_pools.specs.BadWords.{bad_change_of_all}
 use Rattle.scenario_pools.proofs.bad_words.bad_change_of_all.Given as goal
 

@@ -1,5 +1,5 @@
 use Rattle.std.proofs.Common.{◌≡◌, drop, map}
-use Rattle.scenario_pools.specs.Drafts.{plain_service_draft}
+use Rattle.version_drafts.specs.Drafts.{plain_service_draft}
 use Rattle.scenario_pools.specs.BadWords.{bad_in_stated}
 use Rattle.scenario_pools.proofs.bad_words.bad_in_stated.Given as goal
 

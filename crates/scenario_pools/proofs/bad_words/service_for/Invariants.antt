@@ -1,6 +1,6 @@
 use Rattle.std.proofs.Common.{◌≡◌, drop, map}
-use Rattle.scenario_pools.specs.Plain.{plain_service}
-use Rattle.scenario_pools.specs.Drafts.{plain_service_draft}
+use Rattle.version_drafts.specs.Plain.{plain_service}
+use Rattle.version_drafts.specs.Drafts.{plain_service_draft}
 use Rattle.scenario_pools.specs.BadWords.{service_for}
 use Rattle.scenario_pools.proofs.bad_words.service_for.Given as goal
 

@@ -1,5 +1,5 @@
 use Rattle.std.proofs.Common.{Some, None, sym, rules}
-use Rattle.scenario_pools.specs.Drafts.{plain_service_draft}
+use Rattle.version_drafts.specs.Drafts.{plain_service_draft}
 use Rattle.scenario_pools.proofs.Places.{change_at, change_none}
 use Rattle.scenario_pools.proofs.basing.change_one.Goals as goal
 

@@ -1,6 +1,6 @@
 use Rattle.std.proofs.Common.{◌≡◌, [], drop, take, map}
-use Rattle.scenario_pools.specs.Plain.{plain_service}
-use Rattle.scenario_pools.specs.Drafts.{plain_service_draft}
+use Rattle.version_drafts.specs.Plain.{plain_service}
+use Rattle.version_drafts.specs.Drafts.{plain_service_draft}
 use Rattle.scenario_pools.specs.Writing.{with_drafts}
 use Rattle.scenario_pools.proofs.basing.with_drafts.Given as goal
 

@@ -1,7 +1,7 @@
 use Rattle.std.proofs.Common.{◌≡◌, ◌++◌, drop, map, option_map}
 use Rattle.scenario_keys.specs.Lookups.{all_of}
-use Rattle.scenario_pools.specs.Plain.{plain_service}
-use Rattle.scenario_pools.specs.Drafts.{plain_service_draft}
+use Rattle.version_drafts.specs.Plain.{plain_service}
+use Rattle.version_drafts.specs.Drafts.{plain_service_draft}
 use Rattle.scenario_pools.specs.Writing.{stated}
 use Rattle.scenario_pools.proofs.writing.all_stated.Given as goal
 

@@ -1,6 +1,6 @@
 use Rattle.std.proofs.Common.{◌≡◌, [], drop, map}
-use Rattle.scenario_pools.specs.Plain.{plain_version}
-use Rattle.scenario_pools.specs.Drafts.{plain_version_draft}
+use Rattle.version_drafts.specs.Plain.{plain_version}
+use Rattle.version_drafts.specs.Drafts.{plain_version_draft}
 use Rattle.scenario_pools.specs.Writing.{written_behind}
 use Rattle.scenario_pools.proofs.writing.versions_of.Given as goal
 
