@@ -3,3 +3,4 @@ pub mod Writing
 pub mod Older
 pub mod Laws
 pub mod BadWords
+pub mod PrivateWalk

@@ -8,7 +8,7 @@ mod fault;
 mod laws;
 mod writing;
 
-pub use bad_words::{BadWord, bad_word, bad_words_are_bad_members};
+pub use bad_words::{BadWord, bad_words_are_bad_members};
 pub use fault::PoolsFault;
 pub use laws::{differences_are_written_out, older_formats_state_versions};
-pub use writing::{MOST_PLACES, versions_of};
+pub use writing::{MOST_PLACES, bad_word, versions_of};
