@@ -5,7 +5,7 @@ use Rattle.pcap_file.specs.Device.{Tape, Unfailed, PutRefused}
 use Rattle.thread_roles.specs.declared.fault.RunFault.{RunFault}
 use Rattle.thread_roles.specs.declared.fault.RunFault.TheVariants as threads
 use Rattle.scenario.specs.declared.playing.Played.TheVariants.{OnThreads}
-use Rattle.scenario.specs.declared.reading.Scenario.{Scenario}
+use Rattle.scenario.specs.declared.plan.Scenario.{Scenario}
 use Rattle.scenario.specs.Meaning.{Means}
 use Rattle.driver_commands.specs.Knowing.{first_unsupported_in}
 use Rattle.run_scenario.specs.declared.failure.RunFailure.{RunFailure}

@@ -4,7 +4,7 @@ use Rattle.pcap_file.specs.declared.format.Head.{Head}
 use Rattle.pcap_file.specs.declared.format.InputEnd.{InputEnd}
 use Rattle.pcap_file.specs.Device.{Tape}
 use Rattle.pcap_file.specs.Format.{Record}
-use Rattle.scenario.specs.declared.reading.Scenario.{Scenario}
+use Rattle.scenario.specs.declared.plan.Scenario.{Scenario}
 use Rattle.simulation.specs.declared.fault.SimulationFault.TheVariants.{Capture, Write, Memory}
 use Rattle.run_scenario.specs.declared.failure.RunFailure.{RunFailure}
 use Rattle.run_scenario.specs.declared.failure.RunFailure.TheVariants.{UnsupportedStep, Simulation, Threads}

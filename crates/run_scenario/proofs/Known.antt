@@ -10,7 +10,7 @@ use Rattle.timed_steps.specs.declared.TimedStep.TheVariants.{Counted, Until}
 use Rattle.scenario.specs.Steps.{plain_step, plain_timed, allows}
 use Rattle.scenario.specs.Meaning.{Means}
 use Rattle.scenario.specs.declared.playing.Played.TheVariants.{OnThreads}
-use Rattle.scenario.specs.declared.reading.Scenario.{Scenario}
+use Rattle.scenario.specs.declared.plan.Scenario.{Scenario}
 use Rattle.scenario.proofs.Allowed.{steps_allowed}
 use Rattle.driver_commands.specs.Knowing.{is_known, is_known_in, first_unsupported_in}
 

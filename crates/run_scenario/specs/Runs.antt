@@ -21,7 +21,7 @@ use Rattle.thread_records.specs.declared.command.Command.{Command}
 use Rattle.thread_records.specs.declared.nodes.NodeRecord.{NodeRecord}
 use Rattle.thread_records.specs.declared.nodes.History.{History}
 use Rattle.thread_records.specs.Runs.{AreRuns, JoinsRuns}
-use Rattle.scenario.specs.declared.reading.Scenario.{Scenario}
+use Rattle.scenario.specs.declared.plan.Scenario.{Scenario}
 use Rattle.simulate_scenario.specs.Described.{rules_in, choice_in, plan_in, lookups_in}
 use Rattle.simulate_scenario.specs.Answers.{totals_in, is_cut}
 use Rattle.run_report.specs.Report.{report_text}

@@ -2,7 +2,6 @@
 ghost use Rattle.std.specs.Prelude.{◌≡◌, ◌≤◌, ℕ, length, Some, Err, IfOk, IfErr, string_bytes};
 ghost use Rattle.pcap_file.specs.Format.{max_records};
 ghost use Rattle.driver_commands.specs.Knowing.{first_unsupported_in};
-ghost use Rattle.scenario.specs.Meaning.{HasLimits};
 ghost use Rattle.run_scenario.specs.Runs.{Ran, Halted};
 ghost use Rattle.run_scenario.specs.Kept.{KeepsPromises};
 ghost use Rattle.run_scenario.specs.PrivateFailures.{IsOfThreads};
@@ -55,8 +54,6 @@ fn run_over<R: Threads + Wait + Sync>(
     captured: &Captured,
     splits: bool,
 ) -> Result<Done, RunFailure>
-    requires limits { HasLimits scenario.now }
-    requires size { scenario.now.catalogue.size ≡ scenario.now.size }
     requires few { length captured.now.records ≤ max_records }
     ensures over { IfOk result (λ d. RanOver scenario.now splits captured.now.head.link captured.now.records captured.now.ending d.nodes.items (string_bytes d.text)) }
     ensures stopped { IfErr result IsOfThreads }
@@ -116,8 +113,6 @@ pub fn run_scenario<R: Threads + Wait + Sync, I: Source, O: Sink>(
     input: &mut I,
     output: &mut O,
 ) -> Result<String, RunFailure>
-    requires limits { HasLimits scenario.now }
-    requires size { scenario.now.catalogue.size ≡ scenario.now.size }
     ensures ok { IfOk result (λ s. Ran scenario.now splits (I.tape input.old) (I.tape input.new) (O.tape output.old) (O.tape output.new) (string_bytes s)) }
     ensures kept { IfOk result (λ s. (ran : Ran scenario.now splits (I.tape input.old) (I.tape input.new) (O.tape output.old) (O.tape output.new) (string_bytes s)) → KeepsPromises scenario.now ran.head.link ran.records ran.history) }
     ensures unknown { (place : ℕ) → first_unsupported_in scenario.now.steps.items ≡ Some place → result ≡ Err (RunFailure.UnsupportedStep place) }

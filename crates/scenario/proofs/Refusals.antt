@@ -11,7 +11,7 @@ use Rattle.scenario.specs.declared.playing.Played.{Played}
 use Rattle.scenario_keys.specs.declared.formats.Format.{Format}
 use Rattle.scenario.specs.declared.fault.ScenarioFault.{ScenarioFault}
 use Rattle.scenario.specs.declared.fault.ScenarioFault.TheVariants as fault
-use Rattle.scenario.specs.declared.reading.Scenario.{Scenario}
+use Rattle.scenario.specs.declared.plan.Scenario.{Scenario}
 use Rattle.pool_versions.specs.declared.backend.Member.{Member}
 use Rattle.pool_versions.specs.declared.catalogue.PoolFault.{PoolFault}
 use Rattle.pool_versions.specs.declared.catalogue.PoolFault.TheVariants as pool
