@@ -2,14 +2,13 @@
 ghost use Rattle.std.specs.Prelude.{◌≡◌, ◌<◌, ◌^◌, length};
 
 use cluster_node::Packet;
-use driver_commands::{Orders, first_unsupported_step, orders};
+use driver_commands::{Orders, orders};
 use event_trace::{ScenarioStep, Tally, all_live};
 use five_tuple::Flow;
 use spreader::TurnSpread;
 use std::alloc::Global;
 use std::process::Abort;
 use thread_records::Command;
-use timed_steps::TimedStep;
 
 // A step, as the rows have it.
 #[derive(Clone, Copy)]
@@ -19,9 +18,6 @@ enum Move {
     Take(u32),
     Lose(u32),
     Again(u32),
-    Full(u16),
-    Hold(u16),
-    Drain(u16),
     Restart(u16),
     Stop(u16),
 }
@@ -33,12 +29,6 @@ fn step_of(rt: &impl Abort, alloc: Global, step: Move) -> ScenarioStep {
         Move::Take(records) => ScenarioStep::Take(records),
         Move::Lose(records) => ScenarioStep::Lose(records),
         Move::Again(record) => ScenarioStep::Again(record),
-        Move::Full(node) => ScenarioStep::Full {
-            node,
-            marks: [false; 16],
-        },
-        Move::Hold(node) => ScenarioStep::Hold(node),
-        Move::Drain(node) => ScenarioStep::Drain(node),
         Move::Restart(node) => ScenarioStep::Restart(node),
         Move::Stop(node) => ScenarioStep::Stop(node),
     }
@@ -214,53 +204,5 @@ fn gives(rt: &impl Abort, alloc: Global, example: &Example) {
 fn orders_of_steps(rt: HostRuntime) {
     for example in EXAMPLES.iter() {
         gives(&rt, rt.alloc(), example);
-    }
-}
-
-// The same steps behind one by time.
-fn timed_steps_of(rt: &impl Abort, alloc: Global, moves: &[Move]) -> Vec<TimedStep> {
-    let mut steps = Vec::new(alloc);
-    steps.push(TimedStep::Until(5)).expect(rt, "memory");
-    for step in moves {
-        let step = step_of(rt, alloc, *step);
-        steps.push(TimedStep::Counted(step)).expect(rt, "memory");
-    }
-    steps
-}
-
-// Workers that refuse, that are held and that are drained can't be ordered; all else can.
-static UNKNOWN: [(&[Move], Option<u32>, &str); 4] = [
-    (
-        &[
-            Move::Install(0, 1),
-            Move::Live(&[0]),
-            Move::Take(1),
-            Move::Lose(1),
-            Move::Again(0),
-            Move::Restart(0),
-            Move::Stop(0),
-        ],
-        None,
-        "known steps",
-    ),
-    (
-        &[Move::Install(0, 1), Move::Hold(0), Move::Drain(0)],
-        Some(2),
-        "a hold",
-    ),
-    (&[Move::Take(1), Move::Drain(0)], Some(2), "a drain"),
-    (&[Move::Full(0)], Some(1), "a worker that refuses"),
-];
-
-fn has_unknown(rt: &impl Abort, steps: &[TimedStep], wanted: Option<u32>, what: &str) {
-    assert!(rt; steps.len() < 100);
-    assert_eq!(rt; first_unsupported_step(steps), wanted, "{what}");
-}
-
-#[test]
-fn unknown_steps(rt: HostRuntime) {
-    for (moves, wanted, what) in UNKNOWN.iter() {
-        let steps = timed_steps_of(&rt, rt.alloc(), moves);
-        has_unknown(&rt, steps.as_slice(), *wanted, what);
     }
 }

@@ -2,9 +2,9 @@
 ghost use Rattle.driver_commands.specs.Knowing.{KnownAtAnyTime};
 ghost use Rattle.driver_commands.specs.Orders.{KnownStepsAreTold, EndsAreTold};
 
-/// Where [`first_unsupported_step`](crate::first_unsupported_step) finds nothing, the commands leave out the servings
-/// alone. But for these, what the steps' trace has of a node is what the node's commands say. Each stop is read as the
-/// restart that it is in a trace. The clause is the law; the body does nothing.
+/// Where no step is a `full`, a `hold` or a `drain`, the commands leave out the servings alone. But for these, what the steps'
+/// trace has of a node is what the node's commands say. Each stop is read as the restart that it is in a trace. The clause is
+/// the law; the body does nothing.
 pub fn known_steps_are_told()
     ensures { KnownStepsAreTold }
 {}

@@ -16,12 +16,10 @@
 
 mod drivers;
 mod ends;
-mod known;
 mod laws;
 mod notes;
 mod told;
 
 pub use drivers::orders;
-pub use known::first_unsupported_step;
 pub use laws::{ends_are_told, known_at_any_time, known_steps_are_told};
 pub use told::Orders;

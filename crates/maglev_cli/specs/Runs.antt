@@ -5,16 +5,16 @@ use Rattle.pcap_file.specs.Device.{Tape, Unfailed, PutRefused}
 use Rattle.thread_roles.specs.declared.fault.RunFault.{RunFault}
 use Rattle.thread_roles.specs.declared.fault.RunFault.TheVariants as threads
 use Rattle.scenario.specs.declared.playing.Played.TheVariants.{OnThreads}
-use Rattle.scenario.specs.declared.reading.Scenario.{Scenario}
+use Rattle.scenario.specs.declared.plan.Scenario.{Scenario}
 use Rattle.scenario.specs.Meaning.{Means}
 use Rattle.driver_commands.specs.Knowing.{first_unsupported_in}
 use Rattle.run_scenario.specs.declared.failure.RunFailure.{RunFailure}
-use Rattle.run_scenario.specs.declared.failure.RunFailure.TheVariants.{UnsupportedStep, Simulation, Threads}
+use Rattle.run_scenario.specs.declared.failure.RunFailure.TheVariants.{Simulation, Threads}
 use Rattle.run_scenario.specs.Runs.{Ran, Halted}
 use Rattle.run_scenario.specs.Kept.{KeepsPromises}
 use Rattle.scenario_commands.specs.Scenarios.{run_fault, ScenarioFails}
 use Rattle.command_faults.specs.declared.fault.CliFault.{CliFault}
-use Rattle.command_faults.specs.declared.fault.CliFault.TheVariants.{BadStep, Write, Foreign, RingLost, ThreadLost, BookLost, Memory}
+use Rattle.command_faults.specs.declared.fault.CliFault.TheVariants.{Write, Foreign, RingLost, ThreadLost, BookLost, Memory}
 
 abbrev pub threads_fault : RunFault → CliFault
 threads_fault threads.Foreign = Foreign
@@ -25,7 +25,6 @@ threads_fault threads.Memory = Memory
 
 -- the fault of a run that stopped, as the command's
 abbrev pub failure_fault : RunFailure → CliFault
-failure_fault (UnsupportedStep place) = BadStep place
 failure_fault (Simulation fault) = run_fault fault
 failure_fault (Threads fault) = threads_fault fault
 

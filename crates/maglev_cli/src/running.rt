@@ -7,7 +7,7 @@ use connection_table::TableKey;
 use node_threads::RunFault;
 use pcap_file::{Sink, Source};
 use run_scenario::{RunFailure, run_scenario};
-use scenario::{Played, read};
+use scenario::read_for_threads;
 use scenario_commands::{run_fault, scenario_fault};
 use std::alloc::Global;
 use std::sync::Wait;
@@ -29,7 +29,6 @@ fn failure_fault(stop: RunFailure) -> CliFault
     ensures { result ≡ failure_fault stop }
 {
     match stop {
-        RunFailure::UnsupportedStep(step) => CliFault::BadStep(step),
         RunFailure::Simulation(fault) => run_fault(fault),
         RunFailure::Threads(fault) => threads_fault(fault),
     }
@@ -77,7 +76,7 @@ pub fn run_keyed<T: Threads + Wait + Sync, I: Source, O: Sink, R: Sink>(
     ensures stopped { IfErr result (λ fault. RunCommandFails fault splits scenario.now (I.tape input.old) (I.tape input.new) (O.tape output.old) (O.tape output.new) (R.tape report.old) (R.tape report.new)
         ((input.new ≡ input.old) × (output.new ≡ output.old) × (report.new ≡ report.old)) (report.new ≡ report.old)) }
 {
-    let scenario = match read(alloc, Played::OnThreads, scenario) {
+    let scenario = match read_for_threads(alloc, scenario) {
         Ok(scenario) => scenario,
         Err(fault) => return Err(scenario_fault(fault)),
     };

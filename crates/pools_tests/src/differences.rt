@@ -3,9 +3,10 @@
 use pool_versions::{Service, Version};
 use scenario_keys::Format;
 use scenario_pools::PoolsFault::{BadMember, TooMany};
-use scenario_pools::{PoolsFault, drafts_in, versions_of};
+use scenario_pools::{PoolsFault, versions_of};
 use std::alloc::Global;
 use std::process::Abort;
+use version_drafts::drafts_in;
 
 // Three servers are replaced, one after another: each drains, and then another stands in its place under the same name.
 static ROLLING: &str = "

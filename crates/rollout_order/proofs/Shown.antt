@@ -1,6 +1,6 @@
 -- A text of orders is there only where both versions are.
 use Rattle.std.proofs.Common.{◌≡◌, ℕ, Bool, true, ◌&&◌, List, Some, is_some, ap, ◌∙◌}
-use Rattle.scenario.specs.declared.reading.Scenario.{Scenario}
+use Rattle.scenario.specs.declared.plan.Scenario.{Scenario}
 use Rattle.rollout_plan.specs.Plans.{version_in, has_versions}
 use Rattle.rollout_order.specs.OrderPlans.{ShowsOrders}
 

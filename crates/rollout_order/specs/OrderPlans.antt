@@ -2,7 +2,7 @@
 use Rattle.std.specs.Prelude.{◌≡◌, ℕ, List, Some}
 use Rattle.pool_versions.specs.declared.service.Version.{Version}
 use Rattle.scenario.specs.declared.playing.Played.TheVariants.{InTurn}
-use Rattle.scenario.specs.declared.reading.Scenario.{Scenario}
+use Rattle.scenario.specs.declared.plan.Scenario.{Scenario}
 use Rattle.scenario.specs.Meaning.{Means}
 use Rattle.rollout_plan.specs.Tables.{rule_of}
 use Rattle.rollout_plan.specs.Plans.{version_in}

@@ -1,6 +1,6 @@
 -- A text of what was asked is there only where the versions are.
 use Rattle.std.proofs.Common.{◌≡◌, ℕ, Bool, true, ◌&&◌, List, Option, Some, None, is_some, ap, ◌∙◌}
-use Rattle.scenario.specs.declared.reading.Scenario.{Scenario}
+use Rattle.scenario.specs.declared.plan.Scenario.{Scenario}
 use Rattle.rollout_plan.specs.Plans.{version_in, Shows, has_versions}
 
 pub has_what_it_shows : (s : Scenario) (from : ℕ) (to : Option ℕ) (text : List ℕ) → Shows s from to text → has_versions s from to ≡ true

@@ -4,7 +4,7 @@ use Rattle.pool_versions.specs.declared.catalogue.PoolFault.TheVariants.{BadNumb
 use Rattle.pool_versions.specs.declared.service.Version.{Version}
 use Rattle.pool_versions.specs.Pool.{version_at}
 use Rattle.scenario.specs.declared.playing.Played.TheVariants.{InTurn}
-use Rattle.scenario.specs.declared.reading.Scenario.{Scenario}
+use Rattle.scenario.specs.declared.plan.Scenario.{Scenario}
 use Rattle.scenario.specs.Meaning.{Means}
 use Rattle.scenario_commands.specs.Scenarios.{ScenarioFails}
 use Rattle.command_faults.specs.declared.fault.CliFault.{CliFault}

@@ -9,7 +9,7 @@ use Rattle.pool_versions.specs.Pool.{ups, weights}
 use Rattle.selection.specs.Picks.{NamedTable, slots_among}
 use Rattle.scenario_keys.specs.declared.words.SchemeKind.{SchemeKind}
 use Rattle.scenario_keys.specs.declared.words.SchemeKind.TheVariants.{Maglev, Plain, Round}
-use Rattle.scenario.specs.declared.reading.Scenario.{Scenario}
+use Rattle.scenario.specs.declared.plan.Scenario.{Scenario}
 use Rattle.rollout_plan.specs.declared.slots.TableRule.{TableRule}
 
 -- the place of the backend at each slot, where so many backends have the slots one after the other; no slots where there is none

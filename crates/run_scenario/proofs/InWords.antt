@@ -16,7 +16,7 @@ use Rattle.thread_records.specs.declared.command.Command.{Command}
 use Rattle.thread_records.specs.declared.nodes.NodeRecord.{NodeRecord}
 use Rattle.thread_records.specs.declared.nodes.History.{History}
 use Rattle.thread_records.specs.Runs.{JoinsRuns}
-use Rattle.scenario.specs.declared.reading.Scenario.{Scenario}
+use Rattle.scenario.specs.declared.plan.Scenario.{Scenario}
 use Rattle.simulate_scenario.specs.Described.{choice_in, plan_in}
 use Rattle.event_trace.specs.declared.steps.ScenarioStep.{ScenarioStep}
 use Rattle.simulation.specs.declared.sending.Wire.{Wire}

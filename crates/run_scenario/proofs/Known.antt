@@ -8,10 +8,9 @@ use Rattle.event_trace.specs.declared.steps.ScenarioStep.TheVariants as steps
 use Rattle.timed_steps.specs.declared.TimedStep.{TimedStep}
 use Rattle.timed_steps.specs.declared.TimedStep.TheVariants.{Counted, Until}
 use Rattle.scenario.specs.Steps.{plain_step, plain_timed, allows}
-use Rattle.scenario.specs.Meaning.{Means}
+use Rattle.scenario.specs.Meaning.{IsSupported}
 use Rattle.scenario.specs.declared.playing.Played.TheVariants.{OnThreads}
-use Rattle.scenario.specs.declared.reading.Scenario.{Scenario}
-use Rattle.scenario.proofs.Allowed.{steps_allowed}
+use Rattle.scenario.specs.declared.plan.Scenario.{Scenario}
 use Rattle.driver_commands.specs.Knowing.{is_known, is_known_in, first_unsupported_in}
 
 one_known : (s : ScenarioStep) → allows OnThreads (plain_step s) ≡ true → is_known s ≡ true
@@ -44,7 +43,7 @@ none_at_the_end : (n : ℕ) (b : Bool) → nat_lt n n ≡ b → cond b (Some n) 
 none_at_the_end n true e = absurd (omega (arith, ltb-true n n e))
 none_at_the_end n false e = refl
 
-pub known_steps : (text : List ℕ) (s : Scenario) → Means OnThreads text s → first_unsupported_in s.steps.items ≡ None
-known_steps text s m =
-    ap (λ (n : ℕ). cond (nat_lt n (length s.steps.items)) (Some n) None) (all_known s.steps.items (steps_allowed OnThreads text s m))
+pub known_steps : (s : Scenario) → IsSupported OnThreads s → first_unsupported_in s.steps.items ≡ None
+known_steps s supported =
+    ap (λ (n : ℕ). cond (nat_lt n (length s.steps.items)) (Some n) None) (all_known s.steps.items supported)
     ∙ none_at_the_end (length s.steps.items) (nat_lt (length s.steps.items) (length s.steps.items)) refl

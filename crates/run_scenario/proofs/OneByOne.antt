@@ -18,7 +18,7 @@ use Rattle.thread_records.specs.Joins.{all_events, all_outcomes}
 use Rattle.thread_records.specs.Runs.{AreRuns, JoinsRuns}
 use Rattle.thread_records.proofs.Joins.{events_more, outcomes_more, whole, own, runs_told}
 use Rattle.node_threads.specs.declared.cluster.NodesRun.{NodesRun}
-use Rattle.scenario.specs.declared.reading.Scenario.{Scenario}
+use Rattle.scenario.specs.declared.plan.Scenario.{Scenario}
 use Rattle.run_scenario.specs.Runs.{splits_if}
 use Rattle.run_scenario.specs.PrivateHistories.{AreEven, said_by, splits_over}
 

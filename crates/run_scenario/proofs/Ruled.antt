@@ -21,7 +21,7 @@ use Rattle.cluster_core.proofs.Slots.{tables_differ, tables_are_even}
 use Rattle.thread_records.specs.declared.nodes.NodeRecord.{NodeRecord}
 use Rattle.thread_records.specs.declared.nodes.History.{History}
 use Rattle.thread_records.specs.Runs.{JoinsRuns}
-use Rattle.scenario.specs.declared.reading.Scenario.{Scenario}
+use Rattle.scenario.specs.declared.plan.Scenario.{Scenario}
 use Rattle.scenario_keys.specs.declared.words.SchemeKind.{SchemeKind}
 use Rattle.scenario_keys.specs.declared.words.SchemeKind.TheVariants.{Maglev}
 use Rattle.simulate_scenario.specs.Described.{pick_by, rules_in}

@@ -10,7 +10,7 @@ use Rattle.cluster_core.specs.Tables.{TablesDiffer, TablesAreEven}
 use Rattle.run_report.specs.Agreeing.{FollowsPicks, FollowsTables}
 use Rattle.run_report.specs.Splits.{splits_of}
 use Rattle.thread_records.specs.declared.nodes.History.{History}
-use Rattle.scenario.specs.declared.reading.Scenario.{Scenario}
+use Rattle.scenario.specs.declared.plan.Scenario.{Scenario}
 use Rattle.scenario_keys.specs.declared.words.SchemeKind.TheVariants.{Maglev}
 use Rattle.simulate_scenario.specs.Described.{rules_in}
 use Rattle.run_scenario.specs.Runs.{packets_in, record_of}

@@ -10,7 +10,7 @@ use Rattle.run_report.specs.Texts.{splits_text}
 use Rattle.thread_records.specs.declared.nodes.NodeRecord.{NodeRecord}
 use Rattle.thread_records.specs.declared.nodes.History.{History}
 use Rattle.thread_records.specs.Joins.{all_events, all_outcomes}
-use Rattle.scenario.specs.declared.reading.Scenario.{Scenario}
+use Rattle.scenario.specs.declared.plan.Scenario.{Scenario}
 use Rattle.simulate_scenario.specs.Described.{lookups_in}
 use Rattle.simulate_scenario.specs.Answers.{totals_in, is_cut}
 use Rattle.run_scenario.specs.Runs.{AreOfRun, tally_in, splits_if, audited_report}

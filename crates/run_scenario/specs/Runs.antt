@@ -21,7 +21,7 @@ use Rattle.thread_records.specs.declared.command.Command.{Command}
 use Rattle.thread_records.specs.declared.nodes.NodeRecord.{NodeRecord}
 use Rattle.thread_records.specs.declared.nodes.History.{History}
 use Rattle.thread_records.specs.Runs.{AreRuns, JoinsRuns}
-use Rattle.scenario.specs.declared.reading.Scenario.{Scenario}
+use Rattle.scenario.specs.declared.plan.Scenario.{Scenario}
 use Rattle.simulate_scenario.specs.Described.{rules_in, choice_in, plan_in, lookups_in}
 use Rattle.simulate_scenario.specs.Answers.{totals_in, is_cut}
 use Rattle.run_report.specs.Report.{report_text}
@@ -30,7 +30,7 @@ use Rattle.simulation.specs.declared.fault.SimulationFault.TheVariants.{Memory}
 use Rattle.simulation.specs.Sent.{time_of, packets_of, capture_text}
 use Rattle.simulation.specs.Simulated.{traffic_of, CaptureUntil, IsOfRun}
 use Rattle.run_scenario.specs.declared.failure.RunFailure.{RunFailure}
-use Rattle.run_scenario.specs.declared.failure.RunFailure.TheVariants.{UnsupportedStep, Simulation, Threads}
+use Rattle.run_scenario.specs.declared.failure.RunFailure.TheVariants.{Simulation, Threads}
 use Rattle.run_scenario.specs.Inputs.{IsReadWhole, WholeWasRead, ReadingFails}
 use Rattle.run_scenario.specs.Sends.{sent_by_nodes}
 
@@ -98,10 +98,9 @@ pub record BreaksOff (fault : SimulationFault) (s : Scenario) (input input' outp
   pub not_reading : IsOfRun fault
   pub wrote : CaptureUntil fault output output' (sent_by_nodes (traffic_of (plan_in s) head.link records) nodes)
 
--- The run stopped by this fault. No device is called where a step is one that no cluster on threads knows. A fault of
--- reading, a fault of the threads, and a refusal of memory before the output was begun leave the output as it was.
+-- The run stopped by this fault. A fault of reading, a fault of the threads, and a refusal of memory before the output was begun
+-- leave the output as it was.
 abbrev pub Halted : Scenario → Tape → Tape → Tape → Tape → RunFailure → Type 0
-Halted s input input' output output' (UnsupportedStep place) = (first_unsupported_in s.steps.items ≡ Some place) × (input' ≡ input) × (output' ≡ output)
 Halted s input input' output output' (Threads fault) = WholeWasRead input input' × (output' ≡ output)
 Halted s input input' output output' (Simulation fault) =
     (ReadingFails fault input input' × (output' ≡ output))

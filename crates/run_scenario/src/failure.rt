@@ -7,9 +7,6 @@ use thiserror::Error;
 /// Why the run of a scenario's cluster on threads stopped.
 #[derive(Clone, Copy, Debug, PartialEq, Eq, Drop, Error)]
 pub enum RunFailure {
-    /// This step, from 0, is the first that no cluster on threads knows: `full`, `hold` or `drain`. Nothing was called.
-    #[error("no cluster on threads knows step {0}")]
-    UnsupportedStep(u32),
     /// The input isn't a capture or couldn't be read, the output couldn't be written, or memory was refused.
     #[error(transparent)]
     Simulation(SimulationFault),

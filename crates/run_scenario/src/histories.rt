@@ -106,7 +106,6 @@ pub(crate) fn splits_told(
     nodes: &[NodeRecord],
     splits: bool,
 ) -> Result<String, AllocError>
-    requires size { scenario.now.catalogue.size ≡ scenario.now.size }
     requires even { AreEven nodes.now }
     ensures { IfOk result (λ s. string_bytes s ≡ splits_over splits scenario.now nodes.now) }
 {

@@ -8,7 +8,6 @@ ghost use Rattle.timed_steps.specs.Copies.{AreCopies};
 ghost use Rattle.cluster_core.specs.Cluster.{WereRead};
 ghost use Rattle.event_trace.specs.Tally.{tally_of};
 ghost use Rattle.driver_commands.specs.Orders.{plan_of, orders_of};
-ghost use Rattle.scenario.specs.Meaning.{HasLimits};
 ghost use Rattle.simulate_scenario.specs.Described.{choice_in};
 ghost use Rattle.run_scenario.specs.Runs.{steps_in};
 
@@ -73,7 +72,6 @@ fn orders_by(
     steps: &[ScenarioStep],
     packets: &[Packet],
 ) -> Result<Orders, AllocError>
-    requires limits { HasLimits scenario.now }
     requires read { WereRead packets.now }
     requires places { length packets.now < 2 ^ 32 }
     requires steps { length steps.now < 2 ^ 32 }
@@ -92,7 +90,6 @@ pub(crate) fn orders_of(
     records: &Records,
     packets: &[Packet],
 ) -> Result<Orders, AllocError>
-    requires limits { HasLimits scenario.now }
     requires read { WereRead packets.now }
     requires few { length records.now ≤ max_records }
     requires places { length packets.now < 2 ^ 32 }

@@ -1,8 +1,6 @@
 //! A scenario's cluster runs on threads over a capture.
-ghost use Rattle.std.specs.Prelude.{◌≡◌, ◌≤◌, ℕ, length, Some, Err, IfOk, IfErr, string_bytes};
+ghost use Rattle.std.specs.Prelude.{◌≡◌, ◌≤◌, length, IfOk, IfErr, string_bytes};
 ghost use Rattle.pcap_file.specs.Format.{max_records};
-ghost use Rattle.driver_commands.specs.Knowing.{first_unsupported_in};
-ghost use Rattle.scenario.specs.Meaning.{HasLimits};
 ghost use Rattle.run_scenario.specs.Runs.{Ran, Halted};
 ghost use Rattle.run_scenario.specs.Kept.{KeepsPromises};
 ghost use Rattle.run_scenario.specs.PrivateFailures.{IsOfThreads};
@@ -16,10 +14,9 @@ use crate::report::audited_report;
 use crate::sending::{Sender, write_capture};
 use crate::threads::{Task, run_named};
 use connection_table::TableKey;
-use driver_commands::first_unsupported_step;
 use ip_headers::Link;
 use pcap_file::{Sink, Source};
-use scenario::Scenario;
+use scenario::{Scenario, ThreadScenario};
 use simulation::Wire;
 use std::alloc::Global;
 use std::sync::Wait;
@@ -55,8 +52,6 @@ fn run_over<R: Threads + Wait + Sync>(
     captured: &Captured,
     splits: bool,
 ) -> Result<Done, RunFailure>
-    requires limits { HasLimits scenario.now }
-    requires size { scenario.now.catalogue.size ≡ scenario.now.size }
     requires few { length captured.now.records ≤ max_records }
     ensures over { IfOk result (λ d. RanOver scenario.now splits captured.now.head.link captured.now.records captured.now.ending d.nodes.items (string_bytes d.text)) }
     ensures stopped { IfErr result IsOfThreads }
@@ -97,9 +92,8 @@ fn run_over<R: Threads + Wait + Sync>(
 /// joined, what the nodes sent is written as another capture: node by node, and of each node life by life. The connection
 /// tables and the book of splits hash by the key.
 ///
-/// Before anything is called the steps are looked at: a cluster on threads has no `full`, `hold` and `drain`. Whatever goes
-/// wrong before the writing leaves the output as it was. Where memory for a datagram in a tunnel is refused the output is
-/// cut between records.
+/// Whatever goes wrong before the writing leaves the output as it was. Where memory for a datagram in a tunnel is refused the
+/// output is cut between records.
 ///
 /// By the clause `kept` the run keeps the promises, whatever the schedule was. For a scheme to which the turn doesn't
 /// matter, two packets of one flow that were sent to different backends were chosen under versions that pick these backends.
@@ -111,24 +105,18 @@ pub fn run_scenario<R: Threads + Wait + Sync, I: Source, O: Sink>(
     rt: &R,
     alloc: Global,
     key: TableKey,
-    scenario: &Scenario,
+    scenario: &ThreadScenario,
     splits: bool,
     input: &mut I,
     output: &mut O,
 ) -> Result<String, RunFailure>
-    requires limits { HasLimits scenario.now }
-    requires size { scenario.now.catalogue.size ≡ scenario.now.size }
-    ensures ok { IfOk result (λ s. Ran scenario.now splits (I.tape input.old) (I.tape input.new) (O.tape output.old) (O.tape output.new) (string_bytes s)) }
-    ensures kept { IfOk result (λ s. (ran : Ran scenario.now splits (I.tape input.old) (I.tape input.new) (O.tape output.old) (O.tape output.new) (string_bytes s)) → KeepsPromises scenario.now ran.head.link ran.records ran.history) }
-    ensures unknown { (place : ℕ) → first_unsupported_in scenario.now.steps.items ≡ Some place → result ≡ Err (RunFailure.UnsupportedStep place) }
-    ensures stopped { IfErr result (Halted scenario.now (I.tape input.old) (I.tape input.new) (O.tape output.old) (O.tape output.new)) }
+    ensures ok { IfOk result (λ s. Ran scenario.now.scenario splits (I.tape input.old) (I.tape input.new) (O.tape output.old) (O.tape output.new) (string_bytes s)) }
+    ensures kept { IfOk result (λ s. (ran : Ran scenario.now.scenario splits (I.tape input.old) (I.tape input.new) (O.tape output.old) (O.tape output.new) (string_bytes s)) → KeepsPromises scenario.now.scenario ran.head.link ran.records ran.history) }
+    ensures stopped { IfErr result (Halted scenario.now.scenario (I.tape input.old) (I.tape input.new) (O.tape output.old) (O.tape output.new)) }
 {
+    let scenario = &scenario.scenario;
     let _slots = scenario.size.slots();
     scenario.catalogue.keeps_doubles_out();
-    match first_unsupported_step(scenario.steps.as_slice()) {
-        Some(step) => return Err(RunFailure::UnsupportedStep(step)),
-        None => {}
-    }
     let captured = read_whole(alloc, input)?;
     let done = run_over(rt, alloc, key, scenario, &captured, splits)?;
     let wire = wire_of(scenario, captured.head.link);

@@ -7,7 +7,6 @@ ghost use Rattle.cluster_core.specs.Setups.{rules_for};
 ghost use Rattle.thread_records.specs.Joins.{all_outcomes};
 ghost use Rattle.thread_records.specs.Runs.{AreRuns};
 ghost use Rattle.thread_roles.specs.Counts.{AreTotals};
-ghost use Rattle.scenario.specs.Meaning.{HasLimits};
 ghost use Rattle.simulate_scenario.specs.Described.{pick_by, rules_in};
 ghost use Rattle.run_scenario.specs.PrivateFailures.{IsOfThreads};
 ghost use Rattle.run_scenario.specs.PrivateHistories.{AreEven, splits_over};
@@ -57,7 +56,6 @@ fn judged<S: Scheme + Send + Sync, R: Threads + Sync>(
 ) -> (Result<bool, AllocError>, Result<String, AllocError>)
 where
     S::Prepared: Send + Sync,
-    requires size { task.now.scenario.now.catalogue.size ≡ task.now.scenario.now.size }
     requires sized { setup.now.size ≡ task.now.scenario.now.size }
     requires read { WereRead task.now.packets.now }
     requires even { AreEven nodes.now }
@@ -81,7 +79,7 @@ where
         audit_nodes::<S, AnyHash, PlaceTable, R>(rt, alloc, nodes, setup, catalogue, packets)
     };
     let told = || -> Result<String, AllocError>
-        requires { (scenario.now.catalogue.size ≡ scenario.now.size) × AreEven nodes.now }
+        requires { AreEven nodes.now }
         ensures { IfOk result (λ s. string_bytes s ≡ splits_over splits scenario.entry.now nodes.entry.now) }
     { splits_told(alloc, key, scenario, nodes, splits) };
     if splits {
@@ -100,8 +98,6 @@ fn run_by<S: Scheme + Send + Sync, R: Threads + Wait + Sync>(
 ) -> Result<Audited, RunFailure>
 where
     S::Prepared: Send + Sync,
-    requires limits { HasLimits task.now.scenario.now }
-    requires size { task.now.scenario.now.catalogue.size ≡ task.now.scenario.now.size }
     requires picks { S.pick scheme task.now.scenario.now.size ≡ pick_by task.now.scenario.now.scheme (plain_of task.now.scenario.now.hash) task.now.scenario.now.size }
     requires nodes { length task.now.commands.now ≡ length task.now.scenario.now.nodes.items }
     requires read { WereRead task.now.packets.now }
@@ -154,8 +150,6 @@ pub(crate) fn run_named<R: Threads + Wait + Sync>(
     alloc: Global,
     task: &Task<'_>,
 ) -> Result<Audited, RunFailure>
-    requires limits { HasLimits task.now.scenario.now }
-    requires size { task.now.scenario.now.catalogue.size ≡ task.now.scenario.now.size }
     requires nodes { length task.now.commands.now ≡ length task.now.scenario.now.nodes.items }
     requires read { WereRead task.now.packets.now }
     ensures runs { IfOk result (λ a. AreRuns (rules_in task.now.scenario.now) task.now.packets.now task.now.scenario.now.ring 0 (map (λ c. c.items) task.now.commands.now) a.run.nodes.items) }

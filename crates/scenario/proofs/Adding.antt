@@ -10,7 +10,7 @@ use Rattle.pool_versions.specs.declared.service.Version.{Version}
 use Rattle.pool_versions.specs.declared.backend.Member.{Member}
 use Rattle.pool_versions.specs.declared.catalogue.PoolFault.{PoolFault}
 use Rattle.pool_versions.specs.declared.catalogue.PoolFault.TheVariants as pool
-use Rattle.scenario_pools.specs.Plain.{PlainVersion, plain_service, plain_version}
+use Rattle.version_drafts.specs.Plain.{PlainVersion, plain_service, plain_version}
 use Rattle.scenario.specs.Plain.{same_flows, names_double, is_long, passes_limit, services_refused, version_refused, first_refused}
 use Rattle.scenario.specs.Meaning.{IsPoolRefused}
 use Rattle.scenario_keys.proofs.Views.{any_of_mapped}

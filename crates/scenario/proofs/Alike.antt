@@ -12,9 +12,9 @@ use Rattle.scenario_keys.proofs.KeyNames.{keys_grow}
 use Rattle.scenario_keys.specs.declared.key.Owner.TheVariants as owner
 use Rattle.scenario_keys.specs.declared.formats.Format.{Format}
 use Rattle.scenario_keys.specs.declared.formats.Format.TheVariants.{One, Two, Three}
-use Rattle.scenario_pools.specs.Plain.{PlainVersion}
-use Rattle.scenario_pools.specs.Drafts.{PlainVersionDraft}
-use Rattle.scenario_pools.specs.Reading.{versions_in}
+use Rattle.version_drafts.specs.Plain.{PlainVersion}
+use Rattle.version_drafts.specs.Drafts.{PlainVersionDraft}
+use Rattle.version_drafts.specs.Reading.{versions_in}
 use Rattle.scenario_pools.specs.Writing.{versions_of}
 use Rattle.scenario_pools.specs.declared.fault.PoolsFault.{PoolsFault}
 use Rattle.scenario_pools.proofs.Alike.{versions_mean_the_same}

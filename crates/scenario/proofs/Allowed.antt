@@ -5,7 +5,7 @@ use Rattle.std.proofs.lemmas.Bool.{and_from, and_parts}
 use Rattle.toml.specs.Data.{Members}
 use Rattle.pool_versions.specs.declared.backend.Member.{Member}
 use Rattle.pool_versions.specs.declared.catalogue.PoolFault.{PoolFault}
-use Rattle.scenario_pools.specs.Plain.{PlainVersion}
+use Rattle.version_drafts.specs.Plain.{PlainVersion}
 use Rattle.scenario_pools.specs.declared.fault.PoolsFault.{PoolsFault}
 use Rattle.scenario.specs.Steps.{PlainStep, plain_timed, allows}
 use Rattle.scenario.specs.Told.{PlainTold, once, each, at_node, steps_said, count_said, allows_told, told_of, after, said_before, steps_of}
@@ -18,7 +18,7 @@ use Rattle.scenario.specs.declared.told.EachNode.{EachNode}
 use Rattle.scenario.specs.declared.told.EachNode.TheVariants as node
 use Rattle.scenario.specs.declared.told.StepRules.{StepRules}
 use Rattle.scenario.specs.declared.fault.ScenarioFault.{ScenarioFault}
-use Rattle.scenario.specs.declared.reading.Scenario.{Scenario}
+use Rattle.scenario.specs.declared.plan.Scenario.{Scenario}
 use Rattle.scenario.proofs.Telling.{told_fits}
 
 -- what each node does is allowed of all of them where it is of the first

@@ -1,3 +1,4 @@
+pub mod Limits
 pub mod Setup
 pub mod Times
 pub mod Steps

@@ -13,12 +13,13 @@ use Rattle.scenario_keys.specs.Keys.{key_name, root_keys}
 use Rattle.scenario_keys.specs.Formats.{format_of}
 use Rattle.scenario_keys.specs.declared.key.Key.TheVariants as key
 use Rattle.scenario.specs.Setup.{choices_of, limits_of}
-use Rattle.scenario_pools.specs.Plain.{PlainVersion, plain_version}
-use Rattle.scenario_pools.specs.Drafts.{PlainVersionDraft, plain_version_drafts}
-use Rattle.scenario_pools.specs.Reading.{versions_in}
+use Rattle.version_drafts.specs.Plain.{PlainVersion, plain_version}
+use Rattle.version_drafts.specs.Drafts.{PlainVersionDraft, plain_version_drafts}
+use Rattle.version_drafts.specs.Reading.{versions_in}
 use Rattle.scenario_pools.specs.Writing.{versions_of}
 use Rattle.scenario_pools.specs.declared.fault.PoolsFault.{PoolsFault}
 use Rattle.scenario_pools.specs.declared.fault.PoolsFault.TheVariants as written
+use Rattle.scenario.specs.Limits.{AreLimits}
 use Rattle.scenario.specs.Plain.{first_refused}
 use Rattle.scenario.specs.Steps.{PlainStep, plain_timed, allows}
 use Rattle.scenario.specs.Told.{steps_of}
@@ -30,7 +31,7 @@ use Rattle.scenario.specs.declared.setup.Limits.{Limits}
 use Rattle.scenario.specs.declared.draft.Draft.{Draft}
 use Rattle.scenario.specs.declared.fault.ScenarioFault.{ScenarioFault}
 use Rattle.scenario.specs.declared.fault.ScenarioFault.TheVariants as fault
-use Rattle.scenario.specs.declared.reading.Scenario.{Scenario}
+use Rattle.scenario.specs.declared.plan.Scenario.{Scenario}
 
 -- a scenario whose words and steps may be none
 pub record PlainDraft : Type 0 where
@@ -188,23 +189,9 @@ pub record IsCatalogueOf (size : ℕ) (vs : List (PlainVersion Member)) (c : Poo
   pub holds : map plain_version c.versions ≡ vs
   pub good : first_refused size [] vs ≡ None
 
--- the limits of a scenario's numbers and lists
-pub record AreLimits (workers capacity ring nodes steps : ℕ) : Type 0 where
-  pub least_workers : 1 ≤ workers
-  pub most_workers : workers ≤ 16
-  pub least_capacity : 1 ≤ capacity
-  pub most_capacity : capacity ≤ 1000000
-  pub least_ring : 1 ≤ ring
-  pub most_ring : ring ≤ 65536
-  pub least_nodes : 1 ≤ nodes
-  pub most_nodes : nodes ≤ 64
-  pub most_steps : steps ≤ 100000
-
+-- a draft keeps the limits of a scenario
 abbrev pub IsLimited : Draft → Type 0
 IsLimited d = AreLimits d.limits.workers d.limits.capacity d.limits.ring (length d.nodes.items) (length d.steps.items)
-
-abbrev pub HasLimits : Scenario → Type 0
-HasLimits s = AreLimits s.workers s.capacity s.ring (length s.nodes.items) (length s.steps.items)
 
 -- a pool fault as a scenario's
 abbrev pub pool_refused : PoolFault → ScenarioFault

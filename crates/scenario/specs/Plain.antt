@@ -1,11 +1,11 @@
 -- The faults of adding versions in order.
-use Rattle.std.specs.Prelude.{ℕ, Bool, ◌&&◌, ◌||◌, ◌==◌, nat_lt, if◌then◌else◌, List, [], ◌∷◌, ◌++◌, map, length, Option, Some, None}
+use Rattle.std.specs.Prelude.{ℕ, Bool, ◌&&◌, ◌||◌, ◌==◌, nat_lt, if◌then◌else◌, List, [], ◌∷◌, ◌++◌, length, Option, Some, None}
 use Rattle.std.specs.List.{list_any}
 use Rattle.std.specs.Option.{option_or}
 use Rattle.pool_versions.specs.Pool.{has_double, same_name}
 use Rattle.pool_versions.specs.declared.backend.Member.{Member}
 use Rattle.pool_versions.specs.declared.catalogue.PoolFault.{PoolFault}
-use Rattle.scenario_pools.specs.Plain.{PlainService, PlainVersion}
+use Rattle.version_drafts.specs.Plain.{PlainService, PlainVersion}
 use Rattle.pool_versions.specs.declared.catalogue.PoolFault.TheVariants as fault
 
 -- two services are for the same flows

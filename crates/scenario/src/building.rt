@@ -1,6 +1,6 @@
 //! The catalogue of some versions.
 ghost use Rattle.std.specs.Prelude.{map, IfOk, IfErr};
-ghost use Rattle.scenario_pools.specs.Plain.{plain_version};
+ghost use Rattle.version_drafts.specs.Plain.{plain_version};
 ghost use Rattle.scenario.specs.Meaning.{IsCatalogueOf, IsPoolRefused};
 
 use backend_names::TableSize;

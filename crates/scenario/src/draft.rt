@@ -8,9 +8,9 @@ ghost use Rattle.scenario.specs.Meaning.{address_in, few_nodes, few_steps, nodes
 use crate::setup::{Choices, Limits, choices_at, limits_at};
 use maglev_texts::address;
 use scenario_keys::{Format, Key, MOST_NODES, MOST_STEPS, Owner, has_only_keys, items_at};
-use scenario_pools::{VersionDraft, drafts_in};
 use std::alloc::{AllocError, Global};
 use toml::{Table, Value};
+use version_drafts::{VersionDraft, drafts_in};
 
 /// A scenario as its document holds it.
 #[derive(Drop)]

@@ -3,58 +3,31 @@ ghost use Rattle.std.specs.Prelude.{◌≡◌, ◌≤◌, length, map, string_by
 ghost use Rattle.toml.specs.View.{table_view};
 ghost use Rattle.scenario.specs.Steps.{plain_timed};
 ghost use Rattle.scenario.specs.Told.{steps_of};
-ghost use Rattle.scenario_pools.specs.Plain.{plain_version};
-ghost use Rattle.scenario_pools.specs.Drafts.{plain_version_draft};
+ghost use Rattle.version_drafts.specs.Plain.{plain_version};
+ghost use Rattle.version_drafts.specs.Drafts.{plain_version_draft};
 ghost use Rattle.scenario_pools.specs.Writing.{versions_of};
 ghost use Rattle.scenario.specs.declared.playing.Played.{Played};
-ghost use Rattle.scenario.specs.Meaning.{pools_of, IsDocument, IsRefused, IsDraftRefused, IsLimited, IsSupported, AreVersionsRefused, AreStepsRefused, if_written, HasLimits, Means, plan_of, plan_of_draft, plan_view, plain_draft, pool_refused};
+ghost use Rattle.scenario.specs.declared.playing.Played.TheVariants.{OnThreads};
+ghost use Rattle.scenario.specs.Meaning.{pools_of, IsDocument, IsRefused, IsDraftRefused, IsLimited, IsSupported, AreVersionsRefused, AreStepsRefused, if_written, Means, plan_of, plan_of_draft, plan_view, plain_draft, pool_refused};
 
 use crate::building::catalogue_of;
 use crate::draft::{Draft, draft_in};
 use crate::fault::ScenarioFault;
+use crate::plan::Scenario;
 use crate::playing::Played;
+use crate::threads::ThreadScenario;
 use crate::told::{StepRules, add_told, told_of};
 use backend_names::TableSize;
-use hash_laws::AnyHash;
-use pool_versions::{Catalogue, PoolFault, Version};
-use scenario_keys::{Format, MOST_STEPS, SchemeKind, SpreadKind, format_of};
-use scenario_pools::{PoolsFault, VersionDraft, versions_of};
+use pool_versions::{PoolFault, Version};
+use scenario_keys::{Format, MOST_STEPS, format_of};
+use scenario_pools::{PoolsFault, versions_of};
 use std::alloc::{AllocError, Global};
 use timed_steps::TimedStep;
 use toml::Table;
+use version_drafts::VersionDraft;
 
 // The most bytes of a scenario's text.
 const LONGEST: usize = 1_048_576;
-
-/// A cluster, and what happens to it.
-#[derive(Debug, Drop)]
-pub struct Scenario {
-    /// The number of slots of each table.
-    pub size: TableSize,
-    /// The hash of names and flows.
-    pub hash: AnyHash,
-    /// How a flow's backend is chosen.
-    pub scheme: SchemeKind,
-    /// How packets are spread over the nodes.
-    pub spread: SpreadKind,
-    /// The workers of each node, 1 to 16.
-    pub workers: u16,
-    /// The entries of each connection table, 1 to 1,000,000.
-    pub capacity: u32,
-    /// The places of each ring, 1 to 65,536.
-    pub ring: u32,
-    /// Whether IP header checksums are tested.
-    pub check: bool,
-    /// How long an entry of a connection table stands without a packet, in microseconds: 0 to 4,294,967,295,000,000. None: as
-    /// long as the table has room.
-    pub idle: Option<u64>,
-    /// The nodes' IPv4 addresses, most significant byte first: 1 to 64 of them.
-    pub nodes: Vec<u32>,
-    /// The versions of the pools.
-    pub catalogue: Catalogue,
-    /// What happens, in order: at most 100,000 steps.
-    pub steps: Vec<TimedStep>,
-}
 
 // The document that a text is.
 fn document(alloc: Global, text: &[u8]) -> Result<Table, ScenarioFault>
@@ -139,8 +112,6 @@ fn scenario_of(
 ) -> Result<Scenario, ScenarioFault>
     requires { IsLimited draft }
     ensures ok { IfOk result (λ s. plan_of_draft format played (plain_draft draft) ≡ Ok (plan_view s)) }
-    ensures sized { IfOk result (λ s. s.catalogue.size ≡ s.size) }
-    ensures limits { IfOk result HasLimits }
     ensures refused { IfErr result (IsDraftRefused format played (plain_draft draft)) }
 {
     let Draft {
@@ -202,7 +173,6 @@ pub fn pools_in(
 #[tactic(auto, unfolding(crate::specs::Meaning::plan_of))]
 pub fn read(alloc: Global, played: Played, text: &[u8]) -> Result<Scenario, ScenarioFault>
     ensures means { IfOk result (Means played text.now) }
-    ensures limits { IfOk result HasLimits }
     ensures supported { IfOk result (IsSupported played) }
     ensures refused { IfErr result (IsRefused played text.now) }
 {
@@ -214,4 +184,16 @@ pub fn read(alloc: Global, played: Played, text: &[u8]) -> Result<Scenario, Scen
         return Err(ScenarioFault::BadKey);
     };
     scenario_of(alloc, format, played, draft)
+}
+
+/// Reads a scenario that is played on threads. A step that a cluster on threads doesn't know is refused as BadStep, as a text is
+/// that is no step.
+pub fn read_for_threads(alloc: Global, text: &[u8]) -> Result<ThreadScenario, ScenarioFault>
+    ensures means { IfOk result (λ t. Means OnThreads text.now t.scenario) }
+    ensures refused { IfErr result (IsRefused OnThreads text.now) }
+{
+    match read(alloc, Played::OnThreads, text) {
+        Ok(scenario) => Ok(ThreadScenario { scenario }),
+        Err(fault) => Err(fault),
+    }
 }

@@ -16,12 +16,12 @@ use toml::Table;
 pub const MOST_NODES: usize = 64;
 /// The most workers of a node.
 pub const MOST_WORKERS: u64 = 16;
-/// The most entries of a connection table.
-pub const MOST_ENTRIES: u64 = 1_000_000;
+// The most entries of a connection table.
+const MOST_ENTRIES: u64 = 1_000_000;
 /// The most places of a ring.
 pub const MOST_PLACES: u64 = 65_536;
-/// The longest idle limit, in microseconds: as many as there are in the seconds of a record's time.
-pub const LONGEST_IDLE: u64 = 4_294_967_295_000_000;
+// The longest idle limit, in microseconds: as many as there are in the seconds of a record's time.
+const LONGEST_IDLE: u64 = 4_294_967_295_000_000;
 /// The greatest number of a version.
 pub const MOST_VERSION: u64 = 4_294_967_295;
 /// The greatest port.

@@ -15,8 +15,8 @@ mod words;
 pub use form::{Form, ItemForm};
 pub use formats::{Format, format_of};
 pub use key::{
-    Home, Key, LONGEST_IDLE, MOST_ENTRIES, MOST_NODES, MOST_PLACES, MOST_PORT, MOST_STEPS,
-    MOST_VERSION, MOST_WORKERS, Owner, Rule,
+    Home, Key, MOST_NODES, MOST_PLACES, MOST_PORT, MOST_STEPS, MOST_VERSION, MOST_WORKERS, Owner,
+    Rule,
 };
 pub use lookup::{items_at, text_at, value_at};
 pub use names::{has_only_keys, is_key};

@@ -16,10 +16,10 @@ use Rattle.scenario_keys.specs.Keys.{holds, listed_or_false, key_name, number_of
 use Rattle.scenario_keys.specs.declared.key.Key.{Key}
 use Rattle.scenario_keys.specs.declared.key.Key.TheVariants as key
 use Rattle.scenario_keys.specs.declared.formats.Format.{Format}
-use Rattle.scenario_pools.specs.Words.{change_keys, change_in, member_in, servers_in}
-use Rattle.scenario_pools.specs.Drafts.{PlainServiceDraft, PlainVersionDraft}
-use Rattle.scenario_pools.specs.declared.change.Change.{Change}
-use Rattle.scenario_pools.specs.Reading.{word_of, change_word, changes_at, changes_of, has_change_key, Parts, of_members, of_changes, members_in, parts_by, parts_of, service_draft, service_in, services_at, whole_draft, services_if, based_draft, draft_by, version_draft, version_in, in_order, versions_with, versions_in}
+use Rattle.version_drafts.specs.Words.{change_keys, change_in, member_in, servers_in}
+use Rattle.version_drafts.specs.Drafts.{PlainServiceDraft, PlainVersionDraft}
+use Rattle.version_drafts.specs.declared.change.Change.{Change}
+use Rattle.version_drafts.specs.Reading.{word_of, change_word, changes_at, changes_of, has_change_key, Parts, of_members, of_changes, members_in, parts_by, parts_of, service_draft, service_in, services_at, whole_draft, services_if, based_draft, draft_by, version_draft, version_in, in_order, versions_with, versions_in}
 use Rattle.scenario.specs.Setup.{choices_of, limits_of}
 use Rattle.scenario.specs.Meaning.{address_in, few_nodes, few_steps, nodes_of, steps_in, draft_of}
 use Rattle.scenario_places.specs.Places.{first_bad, setup, item_from, is_text, is_address, count, texts_flaw, texts_if_flaw, lists_flaw, first_there, misplaced, parts_flaw, service_table_flaw, service_flaw, services_from, services_flaw, array_flaw, services_if_flaw, whole_flaw, based_flaw, rest_flaw, version_table_flaw, version_flaw, versions_from, versions_flaw, order_flaw, servers_flaw, pools_flaw, sized, nodes_in, nodes_flaw, steps_of, steps_flaw, arrays_flaw, OnePlaceOrADraft}

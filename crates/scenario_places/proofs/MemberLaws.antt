@@ -4,8 +4,8 @@ use Rattle.toml.specs.Data.{Members}
 use Rattle.scenario_keys.specs.Lookups.{has_only}
 use Rattle.scenario_keys.specs.Keys.{root_keys}
 use Rattle.scenario_keys.specs.declared.formats.Format.{Format}
-use Rattle.scenario_pools.specs.Drafts.{PlainVersionDraft}
-use Rattle.scenario_pools.specs.Reading.{versions_in}
+use Rattle.version_drafts.specs.Drafts.{PlainVersionDraft}
+use Rattle.version_drafts.specs.Reading.{versions_in}
 use Rattle.scenario_pools.specs.Writing.{versions_of}
 use Rattle.scenario_pools.specs.BadWords.{bad_word_of, is_bad_member}
 use Rattle.scenario_pools.specs.declared.bad_words.BadWord.{BadWord}

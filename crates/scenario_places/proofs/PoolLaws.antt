@@ -7,7 +7,7 @@ use Rattle.pool_versions.specs.Pool.{has_double}
 use Rattle.pool_versions.specs.declared.backend.Member.{Member}
 use Rattle.pool_versions.specs.declared.catalogue.PoolFault.{PoolFault}
 use Rattle.pool_versions.specs.declared.catalogue.PoolFault.TheVariants as fault
-use Rattle.scenario_pools.specs.Plain.{PlainService, PlainVersion}
+use Rattle.version_drafts.specs.Plain.{PlainService, PlainVersion}
 use Rattle.scenario.specs.Plain.{same_flows, names_double, is_long, passes_limit, services_refused, version_refused, first_refused}
 use Rattle.scenario_keys.specs.declared.key.Key.TheVariants as key
 use Rattle.scenario_places.specs.declared.place.Flaw.TheVariants as flaw

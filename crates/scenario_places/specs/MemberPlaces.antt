@@ -6,8 +6,8 @@ use Rattle.scenario_keys.specs.Keys.{key_name}
 use Rattle.scenario_keys.specs.declared.key.Key.{Key}
 use Rattle.scenario_keys.specs.declared.key.Key.TheVariants as key
 use Rattle.scenario_keys.specs.declared.formats.Format.{Format}
-use Rattle.scenario_pools.specs.Words.{change_keys}
-use Rattle.scenario_pools.specs.Reading.{versions_in}
+use Rattle.version_drafts.specs.Words.{change_keys}
+use Rattle.version_drafts.specs.Reading.{versions_in}
 use Rattle.scenario_pools.specs.Writing.{versions_of}
 use Rattle.scenario_pools.specs.BadWords.{bad_word_of, is_bad_member}
 use Rattle.scenario_pools.specs.declared.bad_words.BadWord.{BadWord}

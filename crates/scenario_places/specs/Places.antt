@@ -7,8 +7,8 @@ use Rattle.scenario_keys.specs.Lookups.{items_at, given_or, has_only}
 use Rattle.scenario_keys.specs.declared.formats.Format.{Format}
 use Rattle.scenario.specs.Meaning.{address_in, draft_in}
 use Rattle.scenario_keys.specs.Keys.{holds, key_name, number_of, number_if_of, root_keys, version_keys, service_keys}
-use Rattle.scenario_pools.specs.Words.{change_keys, servers_in}
-use Rattle.scenario_pools.specs.Reading.{versions_in}
+use Rattle.version_drafts.specs.Words.{change_keys, servers_in}
+use Rattle.version_drafts.specs.Reading.{versions_in}
 use Rattle.scenario_keys.specs.declared.key.Key.{Key}
 use Rattle.scenario_keys.specs.declared.key.Key.TheVariants as key
 use Rattle.scenario_places.specs.declared.place.Flaw.{Flaw}

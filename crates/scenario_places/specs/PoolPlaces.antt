@@ -4,7 +4,7 @@ use Rattle.std.specs.List.{list_any}
 use Rattle.std.specs.Option.{option_or}
 use Rattle.std.specs.Cmp.Lexicographic.{pointwise}
 use Rattle.pool_versions.specs.declared.backend.Member.{Member}
-use Rattle.scenario_pools.specs.Plain.{PlainService, PlainVersion}
+use Rattle.version_drafts.specs.Plain.{PlainService, PlainVersion}
 use Rattle.scenario.specs.Plain.{is_long, first_refused}
 use Rattle.scenario_places.specs.declared.doubles.ServiceKey.{ServiceKey}
 use Rattle.scenario_keys.specs.declared.key.Key.TheVariants as key

@@ -1,7 +1,7 @@
 //! The first of two that are the same.
 ghost use Rattle.std.specs.Prelude.{◌≡◌, nat_eq, map, IfOk};
 ghost use Rattle.std.specs.Cmp.Lexicographic.{pointwise};
-ghost use Rattle.scenario_pools.specs.Plain.{plain_service};
+ghost use Rattle.version_drafts.specs.Plain.{plain_service};
 ghost use Rattle.scenario_places.specs.PoolPlaces.{first_double, same_key, key_of};
 
 use backend_names::Name;

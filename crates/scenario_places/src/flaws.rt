@@ -1,15 +1,15 @@
 //! What is wrong with the values of a table.
 ghost use Rattle.std.specs.Prelude.{◌≡◌, IfOk};
 ghost use Rattle.toml.specs.View.{table_view, view, items_view};
-ghost use Rattle.scenario_pools.specs.Words.{change_keys};
+ghost use Rattle.version_drafts.specs.Words.{change_keys};
 ghost use Rattle.scenario_places.specs.Places.{first_bad, count, item_from, is_text, is_address, texts_flaw, texts_if_flaw, lists_flaw, first_there, misplaced};
 
 use crate::place::Flaw;
 use maglev_texts::address;
 use scenario_keys::{Key, value_at};
-use scenario_pools::CHANGE_KEYS;
 use std::alloc::{AllocError, Global};
 use toml::{Table, Value};
+use version_drafts::CHANGE_KEYS;
 
 /// The first of some keys whose value isn't one that it may have.
 pub(crate) fn first_bad(

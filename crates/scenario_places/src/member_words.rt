@@ -10,9 +10,10 @@ ghost use Rattle.scenario_places.specs.MemberPlaces.{item_number, table_number, 
 use crate::flaws::count;
 use crate::place::{Flaw, Place};
 use scenario_keys::{Format, Key, items_at};
-use scenario_pools::{BadWord, CHANGE_KEYS, bad_word, drafts_in};
+use scenario_pools::{BadWord, bad_word};
 use std::alloc::{AllocError, Global};
 use toml::{Table, Value};
+use version_drafts::{CHANGE_KEYS, drafts_in};
 
 // The item of a number.
 #[tactic(auto, using(scenario_keys::proofs::Views::items_from))]

@@ -1,7 +1,7 @@
 //! Where a scenario's versions can't be those of a catalogue.
 ghost use Rattle.std.specs.Prelude.{◌≡◌, ◌==◌, ◌||◌, map, length, IfOk};
 ghost use Rattle.std.specs.List.{list_any};
-ghost use Rattle.scenario_pools.specs.Plain.{plain_service, plain_version};
+ghost use Rattle.version_drafts.specs.Plain.{plain_service, plain_version};
 ghost use Rattle.scenario.specs.Plain.{is_long};
 ghost use Rattle.scenario_places.specs.PoolPlaces.{double_service, double_name_from, most_members, long_from, over_place, services_place, version_place, pool_place_of, OnePlaceOrACatalogue};
 

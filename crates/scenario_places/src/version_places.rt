@@ -10,9 +10,9 @@ use crate::flaws::{changes_flaw, first_bad, misplaced};
 use crate::place::{Flaw, Place};
 use crate::service_places::{services_flaw, services_if_flaw};
 use scenario_keys::{Format, Key, Owner, has_only_keys, items_at, number, number_if};
-use scenario_pools::{drafts_in, servers_in};
 use std::alloc::{AllocError, Global};
 use toml::{Table, Value};
+use version_drafts::{drafts_in, servers_in};
 
 fn whole_flaw(
     alloc: Global,

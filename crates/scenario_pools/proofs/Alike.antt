@@ -23,10 +23,10 @@ use Rattle.scenario_keys.specs.declared.key.Owner.TheVariants as owner
 use Rattle.scenario_keys.specs.declared.formats.Format.{Format}
 use Rattle.scenario_keys.specs.declared.formats.Format.TheVariants.{One, Two, Three}
 use Rattle.scenario_keys.proofs.KeyNames.{HasMore, keys_grow}
-use Rattle.scenario_pools.specs.Plain.{PlainService, PlainVersion}
-use Rattle.scenario_pools.specs.Drafts.{PlainServiceDraft, PlainVersionDraft}
-use Rattle.scenario_pools.specs.Words.{member_in, served_member_of, servers_in}
-use Rattle.scenario_pools.specs.Reading.{Parts, of_members, word_of, has_change_key, members_in, parts_by, parts_of, service_draft, service_in, services_at, whole_draft, draft_by, version_draft, version_in, are_in_order, in_order, versions_with, versions_in}
+use Rattle.version_drafts.specs.Plain.{PlainService, PlainVersion}
+use Rattle.version_drafts.specs.Drafts.{PlainServiceDraft, PlainVersionDraft}
+use Rattle.version_drafts.specs.Words.{member_in, served_member_of, servers_in}
+use Rattle.version_drafts.specs.Reading.{Parts, of_members, word_of, has_change_key, members_in, parts_by, parts_of, service_draft, service_in, services_at, whole_draft, draft_by, version_draft, version_in, are_in_order, in_order, versions_with, versions_in}
 use Rattle.scenario_pools.specs.Writing.{stated_with, stated, numbered_with, stated_version, left_by_version, after_version, beside, written_out, written_behind, most_places, versions_of}
 use Rattle.scenario_pools.specs.declared.fault.PoolsFault.{PoolsFault}
 use Rattle.scenario_pools.specs.declared.fault.PoolsFault.TheVariants as fault

@@ -11,10 +11,10 @@ use Rattle.scenario_keys.specs.Keys.{key_name, keys_of, version_keys, service_ke
 use Rattle.scenario_keys.specs.declared.key.Key.TheVariants as key
 use Rattle.scenario_keys.specs.declared.formats.Format.{Format}
 use Rattle.scenario_keys.specs.declared.formats.Format.TheVariants.{One, Two, Three}
-use Rattle.scenario_pools.specs.Plain.{PlainService, PlainVersion}
-use Rattle.scenario_pools.specs.Drafts.{PlainServiceDraft, PlainVersionDraft, whole_service, whole_version}
-use Rattle.scenario_pools.specs.Words.{member_in, servers_of}
-use Rattle.scenario_pools.specs.Reading.{Parts, of_members, word_of, has_change_key, members_in, parts_by, service_draft, service_in, services_at, draft_by, version_draft, version_in, are_in_order, in_order, versions_with}
+use Rattle.version_drafts.specs.Plain.{PlainService, PlainVersion}
+use Rattle.version_drafts.specs.Drafts.{PlainServiceDraft, PlainVersionDraft, whole_service, whole_version}
+use Rattle.version_drafts.specs.Words.{member_in, servers_of}
+use Rattle.version_drafts.specs.Reading.{Parts, of_members, word_of, has_change_key, members_in, parts_by, service_draft, service_in, services_at, draft_by, version_draft, version_in, are_in_order, in_order, versions_with}
 use Rattle.scenario_pools.specs.Older.{old_service_keys, old_version_keys, old_member, old_word, old_service, old_service_in, old_version, old_version_in, old_versions_in, OlderFormatsStateVersions}
 use Rattle.scenario_pools.proofs.Alike.{missing}
 

@@ -1,8 +1,8 @@
 -- Drafts have a bad word exactly where they are refused as BadMember.
 use Rattle.std.proofs.Common.{◌≡◌, ℕ, ◌+◌, List, [], ◌∷◌, ◌++◌, Option, is_some, Result, Ok, Err, refl}
 use Rattle.pool_versions.specs.declared.backend.Member.{Member}
-use Rattle.scenario_pools.specs.Plain.{PlainVersion}
-use Rattle.scenario_pools.specs.Drafts.{PlainVersionDraft}
+use Rattle.version_drafts.specs.Plain.{PlainVersion}
+use Rattle.version_drafts.specs.Drafts.{PlainVersionDraft}
 use Rattle.scenario_pools.specs.Writing.{written_out, left_by_version, most_places, after_version, written_behind, versions_of}
 use Rattle.scenario_pools.specs.BadWords.{bad_in_version, bad_or_behind, bad_word_from, bad_word_of, is_bad_member, BadWordsAreBadMembers}
 use Rattle.scenario_pools.specs.declared.bad_words.BadWord.{BadWord}

@@ -4,8 +4,8 @@ use Rattle.std.proofs.lemmas.List.{append-nil}
 use Rattle.std.specs.Option.{ok_or}
 use Rattle.pool_versions.specs.declared.backend.Member.{Member}
 use Rattle.scenario_keys.specs.Lookups.{all_of}
-use Rattle.scenario_pools.specs.Plain.{PlainService, PlainVersion, service_of, version_of}
-use Rattle.scenario_pools.specs.Drafts.{PlainVersionDraft, whole_service, whole_version}
+use Rattle.version_drafts.specs.Plain.{PlainService, PlainVersion, service_of, version_of}
+use Rattle.version_drafts.specs.Drafts.{PlainVersionDraft, whole_service, whole_version}
 use Rattle.scenario_pools.specs.Writing.{stated, numbered_with, after_version, written_out, left_by_version, written_behind, most_places, versions_of}
 use Rattle.scenario_pools.specs.Laws.{WholeVersionsAreStated, service_words, version_words, DifferencesAreWrittenOut}
 use Rattle.scenario_pools.specs.declared.fault.PoolsFault.{PoolsFault}

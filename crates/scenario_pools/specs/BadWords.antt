@@ -2,11 +2,12 @@
 use Rattle.std.specs.Prelude.{◌≡◌, ℕ, ◌+◌, Bool, true, false, ◌==◌, if◌then◌else◌, List, [], ◌∷◌, ◌++◌, map, find, Option, Some, None, is_some, Result, Ok, Err}
 use Rattle.pool_versions.specs.Pool.{same_key}
 use Rattle.pool_versions.specs.declared.backend.Member.{Member}
-use Rattle.scenario_pools.specs.Plain.{PlainService, PlainVersion, plain_key}
-use Rattle.scenario_pools.specs.Changes.{has_member, some_has_member, changed_name, changed_by, service_changed_by, all_changed}
-use Rattle.scenario_pools.specs.Drafts.{PlainServiceDraft, PlainVersionDraft, draft_key}
+use Rattle.version_drafts.specs.Plain.{PlainService, PlainVersion, plain_key}
+use Rattle.version_drafts.specs.Changes.{changed_name, changed_by}
+use Rattle.scenario_pools.specs.Changes.{has_member, some_has_member, service_changed_by, all_changed}
+use Rattle.version_drafts.specs.Drafts.{PlainServiceDraft, PlainVersionDraft, draft_key}
 use Rattle.scenario_pools.specs.Writing.{stated, with_draft, written_out, left_by_version, most_places, versions_of}
-use Rattle.scenario_pools.specs.declared.change.Change.{Change}
+use Rattle.version_drafts.specs.declared.change.Change.{Change}
 use Rattle.scenario_pools.specs.declared.bad_words.BadWord.{BadWord}
 use Rattle.scenario_pools.specs.declared.bad_words.BadWord.TheVariants as bad
 use Rattle.scenario_pools.specs.declared.fault.PoolsFault.{PoolsFault}

@@ -3,13 +3,13 @@ use Rattle.std.specs.Prelude.{◌≡◌, true, List, map, Option, Some, Ok}
 use Rattle.std.specs.Option.{ok_or}
 use Rattle.pool_versions.specs.declared.backend.Member.{Member}
 use Rattle.scenario_keys.specs.Lookups.{all_of}
-use Rattle.scenario_pools.specs.Plain.{PlainService, PlainVersion, version_of}
-use Rattle.scenario_pools.specs.Drafts.{PlainVersionDraft, whole_version}
+use Rattle.version_drafts.specs.Plain.{PlainService, PlainVersion, version_of}
+use Rattle.version_drafts.specs.Drafts.{PlainVersionDraft, whole_version}
 use Rattle.toml.specs.Data.{Members}
 use Rattle.scenario_keys.specs.Keys.{has}
 use Rattle.scenario_keys.specs.declared.formats.Format.{Format}
 use Rattle.scenario_keys.specs.declared.formats.Format.TheVariants.{Three}
-use Rattle.scenario_pools.specs.Reading.{versions_in}
+use Rattle.version_drafts.specs.Reading.{versions_in}
 use Rattle.scenario_pools.specs.Writing.{versions_of}
 use Rattle.scenario_pools.specs.declared.fault.PoolsFault.TheVariants as fault
 

@@ -7,9 +7,9 @@ use Rattle.scenario_keys.specs.Lookups.{number_at, text_at, items_at, all_items,
 use Rattle.scenario_keys.specs.Words.{protocol_of_word}
 use Rattle.scenario_keys.specs.declared.formats.Format.{Format}
 use Rattle.scenario_keys.specs.declared.formats.Format.TheVariants.{One, Two, Three}
-use Rattle.scenario_pools.specs.Plain.{PlainService, PlainVersion}
-use Rattle.scenario_pools.specs.Drafts.{whole_version}
-use Rattle.scenario_pools.specs.Reading.{versions_in}
+use Rattle.version_drafts.specs.Plain.{PlainService, PlainVersion}
+use Rattle.version_drafts.specs.Drafts.{whole_version}
+use Rattle.version_drafts.specs.Reading.{versions_in}
 
 abbrev pub old_service_keys : List (List ℕ)
 old_service_keys = codes "vip" ∷ codes "proto" ∷ codes "port" ∷ codes "members" ∷ []

@@ -5,10 +5,11 @@ use Rattle.std.specs.Option.{ok_or}
 use Rattle.pool_versions.specs.declared.backend.Member.{Member}
 use Rattle.pool_versions.specs.Pool.{same_key}
 use Rattle.scenario_keys.specs.Lookups.{all_of}
-use Rattle.scenario_pools.specs.Plain.{PlainService, PlainVersion, plain_key}
-use Rattle.scenario_pools.specs.Changes.{changed_name, changed, all_changed}
-use Rattle.scenario_pools.specs.Drafts.{PlainServiceDraft, PlainVersionDraft, draft_key}
-use Rattle.scenario_pools.specs.declared.change.Change.{Change}
+use Rattle.version_drafts.specs.Plain.{PlainService, PlainVersion, plain_key}
+use Rattle.version_drafts.specs.Changes.{changed_name}
+use Rattle.scenario_pools.specs.Changes.{changed, all_changed}
+use Rattle.version_drafts.specs.Drafts.{PlainServiceDraft, PlainVersionDraft, draft_key}
+use Rattle.version_drafts.specs.declared.change.Change.{Change}
 use Rattle.scenario_pools.specs.declared.fault.PoolsFault.{PoolsFault}
 use Rattle.scenario_pools.specs.declared.fault.PoolsFault.TheVariants as fault
 

@@ -1,43 +1,50 @@
 //! Services of a version from those of its base.
-ghost use Rattle.std.specs.Prelude.{◌≡◌, ◌≤◌, ◌++◌, ◌∷◌, Some, None, if◌then◌else◌, [], length, map, option_map, IfOk};
+ghost use Rattle.std.specs.Prelude.{◌≡◌, ◌≤◌, ◌++◌, ◌∷◌, [], length, map, ok_or, IfOk};
+ghost use Rattle.std.specs.Result.{result_map_both};
 ghost use Rattle.std.specs.List.{list_any, position_or_len};
 ghost use Rattle.pool_versions.specs.Pool.{same_key};
 ghost use Rattle.scenario_keys.specs.Lookups.{all_of};
-ghost use Rattle.scenario_pools.specs.Plain.{plain_service, plain_key};
-ghost use Rattle.scenario_pools.specs.Drafts.{plain_service_draft, draft_key};
+ghost use Rattle.version_drafts.specs.Plain.{plain_service, plain_key};
+ghost use Rattle.version_drafts.specs.Drafts.{plain_service_draft, draft_key};
 ghost use Rattle.scenario_pools.specs.Writing.{stated_with, placed, with_stated, changed_one, with_changed, with_draft, with_drafts};
+ghost use Rattle.scenario_pools.specs.BadWords.{first_none, bad_change, service_for, bad_in_changes, bad_in_service, bad_in_drafts};
 
+use crate::bad_words::BadWord;
 use crate::changing::changed;
-use crate::draft::ServiceDraft;
 use pool_versions::{Member, Service, ServiceKey};
 use std::alloc::{AllocError, Global};
+use version_drafts::ServiceDraft;
 
-// The members that some words are, where each is one.
-fn members_of(alloc: Global, words: &[Option<Member>]) -> Result<Option<Vec<Member>>, AllocError>
-    ensures { IfOk result (λ o. option_map (λ v. v.items) o ≡ all_of (λ w. w) words.now) }
+// The members that some words are, or the number of the first that is none.
+fn members_of(
+    alloc: Global,
+    words: &[Option<Member>],
+) -> Result<Result<Vec<Member>, usize>, AllocError>
+    ensures { IfOk result (λ r. result_map_both (λ v. v.items) (λ n. n) r ≡ ok_or (all_of (λ w. w) words.now) (first_none 0 words.now)) }
 {
     let mut members: Vec<Member> = Vec::new(alloc);
-    for word in words {
+    for (n, word) in words.iter().enumerate() {
         let Some(member) = word else {
-            return Ok(None);
+            return Ok(Err(n));
         };
         members.push(*member)?;
     }
-    Ok(Some(members))
+    Ok(Ok(members))
 }
 
-/// The service of a draft with these words, None where one of them is no member.
+/// The service of a draft with these words, or the number of the first that is no member.
 pub(crate) fn stated_with(
     alloc: Global,
     draft: &ServiceDraft,
     words: &[Option<Member>],
-) -> Result<Option<Service>, AllocError>
-    ensures { IfOk result (λ o. option_map plain_service o ≡ stated_with (plain_service_draft draft.now) words.now) }
+) -> Result<Result<Service, usize>, AllocError>
+    ensures { IfOk result (λ r. result_map_both plain_service (λ n. n) r ≡ ok_or (stated_with (plain_service_draft draft.now) words.now) (first_none 0 words.now)) }
 {
-    let Some(members) = members_of(alloc, words)? else {
-        return Ok(None);
+    let members = match members_of(alloc, words)? {
+        Ok(members) => members,
+        Err(word) => return Ok(Err(word)),
     };
-    Ok(Some(Service {
+    Ok(Ok(Service {
         vip: draft.vip,
         proto: draft.proto,
         port: draft.port,
@@ -45,7 +52,7 @@ pub(crate) fn stated_with(
     }))
 }
 
-pub(crate) fn key_of(draft: &ServiceDraft) -> ServiceKey
+fn key_of(draft: &ServiceDraft) -> ServiceKey
     ensures { result ≡ draft_key (plain_service_draft draft.now) }
 {
     ServiceKey {
@@ -127,19 +134,21 @@ fn add_stated(
     }
 }
 
-// A service with its members changed, None where a change can't be made.
+// A service with its members changed, or the number of the first change that can't be made.
 fn changed_one(
     alloc: Global,
     draft: &ServiceDraft,
     service: &Service,
-) -> Result<Option<Service>, AllocError>
-    ensures { IfOk result (λ o. option_map plain_service o ≡ changed_one (plain_service_draft draft.now) (plain_service service.now)) }
+) -> Result<Result<Service, usize>, AllocError>
+    ensures { let d = plain_service_draft draft.now in let s = plain_service service.now in
+        IfOk result (λ r. result_map_both plain_service (λ n. n) r ≡ ok_or (changed_one d s) (bad_change 0 d.changes s.members)) }
 {
     let changes = draft.changes.as_slice();
-    let Some(members) = changed(alloc, changes, service.members.as_slice())? else {
-        return Ok(None);
+    let members = match changed(alloc, changes, service.members.as_slice())? {
+        Ok(members) => members,
+        Err(change) => return Ok(Err(change)),
     };
-    Ok(Some(Service {
+    Ok(Ok(Service {
         vip: service.vip,
         proto: service.proto,
         port: service.port,
@@ -147,59 +156,68 @@ fn changed_one(
     }))
 }
 
-// Changes the first service that a draft is for. False where there is none, or a change can't be made.
+// Changes the first service that a draft of a number is for. What is wrong where there is none, or a change can't be made.
 fn change_one(
     alloc: Global,
     services: &mut Vec<Service>,
+    number: usize,
     draft: &ServiceDraft,
-) -> Result<bool, AllocError>
-    ensures { IfOk result (λ b. (if b then Some (map plain_service services.new.items) else None)
-        ≡ with_changed (plain_service_draft draft.now) (map plain_service services.old.items)) }
+) -> Result<Result<(), BadWord>, AllocError>
+    ensures { let d = plain_service_draft draft.now in let ss = map plain_service services.old.items in
+        IfOk result (λ r. result_map_both (λ _. map plain_service services.new.items) (λ w. w) r ≡ ok_or (with_changed d ss) (bad_in_changes number d (service_for d ss))) }
 {
     let place = place_of(&key_of(draft), services.as_slice());
     if place >= services.len() {
-        return Ok(false);
+        return Ok(Err(BadWord::Service(number)));
     }
-    let Some(service) = changed_one(alloc, draft, &services[place])? else {
-        return Ok(false);
-    };
-    services[place] = service;
-    Ok(true)
+    match changed_one(alloc, draft, &services[place])? {
+        Ok(service) => {
+            services[place] = service;
+            Ok(Ok(()))
+        }
+        Err(change) => Ok(Err(BadWord::ServiceChange(number, change))),
+    }
 }
 
-// Puts the service of a draft among others, or changes one of them. False where a word is none, or there is no such service.
-pub(crate) fn add_draft(
+// Puts the service of a draft of a number among others, or changes one of them. What is wrong where a word is none, or there
+// is no such service.
+fn add_draft(
     alloc: Global,
     services: &mut Vec<Service>,
     before: &[ServiceDraft],
+    number: usize,
     draft: &ServiceDraft,
-) -> Result<bool, AllocError>
-    ensures { IfOk result (λ b. (if b then Some (map plain_service services.new.items) else None)
-        ≡ with_draft (map plain_service_draft before.now) (plain_service_draft draft.now) (map plain_service services.old.items)) }
+) -> Result<Result<(), BadWord>, AllocError>
+    ensures { let d = plain_service_draft draft.now in let ss = map plain_service services.old.items in
+        IfOk result (λ r. result_map_both (λ _. map plain_service services.new.items) (λ w. w) r
+        ≡ ok_or (with_draft (map plain_service_draft before.now) d ss) (bad_in_service number d ss d.members)) }
 {
     let Some(words) = &draft.members else {
-        return change_one(alloc, services, draft);
+        return change_one(alloc, services, number, draft);
     };
-    let Some(service) = stated_with(alloc, draft, words.as_slice())? else {
-        return Ok(false);
-    };
-    add_stated(services, before, service)?;
-    Ok(true)
+    match stated_with(alloc, draft, words.as_slice())? {
+        Ok(service) => {
+            add_stated(services, before, service)?;
+            Ok(Ok(()))
+        }
+        Err(word) => Ok(Err(BadWord::Member(number, word))),
+    }
 }
 
-/// Services with drafts, one after another, None where a word is none or there is no such service.
+/// Services with drafts, one after another, or what is wrong with the first that can't be made.
 pub(crate) fn with_drafts(
     alloc: Global,
     mut services: Vec<Service>,
     drafts: &[ServiceDraft],
-) -> Result<Option<Vec<Service>>, AllocError>
-    ensures { IfOk result (λ o. option_map (λ v. map plain_service v.items) o
-        ≡ with_drafts [] (map plain_service_draft drafts.now) (map plain_service services.items)) }
+) -> Result<Result<Vec<Service>, BadWord>, AllocError>
+    ensures { let ds = map plain_service_draft drafts.now in let ss = map plain_service services.items in
+        IfOk result (λ r. result_map_both (λ v. map plain_service v.items) (λ w. w) r ≡ ok_or (with_drafts [] ds ss) (bad_in_drafts [] 0 ds ss)) }
 {
-    for (place, draft) in drafts.iter().enumerate() {
-        if !add_draft(alloc, &mut services, &drafts[..place], draft)? {
-            return Ok(None);
+    for (number, draft) in drafts.iter().enumerate() {
+        match add_draft(alloc, &mut services, &drafts[..number], number, draft)? {
+            Ok(()) => {}
+            Err(word) => return Ok(Err(word)),
         }
     }
-    Ok(Some(services))
+    Ok(Ok(services))
 }

@@ -1,21 +1,24 @@
 //! Members and services after changes, one after another.
-ghost use Rattle.std.specs.Prelude.{◌≡◌, map, option_map, IfOk};
+ghost use Rattle.std.specs.Prelude.{◌≡◌, map, ok_or, IfOk};
+ghost use Rattle.std.specs.Result.{result_map_both};
 ghost use Rattle.std.specs.List.{list_any};
-ghost use Rattle.scenario_pools.specs.Plain.{plain_service};
-ghost use Rattle.scenario_pools.specs.Changes.{is_of, has_member, some_has_member, changed, service_changed_by, all_changed};
+ghost use Rattle.version_drafts.specs.Plain.{plain_service};
+ghost use Rattle.version_drafts.specs.Changes.{is_of};
+ghost use Rattle.scenario_pools.specs.Changes.{has_member, some_has_member, changed, service_changed_by, all_changed};
+ghost use Rattle.scenario_pools.specs.BadWords.{bad_change, bad_change_of_all};
 
-use crate::change::{Change, is_of};
 use backend_names::Name;
 use pool_versions::{Member, Service};
 use std::alloc::{AllocError, Global};
+use version_drafts::Change;
 
 fn has_name(name: Name, members: &[Member]) -> bool
     ensures { result ≡ list_any (is_of name) members.now }
 {
-    members.iter().any(|member| is_of(name, member))
+    members.iter().any(|member| name == member.backend.name)
 }
 
-pub(crate) fn has_member(name: Option<Name>, members: &[Member]) -> bool
+fn has_member(name: Option<Name>, members: &[Member]) -> bool
     ensures { result ≡ has_member name members.now }
 {
     match name {
@@ -24,25 +27,25 @@ pub(crate) fn has_member(name: Option<Name>, members: &[Member]) -> bool
     }
 }
 
-/// Some members after changes, None where one is no change or no member has its name at that point.
+/// Some members after changes, or the number of the first change that is none or whose name no member has at that point.
 pub(crate) fn changed(
     alloc: Global,
     changes: &[Option<Change>],
     members: &[Member],
-) -> Result<Option<Vec<Member>>, AllocError>
-    ensures { IfOk result (λ o. option_map (λ v. v.items) o ≡ changed changes.now members.now) }
+) -> Result<Result<Vec<Member>, usize>, AllocError>
+    ensures { IfOk result (λ r. result_map_both (λ v. v.items) (λ n. n) r ≡ ok_or (changed changes.now members.now) (bad_change 0 changes.now members.now)) }
 {
     let mut members = members.to_vec(alloc)?;
-    for change in changes {
+    for (n, change) in changes.iter().enumerate() {
         let Some(change) = change else {
-            return Ok(None);
+            return Ok(Err(n));
         };
         if !has_member(change.name(), members.as_slice()) {
-            return Ok(None);
+            return Ok(Err(n));
         }
         members = change.apply(alloc, members.as_slice())?;
     }
-    Ok(Some(members))
+    Ok(Ok(members))
 }
 
 fn one_has_name(name: Name, services: &[Service]) -> bool
@@ -56,7 +59,7 @@ fn one_has_name(name: Name, services: &[Service]) -> bool
     false
 }
 
-pub(crate) fn some_has_member(name: Option<Name>, services: &[Service]) -> bool
+fn some_has_member(name: Option<Name>, services: &[Service]) -> bool
     ensures { result ≡ some_has_member name (map plain_service services.now) }
 {
     match name {
@@ -77,7 +80,7 @@ fn changed_service(alloc: Global, change: &Change, service: &Service) -> Result<
     })
 }
 
-pub(crate) fn changed_services(
+fn changed_services(
     alloc: Global,
     change: &Change,
     services: &[Service],
@@ -106,10 +109,7 @@ fn copied_service(alloc: Global, service: &Service) -> Result<Service, AllocErro
     })
 }
 
-pub(crate) fn copied_services(
-    alloc: Global,
-    services: &[Service],
-) -> Result<Vec<Service>, AllocError>
+fn copied_services(alloc: Global, services: &[Service]) -> Result<Vec<Service>, AllocError>
     ensures { IfOk result (λ v. map plain_service v.items ≡ map plain_service services.now) }
 {
     let mut found: Vec<Service> = Vec::new(alloc);
@@ -122,23 +122,25 @@ pub(crate) fn copied_services(
     Ok(found)
 }
 
-/// All of some services after changes, None where one is no change or no service has a member of its name at that point.
+/// All of some services after changes, or the number of the first change that is none or for whose name no service has a
+/// member at that point.
 pub(crate) fn all_changed(
     alloc: Global,
     changes: &[Option<Change>],
     services: &[Service],
-) -> Result<Option<Vec<Service>>, AllocError>
-    ensures { IfOk result (λ o. option_map (λ v. map plain_service v.items) o ≡ all_changed changes.now (map plain_service services.now)) }
+) -> Result<Result<Vec<Service>, usize>, AllocError>
+    ensures { let ss = map plain_service services.now in
+        IfOk result (λ r. result_map_both (λ v. map plain_service v.items) (λ n. n) r ≡ ok_or (all_changed changes.now ss) (bad_change_of_all 0 changes.now ss)) }
 {
     let mut services = copied_services(alloc, services)?;
-    for change in changes {
+    for (n, change) in changes.iter().enumerate() {
         let Some(change) = change else {
-            return Ok(None);
+            return Ok(Err(n));
         };
         if !some_has_member(change.name(), services.as_slice()) {
-            return Ok(None);
+            return Ok(Err(n));
         }
         services = changed_services(alloc, change, services.as_slice())?;
     }
-    Ok(Some(services))
+    Ok(Ok(services))
 }

@@ -1,53 +1,75 @@
 //! The versions that drafts mean, written out.
-ghost use Rattle.std.specs.Prelude.{◌≡◌, ◌+◌, ◌==◌, Ok, length, map, find, option_map, is_some, IfOk, IfErr};
+ghost use Rattle.std.specs.Prelude.{◌≡◌, ◌+◌, ◌==◌, [], Ok, Some, None, length, map, find, option_map, is_some, ok_or, IfOk, IfErr};
+ghost use Rattle.std.specs.Result.{result_map_both};
 ghost use Rattle.pool_versions.specs.Pool.{same_key};
 ghost use Rattle.scenario_keys.specs.Lookups.{all_of};
-ghost use Rattle.scenario_pools.specs.Plain.{plain_service, plain_version};
-ghost use Rattle.scenario_pools.specs.Drafts.{plain_service_draft, plain_version_draft};
+ghost use Rattle.version_drafts.specs.Plain.{plain_service, plain_version};
+ghost use Rattle.version_drafts.specs.Drafts.{plain_service_draft, plain_version_draft};
 ghost use Rattle.scenario_pools.specs.Writing.{stated, stated_version, version_from, left, left_by_services, left_by_drafts, left_by_version, additions, is_addition, brought, has_room, based, written_out, versions_of, IsRefused};
+ghost use Rattle.scenario_pools.specs.BadWords.{bad_in_service, bad_in_stated, bad_in_based, bad_in_version, bad_word_of};
+ghost use Rattle.scenario_pools.specs.PrivateWalk.{IsUnmade, IsUnwritten};
 
+use crate::bad_words::{BadWord, Unmade};
 use crate::basing::{stated_with, with_drafts};
-use crate::change::Change;
 use crate::changing::all_changed;
-use crate::draft::{ServiceDraft, VersionDraft};
 use crate::fault::PoolsFault;
 use pool_versions::{Service, Version};
 use std::alloc::{AllocError, Global};
+use version_drafts::{Change, ServiceDraft, VersionDraft};
 
 /// The most services and members that versions may have in all, up to one with a base.
 pub const MOST_PLACES: usize = 1_048_576;
 
-pub(crate) fn stated(alloc: Global, draft: &ServiceDraft) -> Result<Option<Service>, AllocError>
-    ensures { IfOk result (λ o. option_map plain_service o ≡ stated (plain_service_draft draft.now)) }
+// The service that a draft of a number states.
+fn stated(
+    alloc: Global,
+    number: usize,
+    draft: &ServiceDraft,
+) -> Result<Result<Service, BadWord>, AllocError>
+    ensures { let d = plain_service_draft draft.now in
+        IfOk result (λ r. result_map_both plain_service (λ w. w) r ≡ ok_or (stated d) (bad_in_service number d [] d.members)) }
 {
-    match &draft.members {
-        Some(words) => stated_with(alloc, draft, words.as_slice()),
-        None => Ok(None),
+    let Some(words) = &draft.members else {
+        return Ok(Err(BadWord::Service(number)));
+    };
+    match stated_with(alloc, draft, words.as_slice())? {
+        Ok(service) => Ok(Ok(service)),
+        Err(word) => Ok(Err(BadWord::Member(number, word))),
     }
 }
 
-fn all_stated(alloc: Global, drafts: &[ServiceDraft]) -> Result<Option<Vec<Service>>, AllocError>
-    ensures { IfOk result (λ o. option_map (λ v. map plain_service v.items) o ≡ all_of stated (map plain_service_draft drafts.now)) }
+fn all_stated(
+    alloc: Global,
+    drafts: &[ServiceDraft],
+) -> Result<Result<Vec<Service>, BadWord>, AllocError>
+    ensures { let ds = map plain_service_draft drafts.now in
+        IfOk result (λ r. result_map_both (λ v. map plain_service v.items) (λ w. w) r ≡ ok_or (all_of stated ds) (bad_in_stated 0 ds)) }
 {
     let mut services: Vec<Service> = Vec::new(alloc);
-    for draft in drafts {
-        let Some(service) = stated(alloc, draft)? else {
-            return Ok(None);
+    for (number, draft) in drafts.iter().enumerate() {
+        let service = match stated(alloc, number, draft)? {
+            Ok(service) => service,
+            Err(word) => return Ok(Err(word)),
         };
         let Ok(()) = services.push(service) else {
             return Err(AllocError);
         };
     }
-    Ok(Some(services))
+    Ok(Ok(services))
 }
 
-fn stated_version(alloc: Global, draft: &VersionDraft) -> Result<Option<Version>, AllocError>
-    ensures { IfOk result (λ o. option_map plain_version o ≡ stated_version (plain_version_draft draft.now)) }
+fn stated_version(
+    alloc: Global,
+    draft: &VersionDraft,
+) -> Result<Result<Version, BadWord>, AllocError>
+    ensures { let d = plain_version_draft draft.now in
+        IfOk result (λ r. result_map_both plain_version (λ w. w) r ≡ ok_or (stated_version d) (bad_in_stated 0 d.services)) }
 {
-    let Some(services) = all_stated(alloc, draft.services.as_slice())? else {
-        return Ok(None);
+    let services = match all_stated(alloc, draft.services.as_slice())? {
+        Ok(services) => services,
+        Err(word) => return Ok(Err(word)),
     };
-    Ok(Some(Version {
+    Ok(Ok(Version {
         number: draft.number,
         services,
     }))
@@ -57,17 +79,20 @@ fn version_from(
     alloc: Global,
     draft: &VersionDraft,
     base: &Version,
-) -> Result<Option<Version>, AllocError>
-    ensures { IfOk result (λ o. option_map plain_version o ≡ version_from (plain_version_draft draft.now) (plain_version base.now)) }
+) -> Result<Result<Version, BadWord>, AllocError>
+    ensures { let d = plain_version_draft draft.now in let b = plain_version base.now in
+        IfOk result (λ r. result_map_both plain_version (λ w. w) r ≡ ok_or (version_from d b) (bad_in_based d (Some b))) }
 {
     let changes = draft.changes.as_slice();
-    let Some(services) = all_changed(alloc, changes, base.services.as_slice())? else {
-        return Ok(None);
+    let services = match all_changed(alloc, changes, base.services.as_slice())? {
+        Ok(services) => services,
+        Err(change) => return Ok(Err(BadWord::Change(change))),
     };
-    let Some(services) = with_drafts(alloc, services, draft.services.as_slice())? else {
-        return Ok(None);
+    let services = match with_drafts(alloc, services, draft.services.as_slice())? {
+        Ok(services) => services,
+        Err(word) => return Ok(Err(word)),
     };
-    Ok(Some(Version {
+    Ok(Ok(Version {
         number: draft.number,
         services,
     }))
@@ -145,14 +170,14 @@ fn has_room(room: usize, draft: &VersionDraft, base: &Version) -> bool
 }
 
 // What is left of some room behind a version.
-pub(crate) fn left_by_version(room: usize, version: &Version) -> usize
+fn left_by_version(room: usize, version: &Version) -> usize
     ensures { result ≡ left_by_version room (plain_version version.now) }
 {
     left_by_services(room, 0, version.services.as_slice()).unwrap_or(0)
 }
 
 // The first version of a number.
-pub(crate) fn version_of_number(versions: &[Version], number: u32) -> Option<&Version>
+fn version_of_number(versions: &[Version], number: u32) -> Option<&Version>
     ensures { option_map (λ v. plain_version v.now) result ≡ find (λ v. v.number == number) (map plain_version versions.entry.now) }
 {
     for version in versions {
@@ -169,63 +194,93 @@ fn based(
     room: usize,
     draft: &VersionDraft,
     base: Option<&Version>,
-) -> Result<Version, PoolsFault>
+) -> Result<Version, Unmade>
     ensures ok { IfOk result (λ v. based room (plain_version_draft draft.now) (option_map (λ b. plain_version b.now) base.entry) ≡ Ok (plain_version v)) }
-    ensures refused { IfErr result (IsRefused (based room (plain_version_draft draft.now) (option_map (λ b. plain_version b.now) base.entry))) }
+    ensures refused { let d = plain_version_draft draft.now in let b = option_map (λ b. plain_version b.now) base.entry in
+        IfErr result (IsUnmade (based room d b) (bad_in_based d b)) }
 {
     let Some(base) = base else {
-        return Err(PoolsFault::BadMember);
+        return Err(Unmade::Bad(BadWord::Base));
     };
     if !has_room(room, draft, base) {
-        return Err(PoolsFault::TooMany);
+        return Err(Unmade::TooMany);
     }
     match version_from(alloc, draft, base) {
-        Ok(Some(version)) => Ok(version),
-        Ok(None) => Err(PoolsFault::BadMember),
-        Err(_) => Err(PoolsFault::Memory),
+        Ok(Ok(version)) => Ok(version),
+        Ok(Err(word)) => Err(Unmade::Bad(word)),
+        Err(_) => Err(Unmade::Memory),
     }
 }
 
 // The version of a draft beside those before it.
-pub(crate) fn written_out(
+fn written_out(
     alloc: Global,
     room: usize,
     earlier: &[Version],
     draft: &VersionDraft,
-) -> Result<Version, PoolsFault>
+) -> Result<Version, Unmade>
     ensures ok { IfOk result (λ v. written_out room (map plain_version earlier.now) (plain_version_draft draft.now) ≡ Ok (plain_version v)) }
-    ensures refused { IfErr result (IsRefused (written_out room (map plain_version earlier.now) (plain_version_draft draft.now))) }
+    ensures refused { let d = plain_version_draft draft.now in let vs = map plain_version earlier.now in
+        IfErr result (IsUnmade (written_out room vs d) (bad_in_version vs d d.base)) }
 {
     let Some(number) = draft.base else {
         return match stated_version(alloc, draft) {
-            Ok(Some(version)) => Ok(version),
-            Ok(None) => Err(PoolsFault::BadMember),
-            Err(_) => Err(PoolsFault::Memory),
+            Ok(Ok(version)) => Ok(version),
+            Ok(Err(word)) => Err(Unmade::Bad(word)),
+            Err(_) => Err(Unmade::Memory),
         };
     };
     match based(alloc, room, draft, version_of_number(earlier, number)) {
         Ok(version) => Ok(version),
-        Err(fault) => Err(fault),
+        Err(why) => Err(why),
     }
 }
 
+// The versions that drafts mean, written out. Else the number of the first draft that has a fault, and why it has.
+#[tactic(auto, unfolding(crate::specs::Writing::versions_of, crate::specs::BadWords::bad_word_of))]
+fn all_written(alloc: Global, drafts: &[VersionDraft]) -> Result<Vec<Version>, (usize, Unmade)>
+    ensures ok { let ds = map plain_version_draft drafts.now in IfOk result (λ v. (versions_of ds ≡ Ok (map plain_version v.items)) × (bad_word_of ds ≡ None)) }
+    ensures refused { IfErr result (λ e. IsUnwritten (map plain_version_draft drafts.now) e.0 e.1) }
+{
+    let mut versions: Vec<Version> = Vec::new(alloc);
+    let mut room = MOST_PLACES;
+    for (number, draft) in drafts.iter().enumerate() {
+        let version = match written_out(alloc, room, versions.as_slice(), draft) {
+            Ok(version) => version,
+            Err(why) => return Err((number, why)),
+        };
+        room = left_by_version(room, &version);
+        let Ok(()) = versions.push(version) else {
+            return Err((number, Unmade::Memory));
+        };
+    }
+    Ok(versions)
+}
+
 /// The versions that drafts mean, written out, or the fault of the first draft that has one.
-#[tactic(auto, unfolding(crate::specs::Writing::versions_of))]
 pub fn versions_of(alloc: Global, drafts: &[VersionDraft]) -> Result<Vec<Version>, PoolsFault>
     ensures ok { IfOk result (λ v. versions_of (map plain_version_draft drafts.now) ≡ Ok (map plain_version v.items)) }
     ensures refused { IfErr result (IsRefused (versions_of (map plain_version_draft drafts.now))) }
 {
-    let mut versions: Vec<Version> = Vec::new(alloc);
-    let mut room = MOST_PLACES;
-    for draft in drafts {
-        let version = match written_out(alloc, room, versions.as_slice(), draft) {
-            Ok(version) => version,
-            Err(fault) => return Err(fault),
-        };
-        room = left_by_version(room, &version);
-        let Ok(()) = versions.push(version) else {
-            return Err(PoolsFault::Memory);
-        };
+    match all_written(alloc, drafts) {
+        Ok(versions) => Ok(versions),
+        Err((_, Unmade::Bad(_))) => Err(PoolsFault::BadMember),
+        Err((_, Unmade::TooMany)) => Err(PoolsFault::TooMany),
+        Err((_, Unmade::Memory)) => Err(PoolsFault::Memory),
     }
-    Ok(versions)
+}
+
+/// The first word for which drafts are refused as BadMember, with the number of its version, from 0.
+pub fn bad_word(
+    alloc: Global,
+    drafts: &[VersionDraft],
+) -> Result<Option<(usize, BadWord)>, AllocError>
+    ensures { IfOk result (λ o. o ≡ bad_word_of (map plain_version_draft drafts.now)) }
+{
+    match all_written(alloc, drafts) {
+        Ok(_) => Ok(None),
+        Err((number, Unmade::Bad(word))) => Ok(Some((number, word))),
+        Err((_, Unmade::TooMany)) => Ok(None),
+        Err((_, Unmade::Memory)) => Err(AllocError),
+    }
 }

@@ -6,6 +6,7 @@ use pool_versions::{Catalogue, PoolFault};
 use scenario::ScenarioFault::{BadFormat, BadKey, BadMember, BadStep, BadToml, Pool, TooLong};
 use scenario::{
     Played, Scenario, ScenarioFault, ScenarioStep, SchemeKind, SpreadKind, TimedStep, read,
+    read_for_threads,
 };
 use std::alloc::Global;
 use std::process::Abort;
@@ -734,6 +735,37 @@ fn steps_by_how_it_is_played(rt: HostRuntime) {
     for (at, (played, steps, wanted)) in PLAYED.iter().enumerate() {
         let found = read_as(&rt, rt.alloc(), *played, *steps).err();
         same_fault(&rt, found, *wanted, at);
+    }
+}
+
+// The steps that are read for threads, of a document of format 3.
+fn steps_for_threads(rt: &impl Abort, alloc: Global, steps: &str) -> Result<usize, ScenarioFault> {
+    let line = format!(in alloc; "steps = [{steps}]\n").expect(rt, "memory");
+    let whole = text(rt, alloc, line.as_str());
+    let whole = changed(rt, alloc, whole.as_str(), ("format = 1", "format = 3"));
+    let read = read_for_threads(alloc, whole.as_bytes())?;
+    Ok(read.scenario.steps.len())
+}
+
+// Workers that refuse, that are held and that are drained can't be ordered; all else can.
+static FOR_THREADS: [(&str, Result<usize, ScenarioFault>); 4] = [
+    (
+        "'until 5', 'install 0 1', 'live 0', 'take 1', 'lose 1', 'again 0', 'restart 0', 'stop 0'",
+        Ok(8),
+    ),
+    (
+        "'until 5', 'install 0 1', 'hold 0', 'drain 0'",
+        Err(BadStep(2)),
+    ),
+    ("'until 5', 'take 1', 'drain 0'", Err(BadStep(2))),
+    ("'until 5', 'full 0'", Err(BadStep(1))),
+];
+
+#[test]
+fn steps_of_a_scenario_for_threads(rt: HostRuntime) {
+    for (steps, wanted) in FOR_THREADS.iter() {
+        let found = steps_for_threads(&rt, rt.alloc(), *steps);
+        assert_eq!(rt; found, *wanted, "{steps}");
     }
 }
 

@@ -7,7 +7,7 @@ use Rattle.pool_versions.specs.Pool.{version_at}
 use Rattle.event_trace.specs.declared.steps.ScenarioStep.TheVariants as steps
 use Rattle.timed_steps.specs.declared.TimedStep.{TimedStep}
 use Rattle.timed_steps.specs.declared.TimedStep.TheVariants.{Counted, Until}
-use Rattle.scenario.specs.declared.reading.Scenario.{Scenario}
+use Rattle.scenario.specs.declared.plan.Scenario.{Scenario}
 use Rattle.scenario_warnings.specs.declared.Warning.{Warning}
 use Rattle.scenario_warnings.specs.declared.Warning.TheVariants.{UnknownVersion, NoVersion}
 

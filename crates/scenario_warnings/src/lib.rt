@@ -3,7 +3,6 @@
 
 ghost use Rattle.std.specs.Prelude.{◌≡◌, ◌++◌, ◌==◌, ◌≤◌, List, IfOk, OnOk, length, true, string_bytes};
 ghost use Rattle.std.specs.List.{list_any};
-ghost use Rattle.scenario.specs.Meaning.{HasLimits};
 ghost use Rattle.scenario_warnings.specs.Warnings.{is_known, gives, live_after, delivers, comes, unknown_at, unknown_from, bare_at, bare_below, warnings_of, unknown_text, bare_text, warning_text};
 
 use event_trace::ScenarioStep;
@@ -150,7 +149,6 @@ fn warn_of_nodes(
 /// What a scenario may not mean as it was meant. First come the steps that install a version that the catalogue lacks. Then
 /// come the nodes to which packets may come, and which never have a version.
 pub fn warnings(alloc: Global, scenario: &Scenario) -> Result<Vec<Warning>, AllocError>
-    requires { HasLimits scenario.now }
     ensures { IfOk result (λ ws. ws.items ≡ warnings_of scenario.now) }
 {
     let mut warnings = Vec::new(alloc);

@@ -12,7 +12,7 @@ use Rattle.cluster_core.specs.Setups.{Fixed}
 use Rattle.cluster_core.specs.Deployed.{Deployed, rules_of}
 use Rattle.cluster_core.specs.Runs.{cluster_by}
 use Rattle.timed_steps.specs.declared.TimedStep.{TimedStep}
-use Rattle.scenario.specs.declared.reading.Scenario.{Scenario}
+use Rattle.scenario.specs.declared.plan.Scenario.{Scenario}
 use Rattle.pcap_file.specs.Device.{Tape}
 use Rattle.simulation.specs.declared.fault.SimulationFault.{SimulationFault}
 use Rattle.simulation.specs.Plans.{Planned}

@@ -13,7 +13,7 @@ use Rattle.cluster_core.specs.Runs.{verdict}
 use Rattle.cluster_core.specs.Tables.{AreMaglevs}
 use Rattle.cluster_core.proofs.Promised.{histories_keep, maglev_keeps}
 use Rattle.event_trace.specs.Trace.{Trace}
-use Rattle.scenario.specs.declared.reading.Scenario.{Scenario}
+use Rattle.scenario.specs.declared.plan.Scenario.{Scenario}
 use Rattle.run_report.proofs.Agreed.{follow_picks, follow_tables}
 use Rattle.scenario_keys.specs.declared.words.SchemeKind.{SchemeKind}
 use Rattle.scenario_keys.specs.declared.words.SchemeKind.TheVariants.{Maglev}

@@ -22,7 +22,7 @@ use Rattle.simulation.specs.Plans.{Planned}
 use Rattle.simulation.specs.Simulated.{Simulated}
 use Rattle.run_report.specs.Causes.{Lookups}
 use Rattle.run_report.specs.Texts.{splits_text}
-use Rattle.scenario.specs.declared.reading.Scenario.{Scenario}
+use Rattle.scenario.specs.declared.plan.Scenario.{Scenario}
 use Rattle.simulate_scenario.specs.Described.{cluster_in, choice_in, plan_in, lookups_in}
 use Rattle.simulate_scenario.specs.declared.asking.Query.{Query}
 use Rattle.simulate_scenario.specs.declared.asking.Wanted.{Wanted}

@@ -7,7 +7,7 @@ use Rattle.cluster_core.specs.Promises.{Promises, MaglevPromises}
 use Rattle.event_trace.specs.Trace.{Trace}
 use Rattle.run_report.specs.Splits.{splits_of}
 use Rattle.run_report.specs.Agreeing.{FollowsPicks, FollowsTables}
-use Rattle.scenario.specs.declared.reading.Scenario.{Scenario}
+use Rattle.scenario.specs.declared.plan.Scenario.{Scenario}
 use Rattle.scenario_keys.specs.declared.words.SchemeKind.TheVariants.{Maglev}
 use Rattle.simulate_scenario.specs.Described.{rules_in}
 

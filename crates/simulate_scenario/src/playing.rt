@@ -3,7 +3,6 @@ ghost use Rattle.std.specs.Prelude.{◌≡◌, ◌≤◌, [], IfOk, IfErr, strin
 ghost use Rattle.hash_laws.specs.Any.{plain_of};
 ghost use Rattle.event_trace.specs.Steps.{below};
 ghost use Rattle.cluster_core.specs.Deployed.{cluster_of};
-ghost use Rattle.scenario.specs.Meaning.{HasLimits};
 ghost use Rattle.simulation.specs.Plans.{planned};
 ghost use Rattle.simulation.specs.Simulated.{Stopped};
 ghost use Rattle.run_report.specs.Causes.{lookups_of};
@@ -108,8 +107,6 @@ fn play_by<S: Scheme, I: Source, O: Outlet>(
     input: &mut I,
     output: &mut O,
 ) -> Result<String, SimulationFault>
-    requires limits { HasLimits scenario }
-    requires size { scenario.catalogue.size ≡ scenario.size }
     requires picks { S.pick scheme scenario.size ≡ pick_by scenario.scheme (plain_of scenario.hash) scenario.size }
     ensures ok { IfOk result (λ s. AnswersIn scenario asked (I.tape input.old) (I.tape input.new) (O.tape output.old) (O.tape output.new) (string_bytes s)) }
     ensures stopped { IfErr result (StoppedIn scenario (I.tape input.old) (I.tape input.new) (O.tape output.old) (O.tape output.new)) }
@@ -155,8 +152,6 @@ fn play_named<I: Source, O: Outlet>(
     input: &mut I,
     output: &mut O,
 ) -> Result<String, SimulationFault>
-    requires limits { HasLimits scenario }
-    requires size { scenario.catalogue.size ≡ scenario.size }
     ensures ok { IfOk result (λ s. AnswersIn scenario asked (I.tape input.old) (I.tape input.new) (O.tape output.old) (O.tape output.new) (string_bytes s)) }
     ensures stopped { IfErr result (StoppedIn scenario (I.tape input.old) (I.tape input.new) (O.tape output.old) (O.tape output.new)) }
 {
@@ -196,8 +191,6 @@ pub fn play_scenario<I: Source, O: Outlet>(
     input: &mut I,
     output: &mut O,
 ) -> Result<String, SimulationFault>
-    requires limits { HasLimits scenario }
-    requires size { scenario.catalogue.size ≡ scenario.size }
     ensures ok { IfOk result (λ s. AnswersIn scenario asked (I.tape input.old) (I.tape input.new) (O.tape output.old) (O.tape output.new) (string_bytes s)) }
     ensures kept { IfOk result (λ s.
         (a : AnswersIn scenario asked (I.tape input.old) (I.tape input.new) (O.tape output.old) (O.tape output.new) (string_bytes s)) →

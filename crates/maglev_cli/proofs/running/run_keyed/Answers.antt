@@ -15,7 +15,7 @@ returns-in-Ok-run_scenario-clause-ran g c =
     (λ _. Appends (g.R.Sink.tape c.args.report.now).bytes (g.R.Sink.tape c.put_text.new.sink).bytes c.as_str.result.now × Unfailed (g.R.Sink.tape c.args.report.now) (g.R.Sink.tape c.put_text.new.sink))
     (λ _. Runs c.args.splits c.args.scenario.now (g.I.Source.tape c.args.input.now) (g.I.Source.tape c.run_scenario.new.input) (g.O.Sink.tape c.args.output.now) (g.O.Sink.tape c.run_scenario.new.output) (g.R.Sink.tape c.args.report.now) (g.R.Sink.tape c.put_text.new.sink))
     (λ _ written. record {
-      scenario = c.in-Ok.scenario;
+      scenario = c.in-Ok.scenario.scenario;
       means = c.in-Ok.ensures.means;
       answer = string_bytes c.in-Ok-run_scenario.text;
       ran = c.in-Ok-run_scenario.ensures.ok;
@@ -32,7 +32,7 @@ returns-in-Ok-run_scenario-clause-stopped g c =
     ⊎ ((RunFails fault c.args.scenario.now (g.I.Source.tape c.args.input.now) (g.I.Source.tape c.run_scenario.new.input) (g.O.Sink.tape c.args.output.now) (g.O.Sink.tape c.run_scenario.new.output) × (c.put_text.new.sink ≡ c.args.report.now))
     ⊎ RunReportFails fault c.args.splits c.args.scenario.now (g.I.Source.tape c.args.input.now) (g.I.Source.tape c.run_scenario.new.input) (g.O.Sink.tape c.args.output.now) (g.O.Sink.tape c.run_scenario.new.output) (g.R.Sink.tape c.args.report.now) (g.R.Sink.tape c.put_text.new.sink)))
     (λ _ is. inr (inr (record {
-      scenario = c.in-Ok.scenario;
+      scenario = c.in-Ok.scenario.scenario;
       means = c.in-Ok.ensures.means;
       answer = string_bytes c.in-Ok-run_scenario.text;
       ran = c.in-Ok-run_scenario.ensures.ok;
@@ -45,9 +45,9 @@ pub returns-clause-stopped : goal.returns-clause-stopped
 returns-clause-stopped g c =
     inr (inl (
       record {
-        scenario = c.in-Ok.scenario;
+        scenario = c.in-Ok.scenario.scenario;
         means = c.in-Ok.ensures.means;
-        known = known_steps c.args.scenario.now c.in-Ok.scenario c.in-Ok.ensures.means;
+        known = known_steps c.in-Ok.scenario.scenario c.in-Ok.scenario.supported;
         why = c.in-Err-run_scenario.stop;
         named = c.failure_fault.ensures;
         stopped = c.in-Err-run_scenario.ensures.stopped;

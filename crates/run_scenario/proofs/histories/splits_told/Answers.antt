@@ -13,5 +13,5 @@ returns c =
     let asked : c.args.splits ≡ true = grind (arith, common_steps, c.if-not-splits.false) in
     c.in_ok-push_splits.ensures (said_by c.args.nodes.now) c.in_ok-book.ensures
     ∙ ap (λ (l : List ℕ). l ++ told s.catalogue.size) c.new-text.ensures.bytes
-    ∙ ap told c.requires.size
+    ∙ ap told c.args.scenario.now.sized
     ∙ ap (λ (b : Bool). splits_over b s c.args.nodes.now) (sym asked)

@@ -17,7 +17,7 @@ orders_by-requires-clause-steps c =
     let s = c.args.scenario.now in
     let as_given : length c.as_slice.result.now ≡ length c.in_ok-steps.steps.items = ap (λ l. length l) c.as_slice.ensures.value in
     let many : length c.in_ok-steps.steps.items ≡ length s.steps.items = as_many (map time_of c.args.records.now) s.steps.items c.in_ok-steps.steps.items c.in_ok-steps.ensures in
-    omega (arith, as_given, many, c.requires.limits.most_steps)
+    omega (arith, as_given, many, c.args.scenario.now.limits.most_steps)
 
 pub returns-clause-commands : goal.returns-clause-commands
 returns-clause-commands c =

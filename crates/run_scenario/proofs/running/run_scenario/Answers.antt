@@ -1,18 +1,18 @@
-use Rattle.std.proofs.Common.{List, ap, sym, ◌∙◌, subst, inr}
+use Rattle.std.proofs.Common.{List, subst, inr}
 use Rattle.std.specs.Io.KnownBytes.{Appends}
 use Rattle.simulation.specs.Sent.{Sending, capture_text}
 use Rattle.simulation.specs.Simulated.{CaptureUntil}
-use Rattle.driver_commands.specs.Knowing.{first_unsupported_in}
+use Rattle.run_scenario.proofs.Known.{known_steps}
 use Rattle.run_scenario.proofs.Ruled.{keeps}
 use Rattle.run_scenario.proofs.InWords.{same_sends}
 use Rattle.run_scenario.proofs.running.run_scenario.Goals as goal
 
 pub returns-in-Ok-clause-ok : goal.returns-in-Ok-clause-ok
 returns-in-Ok-clause-ok g c =
-    let same = same_sends c.args.scenario.now c.wire_of-wire.result c.in_ok-captured.captured.head.link c.in_ok-captured.captured.records c.as_slice-nodes.result.now c.in_ok-done.done.nodes.items
+    let same = same_sends c.args.scenario.now.scenario c.wire_of-wire.result c.in_ok-captured.captured.head.link c.in_ok-captured.captured.records c.as_slice-nodes.result.now c.in_ok-done.done.nodes.items
     c.wire_of-wire.ensures.nodes c.wire_of-wire.ensures.link c.wire_of-wire.ensures.check c.as_slice-nodes.ensures.value in
     record {
-      known = ap (λ l. first_unsupported_in l) (sym c.as_slice.ensures.value) ∙ sym c.in-None.ensures;
+      known = known_steps c.args.scenario.now.scenario c.args.scenario.now.supported;
       head = c.in_ok-captured.captured.head;
       records = _;
       ending = c.in_ok-captured.captured.ending;
@@ -26,11 +26,11 @@ returns-in-Ok-clause-ok g c =
     }
 
 pub returns-in-Ok-clause-kept : goal.returns-in-Ok-clause-kept
-returns-in-Ok-clause-kept g c = λ ran. keeps c.args.scenario.now ran.head.link ran.records ran.nodes ran.history c.slots-slots.ensures.listed c.keeps_doubles_out.ensures ran.run.joins
+returns-in-Ok-clause-kept g c = λ ran. keeps c.args.scenario.now.scenario ran.head.link ran.records ran.nodes ran.history c.slots-slots.ensures.listed c.keeps_doubles_out.ensures ran.run.joins
 
 pub returns-clause-stopped : goal.returns-clause-stopped
 returns-clause-stopped g c =
-    let same = same_sends c.args.scenario.now c.wire_of-wire.result c.in_ok-captured.captured.head.link c.in_ok-captured.captured.records c.as_slice-nodes.result.now c.in_ok-done.done.nodes.items
+    let same = same_sends c.args.scenario.now.scenario c.wire_of-wire.result c.in_ok-captured.captured.head.link c.in_ok-captured.captured.records c.as_slice-nodes.result.now c.in_ok-done.done.nodes.items
     c.wire_of-wire.ensures.nodes c.wire_of-wire.ensures.link c.wire_of-wire.ensures.check c.as_slice-nodes.ensures.value in
     inr (inr (record {
       head = c.in_ok-captured.captured.head;

@@ -1,5 +1,5 @@
 use Rattle.std.proofs.Common.{map}
-use Rattle.scenario_pools.specs.Plain.{plain_version}
+use Rattle.version_drafts.specs.Plain.{plain_version}
 use Rattle.scenario.proofs.Adding.{taken_rest, taken_all, refused_now}
 use Rattle.scenario.proofs.building.catalogue_of.Goals as goal
 

@@ -1,5 +1,5 @@
 use Rattle.std.proofs.Common.{◌≡◌, ◌++◌, [], map, reverse, vec_len}
-use Rattle.scenario_pools.specs.Plain.{plain_version}
+use Rattle.version_drafts.specs.Plain.{plain_version}
 use Rattle.scenario.specs.Plain.{first_refused}
 use Rattle.scenario.proofs.building.catalogue_of.Given as goal
 

@@ -15,9 +15,6 @@ returns-clause-refused c =
 pub returns-in_err-table-clause-means : goal.returns-in_err-table-clause-means
 returns-in_err-table-clause-means c = grind (arith, common_steps)
 
-pub returns-in_err-table-clause-limits : goal.returns-in_err-table-clause-limits
-returns-in_err-table-clause-limits c = grind (arith, common_steps)
-
 pub returns-in_err-table-clause-refused : goal.returns-in_err-table-clause-refused
 returns-in_err-table-clause-refused c =
     passed_on c.from_residual.result c.in_err-table.field-0.0 (λ e. IsRefused c.args.played c.args.text.now e) c.from_residual.ensures.1 (c.in_err-table.ensures.refused c.args.played)
@@ -25,26 +22,14 @@ returns-in_err-table-clause-refused c =
 pub returns-in_default-clause-means : goal.returns-in_default-clause-means
 returns-in_default-clause-means c = grind (arith, common_steps)
 
-pub returns-in_default-clause-limits : goal.returns-in_default-clause-limits
-returns-in_default-clause-limits c = grind (arith, common_steps)
-
 pub returns-in_err-draft-clause-means : goal.returns-in_err-draft-clause-means
 returns-in_err-draft-clause-means c = grind (arith, common_steps)
-
-pub returns-in_err-draft-clause-limits : goal.returns-in_err-draft-clause-limits
-returns-in_err-draft-clause-limits c = grind (arith, common_steps)
 
 pub returns-in_err-draft-clause-refused : goal.returns-in_err-draft-clause-refused
 returns-in_err-draft-clause-refused c = grind (arith, common_steps)
 
 pub returns-in_default-2-clause-means : goal.returns-in_default-2-clause-means
 returns-in_default-2-clause-means c = grind (arith, common_steps)
-
-pub returns-in_default-2-clause-limits : goal.returns-in_default-2-clause-limits
-returns-in_default-2-clause-limits c = grind (arith, common_steps)
-
-pub returns-clause-limits : goal.returns-clause-limits
-returns-clause-limits c = grind (arith, common_steps)
 
 pub returns-clause-supported : goal.returns-clause-supported
 returns-clause-supported c = draft_supported c.in-Some.format c.args.played (plain_draft c.in-Some-2.draft) c.scenario_of.result c.scenario_of.ensures.ok

@@ -1,5 +1,5 @@
 use Rattle.std.proofs.Common.{◌≡◌, ◌++◌, drop, map}
-use Rattle.scenario_pools.specs.Plain.{plain_service}
+use Rattle.version_drafts.specs.Plain.{plain_service}
 use Rattle.scenario_places.specs.PoolPlaces.{key_of}
 use Rattle.scenario_places.proofs.doubles.keys_of.Given as goal
 

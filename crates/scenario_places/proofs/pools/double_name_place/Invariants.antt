@@ -1,5 +1,5 @@
 use Rattle.std.proofs.Common.{◌≡◌, drop, map}
-use Rattle.scenario_pools.specs.Plain.{plain_service}
+use Rattle.version_drafts.specs.Plain.{plain_service}
 use Rattle.scenario_places.specs.PoolPlaces.{double_name_from}
 use Rattle.scenario_places.proofs.pools.double_name_place.Given as goal
 

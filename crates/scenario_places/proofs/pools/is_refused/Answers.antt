@@ -2,7 +2,7 @@ use Rattle.std.proofs.Common.{◌==◌, ◌||◌, map, ap, sym, ◌∙◌}
 use Rattle.std.proofs.lemmas.Bool.{ne_eqb}
 use Rattle.std.specs.List.{list_any}
 use Rattle.pool_versions.specs.declared.backend.Member.{Member}
-use Rattle.scenario_pools.specs.Plain.{PlainVersion, plain_version}
+use Rattle.version_drafts.specs.Plain.{PlainVersion, plain_version}
 use Rattle.scenario_keys.proofs.Views.{any_of_mapped}
 use Rattle.scenario_places.proofs.pools.is_refused.Goals as goal
 

@@ -1,5 +1,5 @@
 use Rattle.std.proofs.Common.{◌≡◌, drop, map}
-use Rattle.scenario_pools.specs.Plain.{plain_service}
+use Rattle.version_drafts.specs.Plain.{plain_service}
 use Rattle.scenario_places.specs.PoolPlaces.{long_from}
 use Rattle.scenario_places.proofs.pools.long_place.Given as goal
 

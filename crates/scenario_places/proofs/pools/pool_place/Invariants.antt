@@ -1,5 +1,5 @@
 use Rattle.std.proofs.Common.{◌≡◌, drop, take, map}
-use Rattle.scenario_pools.specs.Plain.{plain_version}
+use Rattle.version_drafts.specs.Plain.{plain_version}
 use Rattle.scenario_places.specs.PoolPlaces.{pool_from, pool_place_of}
 use Rattle.scenario_places.proofs.pools.pool_place.Given as goal
 

@@ -1,5 +1,5 @@
 use Rattle.std.proofs.Common.{rules, ◌∙◌, ap, map}
-use Rattle.scenario_pools.specs.Plain.{plain_service}
+use Rattle.version_drafts.specs.Plain.{plain_service}
 use Rattle.scenario_pools.proofs.Places.{put_at, put_behind}
 use Rattle.scenario_pools.proofs.basing.place.Goals as goal
 

@@ -1,7 +1,7 @@
 use Rattle.std.proofs.Common.{◌≡◌, ◌+◌, drop, map}
 use Rattle.std.specs.List.{position_or_len}
 use Rattle.pool_versions.specs.Pool.{same_key}
-use Rattle.scenario_pools.specs.Plain.{plain_service, plain_key}
+use Rattle.version_drafts.specs.Plain.{plain_service, plain_key}
 use Rattle.scenario_pools.proofs.basing.place_of.Given as goal
 
 abbrev pub invariant-loop-place : goal.invariant-loop-place

@@ -1,7 +1,7 @@
 use Rattle.std.proofs.Common.{◌≡◌, drop, map}
 use Rattle.std.specs.List.{list_any}
 use Rattle.pool_versions.specs.Pool.{same_key}
-use Rattle.scenario_pools.specs.Drafts.{plain_service_draft, draft_key}
+use Rattle.version_drafts.specs.Drafts.{plain_service_draft, draft_key}
 use Rattle.scenario_pools.proofs.basing.some_is_for.Given as goal
 
 abbrev pub invariant-loop-draft : goal.invariant-loop-draft

@@ -1,5 +1,5 @@
 use Rattle.std.proofs.Common.{◌≡◌, ◌++◌, drop, map}
-use Rattle.scenario_pools.specs.Plain.{plain_service}
+use Rattle.version_drafts.specs.Plain.{plain_service}
 use Rattle.scenario_pools.proofs.changing.copied_services.Given as goal
 
 abbrev pub invariant-loop-service : goal.invariant-loop-service

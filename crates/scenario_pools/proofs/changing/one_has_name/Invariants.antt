@@ -1,7 +1,7 @@
 use Rattle.std.proofs.Common.{◌≡◌, drop, map}
 use Rattle.std.specs.List.{list_any}
-use Rattle.scenario_pools.specs.Plain.{plain_service}
-use Rattle.scenario_pools.specs.Changes.{is_of}
+use Rattle.version_drafts.specs.Plain.{plain_service}
+use Rattle.version_drafts.specs.Changes.{is_of}
 use Rattle.scenario_pools.proofs.changing.one_has_name.Given as goal
 
 abbrev pub invariant-loop-service : goal.invariant-loop-service

@@ -1,5 +1,5 @@
 use Rattle.std.proofs.Common.{◌≡◌, drop, map}
-use Rattle.scenario_pools.specs.Drafts.{plain_service_draft}
+use Rattle.version_drafts.specs.Drafts.{plain_service_draft}
 use Rattle.scenario_pools.specs.Writing.{left_by_drafts}
 use Rattle.scenario_pools.proofs.writing.left_by_drafts.Given as goal
 

@@ -1,5 +1,5 @@
 use Rattle.std.proofs.Common.{◌≡◌, ◌==◌, drop, find, map}
-use Rattle.scenario_pools.specs.Plain.{plain_version}
+use Rattle.version_drafts.specs.Plain.{plain_version}
 use Rattle.scenario_pools.proofs.writing.version_of_number.Given as goal
 
 abbrev pub invariant-loop-version : goal.invariant-loop-version

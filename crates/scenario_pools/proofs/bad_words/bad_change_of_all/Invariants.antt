@@ -1,7 +1,0 @@
-use Rattle.std.proofs.Common.{◌≡◌, drop, map}
-use Rattle.scenario_pools.specs.Plain.{plain_service}
-use Rattle.scenario_pools.specs.BadWords.{bad_change_of_all}
-use Rattle.scenario_pools.proofs.bad_words.bad_change_of_all.Given as goal
-
-abbrev pub invariant-loop-n : goal.invariant-loop-n
-invariant-loop-n l = bad_change_of_all l.n (drop l.n l.changes) (map plain_service l.services.items) ≡ bad_change_of_all 0 l.changes (map plain_service l.fn.services)

@@ -1,6 +1,0 @@
-use Rattle.std.proofs.Common.{◌≡◌, ◌++◌, drop, filter, not}
-use Rattle.scenario_pools.specs.Changes.{is_of}
-use Rattle.scenario_pools.proofs.change.without.Given as goal
-
-abbrev pub invariant-loop-member : goal.invariant-loop-member
-invariant-loop-member l = l.others.items ++ filter (λ m. not (is_of l.name m)) (drop l.member-index l.members) ≡ filter (λ m. not (is_of l.name m)) l.members

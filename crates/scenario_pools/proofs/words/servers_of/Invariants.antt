@@ -1,7 +1,0 @@
-use Rattle.std.proofs.Common.{◌≡◌, ◌++◌, option_map}
-use Rattle.toml.specs.View.{members_view}
-use Rattle.scenario_pools.specs.Words.{servers_of}
-use Rattle.scenario_pools.proofs.words.servers_of.Given as goal
-
-abbrev pub invariant-loop-name : goal.invariant-loop-name
-invariant-loop-name l = option_map (λ rest. l.found.items ++ rest) (servers_of (members_view l.name-iterator)) ≡ servers_of (members_view l.table.entries)

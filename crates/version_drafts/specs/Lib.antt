@@ -1,0 +1,5 @@
+pub mod Plain
+pub mod Changes
+pub mod Drafts
+pub mod Words
+pub mod Reading
