@@ -26,6 +26,7 @@ loop-refused-preserved g c =
     record {
       trying = try_next (home_of (g.H.FlowHash.plain c.args.hash.now) c.args.steerer.now.workers c.args.item.flow) c.args.steerer.now c.loop-refused.refused c.loop-refused.worker c.loop-refused.steerer t c.next_try.new.self long c.next_try.ensures.after c.in-Worker.next c.in-Worker.ensures.next (subst (λ (n : ℕ). c.in-Worker.next < n) t.workers c.in-Worker.ensures.below);
       long = length-set c.loop-refused.refused c.loop-refused.worker true ∙ c.loop-refused.invariant.long;
+      paced = λ p. absurd (never_refused c.loop-refused.refused c.loop-refused.worker (c.loop-refused.invariant.paced p) HOLE);
       due = λ e. elim c.if-len-ring.branch [
         | then-len-ring w ↦ absurd (true≢false (sym w.early-is ∙ e))
         | else-len-ring w ↦

@@ -1,0 +1,133 @@
+//! Drivers that wait at full rings: nothing is refused, and the run ends.
+ghost use Rattle.std.specs.Prelude.{◌≡◌, length};
+
+use super::{Sums, catalogue, holds, packets, seven};
+use cluster_core::Setup;
+use cluster_node::{Event, Outcome};
+use connection_table::PlaceTable;
+use hash_laws::SumHash;
+use node_threads::{Gate, NodesRun, RingRules, run_each};
+use selection::Maglev;
+use stats_book::Stats;
+use std::alloc::Global;
+use std::process::Abort;
+use std::sync::Wait;
+use std::thread;
+use std::thread::Threads;
+use thread_records::{Command, NodeRecord};
+
+/// A gate that holds each serving up, so that drivers come to full rings.
+#[derive(Drop)]
+struct Slow;
+
+impl Gate for Slow {
+    fn preparing(&self, _node: u16, _version: u32) {}
+
+    fn stopping(&self, _node: u16) {}
+
+    fn before(&self, _node: u16, _worker: u16, _nth: u64) {
+        for _ in 0..300u64 {
+            thread::yield_now();
+        }
+    }
+
+    fn counted(&self, _node: u16, _worker: u16, _stats: Stats) {}
+
+    fn after(&self, _node: u16, _worker: u16, _nth: u64) {}
+}
+
+// A cluster of three nodes of two workers.
+fn cluster(rt: &impl Abort, alloc: Global) -> Setup<Sums, SumHash>
+    ensures { length result.nodes ≡ 3 }
+{
+    let addresses = [0x0a09_0001, 0x0a09_0002, 0x0a09_0003];
+    let nodes = Vec::from_slice(alloc, &addresses).expect(rt, "memory");
+    let maglev = Maglev { hash: SumHash };
+    Setup::new(SumHash, maglev, seven(rt), nodes, 2, 2, None).expect(rt, "a setup")
+}
+
+// Packets 0 and 2 are at home at worker 0, and packet 1 at worker 1.
+static HOMES: [u16; 3] = [0, 1, 0];
+
+// Three lives, of which the first ends with a restart and the second with a stop.
+static LIVES: [Command; 19] = [
+    Command::Publish(1),
+    Command::Offer(0),
+    Command::Offer(2),
+    Command::Offer(0),
+    Command::Offer(2),
+    Command::Offer(1),
+    Command::Restart,
+    Command::Offer(1),
+    Command::Offer(1),
+    Command::Publish(2),
+    Command::Offer(1),
+    Command::Offer(0),
+    Command::Stop,
+    Command::Offer(0),
+    Command::Offer(0),
+    Command::Offer(1),
+    Command::Publish(3),
+    Command::Offer(2),
+    Command::Offer(2),
+];
+
+fn lives(rt: &impl Abort, alloc: Global) -> Vec<Command> {
+    Vec::from_slice(alloc, &LIVES).expect(rt, "memory")
+}
+
+// A run of three nodes with rings of one place.
+fn paced<R: Abort + Threads + Wait + Sync>(rt: &R, alloc: Global) -> NodesRun {
+    let setup = cluster(rt, alloc);
+    let catalogue = catalogue(rt, alloc);
+    let packets = packets();
+    let lists = [lives(rt, alloc), lives(rt, alloc), lives(rt, alloc)];
+    let rings = RingRules {
+        places: 1,
+        paced: true,
+    };
+    match run_each::<_, _, PlaceTable, _, _>(
+        rt, alloc, &setup, &catalogue, &packets, &lists, rings, &Slow,
+    ) {
+        Ok(run) => run,
+        Err(fault) => panic!(rt; "{fault:?}"),
+    }
+}
+
+// An arrival marks nobody, and went to its home worker.
+fn is_at_home(event: &Event, outcome: &Outcome) -> bool {
+    match (event, outcome) {
+        (
+            Event::Arrive {
+                packet, refused, ..
+            },
+            Outcome::Placed { worker, .. },
+        ) => *refused == [false; 16] && HOMES.get(*packet as usize) == Some(worker),
+        (Event::Arrive { .. }, _) => false,
+        _ => true,
+    }
+}
+
+fn all_at_home(node: &NodeRecord) -> bool {
+    node.events
+        .iter()
+        .zip(node.outcomes.iter())
+        .all(|(event, outcome)| is_at_home(event, outcome))
+}
+
+// Slow workers, rings of one place, restarts and stops: no driver waits for ever, each packet went to its home worker, and
+// none was dropped but for those that a stop left.
+#[test]
+fn paced_drivers_wait_at_full_rings(rt: HostRuntime) {
+    let run = paced(&rt, rt.alloc());
+    holds(&rt, run.nodes.len() == 3, "nodes");
+    for node in run.nodes.iter() {
+        holds(&rt, all_at_home(node), "at home");
+        holds(&rt, node.sent.len() == 3, "lives");
+    }
+    let stats = run.stats;
+    let [left @ .., lost] = stats.dropped;
+    holds(&rt, left == [0; 12], "dropped");
+    assert_eq!(rt; (stats.received, stats.waiting), (42, 0));
+    assert_eq!(rt; stats.forwarded + lost, 42);
+}
