@@ -99,7 +99,9 @@ fn is_at_home(event: &Event, outcome: &Outcome) -> bool {
     match (event, outcome) {
         (
             Event::Arrive {
-                packet, refused, ..
+                packet,
+                refused,
+                ..
             },
             Outcome::Placed { worker, .. },
         ) => *refused == [false; 16] && HOMES.get(*packet as usize) == Some(worker),
