@@ -15,7 +15,7 @@ pub trait Rings {
 
     /// Offers a packet to the ring of a worker, and answers whether the ring took it.
     fn offer(&mut self, worker: u16, item: Item) -> bool
-        ensures { paced ≡ true → result ≡ true };
+        ensures takes { paced ≡ true → result ≡ true };
 }
 
 /// Where a packet went, and the marks of the rings that refused it.

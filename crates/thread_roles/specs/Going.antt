@@ -70,7 +70,7 @@ abbrev pub asked_of : {S H : Type 0} → Fixed S H → Pools → List Packet →
 asked_of setup pools packets node ring commands = asked_by setup pools packets node ring false commands
 
 -- a life may begin at a place of the commands: those before it were obeyed, and unless a count was lost the shares have what
--- the journal's outcomes come to
+-- the journal's outcomes come to; no arrival marks a worker where the driver waits at full rings
 pub record Begins {S H : Type 0} (rules : Rules) (asked : Asked S H) (start : ℕ) (j : JournalView) (lost : Bool) (shares : Counted) : Type 0 where
   pub within : start ≤ length asked.commands
   pub going : Going rules asked.packets (take start asked.commands) asked.node asked.ring j
@@ -86,7 +86,8 @@ pub record LifeView (S H : Type 0) : Type 0 where
   pub parts : ℕ
   pub newest : ℕ
 
--- a life ended, with shares of so many parts that have what the journal's outcomes come to then
+-- a life ended, with shares of so many parts that have what the journal's outcomes come to then; no arrival marks a worker
+-- where the driver waits at full rings
 pub record IsLived {S H : Type 0} (rules : Rules) (asked : Asked S H) (start parts stop : ℕ) (j : JournalView) (lost : Bool) (shares : Counted) : Type 0 where
   pub ended : IsEnded rules asked.packets asked.commands asked.node asked.ring start stop j
   pub parts_are : shares.parts ≡ parts

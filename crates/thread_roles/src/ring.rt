@@ -185,10 +185,11 @@ impl<R: Wait> Rings for PacedInputs<'_, R> {
         ensures sent { map (λ r. sent r) self.new.inputs.now.rings.items ≡ put_in (map (λ r. sent r) self.old.inputs.now.rings.items) worker (Serve item) }
     {
         let at = worker as usize;
-        if at < self.inputs.rings.len() {
-            let one = &mut self.inputs.rings[at];
-            push_waiting(self.rt, one, Message::Serve(item));
+        if at >= self.inputs.rings.len() {
+            return true;
         }
+        let one = &mut self.inputs.rings[at];
+        push_waiting(self.rt, one, Message::Serve(item));
         true
     }
 }
