@@ -183,6 +183,7 @@ impl<R: Wait> Rings for PacedInputs<'_, R> {
 
     fn offer(&mut self, worker: u16, item: Item) -> bool
         ensures sent { map (λ r. sent r) self.new.inputs.now.rings.items ≡ put_in (map (λ r. sent r) self.old.inputs.now.rings.items) worker (Serve item) }
+        ensures taken { result ≡ true }
     {
         let at = worker as usize;
         if at >= self.inputs.rings.len() {
