@@ -1,15 +1,16 @@
 //! Drivers that wait at full rings: nothing is refused, and the run ends.
-ghost use Rattle.std.specs.Prelude.{◌≡◌, length};
+ghost use Rattle.std.specs.Prelude.{◌≡◌, None, length};
 
 use super::{Sums, catalogue, holds, packets, seven};
 use cluster_core::Setup;
 use cluster_node::{Event, Outcome};
-use connection_table::PlaceTable;
+use connection_table::{ConnTable, Entry, PlaceTable, PlainTable};
+use five_tuple::Flow;
 use hash_laws::SumHash;
-use node_threads::{Gate, NodesRun, RingRules, run_each};
+use node_threads::{Gate, NodesRun, RingRules, RunFault, run_each};
 use selection::Maglev;
 use stats_book::Stats;
-use std::alloc::Global;
+use std::alloc::{AllocError, Global};
 use std::process::Abort;
 use std::sync::Wait;
 use std::thread;
@@ -77,7 +78,10 @@ fn lives(rt: &impl Abort, alloc: Global) -> Vec<Command> {
 }
 
 // A run of three nodes with rings of one place.
-fn paced<R: Abort + Threads + Wait + Sync>(rt: &R, alloc: Global) -> NodesRun {
+fn paced<T: ConnTable + Send, R: Abort + Threads + Wait + Sync>(
+    rt: &R,
+    alloc: Global,
+) -> Result<NodesRun, RunFault> {
     let setup = cluster(rt, alloc);
     let catalogue = catalogue(rt, alloc);
     let packets = packets();
@@ -86,12 +90,9 @@ fn paced<R: Abort + Threads + Wait + Sync>(rt: &R, alloc: Global) -> NodesRun {
         places: 1,
         paced: true,
     };
-    match run_each::<_, _, PlaceTable, _, _>(
+    run_each::<_, _, T, _, _>(
         rt, alloc, &setup, &catalogue, &packets, &lists, rings, &Slow,
-    ) {
-        Ok(run) => run,
-        Err(fault) => panic!(rt; "{fault:?}"),
-    }
+    )
 }
 
 // An arrival marks nobody, and went to its home worker.
@@ -121,7 +122,10 @@ fn all_at_home(node: &NodeRecord) -> bool {
 // none was dropped but for those that a stop left.
 #[test]
 fn paced_drivers_wait_at_full_rings(rt: HostRuntime) {
-    let run = paced(&rt, rt.alloc());
+    let run = match paced::<PlaceTable, _>(&rt, rt.alloc()) {
+        Ok(run) => run,
+        Err(fault) => panic!(&rt; "{fault:?}"),
+    };
     holds(&rt, run.nodes.len() == 3, "nodes");
     for node in run.nodes.iter() {
         holds(&rt, all_at_home(node), "at home");
@@ -132,4 +136,45 @@ fn paced_drivers_wait_at_full_rings(rt: HostRuntime) {
     holds(&rt, left == [0; 12], "dropped");
     assert_eq!(rt; (stats.received, stats.waiting), (42, 0));
     assert_eq!(rt; stats.forwarded + lost, 42);
+}
+
+/// A table that no worker gets, since memory for it is refused.
+#[derive(Drop)]
+struct RefusedTable {
+    kept: PlainTable,
+}
+
+impl ConnTable for RefusedTable {
+    ghost capacity = { λ t. t.kept.limit };
+
+    ghost entries = { λ t. t.kept.pairs };
+
+    ghost hashes_by = { λ _. None };
+
+    fn make(_alloc: Global, _limit: u32) -> Result<RefusedTable, AllocError> {
+        Err(AllocError)
+    }
+
+    fn peek(&self, flow: &Flow) -> Option<Entry> {
+        self.kept.peek(flow)
+    }
+
+    fn store(&mut self, flow: Flow, entry: Entry) -> Result<(), AllocError> {
+        self.kept.store(flow, entry)
+    }
+
+    fn clear(&mut self) {
+        self.kept.clear();
+    }
+
+    fn len(&self) -> usize {
+        self.kept.len()
+    }
+}
+
+// Workers that are refused memory at once go on taking, so no driver waits for ever at their rings.
+#[test]
+fn no_driver_waits_for_a_worker_that_failed(rt: HostRuntime) {
+    let fault = paced::<RefusedTable, _>(&rt, rt.alloc()).err();
+    holds(&rt, fault == Some(RunFault::Memory), "memory");
 }
