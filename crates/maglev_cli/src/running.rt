@@ -6,7 +6,7 @@ use command_faults::{CliFault, put_text};
 use connection_table::TableKey;
 use node_threads::RunFault;
 use pcap_file::{Sink, Source};
-use run_scenario::{RunFailure, run_scenario};
+use run_scenario::{RunFailure, RunOptions, run_scenario};
 use scenario::read_for_threads;
 use scenario_commands::{run_fault, scenario_fault};
 use std::alloc::Global;
@@ -80,7 +80,11 @@ pub fn run_keyed<T: Threads + Wait + Sync, I: Source, O: Sink, R: Sink>(
         Ok(scenario) => scenario,
         Err(fault) => return Err(scenario_fault(fault)),
     };
-    match run_scenario(rt, alloc, key, &scenario, splits, input, output) {
+    let options = RunOptions {
+        splits,
+        paced: false,
+    };
+    match run_scenario(rt, alloc, key, &scenario, options, input, output) {
         Ok(text) => put_text(report, text.as_str()),
         Err(stop) => Err(failure_fault(stop)),
     }

@@ -12,6 +12,7 @@ ghost use Rattle.thread_records.specs.declared.command.Command.{Command};
 ghost use Rattle.thread_records.specs.Losses.{ending};
 ghost use Rattle.thread_records.specs.Histories.{past_of, NoneWaits};
 ghost use Rattle.thread_records.specs.Journals.{Tells, Drives, IsServed};
+ghost use Rattle.thread_records.specs.Paced.{AreUnmarked};
 ghost use Rattle.stats_book.specs.Counts.{Counted};
 ghost use Rattle.thread_roles.specs.Counts.{AreRead, Counts, IsWork, served_from, with_lost};
 ghost use Rattle.thread_roles.specs.Going.{Going, IsDriven, IsEnded};
@@ -81,6 +82,7 @@ fn end_life<S: Scheme, H: FlowHash, T: ConnTable>(
         (packets : List Packet) (cs : List Command) (n : ℕ) (places : ℕ) → Going rules packets cs n places journal.old → OnOk result (Going rules packets (cs ++ ending drained ∷ []) n places journal.new) }
     ensures judged { JudgesEnd (λ a b. S.eq a b) setup.now catalogue.now drained journal.old workers.now result }
     ensures newest { OnOk result (journal.new.newest ≡ journal.old.newest) }
+    ensures unmarked { AreUnmarked journal.old.events → OnOk result (AreUnmarked journal.new.events) }
     ensures counts { (lost : Bool) (shares : Counted) → Counts lost shares (journal.old.outcomes ++ served_from journal.old.node 0 (all_handled workers.now)) → IfOk result (λ left. Counts lost (with_lost left shares) journal.new.outcomes) }
 {
     compare(setup, catalogue, workers)?;
@@ -100,6 +102,7 @@ fn end<S: Scheme, H: FlowHash, T: ConnTable>(
     ensures ended { let rules = rules_for (λ s z. S.pick s z) (λ h. H.plain h) setup.now catalogue.now in
         (packets : List Packet) → Drives rules packets journal.old → OnOk result (Tells rules packets journal.new × NoneWaits (past_of rules packets journal.new.node journal.new.events)) }
     ensures served { OnOk result (IsServed journal.old journal.new) }
+    ensures unmarked { AreUnmarked journal.old.events → OnOk result (AreUnmarked journal.new.events) }
     ensures judged { JudgesEnd (λ a b. S.eq a b) setup.now catalogue.now true journal.old workers.now result }
     ensures counts { (lost : Bool) (shares : Counted) → Counts lost shares (journal.old.outcomes ++ served_from journal.old.node 0 (all_handled workers.now)) → OnOk result (Counts lost shares journal.new.outcomes) }
 {
@@ -129,6 +132,7 @@ pub fn end_driven<S: Scheme, H: FlowHash, T: ConnTable, G, B: Names, R: Wait>(
     ensures judged { let drained = drained_at plan.entry.commands.now driven.at in
         JudgesEnd (λ a b. S.eq a b) plan.entry.setup.now plan.entry.catalogue.now drained driven.journal (map (λ w. w.record) runs.items) result }
     ensures parts { IfOk result (λ d. d.tally.shares.parts ≡ driven.tally.shares.parts + length runs.items) }
+    ensures unmarked { AreUnmarked driven.journal.events → IfOk result (λ d. AreUnmarked d.journal.events) }
     ensures counts { AreRead plan.entry.packets.now → IfOk result (λ d. Counts d.tally.lost d.tally.shares d.journal.outcomes) }
 {
     let _ = from;

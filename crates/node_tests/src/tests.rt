@@ -25,6 +25,7 @@ mod boards;
 mod book;
 mod held;
 mod live;
+mod paced;
 mod shown;
 mod stop;
 mod unstored;

@@ -2,12 +2,14 @@
 use Rattle.std.proofs.Common.{◌≡◌, ◌+◌, ◌++◌, ◌∷◌, [], ℕ, Bool, false, List, length, map, refl, sym, ap, ◌∙◌, subst, arith}
 use Rattle.std.specs.Prelude.{Result, Ok, Err, IfOk, IfErr, MatchResult}
 use Rattle.std.proofs.lemmas.List.{append-nil, append_assoc}
+use Rattle.std.proofs.lemmas.List.Elements.{All-push}
 use Rattle.stats_book.specs.Counts.{Counted}
 use Rattle.cluster_node.specs.declared.outcomes.Outcome.{Outcome}
 use Rattle.thread_records.specs.Joins.{all_outcomes}
 use Rattle.thread_roles.specs.Counts.{counted, plus}
 use Rattle.thread_roles.proofs.Counting.{counts_plus}
 use Rattle.thread_records.specs.declared.nodes.NodeRecord.{NodeRecord}
+use Rattle.thread_records.specs.Paced.{AreUnmarked, NoneRefused}
 use Rattle.thread_records.specs.Runs.{IsRunOf, AreRuns}
 use Rattle.cluster_node.specs.Rules.{Rules}
 use Rattle.cluster_node.specs.declared.packets.Packet.{Packet}
@@ -43,9 +45,10 @@ counted_more rules all m cs c rs new r had own sum h len is items put = record {
   counts = λ read.
       let both : sum ≡ counted sum.parts (all_outcomes rs ++ r.outcomes.items) = counts_plus false false false had own sum (all_outcomes rs) r.outcomes.items (λ e. (refl, refl)) put (λ e. h.counts read) (λ e. is.counts read) refl in
       both ∙ ap (λ (os : List Outcome). counted sum.parts os) (sym (ap all_outcomes items ∙ outcomes_push rs r));
+  unmarked = λ paced. subst (λ (l : List NodeRecord). NoneRefused l) (sym items) (All-push (λ (x : NodeRecord). AreUnmarked x.events.items) rs r (h.unmarked paced) (is.unmarked paced));
 }
 
--- what an answer is by its clauses, one of them under a premise
-pub by_clauses : {X E : Type 0} (A : Type 0) (P Q R All : X → Type 0) (Faults : E → Type 0) (r : Result X E) → ((x : X) → P x → Q x → (A → R x) → All x) → IfOk r P → IfOk r Q → (A → IfOk r R) → IfErr r Faults → MatchResult r All Faults
-by_clauses A P Q R All Faults (Ok x) all p q s told = all x p q s
-by_clauses A P Q R All Faults (Err e) all p q s told = told
+-- what an answer is by its clauses, two of them under premises
+pub by_clauses : {X E : Type 0} (A B : Type 0) (P Q R S All : X → Type 0) (Faults : E → Type 0) (r : Result X E) → ((x : X) → P x → Q x → (A → R x) → (B → S x) → All x) → IfOk r P → IfOk r Q → (A → IfOk r R) → (B → IfOk r S) → IfErr r Faults → MatchResult r All Faults
+by_clauses A B P Q R S All Faults (Ok x) all p q s t told = all x p q s t
+by_clauses A B P Q R S All Faults (Err e) all p q s t told = told

@@ -1,10 +1,11 @@
 -- The nodes of a cluster by number, their runs with what was counted on all of them, and the first of their faults.
-use Rattle.std.specs.Prelude.{◌≡◌, ℕ, ◌+◌, List, [], ◌∷◌, Option, Some, None, Result, Ok, Err, nat_le, if◌then◌else◌, Contains}
+use Rattle.std.specs.Prelude.{◌≡◌, ℕ, ◌+◌, true, List, [], ◌∷◌, Option, Some, None, Result, Ok, Err, nat_le, if◌then◌else◌, Contains}
 use Rattle.stats_book.specs.Counts.{Counted}
 use Rattle.cluster_node.specs.Rules.{Rules}
 use Rattle.thread_records.specs.declared.command.Command.{Command}
 use Rattle.thread_records.specs.declared.nodes.NodeRecord.{NodeRecord}
 use Rattle.thread_records.specs.Joins.{all_outcomes}
+use Rattle.thread_records.specs.Paced.{NoneRefused}
 use Rattle.thread_records.specs.Runs.{AreRuns}
 use Rattle.thread_roles.specs.Counts.{AreRead, counted}
 use Rattle.thread_roles.specs.declared.fault.RunFault.{RunFault}
@@ -41,3 +42,4 @@ IsSumUp fs (Some Memory) = Unit {0}
 pub record AreCounted {S H : Type 0} (rules : Rules) (all : AllAsked S H) (commands : List (List Command)) (rs : List NodeRecord) (shares : Counted) : Type 0 where
   pub runs : AreRuns rules all.packets all.ring 0 commands rs
   pub counts : AreRead all.packets → shares ≡ counted shares.parts (all_outcomes rs)
+  pub unmarked : all.paced ≡ true → NoneRefused rs

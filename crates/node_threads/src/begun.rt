@@ -1,7 +1,7 @@
 //! What a life begins with.
 ghost use Rattle.std.specs.Prelude.{◌≡◌};
 ghost use Rattle.cluster_core.specs.Setups.{Fixed, rules_for};
-ghost use Rattle.thread_roles.specs.Going.{Begins, LifeView, asked_of};
+ghost use Rattle.thread_roles.specs.Going.{Begins, LifeView, asked_by};
 ghost use Rattle.thread_roles.specs.Shown.{last_published};
 ghost use Rattle.version_board.specs.Seats.{IsPublisherOf};
 
@@ -24,18 +24,18 @@ pub struct Life<'e, S: Scheme, H: FlowHash, G, B: Names> {
 
 impl<'e, S: Scheme, H: FlowHash, G, B: Names> Model for Life<'e, S, H, G, B> {
     ghost use Rattle.cluster_core.specs.Setups.{Fixed, rules_for};
-    ghost use Rattle.thread_roles.specs.Going.{Begins, LifeView, asked_of};
+    ghost use Rattle.thread_roles.specs.Going.{Begins, LifeView, asked_by};
 
     ghost Value = { LifeView S H };
 
     ghost view = { λ l. record {
-      asked = asked_of l.plan.setup.now l.plan.catalogue.now l.plan.packets.now l.plan.node l.plan.ring l.plan.commands.now;
+      asked = asked_by l.plan.setup.now l.plan.catalogue.now l.plan.packets.now l.plan.node l.plan.ring l.plan.paced l.plan.commands.now;
       start = l.progress.at;
       parts = l.progress.tally.shares.parts;
       newest = l.progress.journal.newest;
     } };
 
-    ghost invariant = { λ l. let asked = asked_of l.plan.setup.now l.plan.catalogue.now l.plan.packets.now l.plan.node l.plan.ring l.plan.commands.now in
+    ghost invariant = { λ l. let asked = asked_by l.plan.setup.now l.plan.catalogue.now l.plan.packets.now l.plan.node l.plan.ring l.plan.paced l.plan.commands.now in
         let rules = rules_for (λ s z. S.pick s z) (λ h. H.plain h) asked.setup asked.catalogue in
         Begins rules asked l.progress.at l.progress.journal l.progress.tally.lost l.progress.tally.shares };
 }
@@ -52,11 +52,11 @@ impl<S: Scheme, H: FlowHash, G, B: Names> fmt::Debug for Life<'_, S, H, G, B> {
 impl<'e, S: Scheme, H: FlowHash, G, B: Names> Life<'e, S, H, G, B> {
     /// A life that may begin.
     pub fn new(plan: NodePlan<'e, S, H, G, B>, progress: Progress<S, B>) -> Life<'e, S, H, G, B>
-        requires begins { let asked = asked_of plan.setup.now plan.catalogue.now plan.packets.now plan.node plan.ring plan.commands.now in
+        requires begins { let asked = asked_by plan.setup.now plan.catalogue.now plan.packets.now plan.node plan.ring plan.paced plan.commands.now in
             let rules = rules_for (λ s z. S.pick s z) (λ h. H.plain h) asked.setup asked.catalogue in
             Begins rules asked progress.at progress.journal progress.tally.lost progress.tally.shares }
         ensures { result ≡ record {
-          asked = asked_of plan.entry.setup.now plan.entry.catalogue.now plan.entry.packets.now plan.entry.node plan.entry.ring plan.entry.commands.now;
+          asked = asked_by plan.entry.setup.now plan.entry.catalogue.now plan.entry.packets.now plan.entry.node plan.entry.ring plan.entry.paced plan.entry.commands.now;
           start = progress.at;
           parts = progress.tally.shares.parts;
           newest = progress.journal.newest;
@@ -67,7 +67,7 @@ impl<'e, S: Scheme, H: FlowHash, G, B: Names> Life<'e, S, H, G, B> {
 
     /// What its threads share.
     pub fn plan(&self) -> NodePlan<'e, S, H, G, B>
-        ensures { self.now.asked ≡ asked_of result.setup.now result.catalogue.now result.packets.now result.node result.ring result.commands.now }
+        ensures { self.now.asked ≡ asked_by result.setup.now result.catalogue.now result.packets.now result.node result.ring result.paced result.commands.now }
     {
         self.plan
     }
@@ -75,13 +75,13 @@ impl<'e, S: Scheme, H: FlowHash, G, B: Names> Life<'e, S, H, G, B> {
     /// What it begins with.
     pub fn parts(self) -> (NodePlan<'e, S, H, G, B>, Progress<S, B>)
         ensures view { self.entry ≡ record {
-          asked = asked_of result.0.setup.now result.0.catalogue.now result.0.packets.now result.0.node result.0.ring result.0.commands.now;
+          asked = asked_by result.0.setup.now result.0.catalogue.now result.0.packets.now result.0.node result.0.ring result.0.paced result.0.commands.now;
           start = result.1.at;
           parts = result.1.tally.shares.parts;
           newest = result.1.journal.newest;
         } }
         ensures begins { let p = result.0 in
-            let asked = asked_of p.setup.now p.catalogue.now p.packets.now p.node p.ring p.commands.now in
+            let asked = asked_by p.setup.now p.catalogue.now p.packets.now p.node p.ring p.paced p.commands.now in
             let rules = rules_for (λ s z. S.pick s z) (λ h. H.plain h) asked.setup asked.catalogue in
             Begins rules asked result.1.at result.1.journal result.1.tally.lost result.1.tally.shares }
     {
@@ -136,7 +136,7 @@ impl<'e, S: Scheme, H: FlowHash, G, B: Names> Begun<'e, S, H, G, B> {
 
     /// What its threads share.
     pub fn plan(&self) -> NodePlan<'e, S, H, G, B>
-        ensures { self.now.asked ≡ asked_of result.setup.now result.catalogue.now result.packets.now result.node result.ring result.commands.now }
+        ensures { self.now.asked ≡ asked_by result.setup.now result.catalogue.now result.packets.now result.node result.ring result.paced result.commands.now }
     {
         self.life.plan()
     }

@@ -1,6 +1,6 @@
 //! A cluster on threads: each node's run, with its driver in a thread of its own.
 ghost use Rattle.std.specs.Prelude.{◌≡◌, ◌≤◌, ◌<◌, ◌+◌, ◌*◌, ◌++◌, ◌∷◌, [], ℕ, List, ◌↔◌};
-ghost use Rattle.std.specs.Prelude.{length, map, Option, None, Some, Ok, IfOk, IfErr, IfSome, IsSomeAnd, IsTrue, MatchResult, All, slice_get, slice_index, slice_index_or};
+ghost use Rattle.std.specs.Prelude.{length, map, true, Option, None, Some, Ok, IfOk, IfErr, IfSome, IsSomeAnd, IsTrue, MatchResult, All, slice_get, slice_index, slice_index_or};
 ghost use Rattle.cluster_core.specs.Setups.{Fixed, rules_for};
 ghost use Rattle.cluster_core.specs.Headline.{Agreement, Keeping};
 ghost use Rattle.cluster_core.specs.Histories.{IsSteady};
@@ -9,20 +9,21 @@ ghost use Rattle.cluster_node.specs.declared.packets.Packet.{Packet};
 ghost use Rattle.cluster_node.specs.Records.{WasRead};
 ghost use Rattle.thread_records.specs.declared.nodes.NodeRecord.{NodeRecord};
 ghost use Rattle.thread_records.specs.Joins.{all_outcomes};
+ghost use Rattle.thread_records.specs.Paced.{NoneRefused};
 ghost use Rattle.thread_records.specs.Runs.{AreRuns, JoinsRuns};
 ghost use Rattle.thread_roles.specs.Counts.{AreRead, AreTotals, counted, plus};
 ghost use Rattle.thread_roles.specs.Faults.{IsRefusal};
-ghost use Rattle.thread_roles.specs.Going.{asked_of};
+ghost use Rattle.thread_roles.specs.Going.{asked_by};
 ghost use Rattle.thread_roles.specs.declared.fault.RunFault.{RunFault};
 ghost use Rattle.node_threads.specs.declared.run.CountedRun.{CountedRun};
 ghost use Rattle.node_threads.specs.Handed.{IsCounted};
-ghost use Rattle.node_threads.specs.Orders.{asked_all, asked_one};
+ghost use Rattle.node_threads.specs.Orders.{asked_all, asked_each, asked_one};
 ghost use Rattle.node_threads.specs.PrivateClusters.{AreNumbered, AreCounted, first_fault, fault_in, IsSumUp};
 ghost use Rattle.node_threads.specs.Reported.{rank_of, ClusterTells};
 ghost use Rattle.node_threads.specs.Told.{NodeTells};
 
 use crate::node::run_counted;
-use crate::order::{ClusterOrder, OfNode};
+use crate::order::{ClusterOrder, OfNode, RingRules};
 use crate::run::CountedRun;
 use cluster_core::Setup;
 use cluster_node::{Event, Outcome, Packet};
@@ -126,7 +127,7 @@ type Answer<B> = Result<CountedRun<B>, RunFault>;
 
 impl<'e, S: Scheme, H: FlowHash, B: Names> Promise<Result<CountedRun<B>, RunFault>>
     for OfNode<'e, S, H> {
-    ghost kept_by = { λ p r. let asked = asked_of p.setup.now p.catalogue.now p.packets.now p.node p.ring p.commands.now in
+    ghost kept_by = { λ p r. let asked = asked_by p.setup.now p.catalogue.now p.packets.now p.node p.ring p.paced p.commands.now in
         let rules = rules_for (λ s z. S.pick s z) (λ h. H.plain h) asked.setup asked.catalogue in
         MatchResult r (λ run. IsCounted rules asked run.record run.shares) (λ fault. NodeTells (λ a b. S.eq a b) rules asked fault) };
 }
@@ -223,7 +224,7 @@ where
     requires parts { 64 * 17 < shares.old.parts }
     requires fresh { shares.old ≡ counted shares.old.parts [] }
     ensures same { All (λ h. let p = h.promise in
-        asked_of p.setup.now p.catalogue.now p.packets.now p.node p.ring p.commands.now ≡ asked_one order.now p.node p.commands.now) result.handles.items }
+        asked_by p.setup.now p.catalogue.now p.packets.now p.node p.ring p.paced p.commands.now ≡ asked_one order.now p.node p.commands.now) result.handles.items }
     ensures numbered { AreNumbered 0 (map (λ h. h.promise.node) result.handles.items) }
     ensures fault { IfSome result.fault (λ fault. IsRefusal fault) }
     ensures lists { result.fault ≡ None → map (λ h. h.promise.commands.now) result.handles.items ≡ order.now.commands }
@@ -244,7 +245,7 @@ where
             promise,
             move || -> Result<CountedRun<B>, RunFault>
                 ensures { let t = task.entry in
-                    let asked = asked_of t.setup.now t.catalogue.now t.packets.now t.node t.ring t.commands.now in
+                    let asked = asked_by t.setup.now t.catalogue.now t.packets.now t.node t.ring t.paced t.commands.now in
                     let rules = rules_for (λ s z. S.pick s z) (λ h. H.plain h) asked.setup asked.catalogue in
                     MatchResult result (λ run. IsCounted rules asked run.record run.shares) (λ fault. NodeTells (λ a b. S.eq a b) rules asked fault) }
             { run_counted::<S, H, T, G, B, R>(rt, alloc, task) },
@@ -375,6 +376,7 @@ where
         let rules = rules_for (λ s z. S.pick s z) (λ h. H.plain h) all.setup all.catalogue in
         IfOk result (λ run. AreRuns rules all.packets all.ring 0 all.commands run.nodes.items) }
     ensures stats { AreRead order.entry.packets → IfOk result (λ run. AreTotals run.stats (all_outcomes run.nodes.items)) }
+    ensures paced { order.entry.paced ≡ true → IfOk result (λ run. NoneRefused run.nodes.items) }
     ensures told { let all = order.entry in
         let rules = rules_for (λ s z. S.pick s z) (λ h. H.plain h) all.setup all.catalogue in
         IfErr result (λ fault. ClusterTells (λ a b. S.eq a b) rules all fault) }
@@ -399,6 +401,12 @@ where
 
 /// The runs of all nodes of a cluster at once, as in [`run_cluster`], without the one history of all of them. That is a copy
 /// of all events and outcomes, which is made on one thread: who goes over the nodes' records one after another needs none.
+///
+/// Where the rings are paced a driver waits at the ring of a packet's home worker while that is full. So no packet is lost to
+/// a full ring, and each that is steered goes to its home worker (`paced`). Whether the waiting ends no contract says. A
+/// worker takes from its ring until its driver ends the life, and then the driver doesn't wait. That holds of a worker that was
+/// refused memory too. The mux takes what the workers send until their last word. So some thread can always go on, unless a
+/// gate doesn't return.
 pub fn run_each<
     S: Scheme + Send + Sync,
     H: FlowHash + Send + Sync,
@@ -412,19 +420,21 @@ pub fn run_each<
     catalogue: &Catalogue,
     packets: &[Packet],
     commands: &[Vec<Command>],
-    ring: u32,
+    rings: RingRules,
     gate: &G,
 ) -> Result<NodesRun, RunFault>
 where
     S::Prepared: Send + Sync,
     requires nodes { length commands.now ≡ length setup.now.nodes }
-    requires some { 0 < ring }
-    requires limit { ring ≤ 65536 }
+    requires some { 0 < rings.places }
+    requires limit { rings.places ≤ 65536 }
     ensures runs { let rules = rules_for (λ s z. S.pick s z) (λ h. H.plain h) setup.now catalogue.now in
-        IfOk result (λ run. AreRuns rules packets.now ring 0 (map (λ c. c.items) commands.now) run.nodes.items) }
+        IfOk result (λ run. AreRuns rules packets.now rings.places 0 (map (λ c. c.items) commands.now) run.nodes.items) }
+    // where the drivers wait at full rings, no arrival marks a worker as refusing
+    ensures paced { rings.paced ≡ true → IfOk result (λ run. NoneRefused run.nodes.items) }
     // where all packets were read, the counts are the totals of the nodes' outcomes, and nothing waits
     ensures stats { AreRead packets.now → IfOk result (λ run. AreTotals run.stats (all_outcomes run.nodes.items)) }
-    ensures told { let all = asked_all setup.now catalogue.now packets.now ring (map (λ c. c.items) commands.now) in
+    ensures told { let all = asked_each setup.now catalogue.now packets.now rings.places rings.paced (map (λ c. c.items) commands.now) in
         let rules = rules_for (λ s z. S.pick s z) (λ h. H.plain h) all.setup all.catalogue in
         IfErr result (λ fault. ClusterTells (λ a b. S.eq a b) rules all fault) }
 {
@@ -434,7 +444,8 @@ where
         packets,
         lists: commands,
         gate,
-        ring,
+        ring: rings.places,
+        paced: rings.paced,
     };
     let blanks = Blanks::new(PARTS);
     run_booked::<S, H, T, G, Brand, R>(rt, alloc, order, blanks)
@@ -485,8 +496,12 @@ where
         let rules = rules_for (λ s z. S.pick s z) (λ h. H.plain h) all.setup all.catalogue in
         IfErr result (λ fault. ClusterTells (λ a b. S.eq a b) rules all fault) }
 {
+    let rings = RingRules {
+        places: ring,
+        paced: false,
+    };
     let run = run_each::<S, H, T, G, R>(
-        rt, alloc, setup, catalogue, packets, commands, ring, gate,
+        rt, alloc, setup, catalogue, packets, commands, rings, gate,
     )?;
     let NodesRun { nodes, stats } = run;
     let history = join_runs(alloc, nodes.as_slice())?;

@@ -1,7 +1,7 @@
 //! What nodes are to do.
 ghost use Rattle.std.specs.Prelude.{◌≡◌, ◌<◌, ◌≤◌, ◌+◌, [], length, slice_index_or};
 ghost use Rattle.thread_roles.specs.Counts.{counted};
-ghost use Rattle.thread_roles.specs.Going.{asked_of};
+ghost use Rattle.thread_roles.specs.Going.{asked_by};
 ghost use Rattle.node_threads.specs.Orders.{asked_one};
 
 use cluster_core::Setup;
@@ -15,6 +15,15 @@ use std::marker::Model;
 use std::sync::Mutex;
 use thread_records::Command;
 use thread_roles::NodeTask;
+
+/// The rings of a cluster's run.
+#[derive(Clone, Copy, Debug, PartialEq, Eq)]
+pub struct RingRules {
+    /// How many packets a ring has room for.
+    pub places: u32,
+    /// Whether a driver waits at a full ring. Else it tries the other workers, and drops a packet that none of them takes.
+    pub paced: bool,
+}
 
 /// What a node is to do, before there is a book. By its type the node is there and a ring has places.
 #[derive(Drop)]
@@ -33,15 +42,17 @@ pub struct NodeOrder<'e, S: Scheme, H: FlowHash, G> {
     pub node: u16,
     /// The places of a ring.
     pub ring: u32,
+    /// A driver waits at a full ring.
+    pub paced: bool,
 }
 
 impl<'e, S: Scheme, H: FlowHash, G> Model for NodeOrder<'e, S, H, G> {
     ghost use Rattle.std.specs.Prelude.{◌<◌, ◌≤◌, length};
-    ghost use Rattle.thread_roles.specs.Going.{Asked, asked_of};
+    ghost use Rattle.thread_roles.specs.Going.{Asked, asked_by};
 
     ghost Value = { Asked S H };
 
-    ghost view = { λ o. asked_of o.setup.now o.catalogue.now o.packets.now o.node o.ring o.commands.now };
+    ghost view = { λ o. asked_by o.setup.now o.catalogue.now o.packets.now o.node o.ring o.paced o.commands.now };
 
     ghost invariant = { λ o. (o.node < length o.setup.now.nodes) × (0 < o.ring) × (o.ring ≤ 65536) };
 }
@@ -71,6 +82,8 @@ pub struct OfNode<'e, S: Scheme, H: FlowHash> {
     pub node: u16,
     /// The places of a ring.
     pub ring: u32,
+    /// A driver waits at a full ring.
+    pub paced: bool,
 }
 
 impl<S: Scheme, H: FlowHash> fmt::Debug for OfNode<'_, S, H> {
@@ -85,7 +98,7 @@ impl<S: Scheme, H: FlowHash> fmt::Debug for OfNode<'_, S, H> {
 impl<'e, S: Scheme, H: FlowHash, G> NodeOrder<'e, S, H, G> {
     /// What the thread that obeys it promises.
     pub fn promise(&self) -> OfNode<'e, S, H>
-        ensures { asked_of result.setup.now result.catalogue.now result.packets.now result.node result.ring result.commands.now ≡ self.now }
+        ensures { asked_by result.setup.now result.catalogue.now result.packets.now result.node result.ring result.paced result.commands.now ≡ self.now }
     {
         OfNode {
             setup: self.setup,
@@ -94,6 +107,7 @@ impl<'e, S: Scheme, H: FlowHash, G> NodeOrder<'e, S, H, G> {
             commands: self.commands,
             node: self.node,
             ring: self.ring,
+            paced: self.paced,
         }
     }
 
@@ -105,7 +119,7 @@ impl<'e, S: Scheme, H: FlowHash, G> NodeOrder<'e, S, H, G> {
     ) -> NodeTask<'e, S, H, G, B>
         requires parts { shares.parts ≡ self.setup.workers + 1 }
         requires fresh { shares ≡ counted shares.parts [] }
-        ensures { asked_of result.setup.now result.catalogue.now result.packets.now result.node result.ring result.commands.now ≡ self.entry }
+        ensures { asked_by result.setup.now result.catalogue.now result.packets.now result.node result.ring result.paced result.commands.now ≡ self.entry }
     {
         NodeTask {
             setup: self.setup,
@@ -116,6 +130,7 @@ impl<'e, S: Scheme, H: FlowHash, G> NodeOrder<'e, S, H, G> {
             book,
             node: self.node,
             ring: self.ring,
+            paced: self.paced,
             shares,
         }
     }
@@ -137,15 +152,17 @@ pub struct ClusterOrder<'e, S: Scheme, H: FlowHash, G> {
     pub gate: &'e G,
     /// The places of a ring.
     pub ring: u32,
+    /// A driver waits at a full ring.
+    pub paced: bool,
 }
 
 impl<'e, S: Scheme, H: FlowHash, G> Model for ClusterOrder<'e, S, H, G> {
     ghost use Rattle.std.specs.Prelude.{◌≡◌, ◌<◌, ◌≤◌, length, map};
-    ghost use Rattle.node_threads.specs.Orders.{AllAsked, asked_all};
+    ghost use Rattle.node_threads.specs.Orders.{AllAsked, asked_each};
 
     ghost Value = { AllAsked S H };
 
-    ghost view = { λ o. asked_all o.setup.now o.catalogue.now o.packets.now o.ring (map (λ c. c.items) o.lists.now) };
+    ghost view = { λ o. asked_each o.setup.now o.catalogue.now o.packets.now o.ring o.paced (map (λ c. c.items) o.lists.now) };
 
     ghost invariant = { λ o. (length o.lists.now ≡ length o.setup.now.nodes) × (0 < o.ring) × (o.ring ≤ 65536) };
 }
@@ -189,6 +206,7 @@ impl<'e, S: Scheme, H: FlowHash, G> ClusterOrder<'e, S, H, G> {
             gate: self.gate,
             node,
             ring: self.ring,
+            paced: self.paced,
         }
     }
 }

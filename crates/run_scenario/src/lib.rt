@@ -14,4 +14,4 @@ mod sending;
 mod threads;
 
 pub use failure::RunFailure;
-pub use running::run_scenario;
+pub use running::{RunOptions, run_scenario};

@@ -2,7 +2,6 @@
 ghost use Rattle.std.specs.Prelude.{◌≡◌, ◌<◌, ◌≤◌, ◌^◌, length, map, IfOk};
 ghost use Rattle.pcap_file.specs.Format.{max_records};
 ghost use Rattle.simulation.specs.Sent.{time_of};
-ghost use Rattle.simulation.specs.Wires.{lent_record};
 ghost use Rattle.timed_steps.specs.Timed.{counted};
 ghost use Rattle.timed_steps.specs.Copies.{AreCopies};
 ghost use Rattle.cluster_core.specs.Cluster.{WereRead};
@@ -17,24 +16,16 @@ use driver_commands::{Orders, orders};
 use event_trace::ScenarioStep;
 use named_spread::spread_of;
 use scenario::Scenario;
-use simulation::LentRecord;
 use std::alloc::{AllocError, Global};
 use timed_steps::{TimedStep, counted, has_until};
 
-// When a record came, in microseconds.
-fn time_of(record: &LentRecord<'_>) -> u64
-    ensures { result ≡ time_of (lent_record record.now) }
-{
-    u64::from(record.secs) * 1_000_000 + u64::from(record.micros)
-}
-
-// The same of each record.
+// When each record came, in microseconds.
 fn times_of(alloc: Global, records: &Records) -> Result<Vec<u64>, AllocError>
     ensures { IfOk result (λ v. v.items ≡ map time_of records.now) }
 {
     let mut times = Vec::with_capacity(alloc, records.len())?;
     for at in 0..records.len() {
-        times.push(time_of(&records.at(at)))?;
+        times.push(records.at(at).time())?;
     }
     Ok(times)
 }

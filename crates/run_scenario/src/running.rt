@@ -1,6 +1,7 @@
 //! A scenario's cluster runs on threads over a capture.
-ghost use Rattle.std.specs.Prelude.{◌≡◌, ◌≤◌, length, IfOk, IfErr, string_bytes};
+ghost use Rattle.std.specs.Prelude.{◌≡◌, ◌≤◌, true, length, IfOk, IfErr, string_bytes};
 ghost use Rattle.pcap_file.specs.Format.{max_records};
+ghost use Rattle.thread_records.specs.Paced.{NoneRefused};
 ghost use Rattle.run_scenario.specs.Runs.{Ran, Halted};
 ghost use Rattle.run_scenario.specs.Kept.{KeepsPromises};
 ghost use Rattle.run_scenario.specs.PrivateFailures.{IsOfThreads};
@@ -22,6 +23,15 @@ use std::alloc::Global;
 use std::sync::Wait;
 use std::thread::Threads;
 use thread_records::NodeRecord;
+
+/// What is asked of a run beside its scenario.
+#[derive(Clone, Copy, Debug, PartialEq, Eq)]
+pub struct RunOptions {
+    /// The report begins with the splits.
+    pub splits: bool,
+    /// A node's driver waits at a full ring.
+    pub paced: bool,
+}
 
 // What the nodes did, and the report.
 #[derive(Drop)]
@@ -50,10 +60,11 @@ fn run_over<R: Threads + Wait + Sync>(
     key: TableKey,
     scenario: &Scenario,
     captured: &Captured,
-    splits: bool,
+    options: RunOptions,
 ) -> Result<Done, RunFailure>
     requires few { length captured.now.records ≤ max_records }
-    ensures over { IfOk result (λ d. RanOver scenario.now splits captured.now.head.link captured.now.records captured.now.ending d.nodes.items (string_bytes d.text)) }
+    ensures over { IfOk result (λ d. RanOver scenario.now options.splits captured.now.head.link captured.now.records captured.now.ending d.nodes.items (string_bytes d.text)) }
+    ensures paced { options.paced ≡ true → IfOk result (λ d. NoneRefused d.nodes.items) }
     ensures stopped { IfErr result IsOfThreads }
 {
     let wire = wire_of(scenario, captured.head.link);
@@ -64,7 +75,8 @@ fn run_over<R: Threads + Wait + Sync>(
         scenario,
         packets: packets.as_slice(),
         commands: orders.commands.as_slice(),
-        splits,
+        splits: options.splits,
+        paced: options.paced,
     };
     let audited = run_named(rt, alloc, &task)?;
     let totals = totals_of(&audited.run);
@@ -84,7 +96,7 @@ fn run_over<R: Threads + Wait + Sync>(
 }
 
 /// Runs a scenario's cluster on threads over a capture, and answers the report. The report ends in `audit agrees` where a
-/// replay of the run's history gives the outcomes that it has: by the clause `ok` it always does. With `splits` the report
+/// replay of the run's history gives the outcomes that it has: by the clause `ok` it always does. With the option `splits` the report
 /// begins with a line for each split, and then how many there were. A split is two packets that follow one another in a
 /// flow, in the history's order, and went to different backends; events are numbered as in the history.
 ///
@@ -101,24 +113,29 @@ fn run_over<R: Threads + Wait + Sync>(
 /// its entry stands and the backend is up or drains. Every slot of Maglev's tables names an up backend, never one that
 /// drains, and backends' slot counts are in proportion to their weights. The two versions of each split pick its two backends, for such a scheme, and for Maglev
 /// name them at the flow's slot.
+///
+/// Where the run is paced, a driver that comes to a full ring waits for room there. It doesn't try the other workers, and
+/// drops nothing. So no arrival in a node's history marks a worker as refusing, and each packet that is steered goes to its
+/// home worker (`paced`).
 pub fn run_scenario<R: Threads + Wait + Sync, I: Source, O: Sink>(
     rt: &R,
     alloc: Global,
     key: TableKey,
     scenario: &ThreadScenario,
-    splits: bool,
+    options: RunOptions,
     input: &mut I,
     output: &mut O,
 ) -> Result<String, RunFailure>
-    ensures ok { IfOk result (λ s. Ran scenario.now.scenario splits (I.tape input.old) (I.tape input.new) (O.tape output.old) (O.tape output.new) (string_bytes s)) }
-    ensures kept { IfOk result (λ s. (ran : Ran scenario.now.scenario splits (I.tape input.old) (I.tape input.new) (O.tape output.old) (O.tape output.new) (string_bytes s)) → KeepsPromises scenario.now.scenario ran.head.link ran.records ran.history) }
+    ensures ok { IfOk result (λ s. Ran scenario.now.scenario options.splits (I.tape input.old) (I.tape input.new) (O.tape output.old) (O.tape output.new) (string_bytes s)) }
+    ensures kept { IfOk result (λ s. (ran : Ran scenario.now.scenario options.splits (I.tape input.old) (I.tape input.new) (O.tape output.old) (O.tape output.new) (string_bytes s)) → KeepsPromises scenario.now.scenario ran.head.link ran.records ran.history) }
+    ensures paced { options.paced ≡ true → IfOk result (λ s. (ran : Ran scenario.now.scenario options.splits (I.tape input.old) (I.tape input.new) (O.tape output.old) (O.tape output.new) (string_bytes s)) × NoneRefused ran.nodes) }
     ensures stopped { IfErr result (Halted scenario.now.scenario (I.tape input.old) (I.tape input.new) (O.tape output.old) (O.tape output.new)) }
 {
     let scenario = &scenario.scenario;
     let _slots = scenario.size.slots();
     scenario.catalogue.keeps_doubles_out();
     let captured = read_whole(alloc, input)?;
-    let done = run_over(rt, alloc, key, scenario, &captured, splits)?;
+    let done = run_over(rt, alloc, key, scenario, &captured, options)?;
     let wire = wire_of(scenario, captured.head.link);
     let nodes = done.nodes.as_slice();
     let records = &captured.records;

@@ -5,6 +5,7 @@ ghost use Rattle.cluster_core.specs.Cluster.{WereRead};
 ghost use Rattle.cluster_core.specs.Runs.{verdicts};
 ghost use Rattle.cluster_core.specs.Setups.{rules_for};
 ghost use Rattle.thread_records.specs.Joins.{all_outcomes};
+ghost use Rattle.thread_records.specs.Paced.{NoneRefused};
 ghost use Rattle.thread_records.specs.Runs.{AreRuns};
 ghost use Rattle.thread_roles.specs.Counts.{AreTotals};
 ghost use Rattle.simulate_scenario.specs.Described.{pick_by, rules_in};
@@ -17,7 +18,7 @@ use cluster_core::Setup;
 use cluster_node::Packet;
 use connection_table::{PlaceTable, TableKey};
 use hash_laws::AnyHash;
-use node_threads::{NodesRun, OpenGate, RunFault, audit_nodes, run_each};
+use node_threads::{NodesRun, OpenGate, RingRules, RunFault, audit_nodes, run_each};
 use scenario::{Scenario, SchemeKind};
 use selection::{Maglev, PlainHash, RoundRobin, Scheme};
 use std::alloc::{AllocError, Global};
@@ -27,7 +28,7 @@ use std::thread::Threads;
 use thread_records::{Command, NodeRecord};
 
 /// What is to be run: a scenario's cluster over packets that were read, each node by its list of commands. The tables and the
-/// book of splits hash by the key.
+/// book of splits hash by the key. Where it is paced the nodes' drivers wait at full rings.
 #[derive(Clone, Copy)]
 pub(crate) struct Task<'a> {
     pub(crate) key: TableKey,
@@ -35,6 +36,7 @@ pub(crate) struct Task<'a> {
     pub(crate) packets: &'a [Packet],
     pub(crate) commands: &'a [Vec<Command>],
     pub(crate) splits: bool,
+    pub(crate) paced: bool,
 }
 
 /// A run, whether each node's history agrees with its replay, and what is reported of the splits.
@@ -102,6 +104,7 @@ where
     requires nodes { length task.now.commands.now ≡ length task.now.scenario.now.nodes.items }
     requires read { WereRead task.now.packets.now }
     ensures runs { IfOk result (λ a. AreRuns (rules_in task.now.scenario.now) task.now.packets.now task.now.scenario.now.ring 0 (map (λ c. c.items) task.now.commands.now) a.run.nodes.items) }
+    ensures paced { task.now.paced ≡ true → IfOk result (λ a. NoneRefused a.run.nodes.items) }
     ensures counts { IfOk result (λ a. AreTotals a.run.stats (all_outcomes a.run.nodes.items)) }
     ensures few { IfOk result (λ a. length (all_outcomes a.run.nodes.items) < 2 ^ 63) }
     ensures audit { IfOk result (λ a. a.agrees ≡ true) }
@@ -122,6 +125,10 @@ where
         unreachable!()
     };
     let setup = setup.keyed(task.key);
+    let rings = RingRules {
+        places: scenario.ring,
+        paced: task.paced,
+    };
     let run = run_each::<S, AnyHash, PlaceTable, OpenGate, R>(
         rt,
         alloc,
@@ -129,7 +136,7 @@ where
         &scenario.catalogue,
         task.packets,
         task.commands,
-        scenario.ring,
+        rings,
         &OpenGate,
     )?;
     let Some(_) = outcome_count(run.nodes.as_slice()) else {
@@ -153,6 +160,7 @@ pub(crate) fn run_named<R: Threads + Wait + Sync>(
     requires nodes { length task.now.commands.now ≡ length task.now.scenario.now.nodes.items }
     requires read { WereRead task.now.packets.now }
     ensures runs { IfOk result (λ a. AreRuns (rules_in task.now.scenario.now) task.now.packets.now task.now.scenario.now.ring 0 (map (λ c. c.items) task.now.commands.now) a.run.nodes.items) }
+    ensures paced { task.now.paced ≡ true → IfOk result (λ a. NoneRefused a.run.nodes.items) }
     ensures counts { IfOk result (λ a. AreTotals a.run.stats (all_outcomes a.run.nodes.items)) }
     ensures few { IfOk result (λ a. length (all_outcomes a.run.nodes.items) < 2 ^ 63) }
     ensures audit { IfOk result (λ a. a.agrees ≡ true) }

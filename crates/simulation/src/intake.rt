@@ -8,7 +8,6 @@ ghost use Rattle.simulation.specs.Sent.{time_of};
 ghost use Rattle.simulation.specs.Intake.{comes_early, IsNext, Seen, SeenMore, StandsStill, ReadOrEnded, NextRefused, Looked, ReadOn, ReadStops};
 
 use crate::lent::LentRecord;
-use crate::sending::time_of;
 use ip_headers::Link;
 use pcap_file::{Ending, Frame, Head, InputEnd, PcapFault, Source, read_record_into};
 use std::alloc::{AllocError, Global};
@@ -67,7 +66,7 @@ fn first_with(first: u64, given: u32, frame: &Frame) -> u64
     ensures { result ≡ (if given == 0 then time_of (packet frame.now) else first) }
 {
     if given == 0 {
-        time_of(LentRecord::of(frame))
+        LentRecord::of(frame).time()
     } else {
         first
     }
@@ -201,7 +200,7 @@ impl Intake {
         if !self.waits {
             return false;
         }
-        is_before(self.first, micros, time_of(LentRecord::of(&self.coming)))
+        is_before(self.first, micros, LentRecord::of(&self.coming).time())
     }
 
     // Reads what is left of the input, and says how it ends.

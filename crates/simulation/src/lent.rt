@@ -1,6 +1,7 @@
 //! A record of a capture whose bytes are lent.
 ghost use Rattle.std.specs.Prelude.{◌≡◌};
 ghost use Rattle.pcap_file.specs.Format.{packet};
+ghost use Rattle.simulation.specs.Sent.{time_of};
 ghost use Rattle.simulation.specs.Wires.{lent_record};
 
 use pcap_file::Frame;
@@ -26,5 +27,15 @@ impl<'a> LentRecord<'a> {
             original: frame.original,
             bytes: frame.bytes.as_slice(),
         }
+    }
+
+    /// When the record came, in microseconds.
+    #[inline(always)]
+    pub fn time(self) -> u64
+        ensures { result ≡ time_of (lent_record self.entry) }
+    {
+        let secs = self.secs as u64;
+        let micros = self.micros as u64;
+        secs * 1_000_000 + micros
     }
 }

@@ -1,7 +1,7 @@
 //! What the cluster sends is wrapped and written.
 ghost use Rattle.std.specs.Prelude.{◌≡◌, ◌≤◌, ◌∷◌, option_map, OnOk, IfErr, IfSome, length, [], Some, None, slice_get};
 ghost use Rattle.ip_headers.specs.Ipv4.{frame_answer};
-ghost use Rattle.simulation.specs.Sent.{packet_in, time_of, cut_to, datagram_in, Sending, wrapped_at, wrapped_as, sent_at, record_text, Wrote, WroteUntil};
+ghost use Rattle.simulation.specs.Sent.{packet_in, cut_to, datagram_in, Sending, wrapped_at, wrapped_as, sent_at, record_text, Wrote, WroteUntil};
 ghost use Rattle.simulation.specs.Simulated.{IsOfRun};
 ghost use Rattle.simulation.specs.Wires.{lent_record, traffic};
 
@@ -23,23 +23,13 @@ pub struct Wire<'a> {
     pub check: bool,
 }
 
-// A record's time in microseconds.
-#[inline(always)]
-pub(crate) fn time_of(lent: LentRecord<'_>) -> u64
-    ensures { result ≡ time_of (lent_record lent.entry) }
-{
-    let secs = lent.secs as u64;
-    let micros = lent.micros as u64;
-    secs * 1_000_000 + micros
-}
-
 impl<'a> Wire<'a> {
     /// A record as a packet, with the record's time.
     #[inline(always)]
     pub fn packet(&self, lent: LentRecord<'_>) -> Packet
         ensures { result ≡ packet_in self.now.link self.now.check (lent_record lent.entry) }
     {
-        read_packet(self.link, lent.bytes, time_of(lent), self.check)
+        read_packet(self.link, lent.bytes, lent.time(), self.check)
     }
 
     #[inline(always)]

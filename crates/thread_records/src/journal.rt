@@ -176,6 +176,7 @@ impl Journal {
         ensures after { OnOk result ((a : Attempt) × IsAttempt (H.plain hash.now) flow self.old a × (self.new ≡ with_placing packet flow at a a.placing self.old)) }
         ensures told { IfOk result (λ o. self.new.outcomes ≡ self.old.outcomes ++ o ∷ []) }
         ensures arrives { IfOk result (λ o. is_arrival o ≡ true) }
+        ensures paced { R.paced ≡ true → OnOk result (self.new.events ≡ self.old.events ++ Arrive self.old.node packet no_marks ∷ []) }
     {
         let item = Item {
             packet,
@@ -245,6 +246,7 @@ impl Journal {
         ensures drives { (rules : Rules) → rules.plain ≡ H.plain hash.now → Drives rules packets.now self.old → OnOk result (Drives rules packets.now self.new) }
         ensures told { IfOk result (λ o. self.new.outcomes ≡ self.old.outcomes ++ o ∷ []) }
         ensures arrives { IfOk result (λ o. ArrivesAs (slice_get packets.now packet) o) }
+        ensures paced { R.paced ≡ true → OnOk result (self.new.events ≡ self.old.events ++ Arrive self.old.node packet no_marks ∷ []) }
         ensures event { OnOk result ((marks : List Bool) × (self.new.events ≡ self.old.events ++ Arrive self.old.node packet marks ∷ [])) }
         ensures kept { OnOk result ((self.new.node ≡ self.old.node) × (self.new.ring ≡ self.old.ring)) }
         ensures newest { OnOk result (self.new.newest ≡ self.old.newest) }
@@ -271,7 +273,7 @@ impl Journal {
     }
 
     /// A packet arrives. It is offered to its home worker's ring; where that refuses it, to the others', from the cursor on,
-    /// until one takes it.
+    /// until one takes it. Rings that don't refuse leave no mark, and so the packet goes to its home worker (`paced`).
     pub fn arrive<H: FlowHash, R: Rings>(
         &mut self,
         hash: &H,
@@ -285,6 +287,7 @@ impl Journal {
         ensures told { IfOk result (λ o. self.new.outcomes ≡ self.old.outcomes ++ o ∷ []) }
         ensures arrives { IfOk result (λ o. ArrivesAs (slice_get packets.now packet) o) }
         ensures kept { OnOk result ((self.new.node ≡ self.old.node) × (self.new.ring ≡ self.old.ring)) }
+        ensures paced { R.paced ≡ true → OnOk result (self.new.events ≡ self.old.events ++ Arrive self.old.node packet no_marks ∷ []) }
         ensures newest { OnOk result (self.new.newest ≡ self.old.newest) }
     {
         self.write_arrival(hash, packets, packet, rings)

@@ -10,6 +10,7 @@ use Rattle.thread_records.specs.declared.command.Command.{Command}
 use Rattle.thread_records.specs.declared.command.Command.TheVariants.{Publish, Offer, Restart, Stop}
 use Rattle.thread_records.specs.Histories.{commands_of, past_of, NoneWaits}
 use Rattle.thread_records.specs.Journals.{JournalView, Tells, Drives}
+use Rattle.thread_records.specs.Paced.{AreUnmarked}
 use Rattle.thread_records.specs.Losses.{ending, as_written, drained_lives, losses, KeepDrained}
 
 pub record Going (rules : Rules) (packets : List Packet) (commands : List Command) (n places : ℕ) (j : JournalView) : Type 0 where
@@ -57,18 +58,25 @@ pub record Asked (S H : Type 0) : Type 0 where
   pub packets : List Packet
   pub node : ℕ
   pub ring : ℕ
+  -- its driver waits at a full ring
+  pub paced : Bool
   pub commands : List Command
 
+abbrev pub asked_by : {S H : Type 0} → Fixed S H → Pools → List Packet → ℕ → ℕ → Bool → List Command → Asked S H
+asked_by setup pools packets node ring paced commands = record { setup = setup; catalogue = pools; packets = packets; node = node; ring = ring; paced = paced; commands = commands }
+
+-- the same of a driver that doesn't wait
 abbrev pub asked_of : {S H : Type 0} → Fixed S H → Pools → List Packet → ℕ → ℕ → List Command → Asked S H
-asked_of setup pools packets node ring commands = record { setup = setup; catalogue = pools; packets = packets; node = node; ring = ring; commands = commands }
+asked_of setup pools packets node ring commands = asked_by setup pools packets node ring false commands
 
 -- a life may begin at a place of the commands: those before it were obeyed, and unless a count was lost the shares have what
--- the journal's outcomes come to
+-- the journal's outcomes come to; no arrival marks a worker where the driver waits at full rings
 pub record Begins {S H : Type 0} (rules : Rules) (asked : Asked S H) (start : ℕ) (j : JournalView) (lost : Bool) (shares : Counted) : Type 0 where
   pub within : start ≤ length asked.commands
   pub going : Going rules asked.packets (take start asked.commands) asked.node asked.ring j
   pub some : 0 < shares.parts
   pub counts : AreRead asked.packets → Counts lost shares j.outcomes
+  pub unmarked : asked.paced ≡ true → AreUnmarked j.events
 
 -- one life of a node as contracts see it: what the node is asked to do, the place of the life's first command, the parts of the
 -- counts that are left to its driver, and the number of the version that was installed last
@@ -78,8 +86,10 @@ pub record LifeView (S H : Type 0) : Type 0 where
   pub parts : ℕ
   pub newest : ℕ
 
--- a life ended, with shares of so many parts that have what the journal's outcomes come to then
+-- a life ended, with shares of so many parts that have what the journal's outcomes come to then; no arrival marks a worker
+-- where the driver waits at full rings
 pub record IsLived {S H : Type 0} (rules : Rules) (asked : Asked S H) (start parts stop : ℕ) (j : JournalView) (lost : Bool) (shares : Counted) : Type 0 where
   pub ended : IsEnded rules asked.packets asked.commands asked.node asked.ring start stop j
   pub parts_are : shares.parts ≡ parts
   pub counts : AreRead asked.packets → Counts lost shares j.outcomes
+  pub unmarked : asked.paced ≡ true → AreUnmarked j.events

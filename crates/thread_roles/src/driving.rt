@@ -7,7 +7,11 @@ ghost use Rattle.cluster_core.specs.Setups.{Fixed, rules_for};
 ghost use Rattle.cluster_node.specs.declared.packets.Packet.{Packet};
 ghost use Rattle.thread_records.specs.declared.command.Command.{Command};
 ghost use Rattle.thread_records.specs.declared.command.Command.TheVariants.{Publish, Offer};
-ghost use Rattle.thread_records.specs.Journals.{JournalView};
+ghost use Rattle.thread_records.specs.Arrivals.{ArrivesAs};
+ghost use Rattle.thread_records.specs.Histories.{commands_of};
+ghost use Rattle.thread_records.specs.Losses.{losses};
+ghost use Rattle.thread_records.specs.Journals.{JournalView, Drives};
+ghost use Rattle.thread_records.specs.Paced.{AreUnmarked};
 ghost use Rattle.stats_book.specs.Counts.{Counted};
 ghost use Rattle.thread_roles.specs.Counts.{AreRead, Counts, with_came, with_drop};
 ghost use Rattle.thread_roles.specs.Going.{Going, IsDriven, stops};
@@ -19,14 +23,14 @@ use crate::gate::Gate;
 use crate::live::{Shared, prepare_after};
 use crate::plan::{NodePlan, Progress};
 use crate::post::Desk;
-use crate::ring::Inputs;
+use crate::ring::{Inputs, PacedInputs};
 use crate::tally::ThreadShares;
 use cluster_node::{Outcome, Packet};
 use hash_laws::FlowHash;
 use pool_versions::Catalogue;
 use selection::Scheme;
 use stats_book::{Names, StatsBook};
-use std::alloc::Global;
+use std::alloc::{AllocError, Global};
 use std::sync::{Mutex, Wait};
 use thread_records::{Command, Journal};
 
@@ -75,6 +79,7 @@ fn publish<S: Scheme, H: FlowHash, G: Gate, B: Names, R: Wait + Drop>(
         (packets : List Packet) (cs : List Command) (n : ℕ) (places : ℕ) → Going rules packets cs n places journal.old → OnOk result (Going rules packets (cs ++ Publish number ∷ []) n places journal.new) }
     ensures counts { (lost : Bool) (shares : Counted) → Counts lost shares journal.old.outcomes → OnOk result (Counts lost shares journal.new.outcomes) }
     ensures published { last_published desk.old.seat ≡ journal.old.newest → MatchResult result (λ _. last_published desk.new.seat ≡ journal.new.newest) (λ fault. fault ≡ Memory) }
+    ensures unmarked { AreUnmarked journal.old.events → OnOk result (AreUnmarked journal.new.events) }
     ensures newest { number_of arc_value newest.old ≡ journal.old.newest → OnOk result (number_of arc_value newest.new ≡ journal.new.newest) }
 {
     let _ = plan.setup.workers();
@@ -122,6 +127,32 @@ fn count_drop<B: Names, R: Wait>(
     }
 }
 
+// A packet is offered to the rings. A paced driver waits at the ring of its home worker while that is full.
+fn arrive<S: Scheme, H: FlowHash, G, B: Names, R: Wait>(
+    rt: &R,
+    plan: NodePlan<'_, S, H, G, B>,
+    journal: &mut Journal,
+    inputs: &mut Inputs,
+    packet: u32,
+) -> Result<Outcome, AllocError>
+    ensures drives { let rules = rules_for (λ s z. S.pick s z) (λ h. H.plain h) plan.entry.setup.now plan.entry.catalogue.now in
+        Drives rules plan.entry.packets.now journal.old → OnOk result (Drives rules plan.entry.packets.now journal.new) }
+    ensures command { OnOk result (commands_of journal.new.events ≡ commands_of journal.old.events ++ Offer packet ∷ []) }
+    ensures lost { OnOk result (losses journal.new.outcomes ≡ losses journal.old.outcomes) }
+    ensures told { IfOk result (λ o. journal.new.outcomes ≡ journal.old.outcomes ++ o ∷ []) }
+    ensures arrives { IfOk result (λ o. ArrivesAs (slice_get plan.entry.packets.now packet) o) }
+    ensures kept { OnOk result ((journal.new.node ≡ journal.old.node) × (journal.new.ring ≡ journal.old.ring)) }
+    ensures newest { OnOk result (journal.new.newest ≡ journal.old.newest) }
+    ensures unmarked { plan.entry.paced ≡ true → AreUnmarked journal.old.events → OnOk result (AreUnmarked journal.new.events) }
+{
+    let hash = plan.setup.hash();
+    if plan.paced {
+        let mut rings = PacedInputs { rt, inputs };
+        return journal.arrive(&hash, plan.packets, packet, &mut rings);
+    }
+    journal.arrive(&hash, plan.packets, packet, inputs)
+}
+
 // A packet arrives. Where it is there it is counted first, and as dropped once it is.
 fn offer<S: Scheme, H: FlowHash, G, B: Names, R: Wait>(
     rt: &R,
@@ -136,12 +167,13 @@ fn offer<S: Scheme, H: FlowHash, G, B: Names, R: Wait>(
         (cs : List Command) (n : ℕ) (places : ℕ) → Going rules plan.entry.packets.now cs n places journal.old → OnOk result (Going rules plan.entry.packets.now (cs ++ Offer packet ∷ []) n places journal.new) }
     ensures parts { tally.new.shares.parts ≡ tally.old.shares.parts }
     ensures counts { AreRead plan.entry.packets.now → Counts tally.old.lost tally.old.shares journal.old.outcomes → OnOk result (Counts tally.new.lost tally.new.shares journal.new.outcomes) }
+    ensures unmarked { plan.entry.paced ≡ true → AreUnmarked journal.old.events → OnOk result (AreUnmarked journal.new.events) }
     ensures newest { OnOk result (journal.new.newest ≡ journal.old.newest) }
     ensures fault { IfErr result (λ fault. fault ≡ Memory) }
 {
     let _ = plan.catalogue.size();
     count_arrival(rt, plan.book, tally, plan.packets, packet);
-    match journal.arrive(&plan.setup.hash(), plan.packets, packet, inputs) {
+    match arrive(rt, plan, journal, inputs, packet) {
         Ok(outcome) => {
             count_drop(rt, plan.book, tally, &outcome);
             Ok(())
@@ -183,6 +215,7 @@ pub fn drive<S: Scheme, H: FlowHash, G: Gate, B: Names, R: Wait, W: Wait + Drop>
     ensures driven { let rules = rules_for (λ s z. S.pick s z) (λ h. H.plain h) plan.entry.setup.now plan.entry.catalogue.now in IfOk result (λ d. IsDriven rules plan.entry.packets.now plan.entry.commands.now plan.entry.node plan.entry.ring progress.at d.at d.journal) }
     ensures parts { IfOk result (λ d. d.tally.shares.parts ≡ progress.tally.shares.parts) }
     ensures counts { AreRead plan.entry.packets.now → IfOk result (λ d. Counts d.tally.lost d.tally.shares d.journal.outcomes) }
+    ensures unmarked { plan.entry.paced ≡ true → AreUnmarked progress.journal.events → IfOk result (λ d. AreUnmarked d.journal.events) }
     ensures published { last_published desk.old.seat ≡ progress.journal.newest → MatchResult result (λ d. last_published desk.new.seat ≡ d.journal.newest) (λ fault. fault ≡ Memory) }
 {
     let Progress {

@@ -37,6 +37,8 @@ pub struct NodeTask<'e, S: Scheme, H: FlowHash, G, B: Names> {
     pub node: u16,
     /// The places of a ring.
     pub ring: u32,
+    /// The driver waits at a full ring.
+    pub paced: bool,
     /// What the node's threads count on.
     pub shares: Shares<B>,
     pub ghost there: { node < length setup.now.nodes },
@@ -73,6 +75,8 @@ pub struct NodePlan<'e, S: Scheme, H: FlowHash, G, B: Names> {
     pub node: u16,
     /// The places of a ring.
     pub ring: u32,
+    /// The driver waits at a full ring.
+    pub paced: bool,
 }
 
 impl<S: Scheme, H: FlowHash, G, B: Names> fmt::Debug for NodePlan<'_, S, H, G, B> {

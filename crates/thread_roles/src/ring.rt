@@ -115,10 +115,12 @@ impl fmt::Debug for Inputs {
 }
 
 impl Rings for Inputs {
-    ghost use Rattle.std.specs.Prelude.{◌≡◌, map, slice_index, IsFalse, MatchBool};
+    ghost use Rattle.std.specs.Prelude.{◌≡◌, false, map, slice_index, IsFalse, MatchBool};
     ghost use Rattle.rtrb.specs.Ring.{sent, known_free};
     ghost use Rattle.thread_roles.specs.Pushed.{put_in};
     ghost use Rattle.thread_roles.specs.declared.ring.Message.TheVariants.{Serve};
+
+    ghost paced = { false };
 
     fn offer(&mut self, worker: u16, item: Item) -> bool
         ensures sent { MatchBool result
@@ -149,5 +151,46 @@ impl Inputs {
             let one = &mut self.rings[at];
             push_waiting(rt, one, Message::Close);
         }
+    }
+}
+
+/// The driver's ends, at which it waits. What is offered to a full ring is pushed once the ring has room.
+///
+/// A worker takes from its ring until its driver ends the life, also one that was refused memory or can't read a version.
+/// So a driver that waits at a full ring goes on, unless the worker's gate doesn't return. A ring that isn't there takes
+/// nothing, and that is found when the life ends.
+#[derive(Drop)]
+pub struct PacedInputs<'a, R: Wait> {
+    /// By what it waits.
+    pub rt: &'a R,
+    /// The ends.
+    pub inputs: &'a mut Inputs,
+}
+
+impl<R: Wait> fmt::Debug for PacedInputs<'_, R> {
+    fn fmt<W: fmt::Write>(&self, f: &mut fmt::Formatter<W>) -> fmt::Result {
+        f.debug_struct("PacedInputs").finish_non_exhaustive()
+    }
+}
+
+impl<R: Wait> Rings for PacedInputs<'_, R> {
+    ghost use Rattle.std.specs.Prelude.{◌≡◌, true, map};
+    ghost use Rattle.rtrb.specs.Ring.{sent};
+    ghost use Rattle.thread_roles.specs.Pushed.{put_in};
+    ghost use Rattle.thread_roles.specs.declared.ring.Message.TheVariants.{Serve};
+
+    ghost paced = { true };
+
+    fn offer(&mut self, worker: u16, item: Item) -> bool
+        ensures sent { map (λ r. sent r) self.new.inputs.now.rings.items ≡ put_in (map (λ r. sent r) self.old.inputs.now.rings.items) worker (Serve item) }
+        ensures taken { result ≡ true }
+    {
+        let at = worker as usize;
+        if at >= self.inputs.rings.len() {
+            return true;
+        }
+        let one = &mut self.inputs.rings[at];
+        push_waiting(self.rt, one, Message::Serve(item));
+        true
     }
 }

@@ -23,6 +23,10 @@ struct Refusing {
 }
 
 impl Rings for Refusing {
+    ghost use Rattle.std.specs.Prelude.{false};
+
+    ghost paced = { false };
+
     fn offer(&mut self, worker: u16, _item: Item) -> bool {
         !self.refused.get(worker as usize).copied().unwrap_or(true)
     }

@@ -21,6 +21,10 @@ pub(super) struct Queues {
 }
 
 impl Rings for Queues {
+    ghost use Rattle.std.specs.Prelude.{false};
+
+    ghost paced = { false };
+
     fn offer(&mut self, worker: u16, item: Item) -> bool {
         let at = worker as usize;
         if at >= self.lists.len() {

@@ -1,9 +1,15 @@
-use Rattle.std.proofs.Common.{refl}
+use Rattle.std.proofs.Common.{refl, sym, subst}
 use Rattle.thread_records.specs.Ends.{all_handled}
 use Rattle.thread_roles.proofs.Counting.{counts_served}
 use Rattle.cluster_node.specs.Rules.{Rules}
 use Rattle.cluster_core.specs.Setups.{rules_for}
+use Rattle.thread_records.specs.Journals.{JournalView}
+use Rattle.thread_records.specs.Paced.{AreUnmarked}
+use Rattle.thread_records.proofs.Paced.{unmarked_all_serves}
 use Rattle.node_ends.proofs.end.Goals as goal
+
+pub returns-in-Ok-clause-unmarked : goal.returns-in-Ok-clause-unmarked
+returns-in-Ok-clause-unmarked g c = λ had. subst (λ (j : JournalView). AreUnmarked j.events) (sym c.in-Ok.ensures.after) (unmarked_all_serves 0 (all_handled c.args.workers.now) c.args.journal.now had)
 
 pub returns-in-Ok-clause-ended : goal.returns-in-Ok-clause-ended
 returns-in-Ok-clause-ended g c = λ packets d.

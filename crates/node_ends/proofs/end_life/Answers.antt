@@ -3,7 +3,14 @@ use Rattle.thread_roles.proofs.Counting.{counts_ended}
 use Rattle.cluster_node.specs.Rules.{Rules}
 use Rattle.cluster_core.specs.Setups.{rules_for}
 use Rattle.thread_roles.proofs.Goes.{goes_ended}
+use Rattle.std.proofs.Common.{sym, subst}
+use Rattle.thread_records.specs.Journals.{JournalView}
+use Rattle.thread_records.specs.Paced.{AreUnmarked}
+use Rattle.thread_records.proofs.Paced.{unmarked_ended}
 use Rattle.node_ends.proofs.end_life.Goals as goal
+
+pub returns-in-Ok-clause-unmarked : goal.returns-in-Ok-clause-unmarked
+returns-in-Ok-clause-unmarked g c = λ had. subst (λ (j : JournalView). AreUnmarked j.events) (sym c.in-Ok.ensures.after) (unmarked_ended (all_handled c.args.workers.now) c.args.journal.now had)
 
 pub returns-in-Ok-clause-going : goal.returns-in-Ok-clause-going
 returns-in-Ok-clause-going g c = λ packets cs n places going.

@@ -12,6 +12,9 @@ use Rattle.node_threads.proofs.cluster.run_booked.Goals as goal
 pub returns-clause-runs : goal.returns-clause-runs
 returns-clause-runs g c = c.in_ok-gathered.ensures.0.runs
 
+pub returns-clause-paced : goal.returns-clause-paced
+returns-clause-paced g c = c.in_ok-gathered.ensures.0.unmarked
+
 pub returns-clause-stats : goal.returns-clause-stats
 returns-clause-stats g c = λ read.
     let all : AllAsked _ _ = c.args.order in

@@ -10,7 +10,7 @@ use Rattle.cluster_core.specs.Setups.{rules_for}
 use Rattle.thread_records.specs.declared.command.Command.{Command}
 use Rattle.thread_records.specs.declared.nodes.NodeRecord.{NodeRecord}
 use Rattle.thread_roles.specs.Counts.{counted}
-use Rattle.thread_roles.specs.Going.{Asked, asked_of}
+use Rattle.thread_roles.specs.Going.{Asked, asked_by}
 use Rattle.thread_roles.specs.declared.fault.RunFault.{RunFault}
 use Rattle.node_threads.specs.declared.order.OfNode.{OfNode}
 use Rattle.node_threads.specs.declared.run.CountedRun.{CountedRun}
@@ -35,7 +35,7 @@ loop-handle-preserved g c =
     let old = map (λ (x : PromisedHandle _ (OfNode _ _ _)). x.promise.commands.now) done in
     let is : c.loop-handle.handle-iterator.rest.items ≡ h ∷ rest = search rules in
     let asked : Asked _ _ = asked_one all p.node p.commands.now in
-    let same : asked_of p.setup.now p.catalogue.now p.packets.now p.node p.ring p.commands.now ≡ asked = All-head (λ (x : PromisedHandle _ (OfNode _ _ _)). asked_of x.promise.setup.now x.promise.catalogue.now x.promise.packets.now x.promise.node x.promise.ring x.promise.commands.now ≡ asked_one all x.promise.node x.promise.commands.now) h rest (subst (λ (l : List (PromisedHandle _ (OfNode _ _ _))). All (λ x. asked_of x.promise.setup.now x.promise.catalogue.now x.promise.packets.now x.promise.node x.promise.ring x.promise.commands.now ≡ asked_one all x.promise.node x.promise.commands.now) l) is had.same) in
+    let same : asked_by p.setup.now p.catalogue.now p.packets.now p.node p.ring p.paced p.commands.now ≡ asked = All-head (λ (x : PromisedHandle _ (OfNode _ _ _)). asked_by x.promise.setup.now x.promise.catalogue.now x.promise.packets.now x.promise.node x.promise.ring x.promise.paced x.promise.commands.now ≡ asked_one all x.promise.node x.promise.commands.now) h rest (subst (λ (l : List (PromisedHandle _ (OfNode _ _ _))). All (λ x. asked_by x.promise.setup.now x.promise.catalogue.now x.promise.packets.now x.promise.node x.promise.ring x.promise.paced x.promise.commands.now ≡ asked_one all x.promise.node x.promise.commands.now) l) is had.same) in
     let numbered : AreNumbered (length done) (p.node ∷ map (λ (x : PromisedHandle _ (OfNode _ _ _)). x.promise.node) rest)
     = subst (λ (l : List (PromisedHandle _ (OfNode _ _ _))). AreNumbered (length done) (map (λ x. x.promise.node) l)) is had.numbered in
     let place : p.node ≡ length old = numbered.0 ∙ sym (length-map done (λ (x : PromisedHandle _ (OfNode _ _ _)). x.promise.commands.now)) in
@@ -48,7 +48,7 @@ loop-handle-preserved g c =
     = λ none. subst (λ (a : Result (CountedRun _) RunFault). MatchResult a (λ run. IsCounted own asked run.record run.shares)
     (λ fault. NodeTells (λ x y. g.S.PartialEq.eq x y) own asked fault)) (c.keep.ensures.kept none).1.1 answer in
     record {
-      same = All-rest (λ (x : PromisedHandle _ (OfNode _ _ _)). asked_of x.promise.setup.now x.promise.catalogue.now x.promise.packets.now x.promise.node x.promise.ring x.promise.commands.now ≡ asked_one all x.promise.node x.promise.commands.now) h rest c.loop-handle.handle-iterator.rest.items is had.same;
+      same = All-rest (λ (x : PromisedHandle _ (OfNode _ _ _)). asked_by x.promise.setup.now x.promise.catalogue.now x.promise.packets.now x.promise.node x.promise.ring x.promise.paced x.promise.commands.now ≡ asked_one all x.promise.node x.promise.commands.now) h rest c.loop-handle.handle-iterator.rest.items is had.same;
       numbered = subst (λ (n : ℕ). AreNumbered n (map (λ (x : PromisedHandle _ (OfNode _ _ _)). x.promise.node) rest)) (sym (length_push done h)) numbered.1;
       lists = λ none. ap (λ (cs : List (List Command)). cs ++ map (λ (x : PromisedHandle _ (OfNode _ _ _)). x.promise.commands.now) rest) (map_push (λ (x : PromisedHandle _ (OfNode _ _ _)). x.promise.commands.now) done h) ∙ append_assoc old (p.commands.now ∷ []) (map (λ (x : PromisedHandle _ (OfNode _ _ _)). x.promise.commands.now) rest)
           ∙ ap (λ (cs : List (List Command)). old ++ cs) (sym (ap (λ (l : List (PromisedHandle _ (OfNode _ _ _))). map (λ x. x.promise.commands.now) l) is)) ∙ had.lists none;
@@ -79,11 +79,11 @@ loop-handle-init g c =
     let items : c.into_iter-handle-iterator.result.rest.items ≡ c.start_drivers-drivers.result.handles.items = c.into_iter-handle-iterator.ensures.into_iter_gives.0 in
     let fresh : shares ≡ counted shares.parts [] = drivers.rest ∙ ap (λ (s : Counted). record s { parts = shares.parts }) c.args.supply.fresh in
     record {
-      same = subst (λ (l : List (PromisedHandle _ (OfNode _ _ _))). All (λ x. asked_of x.promise.setup.now x.promise.catalogue.now x.promise.packets.now x.promise.node x.promise.ring x.promise.commands.now ≡ asked_one all x.promise.node x.promise.commands.now) l) (sym items) drivers.same;
+      same = subst (λ (l : List (PromisedHandle _ (OfNode _ _ _))). All (λ x. asked_by x.promise.setup.now x.promise.catalogue.now x.promise.packets.now x.promise.node x.promise.ring x.promise.paced x.promise.commands.now ≡ asked_one all x.promise.node x.promise.commands.now) l) (sym items) drivers.same;
       numbered = subst (λ (l : List (PromisedHandle _ (OfNode _ _ _))). AreNumbered 0 (map (λ x. x.promise.node) l)) (sym items) drivers.numbered;
       lists = λ none. ap (λ (l : List (PromisedHandle _ (OfNode _ _ _))). map (λ x. x.promise.commands.now) l) items ∙ drivers.lists none;
       started = λ none. none;
-      so_far = λ none. subst (λ (rs : List NodeRecord). AreCounted (rules_for (λ s z. g.S.Scheme.pick s z) (λ h. g.H.FlowHash.plain h) all.setup all.catalogue) all [] rs shares) (sym c.new.ensures.items) (record { runs = tt; counts = λ read. fresh });
+      so_far = λ none. subst (λ (rs : List NodeRecord). AreCounted (rules_for (λ s z. g.S.Scheme.pick s z) (λ h. g.H.FlowHash.plain h) all.setup all.catalogue) all [] rs shares) (sym c.new.ensures.items) (record { runs = tt; counts = λ read. fresh; unmarked = λ paced. tt });
       refused = λ lost. lost;
       told = λ none. ([], tt, subst (λ (f : Option RunFault). IsSumUp [] f) (sym none) none_yet);
       parts = λ none. subst (λ (l : List (PromisedHandle _ (OfNode _ _ _))). shares.parts + length l * (all.setup.workers + 1) ≡ c.args.supply.shares.parts) (sym items) (drivers.parts none);

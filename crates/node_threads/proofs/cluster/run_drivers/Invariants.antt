@@ -3,7 +3,7 @@ use Rattle.std.specs.Prelude.{All, None, IsSomeAnd}
 use Rattle.cluster_core.specs.Setups.{rules_for}
 use Rattle.thread_roles.specs.Faults.{IsRefusal}
 use Rattle.thread_roles.specs.declared.fault.RunFault.{RunFault}
-use Rattle.thread_roles.specs.Going.{asked_of}
+use Rattle.thread_roles.specs.Going.{asked_by}
 use Rattle.node_threads.specs.Orders.{asked_one}
 use Rattle.node_threads.specs.PrivateClusters.{AreNumbered, AreCounted, IsSumUp}
 use Rattle.node_threads.specs.Reported.{AreTold}
@@ -11,7 +11,7 @@ use Rattle.node_threads.proofs.cluster.run_drivers.Given as goal
 
 abbrev pub invariant-loop-handle : goal.invariant-loop-handle
 invariant-loop-handle g l = record {
-  same : All (λ h. asked_of h.promise.setup.now h.promise.catalogue.now h.promise.packets.now h.promise.node h.promise.ring h.promise.commands.now ≡ asked_one l.fn.order h.promise.node h.promise.commands.now) l.handle-iterator.rest.items;
+  same : All (λ h. asked_by h.promise.setup.now h.promise.catalogue.now h.promise.packets.now h.promise.node h.promise.ring h.promise.paced h.promise.commands.now ≡ asked_one l.fn.order h.promise.node h.promise.commands.now) l.handle-iterator.rest.items;
   numbered : AreNumbered (length l.yielded) (map (λ h. h.promise.node) l.handle-iterator.rest.items);
   lists : l.initial.joined.fault ≡ None → map (λ h. h.promise.commands.now) l.yielded ++ map (λ h. h.promise.commands.now) l.handle-iterator.rest.items ≡ l.fn.order.commands;
   started : l.joined.fault ≡ None → l.initial.joined.fault ≡ None;

@@ -7,7 +7,7 @@ use Rattle.std.proofs.lemmas.List.{map_push, length_push, length-map, take_more}
 use Rattle.std.proofs.lemmas.List.Elements.{All-push}
 use Rattle.cluster_core.specs.Setups.{rules_for}
 use Rattle.thread_records.specs.declared.command.Command.{Command}
-use Rattle.thread_roles.specs.Going.{Asked, asked_of}
+use Rattle.thread_roles.specs.Going.{Asked, asked_by}
 use Rattle.node_threads.specs.declared.order.OfNode.{OfNode}
 use Rattle.node_threads.specs.Handed.{IsCounted}
 use Rattle.node_threads.specs.Orders.{AllAsked, asked_one}
@@ -23,17 +23,17 @@ loop-node-preserved g c =
     let h = c.in-Ok.handle in
     let old : List (PromisedHandle _ (OfNode _ _ _)) = c.loop-node.handles.items in
     let here : List Command = slice_index_or all.commands c.loop-node.node [] in
-    let is : asked_of h.promise.setup.now h.promise.catalogue.now h.promise.packets.now h.promise.node h.promise.ring h.promise.commands.now ≡ asked_one all c.loop-node.node here
-    = ap (λ (p : OfNode _ _ _). asked_of p.setup.now p.catalogue.now p.packets.now p.node p.ring p.commands.now) c.in-Ok.ensures.ok ∙ c.promise-promise.ensures ∙ c.order_of-own.ensures in
+    let is : asked_by h.promise.setup.now h.promise.catalogue.now h.promise.packets.now h.promise.node h.promise.ring h.promise.paced h.promise.commands.now ≡ asked_one all c.loop-node.node here
+    = ap (λ (p : OfNode _ _ _). asked_by p.setup.now p.catalogue.now p.packets.now p.node p.ring p.paced p.commands.now) c.in-Ok.ensures.ok ∙ c.promise-promise.ensures ∙ c.order_of-own.ensures in
     let items : c.push_reserved.new.self.items ≡ old ++ h ∷ [] = c.push_reserved.ensures.items ∙ ap (λ (l : List (PromisedHandle _ (OfNode _ _ _))). l ++ h ∷ []) c.reserve.ensures.items in
     let node : h.promise.node ≡ c.loop-node.node = ap (λ (a : Asked _ _). a.node) is in
-    let own : asked_of h.promise.setup.now h.promise.catalogue.now h.promise.packets.now h.promise.node h.promise.ring h.promise.commands.now ≡ asked_one all h.promise.node h.promise.commands.now = subst (λ (a : Asked _ _). a ≡ asked_one all a.node a.commands) (sym is) refl in
+    let own : asked_by h.promise.setup.now h.promise.catalogue.now h.promise.packets.now h.promise.node h.promise.ring h.promise.paced h.promise.commands.now ≡ asked_one all h.promise.node h.promise.commands.now = subst (λ (a : Asked _ _). a ≡ asked_one all a.node a.commands) (sym is) refl in
     let many : length (map (λ (x : PromisedHandle _ (OfNode _ _ _)). x.promise.node) old) ≡ length old = length-map old (λ (x : PromisedHandle _ (OfNode _ _ _)). x.promise.node) in
     let more : length c.push_reserved.new.self.items ≡ length (old ++ h ∷ []) = ap (λ (l : List (PromisedHandle _ (OfNode _ _ _))). length l) items in
     let pushed = length_push old h in
     record {
-      same = subst (λ (l : List (PromisedHandle _ (OfNode _ _ _))). All (λ x. asked_of x.promise.setup.now x.promise.catalogue.now x.promise.packets.now x.promise.node x.promise.ring x.promise.commands.now ≡ asked_one all x.promise.node x.promise.commands.now) l) (sym items)
-          (All-push (λ (x : PromisedHandle _ (OfNode _ _ _)). asked_of x.promise.setup.now x.promise.catalogue.now x.promise.packets.now x.promise.node x.promise.ring x.promise.commands.now ≡ asked_one all x.promise.node x.promise.commands.now) old h had.same own);
+      same = subst (λ (l : List (PromisedHandle _ (OfNode _ _ _))). All (λ x. asked_by x.promise.setup.now x.promise.catalogue.now x.promise.packets.now x.promise.node x.promise.ring x.promise.paced x.promise.commands.now ≡ asked_one all x.promise.node x.promise.commands.now) l) (sym items)
+          (All-push (λ (x : PromisedHandle _ (OfNode _ _ _)). asked_by x.promise.setup.now x.promise.catalogue.now x.promise.packets.now x.promise.node x.promise.ring x.promise.paced x.promise.commands.now ≡ asked_one all x.promise.node x.promise.commands.now) old h had.same own);
       numbered = subst (λ (l : List (PromisedHandle _ (OfNode _ _ _))). AreNumbered 0 (map (λ x. x.promise.node) l)) (sym items)
           (subst (λ (ns : List ℕ). AreNumbered 0 ns) (sym (map_push (λ (x : PromisedHandle _ (OfNode _ _ _)). x.promise.node) old h))
           (numbered_more 0 h.promise.node (map (λ (x : PromisedHandle _ (OfNode _ _ _)). x.promise.node) old) had.numbered (omega (arith, node, many, had.count))));

@@ -1,7 +1,7 @@
 use Rattle.std.proofs.Common.{◌≡◌, ◌+◌, length, sym, subst, ap, ◌∙◌, arith}
 use Rattle.std.proofs.lemmas.Result.{IfOk-at_ok, MatchResult-at_err}
 use Rattle.cluster_core.specs.Setups.{rules_for}
-use Rattle.thread_roles.specs.Going.{LifeView, IsLived, Asked, asked_of}
+use Rattle.thread_roles.specs.Going.{LifeView, IsLived, Asked, asked_by}
 use Rattle.thread_roles.specs.declared.fault.RunFault.TheVariants.{Memory}
 use Rattle.node_threads.specs.Told.{LifeTells}
 use Rattle.node_threads.proofs.Telling.{match_exit, is_memory, refusal_tells, end_tells}
@@ -26,7 +26,7 @@ pub returns-in_err-progress-in-Ok : goal.returns-in_err-progress-in-Ok
 returns-in_err-progress-in-Ok g c =
     let e = c.in_err-progress-in-Ok.field-0.0 in
     let plan = c.parts-progress.result.0 in
-    let asked : Asked _ _ = asked_of plan.setup.now plan.catalogue.now plan.packets.now plan.node plan.ring plan.commands.now in
+    let asked : Asked _ _ = asked_by plan.setup.now plan.catalogue.now plan.packets.now plan.node plan.ring plan.paced plan.commands.now in
     let told : LifeTells (λ x y. g.S.PartialEq.eq x y) (rules_for (λ s z. g.S.Scheme.pick s z) (λ h. g.H.FlowHash.plain h) c.args.life.asked.setup c.args.life.asked.catalogue) c.args.life.asked c.args.life.start e
     = subst (λ (v : LifeView _ _). LifeTells (λ x y. g.S.PartialEq.eq x y) (rules_for (λ s z. g.S.Scheme.pick s z) (λ h. g.H.FlowHash.plain h) v.asked.setup v.asked.catalogue) v.asked v.start e) (sym (sym c.open-life.ensures.life ∙ c.parts-progress.ensures.view))
     (end_tells (λ x y. g.S.PartialEq.eq x y) (rules_for (λ s z. g.S.Scheme.pick s z) (λ h. g.H.FlowHash.plain h) asked.setup asked.catalogue) asked c.parts-progress.result.1.at c.in_ok-driven-in-Ok.field-0.at c.in_ok-driven-in-Ok.field-0.journal _ c.end_driven.result e c.in_err-progress-in-Ok.was (IfOk-at_ok _ c.in_ok-driven-in-Ok.was c.drive-driven.ensures.driven) c.end_driven.ensures.judged) in
@@ -39,4 +39,5 @@ returns g c =
       ended = c.in_ok-progress-in-Ok.ensures.ended;
       parts_are = omega (arith, c.in_ok-progress-in-Ok.ensures.parts, IfOk-at_ok _ c.in_ok-driven-in-Ok.was c.drive-driven.ensures.parts, c.in-Ok.ensures.all);
       counts = λ read. c.in_ok-progress-in-Ok.ensures.counts read;
+      unmarked = λ paced. c.in_ok-progress-in-Ok.ensures.unmarked (IfOk-at_ok _ c.in_ok-driven-in-Ok.was (c.drive-driven.ensures.unmarked paced (c.parts-progress.ensures.begins.unmarked paced)));
     })

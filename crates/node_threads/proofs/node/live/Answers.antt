@@ -1,7 +1,7 @@
 use Rattle.std.proofs.Common.{◌≡◌, ◌<◌, ◌+◌, ℕ, length, sym, subst, ◌∙◌, arith}
 use Rattle.std.specs.Prelude.{MatchResult}
 use Rattle.cluster_core.specs.Setups.{rules_for}
-use Rattle.thread_roles.specs.Going.{LifeView, IsLived, asked_of}
+use Rattle.thread_roles.specs.Going.{LifeView, IsLived, asked_by}
 use Rattle.thread_roles.specs.declared.fault.RunFault.TheVariants.{Memory}
 use Rattle.node_threads.specs.Told.{LifeTells}
 use Rattle.node_threads.proofs.Telling.{match_exit, refusal_tells}
@@ -32,7 +32,7 @@ pub returns : goal.returns
 returns g c =
     let plan = c.parts-progress.result.0 in
     let p = c.parts-progress.result.1 in
-    let asked = asked_of plan.setup.now plan.catalogue.now plan.packets.now plan.node plan.ring plan.commands.now in
+    let asked = asked_by plan.setup.now plan.catalogue.now plan.packets.now plan.node plan.ring plan.paced plan.commands.now in
     let all : c.lay_all.new.tally.shares.parts + length c.in_ok-laid.laid.outfits.items ≡ p.tally.shares.parts = omega (arith, c.in_ok-laid.ensures.parts, c.in_ok-laid.ensures.outfits) in
     subst (λ (v : LifeView _ _). MatchResult c.run_life.result (λ r. IsLived (rules_for (λ s z. g.S.Scheme.pick s z) (λ h. g.H.FlowHash.plain h) v.asked.setup v.asked.catalogue) v.asked v.start v.parts r.progress.at r.progress.journal r.progress.tally.lost r.progress.tally.shares) (λ f. LifeTells (λ x y. g.S.PartialEq.eq x y) (rules_for (λ s z. g.S.Scheme.pick s z) (λ h. g.H.FlowHash.plain h) v.asked.setup v.asked.catalogue) v.asked v.start f)) (sym c.parts-progress.ensures.view)
     (subst (λ (n : ℕ). MatchResult c.run_life.result (λ r. IsLived (rules_for (λ s z. g.S.Scheme.pick s z) (λ h. g.H.FlowHash.plain h) asked.setup asked.catalogue) asked p.at n r.progress.at r.progress.journal r.progress.tally.lost r.progress.tally.shares) (λ f. LifeTells (λ x y. g.S.PartialEq.eq x y) (rules_for (λ s z. g.S.Scheme.pick s z) (λ h. g.H.FlowHash.plain h) asked.setup asked.catalogue) asked p.at f)) all

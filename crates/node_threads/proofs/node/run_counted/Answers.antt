@@ -2,13 +2,15 @@ use Rattle.std.proofs.Common.{◌≡◌, ◌+◌, ℕ, Bool, List, false, take, 
 use Rattle.std.proofs.lemmas.Result.{IfOk-weaker, IfErr-weaker}
 use Rattle.stats_book.specs.Counts.{Counted}
 use Rattle.cluster_node.specs.Rules.{Rules}
+use Rattle.cluster_node.specs.declared.events.Event.{Event}
 use Rattle.cluster_node.specs.declared.outcomes.Outcome.{Outcome}
 use Rattle.cluster_core.specs.Setups.{rules_for}
 use Rattle.thread_records.specs.declared.nodes.NodeRecord.{NodeRecord}
 use Rattle.thread_records.specs.Journals.{JournalView}
+use Rattle.thread_records.specs.Paced.{AreUnmarked}
 use Rattle.thread_records.specs.Runs.{IsRunOf}
 use Rattle.thread_roles.specs.Counts.{Counts, counted}
-use Rattle.thread_roles.specs.Going.{Going, IsLived, IsLast, Asked, asked_of}
+use Rattle.thread_roles.specs.Going.{Going, IsLived, IsLast, Asked, asked_by}
 use Rattle.thread_roles.specs.declared.fault.RunFault.TheVariants.{Memory, BookLost}
 use Rattle.thread_roles.proofs.Goes.{same_run}
 use Rattle.node_threads.specs.Told.{LifeTells, NodeTells}
@@ -25,7 +27,7 @@ loop-sent-init g c = record {
 pub new-life-requires : goal.new-life-requires
 new-life-requires g c =
     let rules : Rules = rules_for (λ s z. g.S.Scheme.pick s z) (λ h. g.H.FlowHash.plain h) c.args.task.setup.now c.args.task.catalogue.now in
-    let asked : Asked _ _ = asked_of c.args.task.setup.now c.args.task.catalogue.now c.args.task.packets.now c.args.task.node c.args.task.ring c.args.task.commands.now in
+    let asked : Asked _ _ = asked_by c.args.task.setup.now c.args.task.catalogue.now c.args.task.packets.now c.args.task.node c.args.task.ring c.args.task.paced c.args.task.commands.now in
     let p = c.in_ok-lived.lived.progress in
     let lived : IsLived rules asked c.loop-sent.life.start c.loop-sent.life.parts p.at p.journal p.tally.lost p.tally.shares
     = subst (λ (a : Asked _ _). IsLived (rules_for (λ s z. g.S.Scheme.pick s z) (λ h. g.H.FlowHash.plain h) a.setup a.catalogue) a c.loop-sent.life.start c.loop-sent.life.parts p.at p.journal p.tally.lost p.tally.shares) c.loop-sent.invariant.asked c.in_ok-lived.ensures in
@@ -40,13 +42,14 @@ new-life-requires g c =
         counts = λ read. subst (λ (j : JournalView). Counts c.past_end.result.tally.lost c.past_end.result.tally.shares j.outcomes) (sym same.0)
             (subst (λ (s : Counted). Counts c.past_end.result.tally.lost s p.journal.outcomes) (sym same.1)
             (subst (λ (b : Bool). Counts b p.tally.shares p.journal.outcomes) (sym same.2) (lived.counts read)));
+        unmarked = λ paced. subst (λ (j : JournalView). AreUnmarked j.events) (sym same.0) (lived.unmarked paced);
       };
     }
 
 pub returns-then-progress-commands-clause-run : goal.returns-then-progress-commands-clause-run
 returns-then-progress-commands-clause-run g c =
     let rules : Rules = rules_for (λ s z. g.S.Scheme.pick s z) (λ h. g.H.FlowHash.plain h) c.args.task.setup.now c.args.task.catalogue.now in
-    let asked : Asked _ _ = asked_of c.args.task.setup.now c.args.task.catalogue.now c.args.task.packets.now c.args.task.node c.args.task.ring c.args.task.commands.now in
+    let asked : Asked _ _ = asked_by c.args.task.setup.now c.args.task.catalogue.now c.args.task.packets.now c.args.task.node c.args.task.ring c.args.task.paced c.args.task.commands.now in
     let p = c.in_ok-lived.lived.progress in
     let lived : IsLived rules asked c.loop-sent.life.start c.loop-sent.life.parts p.at p.journal p.tally.lost p.tally.shares
     = subst (λ (a : Asked _ _). IsLived (rules_for (λ s z. g.S.Scheme.pick s z) (λ h. g.H.FlowHash.plain h) a.setup a.catalogue) a c.loop-sent.life.start c.loop-sent.life.parts p.at p.journal p.tally.lost p.tally.shares) c.loop-sent.invariant.asked c.in_ok-lived.ensures in
@@ -63,7 +66,7 @@ returns-then-progress-commands-clause-run g c =
 pub returns-then-progress-commands-clause-parts : goal.returns-then-progress-commands-clause-parts
 returns-then-progress-commands-clause-parts g c =
     let rules : Rules = rules_for (λ s z. g.S.Scheme.pick s z) (λ h. g.H.FlowHash.plain h) c.args.task.setup.now c.args.task.catalogue.now in
-    let asked : Asked _ _ = asked_of c.args.task.setup.now c.args.task.catalogue.now c.args.task.packets.now c.args.task.node c.args.task.ring c.args.task.commands.now in
+    let asked : Asked _ _ = asked_by c.args.task.setup.now c.args.task.catalogue.now c.args.task.packets.now c.args.task.node c.args.task.ring c.args.task.paced c.args.task.commands.now in
     let p = c.in_ok-lived.lived.progress in
     let lived : IsLived rules asked c.loop-sent.life.start c.loop-sent.life.parts p.at p.journal p.tally.lost p.tally.shares
     = subst (λ (a : Asked _ _). IsLived (rules_for (λ s z. g.S.Scheme.pick s z) (λ h. g.H.FlowHash.plain h) a.setup a.catalogue) a c.loop-sent.life.start c.loop-sent.life.parts p.at p.journal p.tally.lost p.tally.shares) c.loop-sent.invariant.asked c.in_ok-lived.ensures in
@@ -76,13 +79,13 @@ returns-then-progress-commands-clause-parts g c =
 pub returns-then-progress-commands-clause-counts : goal.returns-then-progress-commands-clause-counts
 returns-then-progress-commands-clause-counts g c = λ read.
     let rules : Rules = rules_for (λ s z. g.S.Scheme.pick s z) (λ h. g.H.FlowHash.plain h) c.args.task.setup.now c.args.task.catalogue.now in
-    let asked : Asked _ _ = asked_of c.args.task.setup.now c.args.task.catalogue.now c.args.task.packets.now c.args.task.node c.args.task.ring c.args.task.commands.now in
+    let asked : Asked _ _ = asked_by c.args.task.setup.now c.args.task.catalogue.now c.args.task.packets.now c.args.task.node c.args.task.ring c.args.task.paced c.args.task.commands.now in
     let p = c.in_ok-lived.lived.progress in
     let lived : IsLived rules asked c.loop-sent.life.start c.loop-sent.life.parts p.at p.journal p.tally.lost p.tally.shares
     = subst (λ (a : Asked _ _). IsLived (rules_for (λ s z. g.S.Scheme.pick s z) (λ h. g.H.FlowHash.plain h) a.setup a.catalogue) a c.loop-sent.life.start c.loop-sent.life.parts p.at p.journal p.tally.lost p.tally.shares) c.loop-sent.invariant.asked c.in_ok-lived.ensures in
     let done : NodeRecord = c.in_ok-finish.field-0 in
     let shares : Counted = p.tally.shares in
-    let same : done.outcomes.items ≡ p.journal.outcomes = c.in_ok-finish.ensures.is in
+    let same : done.outcomes.items ≡ p.journal.outcomes = c.in_ok-finish.ensures.is.0 in
     IfOk-weaker c.unless_lost.result
     (λ r. (r.record ≡ done) × (r.shares ≡ shares) × (p.tally.lost ≡ false))
     (λ r. r.shares ≡ counted r.shares.parts r.record.outcomes.items)
@@ -92,10 +95,26 @@ returns-then-progress-commands-clause-counts g c = λ read.
     subst (λ (s : Counted). s ≡ counted s.parts r.record.outcomes.items) (sym h.1) told)
     c.unless_lost.ensures.is
 
+pub returns-then-progress-commands-clause-unmarked : goal.returns-then-progress-commands-clause-unmarked
+returns-then-progress-commands-clause-unmarked g c = λ paced.
+    let rules : Rules = rules_for (λ s z. g.S.Scheme.pick s z) (λ h. g.H.FlowHash.plain h) c.args.task.setup.now c.args.task.catalogue.now in
+    let asked : Asked _ _ = asked_by c.args.task.setup.now c.args.task.catalogue.now c.args.task.packets.now c.args.task.node c.args.task.ring c.args.task.paced c.args.task.commands.now in
+    let p = c.in_ok-lived.lived.progress in
+    let lived : IsLived rules asked c.loop-sent.life.start c.loop-sent.life.parts p.at p.journal p.tally.lost p.tally.shares
+    = subst (λ (a : Asked _ _). IsLived (rules_for (λ s z. g.S.Scheme.pick s z) (λ h. g.H.FlowHash.plain h) a.setup a.catalogue) a c.loop-sent.life.start c.loop-sent.life.parts p.at p.journal p.tally.lost p.tally.shares) c.loop-sent.invariant.asked c.in_ok-lived.ensures in
+    let done : NodeRecord = c.in_ok-finish.field-0 in
+    let same : done.events.items ≡ p.journal.events = c.in_ok-finish.ensures.is.1 in
+    let none : AreUnmarked done.events.items = subst (λ (es : List Event). AreUnmarked es) (sym same) (lived.unmarked paced) in
+    IfOk-weaker c.unless_lost.result
+    (λ r. (r.record ≡ done) × (r.shares ≡ p.tally.shares) × (p.tally.lost ≡ false))
+    (λ r. AreUnmarked r.record.events.items)
+    (λ r h. subst (λ (d : NodeRecord). AreUnmarked d.events.items) (sym h.0) none)
+    c.unless_lost.ensures.is
+
 pub returns-then-progress-commands-clause-told : goal.returns-then-progress-commands-clause-told
 returns-then-progress-commands-clause-told g c =
     let rules : Rules = rules_for (λ s z. g.S.Scheme.pick s z) (λ h. g.H.FlowHash.plain h) c.args.task.setup.now c.args.task.catalogue.now in
-    let asked : Asked _ _ = asked_of c.args.task.setup.now c.args.task.catalogue.now c.args.task.packets.now c.args.task.node c.args.task.ring c.args.task.commands.now in
+    let asked : Asked _ _ = asked_by c.args.task.setup.now c.args.task.catalogue.now c.args.task.packets.now c.args.task.node c.args.task.ring c.args.task.paced c.args.task.commands.now in
     let p = c.in_ok-lived.lived.progress in
     let lived : IsLived rules asked c.loop-sent.life.start c.loop-sent.life.parts p.at p.journal p.tally.lost p.tally.shares
     = subst (λ (a : Asked _ _). IsLived (rules_for (λ s z. g.S.Scheme.pick s z) (λ h. g.H.FlowHash.plain h) a.setup a.catalogue) a c.loop-sent.life.start c.loop-sent.life.parts p.at p.journal p.tally.lost p.tally.shares) c.loop-sent.invariant.asked c.in_ok-lived.ensures in
@@ -108,13 +127,13 @@ returns-then-progress-commands-clause-told g c =
 pub returns-in_err-life-clause-told : goal.returns-in_err-life-clause-told
 returns-in_err-life-clause-told g c =
     let rules : Rules = rules_for (λ s z. g.S.Scheme.pick s z) (λ h. g.H.FlowHash.plain h) c.args.task.setup.now c.args.task.catalogue.now in
-    let asked : Asked _ _ = asked_of c.args.task.setup.now c.args.task.catalogue.now c.args.task.packets.now c.args.task.node c.args.task.ring c.args.task.commands.now in
+    let asked : Asked _ _ = asked_by c.args.task.setup.now c.args.task.catalogue.now c.args.task.packets.now c.args.task.node c.args.task.ring c.args.task.paced c.args.task.commands.now in
     err_exit _ c.from_residual.result Memory c.from_residual.ensures.1 (memory_tells (λ x y. g.S.PartialEq.eq x y) rules asked)
 
 pub returns-in_err-lived-clause-told : goal.returns-in_err-lived-clause-told
 returns-in_err-lived-clause-told g c =
     let rules : Rules = rules_for (λ s z. g.S.Scheme.pick s z) (λ h. g.H.FlowHash.plain h) c.args.task.setup.now c.args.task.catalogue.now in
-    let asked : Asked _ _ = asked_of c.args.task.setup.now c.args.task.catalogue.now c.args.task.packets.now c.args.task.node c.args.task.ring c.args.task.commands.now in
+    let asked : Asked _ _ = asked_by c.args.task.setup.now c.args.task.catalogue.now c.args.task.packets.now c.args.task.node c.args.task.ring c.args.task.paced c.args.task.commands.now in
     let e = c.in_err-lived.field-0.0 in
     let told : LifeTells (λ x y. g.S.PartialEq.eq x y) rules asked c.loop-sent.life.start e
     = subst (λ (a : Asked _ _). LifeTells (λ x y. g.S.PartialEq.eq x y) (rules_for (λ s z. g.S.Scheme.pick s z) (λ h. g.H.FlowHash.plain h) a.setup a.catalogue) a c.loop-sent.life.start e) c.loop-sent.invariant.asked c.in_err-lived.ensures in
@@ -123,13 +142,13 @@ returns-in_err-lived-clause-told g c =
 pub returns-in_err-keep-clause-told : goal.returns-in_err-keep-clause-told
 returns-in_err-keep-clause-told g c =
     let rules : Rules = rules_for (λ s z. g.S.Scheme.pick s z) (λ h. g.H.FlowHash.plain h) c.args.task.setup.now c.args.task.catalogue.now in
-    let asked : Asked _ _ = asked_of c.args.task.setup.now c.args.task.catalogue.now c.args.task.packets.now c.args.task.node c.args.task.ring c.args.task.commands.now in
+    let asked : Asked _ _ = asked_by c.args.task.setup.now c.args.task.catalogue.now c.args.task.packets.now c.args.task.node c.args.task.ring c.args.task.paced c.args.task.commands.now in
     err_exit _ c.from_residual-in_err-keep.result Memory c.from_residual-in_err-keep.ensures.1 (memory_tells (λ x y. g.S.PartialEq.eq x y) rules asked)
 
 pub returns-in_err-finish-clause-told : goal.returns-in_err-finish-clause-told
 returns-in_err-finish-clause-told g c =
     let rules : Rules = rules_for (λ s z. g.S.Scheme.pick s z) (λ h. g.H.FlowHash.plain h) c.args.task.setup.now c.args.task.catalogue.now in
-    let asked : Asked _ _ = asked_of c.args.task.setup.now c.args.task.catalogue.now c.args.task.packets.now c.args.task.node c.args.task.ring c.args.task.commands.now in
+    let asked : Asked _ _ = asked_by c.args.task.setup.now c.args.task.catalogue.now c.args.task.packets.now c.args.task.node c.args.task.ring c.args.task.paced c.args.task.commands.now in
     let p = c.in_ok-lived.lived.progress in
     let lived : IsLived rules asked c.loop-sent.life.start c.loop-sent.life.parts p.at p.journal p.tally.lost p.tally.shares
     = subst (λ (a : Asked _ _). IsLived (rules_for (λ s z. g.S.Scheme.pick s z) (λ h. g.H.FlowHash.plain h) a.setup a.catalogue) a c.loop-sent.life.start c.loop-sent.life.parts p.at p.journal p.tally.lost p.tally.shares) c.loop-sent.invariant.asked c.in_ok-lived.ensures in

@@ -7,6 +7,6 @@ use Rattle.run_scenario.proofs.orders.times_of.Goals as goal
 pub loop-at-preserved : goal.loop-at-preserved
 loop-at-preserved c =
     c.in_ok-push.ensures.items
-    ∙ ap (λ (l : List ℕ). l ++ c.time_of.result ∷ []) c.loop-at.invariant
-    ∙ ap (λ (t : ℕ). map time_of (take c.loop-at.at c.args.records.now) ++ t ∷ []) c.time_of.ensures
+    ∙ ap (λ (l : List ℕ). l ++ c.time.result ∷ []) c.loop-at.invariant
+    ∙ ap (λ (t : ℕ). map time_of (take c.loop-at.at c.args.records.now) ++ t ∷ []) c.time.ensures
     ∙ sym (times_more c.args.records.now c.loop-at.at (lent_record c.at.result) (omega arith) c.at.ensures)

@@ -62,8 +62,8 @@ returns-clause-over g c =
       history = history_of run even few;
       run = record { runs = runs; joins = joins (rules_in s) (packets_in s link records) s.ring (commands_in s link records) run even few runs };
       report = c.in_ok-push_str.ensures.bytes
-          ∙ ap (λ (l : List ℕ). l ++ c.as_str.result.now) (c.in_ok-audited.ensures.splits ∙ same_splits c.args.splits s run even few)
-          ∙ ap (λ (l : List ℕ). splits_if c.args.splits s (history_of run even few) ++ l) (c.as_str.ensures.value ∙ c.in_ok-report.ensures
+          ∙ ap (λ (l : List ℕ). l ++ c.as_str.result.now) (c.in_ok-audited.ensures.splits ∙ same_splits c.args.options.splits s run even few)
+          ∙ ap (λ (l : List ℕ). splits_if c.args.options.splits s (history_of run even few) ++ l) (c.as_str.ensures.value ∙ c.in_ok-report.ensures
           ∙ ap (λ (t : Tally). audited_report t c.totals_of-totals.result (is_cut ending) c.in_ok-audited.audited.agrees) tally
           ∙ ap (λ (t : Totals). audited_report (tally_in s link records) t (is_cut ending) c.in_ok-audited.audited.agrees) (c.totals_of-totals.ensures ∙ ap (λ (os : List Outcome). totals_in os) (same_outcomes run even few))
           ∙ ap (λ (b : Bool). audited_report (tally_in s link records) (totals_in (history_of run even few).outcomes.items) (is_cut ending) b) c.in_ok-audited.ensures.audit);

@@ -25,6 +25,9 @@ returns-in-Ok-clause-ok g c =
       report = c.in_ok-done.ensures.over.report;
     }
 
+pub returns-in-Ok-clause-paced : goal.returns-in-Ok-clause-paced
+returns-in-Ok-clause-paced g c = λ paced. (returns-in-Ok-clause-ok g c, c.in_ok-done.ensures.paced paced)
+
 pub returns-in-Ok-clause-kept : goal.returns-in-Ok-clause-kept
 returns-in-Ok-clause-kept g c = λ ran. keeps c.args.scenario.now.scenario ran.head.link ran.records ran.nodes ran.history c.slots-slots.ensures.listed c.keeps_doubles_out.ensures ran.run.joins
 

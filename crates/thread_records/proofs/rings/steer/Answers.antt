@@ -1,11 +1,12 @@
-use Rattle.std.proofs.Common.{[], ◌≡◌, ◌≤◌, ◌<◌, ℕ, true, false, length, map, sym, ap, ◌∙◌, arith, subst}
+use Rattle.std.proofs.Common.{[], ◌≡◌, ◌≤◌, ◌<◌, ℕ, Bool, List, true, false, length, map, sym, ap, ◌∙◌, arith, subst}
 use Rattle.std.proofs.lemmas.List.{length-set, get_or-map}
 use Rattle.steering.specs.Steering.{home_of, refuses}
 use Rattle.thread_records.specs.Journals.{placed_on}
+use Rattle.thread_records.proofs.Placed.{none_refuse}
 use Rattle.thread_records.proofs.Tries.{try_taken, try_none, try_next, due_more}
 use Rattle.std.proofs.lemmas.Bool.{true≢false}
 use Rattle.thread_records.proofs.rings.steer.Goals as goal
-use Rattle.thread_records.proofs.rings.steer.Goals.{then-len-ring, else-len-ring}
+use Rattle.thread_records.proofs.rings.steer.Goals.{then-len-ring, else-len-ring, else-not-refused-worker-via-then-not-refused-worker+else-offer, else-not-refused-worker-via-else-not-refused-worker}
 
 pub returns-then-offer-clause-placed : goal.returns-then-offer-clause-placed
 returns-then-offer-clause-placed g c =
@@ -26,6 +27,10 @@ loop-refused-preserved g c =
     record {
       trying = try_next (home_of (g.H.FlowHash.plain c.args.hash.now) c.args.steerer.now.workers c.args.item.flow) c.args.steerer.now c.loop-refused.refused c.loop-refused.worker c.loop-refused.steerer t c.next_try.new.self long c.next_try.ensures.after c.in-Worker.next c.in-Worker.ensures.next (subst (λ (n : ℕ). c.in-Worker.next < n) t.workers c.in-Worker.ensures.below);
       long = length-set c.loop-refused.refused c.loop-refused.worker true ∙ c.loop-refused.invariant.long;
+      paced = λ p. absurd (elim c.else-not-refused-worker.branch [
+        | else-not-refused-worker-via-then-not-refused-worker+else-offer w ↦ true≢false (sym (w.offer.ensures.takes p) ∙ w.if-offer.false)
+        | else-not-refused-worker-via-else-not-refused-worker w ↦ true≢false (sym w.if-not-refused-worker.false ∙ ap (λ (ms : List Bool). refuses ms c.loop-refused.worker) (c.loop-refused.invariant.paced p) ∙ none_refuse c.loop-refused.worker)
+      ]);
       due = λ e. elim c.if-len-ring.branch [
         | then-len-ring w ↦ absurd (true≢false (sym w.early-is ∙ e))
         | else-len-ring w ↦

@@ -1,6 +1,7 @@
-use Rattle.std.proofs.Common.{◌≡◌, take}
+use Rattle.std.proofs.Common.{◌≡◌, take, true}
 use Rattle.std.specs.Arc.{arc_value}
 use Rattle.cluster_core.specs.Setups.{rules_for}
+use Rattle.thread_records.specs.Paced.{AreUnmarked}
 use Rattle.thread_roles.specs.Counts.{AreRead, Counts}
 use Rattle.thread_roles.specs.Going.{Going}
 use Rattle.thread_roles.specs.Shown.{number_of, last_published}
@@ -11,6 +12,7 @@ invariant-loop-at g l = record {
   going : Going (rules_for (λ s z. g.S.Scheme.pick s z) (λ h. g.H.FlowHash.plain h) l.plan.setup.now l.plan.catalogue.now) l.plan.packets.now (take l.at l.plan.commands.now) l.plan.node l.plan.ring l.journal;
   parts : l.tally.shares.parts ≡ l.fn.progress.tally.shares.parts;
   counts : AreRead l.plan.packets.now → Counts l.tally.lost l.tally.shares l.journal.outcomes;
+  unmarked : l.plan.paced ≡ true → AreUnmarked l.fn.progress.journal.events → AreUnmarked l.journal.events;
   prepared : number_of arc_value l.newest ≡ l.journal.newest;
   published : last_published l.initial.desk.seat ≡ l.fn.progress.journal.newest → last_published l.desk.seat ≡ l.journal.newest;
 }

@@ -7,7 +7,15 @@ use Rattle.thread_roles.proofs.Goes.{goes_more}
 use Rattle.thread_records.specs.declared.command.Command.TheVariants.{Publish}
 use Rattle.cluster_node.specs.Rules.{Rules}
 use Rattle.cluster_core.specs.Setups.{rules_for}
+use Rattle.thread_records.specs.Paced.{AreUnmarked}
+use Rattle.thread_records.proofs.Paced.{unmarked_install}
 use Rattle.thread_roles.proofs.driving.publish.Goals as goal
+
+pub returns-in-Ok-show_next-clause-unmarked : goal.returns-in-Ok-show_next-clause-unmarked
+returns-in-Ok-show_next-clause-unmarked g c = λ had. subst (λ (j : JournalView). AreUnmarked j.events) (sym c.in-Ok-Installed.ensures.after) (unmarked_install c.knows.result c.args.number c.args.journal.now had)
+
+pub returns-in-Ok-clause-unmarked : goal.returns-in-Ok-clause-unmarked
+returns-in-Ok-clause-unmarked g c = λ had. subst (λ (j : JournalView). AreUnmarked j.events) (sym c.in-Ok.ensures.after) (unmarked_install c.knows.result c.args.number c.args.journal.now had)
 
 pub returns-in-Ok-show_next-clause-counts : goal.returns-in-Ok-show_next-clause-counts
 returns-in-Ok-show_next-clause-counts g c = λ lost shares had. subst (λ (j : JournalView). Counts lost shares j.outcomes) (sym c.in-Ok-Installed.ensures.after) (counts_install c.knows.result c.args.number c.args.journal.now lost shares had)
