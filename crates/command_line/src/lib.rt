@@ -328,6 +328,13 @@ fn splits<'a>(alloc: Global) -> Arg<'a> {
         .action(ArgAction::SetTrue)
 }
 
+fn pace<'a>(alloc: Global) -> Arg<'a> {
+    Arg::new(alloc, "pace")
+        .long("pace")
+        .help("wait for room where a ring is full, so that no packet is dropped for it")
+        .action(ArgAction::SetTrue)
+}
+
 fn list<'a>(alloc: Global) -> Arg<'a> {
     Arg::new(alloc, "list")
         .long("list")
@@ -416,6 +423,7 @@ fn explain<'a>(alloc: Global) -> Result<Command<'a>, AllocError> {
 fn run<'a>(alloc: Global) -> Result<Command<'a>, AllocError> {
     let args = [
         splits(alloc),
+        pace(alloc),
         of_places(alloc),
         scenario(alloc),
         input(alloc),

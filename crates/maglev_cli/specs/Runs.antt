@@ -2,6 +2,7 @@
 use Rattle.std.specs.Prelude.{◌≡◌, ◌⊎◌, Bool, List, ℕ, None}
 use Rattle.std.specs.Io.KnownBytes.{Appends}
 use Rattle.pcap_file.specs.Device.{Tape, Unfailed, PutRefused}
+use Rattle.thread_records.specs.Paced.{NoneRefused}
 use Rattle.thread_roles.specs.declared.fault.RunFault.{RunFault}
 use Rattle.thread_roles.specs.declared.fault.RunFault.TheVariants as threads
 use Rattle.scenario.specs.declared.playing.Played.TheVariants.{OnThreads}
@@ -38,6 +39,11 @@ pub record Runs (splits : Bool) (text : List ℕ) (input input' output output' r
   pub kept : KeepsPromises scenario ran.head.link ran.records ran.history
   pub written : Appends report.bytes report'.bytes answer
   pub unfailed : Unfailed report report'
+
+-- the same, and no ring of its run refused a packet
+pub record PacedRuns (splits : Bool) (text : List ℕ) (input input' output output' report report' : Tape) : Type 0 where
+  pub runs : Runs splits text input input' output output' report report'
+  pub none_refused : NoneRefused runs.ran.nodes
 
 -- the text means a scenario that is played on threads, so that a cluster on threads knows each step, and its run stopped by
 -- this fault

@@ -1,6 +1,6 @@
 //! The command that runs a scenario's cluster on threads.
-ghost use Rattle.std.specs.Prelude.{◌≡◌, IfErr, OnOk};
-ghost use Rattle.maglev_cli.specs.Runs.{Runs, RunCommandFails, failure_fault, threads_fault};
+ghost use Rattle.std.specs.Prelude.{◌≡◌, true, IfErr, OnOk};
+ghost use Rattle.maglev_cli.specs.Runs.{Runs, PacedRuns, RunCommandFails, failure_fault, threads_fault};
 
 use command_faults::{CliFault, put_text};
 use connection_table::TableKey;
@@ -55,34 +55,35 @@ pub fn run<T: Threads + Wait + Sync, I: Source, O: Sink, R: Sink>(
         ((input.new ≡ input.old) × (output.new ≡ output.old) × (report.new ≡ report.old)) (report.new ≡ report.old)) }
 {
     let key = TableKey::fixed();
-    match run_keyed(rt, alloc, key, scenario, input, output, report, splits) {
+    let options = RunOptions {
+        splits,
+        paced: false,
+    };
+    match run_keyed(rt, alloc, key, scenario, options, input, output, report) {
         Ok(()) => Ok(()),
         Err(fault) => Err(fault),
     }
 }
 
-/// The same, with a key for the hash of the connection tables.
+/// The same, with a key for the hash of the connection tables. Where drivers are paced no ring refuses a packet.
 pub fn run_keyed<T: Threads + Wait + Sync, I: Source, O: Sink, R: Sink>(
     rt: &T,
     alloc: Global,
     key: TableKey,
     scenario: &[u8],
+    options: RunOptions,
     input: &mut I,
     output: &mut O,
     report: &mut R,
-    splits: bool,
 ) -> Result<(), CliFault>
-    ensures ran { OnOk result (Runs splits scenario.now (I.tape input.old) (I.tape input.new) (O.tape output.old) (O.tape output.new) (R.tape report.old) (R.tape report.new)) }
-    ensures stopped { IfErr result (λ fault. RunCommandFails fault splits scenario.now (I.tape input.old) (I.tape input.new) (O.tape output.old) (O.tape output.new) (R.tape report.old) (R.tape report.new)
+    ensures ran { OnOk result (Runs options.splits scenario.now (I.tape input.old) (I.tape input.new) (O.tape output.old) (O.tape output.new) (R.tape report.old) (R.tape report.new)) }
+    ensures paced { options.paced ≡ true → OnOk result (PacedRuns options.splits scenario.now (I.tape input.old) (I.tape input.new) (O.tape output.old) (O.tape output.new) (R.tape report.old) (R.tape report.new)) }
+    ensures stopped { IfErr result (λ fault. RunCommandFails fault options.splits scenario.now (I.tape input.old) (I.tape input.new) (O.tape output.old) (O.tape output.new) (R.tape report.old) (R.tape report.new)
         ((input.new ≡ input.old) × (output.new ≡ output.old) × (report.new ≡ report.old)) (report.new ≡ report.old)) }
 {
     let scenario = match read_for_threads(alloc, scenario) {
         Ok(scenario) => scenario,
         Err(fault) => return Err(scenario_fault(fault)),
-    };
-    let options = RunOptions {
-        splits,
-        paced: false,
     };
     match run_scenario(rt, alloc, key, &scenario, options, input, output) {
         Ok(text) => put_text(report, text.as_str()),
