@@ -28,6 +28,15 @@ capture_name capture.Read = codes "Read"
 capture_name capture.Write = codes "Write"
 capture_name capture.Memory = codes "Memory"
 
+-- want of memory is one fault, wherever it comes from
+abbrev pub pool_fault : PoolFault → CliFault
+pool_fault pool.Memory = Memory
+pool_fault fault = Pool fault
+
+abbrev pub capture_fault : PcapFault → CliFault
+capture_fault capture.Memory = Memory
+capture_fault fault = Capture fault
+
 -- a fault's name, for one of the pools or of a capture the name of that, for a step its number behind
 abbrev pub fault_name : CliFault → List ℕ
 fault_name BadSize = codes "BadSize"

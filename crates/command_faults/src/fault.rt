@@ -1,5 +1,5 @@
 ghost use Rattle.std.specs.Prelude.{◌≡◌, ◌++◌};
-ghost use Rattle.command_faults.specs.Faults.{pool_name, capture_name, fault_name, number_text};
+ghost use Rattle.command_faults.specs.Faults.{pool_name, capture_name, pool_fault, capture_fault, fault_name, number_text};
 
 use pcap_file::PcapFault;
 use pool_versions::PoolFault;
@@ -95,6 +95,26 @@ fn capture_name(fault: PcapFault) -> &'static str
         PcapFault::Read => "Read",
         PcapFault::Write => "Write",
         PcapFault::Memory => "Memory",
+    }
+}
+
+/// The fault of a command whose versions were refused.
+pub fn pool_fault(fault: PoolFault) -> CliFault
+    ensures { result ≡ pool_fault fault }
+{
+    match fault {
+        PoolFault::Memory => CliFault::Memory,
+        fault => CliFault::Pool(fault),
+    }
+}
+
+/// The fault of a command that couldn't read or write a capture.
+pub fn capture_fault(fault: PcapFault) -> CliFault
+    ensures { result ≡ capture_fault fault }
+{
+    match fault {
+        PcapFault::Memory => CliFault::Memory,
+        fault => CliFault::Capture(fault),
     }
 }
 

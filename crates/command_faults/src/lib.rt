@@ -5,6 +5,6 @@ mod fault;
 mod finishing;
 mod writing;
 
-pub use fault::CliFault;
+pub use fault::{CliFault, capture_fault, pool_fault};
 pub use finishing::finish;
 pub use writing::put_text;

@@ -13,7 +13,8 @@ use Rattle.run_scenario.specs.declared.failure.RunFailure.{RunFailure}
 use Rattle.run_scenario.specs.declared.failure.RunFailure.TheVariants.{Simulation, Threads}
 use Rattle.run_scenario.specs.Runs.{Ran, Halted}
 use Rattle.run_scenario.specs.Kept.{KeepsPromises}
-use Rattle.scenario_commands.specs.Scenarios.{run_fault, ScenarioFails}
+use Rattle.scenario_faults.specs.Refusals.{ScenarioFails}
+use Rattle.scenario_commands.specs.Scenarios.{run_fault}
 use Rattle.command_faults.specs.declared.fault.CliFault.{CliFault}
 use Rattle.command_faults.specs.declared.fault.CliFault.TheVariants.{Write, Foreign, RingLost, ThreadLost, BookLost, Memory}
 

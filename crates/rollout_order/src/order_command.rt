@@ -10,7 +10,7 @@ use command_faults::{CliFault, put_text};
 use pcap_file::Sink;
 use rollout_plan::{rule_of, version_of};
 use scenario::{Played, Scenario, read};
-use scenario_commands::scenario_fault;
+use scenario_faults::scenario_fault;
 use std::alloc::Global;
 
 // The text of the orders from one version of a scenario to another.

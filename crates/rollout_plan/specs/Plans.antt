@@ -6,7 +6,7 @@ use Rattle.pool_versions.specs.Pool.{version_at}
 use Rattle.scenario.specs.declared.playing.Played.TheVariants.{InTurn}
 use Rattle.scenario.specs.declared.plan.Scenario.{Scenario}
 use Rattle.scenario.specs.Meaning.{Means}
-use Rattle.scenario_commands.specs.Scenarios.{ScenarioFails}
+use Rattle.scenario_faults.specs.Refusals.{ScenarioFails}
 use Rattle.command_faults.specs.declared.fault.CliFault.{CliFault}
 use Rattle.command_faults.specs.declared.fault.CliFault.TheVariants.{Pool, Write, Memory}
 use Rattle.rollout_plan.specs.Tables.{rule_of}

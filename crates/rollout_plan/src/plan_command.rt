@@ -10,7 +10,7 @@ use command_faults::{CliFault, put_text};
 use pcap_file::Sink;
 use pool_versions::{PoolFault, Version};
 use scenario::{Played, Scenario, read};
-use scenario_commands::scenario_fault;
+use scenario_faults::scenario_fault;
 use std::alloc::Global;
 
 /// How the tables of a scenario are made.

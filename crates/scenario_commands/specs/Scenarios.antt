@@ -1,17 +1,10 @@
 -- The commands that play a scenario over a capture.
 use Rattle.std.specs.Prelude.{◌≡◌, ◌≢◌, ◌⊎◌, ℕ, List}
 use Rattle.std.specs.Io.KnownBytes.{Appends}
-use Rattle.pool_versions.specs.declared.catalogue.PoolFault.{PoolFault}
-use Rattle.pool_versions.specs.declared.catalogue.PoolFault.TheVariants as pool
 use Rattle.pcap_file.specs.Device.{Tape, Unfailed, PutRefused}
-use Rattle.pcap_file.specs.declared.format.PcapFault.{PcapFault}
-use Rattle.pcap_file.specs.declared.format.PcapFault.TheVariants as capture
-use Rattle.scenario.specs.declared.fault.ScenarioFault.{ScenarioFault}
-use Rattle.scenario.specs.declared.fault.ScenarioFault.TheVariants as read
-use Rattle.scenario.specs.declared.playing.Played.{Played}
 use Rattle.scenario.specs.declared.playing.Played.TheVariants.{InTurn}
 use Rattle.scenario.specs.declared.plan.Scenario.{Scenario}
-use Rattle.scenario.specs.Meaning.{Means, IsRefused}
+use Rattle.scenario.specs.Meaning.{Means}
 use Rattle.simulation.specs.declared.fault.SimulationFault.{SimulationFault}
 use Rattle.simulation.specs.declared.fault.SimulationFault.TheVariants as run
 use Rattle.simulation.specs.Wires.{unkept}
@@ -20,27 +13,9 @@ use Rattle.simulate_scenario.specs.Described.{StoppedIn}
 use Rattle.simulate_scenario.specs.Answers.{AnswersIn}
 use Rattle.simulate_scenario.specs.Kept.{KeepsPromises}
 use Rattle.command_faults.specs.declared.fault.CliFault.{CliFault}
-use Rattle.command_faults.specs.declared.fault.CliFault.TheVariants.{Write, TooLong, BadMember, BadToml, BadFormat, BadKey, Pool, BadStep, Capture, Memory}
-
--- want of memory is one fault, wherever it comes from
-abbrev pub pool_fault : PoolFault → CliFault
-pool_fault pool.Memory = Memory
-pool_fault fault = Pool fault
-
-abbrev pub capture_fault : PcapFault → CliFault
-capture_fault capture.Memory = Memory
-capture_fault fault = Capture fault
-
--- the fault of a scenario, as the command's
-abbrev pub scenario_fault : ScenarioFault → CliFault
-scenario_fault read.TooLong = TooLong
-scenario_fault read.BadToml = BadToml
-scenario_fault read.BadFormat = BadFormat
-scenario_fault read.BadKey = BadKey
-scenario_fault read.BadMember = BadMember
-scenario_fault (read.Pool fault) = pool_fault fault
-scenario_fault (read.BadStep step) = BadStep step
-scenario_fault read.Memory = Memory
+use Rattle.command_faults.specs.declared.fault.CliFault.TheVariants.{Write, Memory}
+use Rattle.command_faults.specs.Faults.{capture_fault}
+use Rattle.scenario_faults.specs.Refusals.{ScenarioFails}
 
 -- the fault of its run
 abbrev pub run_fault : SimulationFault → CliFault
@@ -58,12 +33,6 @@ pub record Plays (asked : Query) (text : List ℕ) (input input' output output' 
   pub kept : KeepsPromises scenario answers.trace
   pub written : Appends report.bytes report'.bytes answer
   pub unfailed : Unfailed report report'
-
--- the text is no scenario that is played so, for this fault
-pub record ScenarioFails (played : Played) (fault : CliFault) (text : List ℕ) : Type 0 where
-  pub why : ScenarioFault
-  pub named : fault ≡ scenario_fault why
-  pub refused : IsRefused played text why
 
 -- the text means a scenario, and its run stopped by this fault
 pub record RunFails (fault : CliFault) (text : List ℕ) (input input' output output' : Tape) : Type 0 where

@@ -3,6 +3,4 @@
 
 mod playing;
 
-pub use playing::{
-    explain_keyed, explain_run, run_fault, scenario_fault, simulate, simulate_keyed,
-};
+pub use playing::{explain_keyed, explain_run, run_fault, simulate, simulate_keyed};

@@ -1,50 +1,16 @@
 //! The commands that play a scenario over a capture.
 ghost use Rattle.std.specs.Prelude.{◌≡◌, IfErr, OnOk};
 ghost use Rattle.simulation.specs.Wires.{unkept};
-ghost use Rattle.scenario_commands.specs.Scenarios.{Plays, PlayFails, ExplainFails, pool_fault, capture_fault, scenario_fault, run_fault};
+ghost use Rattle.scenario_commands.specs.Scenarios.{Plays, PlayFails, ExplainFails, run_fault};
 
-use command_faults::{CliFault, put_text};
+use command_faults::{CliFault, capture_fault, put_text};
 use connection_table::TableKey;
-use pcap_file::{PcapFault, Sink, Source};
-use pool_versions::PoolFault;
-use scenario::{Played, ScenarioFault, read};
+use pcap_file::{Sink, Source};
+use scenario::{Played, read};
+use scenario_faults::scenario_fault;
 use simulate_scenario::{Query, Wanted, play_scenario};
 use simulation::{Nowhere, Outlet, SimulationFault};
 use std::alloc::Global;
-
-fn pool_fault(fault: PoolFault) -> CliFault
-    ensures { result ≡ pool_fault fault }
-{
-    match fault {
-        PoolFault::Memory => CliFault::Memory,
-        fault => CliFault::Pool(fault),
-    }
-}
-
-fn capture_fault(fault: PcapFault) -> CliFault
-    ensures { result ≡ capture_fault fault }
-{
-    match fault {
-        PcapFault::Memory => CliFault::Memory,
-        fault => CliFault::Capture(fault),
-    }
-}
-
-/// The fault of a command whose scenario was refused.
-pub fn scenario_fault(fault: ScenarioFault) -> CliFault
-    ensures { result ≡ scenario_fault fault }
-{
-    match fault {
-        ScenarioFault::TooLong => CliFault::TooLong,
-        ScenarioFault::BadToml => CliFault::BadToml,
-        ScenarioFault::BadFormat => CliFault::BadFormat,
-        ScenarioFault::BadKey => CliFault::BadKey,
-        ScenarioFault::BadMember => CliFault::BadMember,
-        ScenarioFault::Pool(fault) => pool_fault(fault),
-        ScenarioFault::BadStep(step) => CliFault::BadStep(step),
-        ScenarioFault::Memory => CliFault::Memory,
-    }
-}
 
 /// The fault of a command whose run over a capture stopped.
 pub fn run_fault(fault: SimulationFault) -> CliFault

@@ -6,7 +6,8 @@ use Rattle.pcap_file.specs.declared.format.PcapFault.TheVariants.{ShortHeader, B
 use Rattle.pcap_file.specs.Capture.{HeadRead}
 use Rattle.pcap_file.specs.Device.{Tape, Unfailed}
 use Rattle.pcap_file.specs.Text.{AllRefused}
-use Rattle.scenario_sketch.specs.Sketch.{RecordFails, capture_fault, SketchFails}
+use Rattle.command_faults.specs.Faults.{capture_fault}
+use Rattle.scenario_sketch.specs.Sketch.{RecordFails, SketchFails}
 
 record_refused : (input left : Tape) (fault : PcapFault) → RecordFails fault input left → SketchFails (capture_fault fault) input left
 record_refused input left ShortHeader h = inr h

@@ -43,11 +43,6 @@ pub record RecordFails (fault : PcapFault) (input left : Tape) : Type 0 where
   pub unfailed : Unfailed input at
   pub refused : AllRefused head at left fault
 
--- want of memory is one fault, wherever it comes from
-abbrev pub capture_fault : PcapFault → CliFault
-capture_fault capture.Memory = Memory
-capture_fault fault = Capture fault
-
 -- when `scenario` gives up, and by which fault
 abbrev pub SketchFails : CliFault → Tape → Tape → Type 0
 SketchFails (Capture capture.Memory) input left = ⊥

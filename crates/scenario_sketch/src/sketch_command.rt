@@ -1,26 +1,16 @@
 ghost use Rattle.std.specs.Prelude.{◌≡◌, ◌≢◌, IfOk, IfErr, OnOk, string_bytes};
 ghost use Rattle.pcap_file.specs.Device.{Unfailed};
 ghost use Rattle.command_faults.specs.Printing.{Prints, BreaksOff};
-ghost use Rattle.scenario_sketch.specs.Sketch.{capture_fault, IsSketchOf, SketchFails};
+ghost use Rattle.scenario_sketch.specs.Sketch.{IsSketchOf, SketchFails};
 
 use crate::ranking::ranked;
 use crate::reading::count_records;
 use crate::sketch_text::sketch_text;
 use crate::tally::Tally;
-use command_faults::{CliFault, put_text};
+use command_faults::{CliFault, capture_fault, put_text};
 use connection_table::TableKey;
-use pcap_file::{PcapFault, Sink, Source, read_start};
+use pcap_file::{Sink, Source, read_start};
 use std::alloc::Global;
-
-// A capture's fault as the command's. Want of memory is one fault, wherever it comes from.
-fn capture_fault(fault: PcapFault) -> CliFault
-    ensures { result ≡ capture_fault fault }
-{
-    match fault {
-        PcapFault::Memory => CliFault::Memory,
-        fault => CliFault::Capture(fault),
-    }
-}
 
 // The sketch of the capture that the input is.
 fn text_of<I: Source>(alloc: Global, key: TableKey, input: &mut I) -> Result<String, CliFault>

@@ -16,7 +16,7 @@ use Rattle.scenario_keys.specs.declared.words.SchemeKind.TheVariants.{Maglev}
 use Rattle.scenario.specs.declared.playing.Played.TheVariants.{InTurn}
 use Rattle.scenario.specs.declared.reading.Scenario.{Scenario}
 use Rattle.scenario.specs.Meaning.{Means}
-use Rattle.scenario_commands.specs.Scenarios.{ScenarioFails}
+use Rattle.scenario_faults.specs.Refusals.{ScenarioFails}
 use Rattle.command_faults.specs.declared.fault.CliFault.{CliFault}
 use Rattle.command_faults.specs.declared.fault.CliFault.TheVariants.{Pool, BadScheme}
 use Rattle.table_commands.specs.Pick.{flow_line, drop_line, packet_of, IsHexOf, InputFails}

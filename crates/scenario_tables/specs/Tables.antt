@@ -10,7 +10,7 @@ use Rattle.selection.specs.Picks.{NamedTable, slot_names}
 use Rattle.scenario.specs.declared.playing.Played.TheVariants.{InTurn}
 use Rattle.scenario.specs.declared.reading.Scenario.{Scenario}
 use Rattle.scenario.specs.Meaning.{Means}
-use Rattle.scenario_commands.specs.Scenarios.{ScenarioFails}
+use Rattle.scenario_faults.specs.Refusals.{ScenarioFails}
 use Rattle.command_faults.specs.declared.fault.CliFault.{CliFault}
 use Rattle.command_faults.specs.declared.fault.CliFault.TheVariants.{Pool, BadService, Write, Memory}
 use Rattle.table_commands.specs.Text.{head_line, slot_line, count_line}

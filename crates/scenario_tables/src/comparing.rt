@@ -9,7 +9,7 @@ use command_faults::{CliFault, put_text};
 use pcap_file::Sink;
 use rollout_plan::{members_under, rule_of, version_of};
 use scenario::{Played, Scenario, read};
-use scenario_commands::scenario_fault;
+use scenario_faults::scenario_fault;
 use std::alloc::Global;
 use table_commands::compare_text_of;
 

@@ -12,7 +12,7 @@ use pcap_file::Sink;
 use pool_versions::Backend;
 use rollout_plan::{SlotTable, members_under, rule_of, version_of};
 use scenario::{Played, Scenario, read};
-use scenario_commands::scenario_fault;
+use scenario_faults::scenario_fault;
 use std::alloc::{AllocError, Global};
 use std::fmt;
 

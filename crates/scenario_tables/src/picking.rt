@@ -22,7 +22,7 @@ use pool_versions::Version;
 use rollout_plan::{SlotTable, rule_of, version_of};
 use run_report::CauseText;
 use scenario::{Played, Scenario, SchemeKind, read};
-use scenario_commands::scenario_fault;
+use scenario_faults::scenario_fault;
 use std::alloc::{AllocError, Global};
 use table_commands::datagram_of;
 

@@ -5,7 +5,7 @@ use Rattle.pcap_file.specs.Device.{Unfailed, PutRefused}
 use Rattle.scenario.specs.declared.playing.Played.TheVariants.{OnThreads}
 use Rattle.run_scenario.proofs.Known.{known_steps}
 use Rattle.command_faults.specs.declared.fault.CliFault.TheVariants.{Write}
-use Rattle.scenario_commands.specs.Scenarios.{ScenarioFails}
+use Rattle.scenario_faults.specs.Refusals.{ScenarioFails}
 use Rattle.maglev_cli.specs.Runs.{Runs, PacedRuns, RunFails, RunReportFails}
 use Rattle.maglev_cli.proofs.running.run_keyed.Goals as goal
 

@@ -4,7 +4,8 @@ use Rattle.std.specs.Io.KnownBytes.{Appends}
 use Rattle.pcap_file.specs.Device.{Unfailed, PutRefused}
 use Rattle.scenario.specs.declared.playing.Played.TheVariants.{InTurn}
 use Rattle.command_faults.specs.declared.fault.CliFault.TheVariants.{Write}
-use Rattle.scenario_commands.specs.Scenarios.{Plays, ScenarioFails, RunFails, ReportFails}
+use Rattle.scenario_faults.specs.Refusals.{ScenarioFails}
+use Rattle.scenario_commands.specs.Scenarios.{Plays, RunFails, ReportFails}
 use Rattle.scenario_commands.proofs.playing.play.Goals as goal
 
 pub returns-in-Ok-play_scenario-clause-played : goal.returns-in-Ok-play_scenario-clause-played
