@@ -126,9 +126,14 @@ pub fn run_scenario<R: Threads + Wait + Sync, I: Source, O: Sink>(
     input: &mut I,
     output: &mut O,
 ) -> Result<String, RunFailure>
-    ensures ok { IfOk result (λ s. Ran scenario.now.scenario options.splits (I.tape input.old) (I.tape input.new) (O.tape output.old) (O.tape output.new) (string_bytes s)) }
-    ensures kept { IfOk result (λ s. (ran : Ran scenario.now.scenario options.splits (I.tape input.old) (I.tape input.new) (O.tape output.old) (O.tape output.new) (string_bytes s)) → KeepsPromises scenario.now.scenario ran.head.link ran.records ran.history) }
-    ensures paced { options.paced ≡ true → IfOk result (λ s. (ran : Ran scenario.now.scenario options.splits (I.tape input.old) (I.tape input.new) (O.tape output.old) (O.tape output.new) (string_bytes s)) × NoneRefused ran.nodes) }
+    ensures ok { IfOk result (λ s.
+        Ran scenario.now.scenario options.splits (I.tape input.old) (I.tape input.new) (O.tape output.old) (O.tape output.new) (string_bytes s)) }
+    ensures kept { IfOk result (λ s.
+        (ran : Ran scenario.now.scenario options.splits (I.tape input.old) (I.tape input.new) (O.tape output.old) (O.tape output.new) (string_bytes s)) →
+        KeepsPromises scenario.now.scenario ran.head.link ran.records ran.history) }
+    ensures paced { options.paced ≡ true → IfOk result (λ s.
+        (ran : Ran scenario.now.scenario options.splits (I.tape input.old) (I.tape input.new) (O.tape output.old) (O.tape output.new) (string_bytes s))
+        × NoneRefused ran.nodes) }
     ensures stopped { IfErr result (Halted scenario.now.scenario (I.tape input.old) (I.tape input.new) (O.tape output.old) (O.tape output.new)) }
 {
     let scenario = &scenario.scenario;

@@ -38,7 +38,8 @@ pub(crate) fn stated_with(
     draft: &ServiceDraft,
     words: &[Option<Member>],
 ) -> Result<Result<Service, usize>, AllocError>
-    ensures { IfOk result (λ r. result_map_both plain_service (λ n. n) r ≡ ok_or (stated_with (plain_service_draft draft.now) words.now) (first_none 0 words.now)) }
+    ensures { IfOk result (λ r. result_map_both plain_service (λ n. n) r
+        ≡ ok_or (stated_with (plain_service_draft draft.now) words.now) (first_none 0 words.now)) }
 {
     let members = match members_of(alloc, words)? {
         Ok(members) => members,
@@ -164,7 +165,8 @@ fn change_one(
     draft: &ServiceDraft,
 ) -> Result<Result<(), BadWord>, AllocError>
     ensures { let d = plain_service_draft draft.now in let ss = map plain_service services.old.items in
-        IfOk result (λ r. result_map_both (λ _. map plain_service services.new.items) (λ w. w) r ≡ ok_or (with_changed d ss) (bad_in_changes number d (service_for d ss))) }
+        IfOk result (λ r. result_map_both (λ _. map plain_service services.new.items) (λ w. w) r
+        ≡ ok_or (with_changed d ss) (bad_in_changes number d (service_for d ss))) }
 {
     let place = place_of(&key_of(draft), services.as_slice());
     if place >= services.len() {

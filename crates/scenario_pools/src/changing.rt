@@ -130,7 +130,8 @@ pub(crate) fn all_changed(
     services: &[Service],
 ) -> Result<Result<Vec<Service>, usize>, AllocError>
     ensures { let ss = map plain_service services.now in
-        IfOk result (λ r. result_map_both (λ v. map plain_service v.items) (λ n. n) r ≡ ok_or (all_changed changes.now ss) (bad_change_of_all 0 changes.now ss)) }
+        IfOk result (λ r. result_map_both (λ v. map plain_service v.items) (λ n. n) r
+        ≡ ok_or (all_changed changes.now ss) (bad_change_of_all 0 changes.now ss)) }
 {
     let mut services = copied_services(alloc, services)?;
     for (n, change) in changes.iter().enumerate() {
