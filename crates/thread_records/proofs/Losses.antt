@@ -11,7 +11,7 @@ use Rattle.cluster_node.specs.declared.packets.Packet.TheVariants.{Good, Bad}
 use Rattle.cluster_node.specs.declared.events.Event.TheVariants.{Install}
 use Rattle.cluster_node.specs.declared.outcomes.Outcome.{Outcome}
 use Rattle.cluster_node.specs.declared.outcomes.Outcome.TheVariants.{Installed, Placed, Forward, Dropped, Restarted, Refused}
-use Rattle.cluster_node.specs.declared.outcomes.Reason.TheVariants.{NoPacket, UnknownVersion, NotNewer}
+use Rattle.cluster_node.specs.declared.outcomes.Reason.TheVariants.{UnknownVersion, NotNewer}
 use Rattle.cluster_node.specs.Record.{of_choice}
 use Rattle.cluster_core.specs.OutcomeCounts.{is_arrival}
 use Rattle.thread_records.specs.declared.command.Command.{Command}

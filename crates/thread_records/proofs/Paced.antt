@@ -1,7 +1,7 @@
 -- A history that marks no worker goes on.
 use Rattle.std.proofs.Common.{◌≡◌, ℕ, ◌+◌, Bool, true, false, List, [], ◌∷◌, ◌++◌, Result, Ok, Err, refl, sym, subst}
 use Rattle.std.specs.Prelude.{nat_lt, if◌then◌else◌, OnOk}
-use Rattle.std.proofs.lemmas.List.Elements.{All-append, All-push}
+use Rattle.std.proofs.lemmas.List.Elements.{All-nil, All-push}
 use Rattle.cluster_node.specs.declared.events.Event.{Event}
 use Rattle.cluster_node.specs.declared.events.Event.TheVariants.{Install, Arrive, Restart}
 use Rattle.cluster_node.specs.declared.outcomes.Outcome.TheVariants.{Installed, Refused}
@@ -9,7 +9,6 @@ use Rattle.cluster_node.specs.declared.outcomes.Reason.TheVariants.{NotNewer}
 use Rattle.thread_records.specs.declared.nodes.NodeRecord.{NodeRecord}
 use Rattle.thread_records.specs.declared.step.Handled.{Handled}
 use Rattle.thread_records.specs.Histories.{serve_of}
-use Rattle.thread_records.specs.Joins.{all_events}
 use Rattle.thread_records.specs.Journals.{JournalView, with_event, with_install, with_serve, no_marks}
 use Rattle.thread_records.specs.Ends.{with_serves, with_all_serves, with_life_ended}
 use Rattle.thread_records.specs.Paced.{IsUnmarked, AreUnmarked, NoneRefused}
@@ -43,7 +42,10 @@ unmarked_ended hss j had =
     let served = with_all_serves 0 hss j in
     unmarked_more served.events (Restart served.node) (unmarked_all_serves 0 hss j had) tt
 
--- one node's history after another
-pub unmarked_joined : (rs : List NodeRecord) → NoneRefused rs → AreUnmarked (all_events rs)
-unmarked_joined [] had = tt
-unmarked_joined (r ∷ rs) had = All-append (λ (x : Event). IsUnmarked x) r.events.items (all_events rs) had.0 (unmarked_joined rs had.1)
+-- a history of no events
+pub unmarked_none : AreUnmarked []
+unmarked_none = All-nil (λ (x : Event). IsUnmarked x)
+
+-- no nodes
+pub none_of_none : NoneRefused []
+none_of_none = All-nil (λ (r : NodeRecord). AreUnmarked r.events.items)

@@ -1,13 +1,12 @@
 -- A worker's record, by the rules of its run.
-use Rattle.std.proofs.Common.{◌≡◌, ℕ, ◌+◌, ◌<◌, ◌≤◌, Bool, true, List, [], ◌∷◌, length, map, take, get_or, suc, zero, Option, Some, None, refl, sym, ap, ◌∙◌, subst, arith}
+use Rattle.std.proofs.Common.{◌≡◌, ℕ, ◌+◌, ◌<◌, ◌≤◌, Bool, true, List, [], ◌∷◌, length, map, take, get_or, suc, zero, Option, Some, None, sym, ap, ◌∙◌, subst, arith}
 use Rattle.std.specs.Prelude.{option_and_then, IsSomeAnd, All}
 use Rattle.std.proofs.Math.Path.{fun_ext}
 use Rattle.std.proofs.lemmas.List.{take_more, length-map, length-take-le}
 use Rattle.five_tuple.specs.declared.Flow.{Flow}
 use Rattle.selection.specs.Candidates.{Candidates, candidates_under}
-use Rattle.forwarder.specs.Serving.{Pick, Serving, told, told_after}
+use Rattle.forwarder.specs.Serving.{Pick}
 use Rattle.cluster_node.specs.Rules.{Rules}
-use Rattle.pool_versions.specs.declared.backend.Backend.{Backend}
 use Rattle.pool_versions.specs.declared.service.Version.{Version}
 use Rattle.pool_versions.specs.Pool.{Pools, version_at}
 use Rattle.pool_versions.specs.Same.{AreSame}

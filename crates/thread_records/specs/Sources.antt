@@ -1,5 +1,5 @@
 -- What prepared versions were made from.
-use Rattle.std.specs.Prelude.{◌≡◌, ℕ, Bool, true, List, [], ◌∷◌, ◌++◌, Option, Some, None, IsSomeAnd, ◌⊎◌, All}
+use Rattle.std.specs.Prelude.{◌≡◌, ℕ, Bool, true, List, [], ◌∷◌, ◌++◌, IsSomeAnd, ◌⊎◌}
 use Rattle.pool_versions.specs.declared.service.Version.{Version}
 use Rattle.pool_versions.specs.Pool.{Pools, version_at}
 use Rattle.pool_versions.specs.Same.{AreSame}

@@ -9,6 +9,7 @@ use Rattle.cluster_node.specs.Rules.{Rules}
 use Rattle.cluster_core.specs.Setups.{rules_for}
 use Rattle.thread_records.specs.declared.command.Command.{Command}
 use Rattle.thread_records.specs.declared.nodes.NodeRecord.{NodeRecord}
+use Rattle.thread_records.proofs.Paced.{none_of_none}
 use Rattle.thread_roles.specs.Counts.{counted}
 use Rattle.thread_roles.specs.Going.{Asked, asked_by}
 use Rattle.thread_roles.specs.declared.fault.RunFault.{RunFault}
@@ -83,7 +84,7 @@ loop-handle-init g c =
       numbered = subst (λ (l : List (PromisedHandle _ (OfNode _ _ _))). AreNumbered 0 (map (λ x. x.promise.node) l)) (sym items) drivers.numbered;
       lists = λ none. ap (λ (l : List (PromisedHandle _ (OfNode _ _ _))). map (λ x. x.promise.commands.now) l) items ∙ drivers.lists none;
       started = λ none. none;
-      so_far = λ none. subst (λ (rs : List NodeRecord). AreCounted (rules_for (λ s z. g.S.Scheme.pick s z) (λ h. g.H.FlowHash.plain h) all.setup all.catalogue) all [] rs shares) (sym c.new.ensures.items) (record { runs = tt; counts = λ read. fresh; unmarked = λ paced. tt });
+      so_far = λ none. subst (λ (rs : List NodeRecord). AreCounted (rules_for (λ s z. g.S.Scheme.pick s z) (λ h. g.H.FlowHash.plain h) all.setup all.catalogue) all [] rs shares) (sym c.new.ensures.items) (record { runs = tt; counts = λ read. fresh; unmarked = λ paced. none_of_none });
       refused = λ lost. lost;
       told = λ none. ([], tt, subst (λ (f : Option RunFault). IsSumUp [] f) (sym none) none_yet);
       parts = λ none. subst (λ (l : List (PromisedHandle _ (OfNode _ _ _))). shares.parts + length l * (all.setup.workers + 1) ≡ c.args.supply.shares.parts) (sym items) (drivers.parts none);

@@ -5,6 +5,7 @@ use Rattle.thread_records.specs.Histories.{commands_of}
 use Rattle.thread_records.specs.Journals.{JournalView}
 use Rattle.thread_records.specs.Losses.{losses, KeepDrained}
 use Rattle.thread_records.specs.Paced.{AreUnmarked}
+use Rattle.thread_records.proofs.Paced.{unmarked_none}
 use Rattle.thread_roles.specs.Counts.{Counts}
 use Rattle.node_threads.proofs.node.first_life.Goals as goal
 
@@ -24,6 +25,6 @@ new-requires-2 g c =
         };
         some = omega (arith, c.requires.parts);
         counts = λ read. subst (λ (j : JournalView). Counts false c.args.shares j.outcomes) (sym fresh) (λ e. c.requires.fresh);
-        unmarked = λ paced. subst (λ (j : JournalView). AreUnmarked j.events) (sym fresh) tt;
+        unmarked = λ paced. subst (λ (j : JournalView). AreUnmarked j.events) (sym fresh) unmarked_none;
       };
     }

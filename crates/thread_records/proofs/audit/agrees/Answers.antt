@@ -1,10 +1,9 @@
-use Rattle.std.proofs.Common.{◌≡◌, ◌+◌, ◌<◌, ◌^◌, ◌++◌, ◌∷◌, [], List, length, refl, arith}
+use Rattle.std.proofs.Common.{◌≡◌, ◌+◌, ◌<◌, ◌^◌, ◌++◌, ◌∷◌, [], length, refl, arith}
 use Rattle.std.proofs.lemmas.List.{length_push}
 use Rattle.cluster_node.specs.Rules.{Rules}
 use Rattle.cluster_node.specs.declared.events.Event.TheVariants.{Install}
-use Rattle.cluster_node.specs.declared.outcomes.Outcome.{Outcome}
 use Rattle.cluster_core.specs.Setups.{rules_for}
-use Rattle.cluster_core.proofs.Nodes.{kept_first, kept_more, kept_whole, was_read}
+use Rattle.cluster_core.proofs.Nodes.{kept_first, kept_more, kept_whole}
 use Rattle.thread_records.proofs.Audits.{agrees_first, agrees_more, agrees_all}
 use Rattle.thread_records.proofs.audit.agrees.Goals as goal
 

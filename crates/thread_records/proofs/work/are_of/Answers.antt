@@ -1,4 +1,4 @@
-use Rattle.std.proofs.Common.{refl, arith}
+use Rattle.std.proofs.Common.{refl}
 use Rattle.std.proofs.lemmas.Bool.{false≢true}
 use Rattle.cluster_core.specs.Setups.{rules_for}
 use Rattle.thread_records.specs.Works.{IsOf, IsWorkerOf}

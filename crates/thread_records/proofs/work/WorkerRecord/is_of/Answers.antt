@@ -1,6 +1,5 @@
-use Rattle.std.proofs.Common.{◌≡◌, ap, ◌∙◌, ℕ, Option}
+use Rattle.std.proofs.Common.{ap, ◌∙◌, ℕ, Option}
 use Rattle.thread_records.specs.Workers.{Limits}
-use Rattle.thread_records.specs.Works.{WorkView, IsOf}
 use Rattle.thread_records.proofs.Rules.{all_agree}
 use Rattle.thread_records.proofs.work.WorkerRecord.is_of.Goals as goal
 
