@@ -16,30 +16,30 @@ use Rattle.connection_changes.specs.Books.{clock_told, same_worker, life_in, clo
 
 -- ---- a clock that was put
 
-told_here : (life at : ℕ) → clock_told life (Some (record { life = life; at = at })) ≡ at
-told_here life at = cond-true (life == life) at 0 (eq-eqb life life refl)
+told_here : (life now at : ℕ) → life ≡ now → clock_told now (Some (record { life = life; at = at })) ≡ at
+told_here life now at is = cond-true (life == now) at 0 (eq-eqb life now is)
 
 both : (a b : Bool) → (a && b) ≡ true → (a ≡ true) × (b ≡ true)
 both true b h = (refl, h)
 both false b h = absurd cc
 
-module _ (a b : Clocks) (node worker at : ℕ) (same : b.lives ≡ a.lives)
-  (puts : (q : WorkerKey) → get same_worker b.clocks q ≡ cond (same_worker (record { node = node; worker = worker }) q) (Some (record { life = life_in a node; at = at })) (get same_worker a.clocks q)) where
+module _ (a b : Clocks) (node worker life at : ℕ) (life_is : life ≡ life_in a node) (same : b.lives ≡ a.lives)
+    (puts : (q : WorkerKey) → get same_worker b.clocks q ≡ cond (same_worker (record { node = node; worker = worker }) q) (Some (record { life = life; at = at })) (get same_worker a.clocks q)) where
   put_lives : (n : ℕ) → life_in b n ≡ life_in a n
   put_lives n = ap (λ (l : Numbers). slice_index l.all.items n) same
 
   pub put_clock : (n w : ℕ) → clock_in b n w ≡ (if node == n && worker == w then at else clock_in a n w)
   put_clock n w = ap (λ (l : ℕ). clock_told l (get same_worker b.clocks (record { node = n; worker = w }))) (put_lives n) ∙ ap (λ o. clock_told (life_in a n) o) (puts (record { node = n; worker = w })) ∙ go (node == n && worker == w) refl
     where
-      go : (t : Bool) → (node == n && worker == w) ≡ t → clock_told (life_in a n) (cond t (Some (record { life = life_in a node; at = at })) (get same_worker a.clocks (record { node = n; worker = w }))) ≡ (if t then at else clock_in a n w)
-      go true e = subst (λ (m : ℕ). clock_told (life_in a m) (Some (record { life = life_in a node; at = at })) ≡ at) (eqb-true node n (both (node == n) (worker == w) e).0) (told_here (life_in a node) at)
+      go : (t : Bool) → (node == n && worker == w) ≡ t → clock_told (life_in a n) (cond t (Some (record { life = life; at = at })) (get same_worker a.clocks (record { node = n; worker = w }))) ≡ (if t then at else clock_in a n w)
+      go true e = told_here life (life_in a n) at (life_is ∙ ap (λ (m : ℕ). life_in a m) (eqb-true node n (both (node == n) (worker == w) e).0))
       go false e = refl
 
   pub put_young : AreYoung a → AreYoung b
   put_young young q = subst (λ (l : ℕ). IfSome (get same_worker b.clocks q) (λ k. k.life ≤ l)) (sym (put_lives q.node)) (subst (λ o. IfSome o (λ k. k.life ≤ life_in a q.node)) (sym (puts q)) (go (node == q.node && worker == q.worker) refl))
     where
-      go : (t : Bool) → (node == q.node && worker == q.worker) ≡ t → IfSome (cond t (Some (record { life = life_in a node; at = at })) (get same_worker a.clocks q)) (λ k. k.life ≤ life_in a q.node)
-      go true e = subst (λ (m : ℕ). life_in a node ≤ life_in a m) (eqb-true node q.node (both (node == q.node) (worker == q.worker) e).0) (let g : life_in a node ≤ life_in a node = omega arith in g)
+      go : (t : Bool) → (node == q.node && worker == q.worker) ≡ t → IfSome (cond t (Some (record { life = life; at = at })) (get same_worker a.clocks q)) (λ k. k.life ≤ life_in a q.node)
+      go true e = let is : life ≡ life_in a q.node = life_is ∙ ap (λ (m : ℕ). life_in a m) (eqb-true node q.node (both (node == q.node) (worker == q.worker) e).0) in let g : life ≤ life_in a q.node = omega arith in g
       go false e = young q
 
 -- a worker's clock once it has served a packet
@@ -84,9 +84,9 @@ young_yet None life life' low h = tt
 young_yet (Some k) life life' low h = let below : k.life ≤ life = h in let g : k.life ≤ life' = omega arith in g
 
 module _ (s : LogEntry) (past : List LogEntry) (a b c d : Clocks) (was : AreClocksOf past a)
-  (times : (k : ℕ) → slice_index b.times.all.items k ≡ time_with (arrived_by s.event s.packet) k (slice_index a.times.all.items k)) (b_is : b ≡ record a { times = b.times })
-  (lives : (n : ℕ) → life_in c n ≡ life_with (begun_by s.event s.outcome) n (life_in b n)) (c_is : c ≡ record b { lives = c.lives })
-  (d_is : d ≡ record c { clocks = d.clocks }) where
+    (times : (k : ℕ) → slice_index b.times.all.items k ≡ time_with (arrived_by s.event s.packet) k (slice_index a.times.all.items k)) (b_is : b ≡ record a { times = b.times })
+    (lives : (n : ℕ) → life_in c n ≡ life_with (begun_by s.event s.outcome) n (life_in b n)) (c_is : c ≡ record b { lives = c.lives })
+    (d_is : d ≡ record c { clocks = d.clocks }) where
   c_times : c.times ≡ b.times
   c_times = ap (λ (z : Clocks). z.times) c_is
 
@@ -126,3 +126,15 @@ module _ (s : LogEntry) (past : List LogEntry) (a b c d : Clocks) (was : AreCloc
   pub clocks_noted : {E : Type 0} (r : Result (Unit {0}) E) → OnOk r ((n w : ℕ) → clock_in d n w ≡ clock_with (served_by s.event s.outcome) (λ k. slice_index c.times.all.items k) n w (clock_in c n w)) → (AreYoung c → OnOk r (AreYoung d)) → OnOk r (AreClocksOf (s ∷ past) d)
   clocks_noted (Ok u) clocks young = clocks_more clocks (young c_young)
   clocks_noted (Err e) clocks young = tt
+
+-- the same, by what was told of the event
+pub noted_by : {E : Type 0} (r : Result (Unit {0}) E) (s : LogEntry) (past : List LogEntry) (a b c d : Clocks) (arrived : Option Arrived) (begun : Option ℕ) (served : Option Served) → AreClocksOf past a
+    → arrived ≡ arrived_by s.event s.packet → begun ≡ begun_by s.event s.outcome → served ≡ served_by s.event s.outcome
+    → ((k : ℕ) → slice_index b.times.all.items k ≡ time_with arrived k (slice_index a.times.all.items k)) → b ≡ record a { times = b.times }
+    → ((n : ℕ) → life_in c n ≡ life_with begun n (life_in b n)) → c ≡ record b { lives = c.lives }
+    → OnOk r ((n w : ℕ) → clock_in d n w ≡ clock_with served (λ k. slice_index c.times.all.items k) n w (clock_in c n w)) → (AreYoung c → OnOk r (AreYoung d)) → d ≡ record c { clocks = d.clocks } → OnOk r (AreClocksOf (s ∷ past) d)
+noted_by r s past a b c d arrived begun served was arrived_is begun_is served_is times b_is lives c_is clocks young d_is =
+    clocks_noted s past a b c d was
+    (λ k. times k ∙ ap (λ (o : Option Arrived). time_with o k (slice_index a.times.all.items k)) arrived_is) b_is
+    (λ n. lives n ∙ ap (λ (o : Option ℕ). life_with o n (life_in b n)) begun_is) c_is d_is r
+    (subst (λ (o : Option Served). OnOk r ((n w : ℕ) → clock_in d n w ≡ clock_with o (λ k. slice_index c.times.all.items k) n w (clock_in c n w))) served_is clocks) young

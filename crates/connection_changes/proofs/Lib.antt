@@ -1,5 +1,7 @@
+pub mod Zeros
 pub mod Clocked
 pub mod Steps
-pub mod Walks
+pub mod Kept
+pub mod Told
 pub mod Counts
 pub mod Alone

@@ -27,6 +27,9 @@ use Rattle.connection_changes.specs.Books.{last_site, with_site, AreSites}
 
 -- ---- what is sent at an event
 
+abbrev pair : Sending → Sending → Split
+pair a b = record { first = a; later = b }
+
 abbrev newest : LogEntry → List LogEntry → Option Sending
 newest s past = sent_by (length past) s.event s.outcome
 
@@ -56,18 +59,18 @@ site_rest s past k low = cond-false (k == length past) (site_in (s ∷ past) s.o
 
 last_below : (past : List LogEntry) (x : Flow) (f : Sending) → last_sent past x ≡ Some f → f.number < length past
 last_below [] x f h = absurd cc
-last_below (s ∷ past) x f h = go (newest s past) refl h
+last_below (s ∷ past) x f h = go (last_below past x f) (newest s past) refl h
   where
-    by : (t : Sending) → newest s past ≡ Some t → (b : Bool) → (if b then Some t else last_sent past x) ≡ Some f → f.number < length (s ∷ past)
-    by t e true h =
+    by : (last_sent past x ≡ Some f → f.number < length past) → (t : Sending) → newest s past ≡ Some t → (b : Bool) → (if b then Some t else last_sent past x) ≡ Some f → f.number < length (s ∷ past)
+    by older t e true h =
         let at : t.number ≡ length past = sent_number (length past) s.event s.outcome t e in
         let is : t.number ≡ f.number = ap (λ (z : Sending). z.number) (same_Some t f h) in
         let g : f.number < length (s ∷ past) = omega arith in g
-    by t e false h = let low : f.number < length past = last_below past x f h in let g : f.number < length (s ∷ past) = omega arith in g
+    by older t e false h = let low : f.number < length past = older h in let g : f.number < length (s ∷ past) = omega arith in g
 
-    go : (o : Option Sending) → newest s past ≡ o → last_after x o (last_sent past x) ≡ Some f → f.number < length (s ∷ past)
-    go None e h = let low : f.number < length past = last_below past x f h in let g : f.number < length (s ∷ past) = omega arith in g
-    go (Some t) e h = by t e (same_flow t.flow x) h
+    go : (last_sent past x ≡ Some f → f.number < length past) → (o : Option Sending) → newest s past ≡ o → last_after x o (last_sent past x) ≡ Some f → f.number < length (s ∷ past)
+    go older None e h = let low : f.number < length past = older h in let g : f.number < length (s ∷ past) = omega arith in g
+    go older (Some t) e h = by older t e (same_flow t.flow x) h
 
 site_yet : (s : LogEntry) (past : List LogEntry) (x : Flow) → option_map (λ f. site_at (s ∷ past) f.number) (last_sent past x) ≡ last_site past x
 site_yet s past x = go (last_sent past x) refl
@@ -116,7 +119,7 @@ last_unsent s past none x =
 -- ---- where a packet was sent
 
 module _ (s : LogEntry) (past : List LogEntry) (flow : Flow) (sent : sent_flow s.outcome ≡ Some flow) where
-  later : Sending
+  abbrev later : Sending
   later = (one_sent (length past) s.event s.outcome flow sent).0
 
   later_is : newest s past ≡ Some later
@@ -156,19 +159,19 @@ module _ (s : LogEntry) (past : List LogEntry) (flow : Flow) (sent : sent_flow s
       at_seam [] qs = refl
       at_seam (p ∷ ps) qs = at_seam ps qs
 
-  two_cases : (o : Option Sending) → (split_after o later ≡ []) ⊎ ((f : Sending) × (o ≡ Some f) × (split_after o later ≡ record { first = f; later = later } ∷ []))
+  two_cases : (o : Option Sending) → (split_after o later ≡ []) ⊎ ((f : Sending) × (o ≡ Some f) × (split_after o later ≡ pair f later ∷ []))
   two_cases None = inl refl
   two_cases (Some f) = go (same_backend f.backend later.backend)
     where
-      go : (b : Bool) → ((if b then [] else record { first = f; later = later } ∷ []) ≡ []) ⊎ ((g : Sending) × (Some f ≡ Some g) × ((if b then [] else record { first = f; later = later } ∷ []) ≡ record { first = g; later = later } ∷ []))
+      go : (b : Bool) → ((if b then [] else pair f later ∷ []) ≡ []) ⊎ ((g : Sending) × (Some f ≡ Some g) × ((if b then [] else pair f later ∷ []) ≡ pair g later ∷ []))
       go true = inl refl
       go false = inr (f, refl, refl)
 
   pub no_split_same : slice_get (splits_of (s ∷ past)) (length (splits_of past)) ≡ None → split_by (λ x. last_sent past x) (newest s past) ≡ []
   no_split_same none = ⊎_elim
       (λ (h : split_after (last_sent past flow) later ≡ []). more_is (last_sent past flow) refl ∙ h)
-      (λ (h : (f : Sending) × (last_sent past flow ≡ Some f) × (split_after (last_sent past flow) later ≡ record { first = f; later = later } ∷ [])).
-      let some : slice_get (splits_of (s ∷ past)) (length (splits_of past)) ≡ Some (record { first = h.0; later = later }) = behind _ (more_is (last_sent past flow) refl ∙ h.2) in
+      (λ (h : (f : Sending) × (last_sent past flow ≡ Some f) × (split_after (last_sent past flow) later ≡ pair f later ∷ [])).
+      let some : slice_get (splits_of (s ∷ past)) (length (splits_of past)) ≡ Some (pair h.0 later) = behind _ (more_is (last_sent past flow) refl ∙ h.2) in
       absurd (none-some _ (sym none ∙ some)))
       (two_cases (last_sent past flow))
 
@@ -183,8 +186,8 @@ module _ (s : LogEntry) (past : List LogEntry) (flow : Flow) (sent : sent_flow s
       (λ (h : split_after (last_sent past flow) later ≡ []).
       let none : slice_get (splits_of (s ∷ past)) (length (splits_of past)) ≡ None = behind _ (more_is (last_sent past flow) refl ∙ h) in
       absurd (none-some q (sym none ∙ there)))
-      (λ (h : (f : Sending) × (last_sent past flow ≡ Some f) × (split_after (last_sent past flow) later ≡ record { first = f; later = later } ∷ [])).
-      let made : Split = record { first = h.0; later = later } in
+      (λ (h : (f : Sending) × (last_sent past flow ≡ Some f) × (split_after (last_sent past flow) later ≡ pair f later ∷ [])).
+      let made : Split = pair h.0 later in
       let some : slice_get (splits_of (s ∷ past)) (length (splits_of past)) ≡ Some made = behind _ (more_is (last_sent past flow) refl ∙ h.2) in
       let is : made ≡ q = same_Some made q (sym some ∙ there) in
       subst (λ (p : Split). IsNew p first site) is record {

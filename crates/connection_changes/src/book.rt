@@ -1,5 +1,5 @@
 //! The changes so far.
-ghost use Rattle.std.specs.Prelude.{◌≡◌, ◌∷◌, [], List, length, OnOk, option_copied};
+ghost use Rattle.std.specs.Prelude.{◌≡◌, ◌∷◌, [], List, length, OnOk, option_copied, slice_get};
 ghost use Rattle.cluster_node.specs.declared.events.LogEntry.{LogEntry};
 ghost use Rattle.event_trace.specs.Noting.{said_by};
 ghost use Rattle.run_report.specs.Books.{IsBookOf};
@@ -14,7 +14,7 @@ use crate::sites::Site;
 use cluster_node::{Event, Outcome, Packet};
 use connection_table::TableKey;
 use five_tuple::Flow;
-use run_report::SplitBook;
+use run_report::{Split, SplitBook};
 use std::alloc::{AllocError, Global};
 use std::fmt;
 
@@ -49,6 +49,12 @@ fn sent_flow(outcome: &Outcome) -> Option<Flow>
     }
 }
 
+fn split_at(splits: &[Split], place: usize) -> Option<Split>
+    ensures { result ≡ slice_get splits.now place }
+{
+    splits.get(place).copied()
+}
+
 impl ChangeBook {
     ghost use Rattle.connection_changes.specs.Books.{IsChangeBookOf, IsNoted};
 
@@ -72,7 +78,7 @@ impl ChangeBook {
         let Some(first) = self.last.put(flow, site)? else {
             return Ok(());
         };
-        let Some(split) = self.splits.splits().get(before).copied() else {
+        let Some(split) = split_at(self.splits.splits(), before) else {
             return Ok(());
         };
         let change = Change {

@@ -49,13 +49,7 @@ fn clock_told(life: u64, last: Option<LifeClock>) -> u64
 {
     match last {
         None => 0,
-        Some(last) => {
-            if last.life == life {
-                last.at
-            } else {
-                0
-            }
-        }
+        Some(last) => { if last.life == life { last.at } else { 0 } }
     }
 }
 

@@ -1,5 +1,5 @@
 //! How many connections changed their server, how often, and why.
-ghost use Rattle.std.specs.Prelude.{◌≡◌, ◌++◌, List, map, codes, IfOk, OnOk, string_bytes};
+ghost use Rattle.std.specs.Prelude.{◌≡◌, ◌++◌, List, map, IfOk, OnOk, string_bytes};
 ghost use Rattle.std.specs.List.{flat_map, count_by};
 ghost use Rattle.cluster_node.specs.declared.events.LogEntry.{LogEntry};
 ghost use Rattle.selection.specs.Candidates.{candidates_of};
@@ -69,13 +69,10 @@ fn push_causes(text: &mut String, made: &[ChangeCause]) -> Result<(), AllocError
     Ok(())
 }
 
-fn push_totals(text: &mut String, connections: usize, changed: usize, changes: usize) -> Result<(), AllocError>
-    ensures { OnOk result (string_bytes text.new ≡ string_bytes text.old ++ (count_line (codes "connections") connections ++ (count_line (codes "changed") changed ++ count_line (codes "changes") changes))) }
+fn push_count(text: &mut String, name: &str, count: usize) -> Result<(), AllocError>
+    ensures { OnOk result (string_bytes text.new ≡ string_bytes text.old ++ count_line name.now count) }
 {
-    write!(
-        text,
-        "connections {connections}\nchanged {changed}\nchanges {changes}\n"
-    )
+    write!(text, "{name} {count}\n")
 }
 
 /// Puts after a text how many connections there were, how many of them changed their server, how often they did, and how often
@@ -93,6 +90,8 @@ pub fn push_summary(
 {
     let changes = book.changes();
     let causes = causes_of(alloc, catalogue, idle, changes)?;
-    push_totals(text, book.splits().flows(), book.changed(), changes.len())?;
+    push_count(text, "connections", book.splits().flows())?;
+    push_count(text, "changed", book.changed())?;
+    push_count(text, "changes", changes.len())?;
     push_causes(text, causes.as_slice())
 }
