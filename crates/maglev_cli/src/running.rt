@@ -51,8 +51,10 @@ pub fn run<T: Threads + Wait + Sync, I: Source, O: Sink, R: Sink>(
     report: &mut R,
     splits: bool,
 ) -> Result<(), CliFault>
-    ensures ran { OnOk result (Runs splits scenario.now (I.tape input.old) (I.tape input.new) (O.tape output.old) (O.tape output.new) (R.tape report.old) (R.tape report.new)) }
-    ensures stopped { IfErr result (λ fault. RunCommandFails fault splits scenario.now (I.tape input.old) (I.tape input.new) (O.tape output.old) (O.tape output.new) (R.tape report.old) (R.tape report.new)
+    ensures ran { OnOk result (Runs splits scenario.now (I.tape input.old) (I.tape input.new)
+        (O.tape output.old) (O.tape output.new) (R.tape report.old) (R.tape report.new)) }
+    ensures stopped { IfErr result (λ fault. RunCommandFails fault splits scenario.now (I.tape input.old) (I.tape input.new)
+        (O.tape output.old) (O.tape output.new) (R.tape report.old) (R.tape report.new)
         ((input.new ≡ input.old) × (output.new ≡ output.old) × (report.new ≡ report.old)) (report.new ≡ report.old)) }
 {
     let key = TableKey::fixed();
@@ -77,9 +79,12 @@ pub fn run_keyed<T: Threads + Wait + Sync, I: Source, O: Sink, R: Sink>(
     output: &mut O,
     report: &mut R,
 ) -> Result<(), CliFault>
-    ensures ran { OnOk result (Runs options.splits scenario.now (I.tape input.old) (I.tape input.new) (O.tape output.old) (O.tape output.new) (R.tape report.old) (R.tape report.new)) }
-    ensures paced { options.paced ≡ true → OnOk result (PacedRuns options.splits scenario.now (I.tape input.old) (I.tape input.new) (O.tape output.old) (O.tape output.new) (R.tape report.old) (R.tape report.new)) }
-    ensures stopped { IfErr result (λ fault. RunCommandFails fault options.splits scenario.now (I.tape input.old) (I.tape input.new) (O.tape output.old) (O.tape output.new) (R.tape report.old) (R.tape report.new)
+    ensures ran { OnOk result (Runs options.splits scenario.now (I.tape input.old) (I.tape input.new)
+        (O.tape output.old) (O.tape output.new) (R.tape report.old) (R.tape report.new)) }
+    ensures paced { options.paced ≡ true → OnOk result (PacedRuns options.splits scenario.now
+        (I.tape input.old) (I.tape input.new) (O.tape output.old) (O.tape output.new) (R.tape report.old) (R.tape report.new)) }
+    ensures stopped { IfErr result (λ fault. RunCommandFails fault options.splits scenario.now
+        (I.tape input.old) (I.tape input.new) (O.tape output.old) (O.tape output.new) (R.tape report.old) (R.tape report.new)
         ((input.new ≡ input.old) × (output.new ≡ output.old) × (report.new ≡ report.old)) (report.new ≡ report.old)) }
 {
     let scenario = match read_for_threads(alloc, scenario) {

@@ -48,7 +48,8 @@ fn better(best: Option<Step>, place: usize, moved: u64) -> Step
 
 // The best step.
 fn best_step(alloc: Global, rollout: &Rollout, marks: &[bool]) -> Result<Option<Step>, AllocError>
-    ensures { IfOk result (λ found. IfSome found (λ step. IsBest rollout.now marks.now step.place × (step.moved ≡ step_moved rollout.now marks.now step.place))) }
+    ensures { IfOk result (λ found. IfSome found (λ step. IsBest rollout.now marks.now step.place ×
+        (step.moved ≡ step_moved rollout.now marks.now step.place))) }
 {
     let before = tables_at(alloc, rollout, marks)?;
     let mut best: Option<Step> = None;

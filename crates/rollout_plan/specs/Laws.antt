@@ -17,7 +17,8 @@ ChangedAreCompared = (before after : NamedTable) → changed before after ≡ le
 -- each slot that changes has one cause
 abbrev pub CausesAddUp : Type 0
 CausesAddUp =
-    (before after : NamedTable) (draining : List Backend) → changed before after ≡ down before after draining + moved before after + drained before after draining
+    (before after : NamedTable) (draining : List Backend) →
+        changed before after ≡ down before after draining + moved before after + drained before after draining
 
 -- no backend is in the list twice
 abbrev pub NamesOnce : List Backend → Type 0
@@ -30,7 +31,8 @@ pub record HaveTheSameCounts (t u : NamedTable) : Type 0 where
 
 -- No table that gives each backend as many slots as the second differs from the first in fewer slots than the least.
 abbrev pub LeastIsLeast : Type 0
-LeastIsLeast = (before after other : NamedTable) → NamesOnce before.ups → before.size ≡ after.size → HaveTheSameCounts after other → least before after ≤ changed before other
+LeastIsLeast = (before after other : NamedTable) → NamesOnce before.ups → before.size ≡ after.size → HaveTheSameCounts after other →
+    least before after ≤ changed before other
 
 -- the tables of members of which no two have one name have no backend twice
 abbrev pub TablesNameOnce : Type 0

@@ -20,6 +20,7 @@ use Rattle.rollout_plan.specs.Plans.{version_in}
 use Rattle.rollout_plan.specs.Tables.{rule_of, table_by}
 use Rattle.rollout_plan.specs.Text.{members_under}
 use Rattle.scenario_tables.specs.Services.{asked_key, keys_of_both}
+use Rattle.scenario_tables.specs.declared.comparing.Change.{Change}
 
 -- the name that a slot names, or a dash where nobody is up
 abbrev pub owner_name : Option Backend → List ℕ
@@ -46,22 +47,31 @@ pub record ShowsTable (s : Scenario) (number : ℕ) (word : Option (List ℕ)) (
   pub of_word : asked_key word (map key_of version.services.items) ≡ Some key
   pub is : text ≡ slots_text (table_by (rule_of s) (members_under key version))
 
+-- the versions that are compared, and the word of the service
+pub record Compared : Type 0 where
+  pub from : ℕ
+  pub to : ℕ
+  pub word : Option (List ℕ)
+
+abbrev pub compared : Change → Compared
+compared c = record { from = c.from; to = c.to; word = option_map (λ w. w.now) c.service }
+
 -- the text is what changes for the service from one version to another; a version without it counts as one where it has no members
-pub record ShowsMoves (s : Scenario) (from to : ℕ) (word : Option (List ℕ)) (text : List ℕ) : Type 0 where
+pub record ShowsMoves (s : Scenario) (c : Compared) (text : List ℕ) : Type 0 where
   pub before : Version
   pub after : Version
   pub key : ServiceKey
-  pub of_from : version_in s from ≡ Some before
-  pub of_to : version_in s to ≡ Some after
-  pub of_word : asked_key word (keys_of_both before after) ≡ Some key
+  pub of_from : version_in s c.from ≡ Some before
+  pub of_to : version_in s c.to ≡ Some after
+  pub of_word : asked_key c.word (keys_of_both before after) ≡ Some key
   pub is : text ≡ compare_text (table_by (rule_of s) (members_under key before)) (table_by (rule_of s) (members_under key after))
 
 -- which services there are to ask for: those of one version, or of two; None where a version is missing
 abbrev pub keys_in : Option Version → Option (List ServiceKey)
 keys_in found = option_map (λ v. map key_of v.services.items) found
 
-abbrev pub keys_in_both : Option Version → Option Version → Option (List ServiceKey)
-keys_in_both before after = option_and_then (λ v. option_map (λ w. keys_of_both v w) after) before
+abbrev pub keys_in_both : Scenario → Compared → Option (List ServiceKey)
+keys_in_both s c = option_and_then (λ v. option_map (λ w. keys_of_both v w) (version_in s c.to)) (version_in s c.from)
 
 -- what there is to ask for where a command gives up: no such version, no such service, or all that it needs
 abbrev pub AskedFails : CliFault → Option (List ℕ) → Option (List ServiceKey) → Type 0
@@ -77,10 +87,10 @@ pub record IsTable (scenario : List ℕ) (number : ℕ) (word : Option (List ℕ
   pub means : Means InTurn scenario meant
   pub shows : ShowsTable meant number word text
 
-pub record AreMoves (scenario : List ℕ) (from to : ℕ) (word : Option (List ℕ)) (text : List ℕ) : Type 0 where
+pub record AreMoves (scenario : List ℕ) (c : Compared) (text : List ℕ) : Type 0 where
   pub meant : Scenario
   pub means : Means InTurn scenario meant
-  pub shows : ShowsMoves meant from to word text
+  pub shows : ShowsMoves meant c text
 
 -- a scenario was read, and then the command gave up
 pub record LacksAsked (fault : CliFault) (scenario : List ℕ) (word : Option (List ℕ)) (keys : Scenario → Option (List ServiceKey)) : Type 0 where
@@ -93,6 +103,5 @@ abbrev pub TableFails : CliFault → List ℕ → ℕ → Option (List ℕ) → 
 TableFails fault scenario number word =
     ScenarioFails InTurn fault scenario ⊎ LacksAsked fault scenario word (λ s. keys_in (version_in s number))
 
-abbrev pub MovesFail : CliFault → List ℕ → ℕ → ℕ → Option (List ℕ) → Type 0
-MovesFail fault scenario from to word =
-    ScenarioFails InTurn fault scenario ⊎ LacksAsked fault scenario word (λ s. keys_in_both (version_in s from) (version_in s to))
+abbrev pub MovesFail : CliFault → List ℕ → Compared → Type 0
+MovesFail fault scenario c = ScenarioFails InTurn fault scenario ⊎ LacksAsked fault scenario c.word (λ s. keys_in_both s c)

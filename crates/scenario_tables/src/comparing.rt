@@ -1,8 +1,7 @@
 //! The command `compare` of a scenario's service.
-ghost use Rattle.std.specs.Prelude.{◌≡◌, ◌≢◌, option_map, IfOk, IfErr, OnOk, string_bytes};
+ghost use Rattle.std.specs.Prelude.{◌≡◌, ◌≢◌, IfOk, IfErr, OnOk, string_bytes};
 ghost use Rattle.command_faults.specs.Printing.{Prints, BreaksOff};
-ghost use Rattle.rollout_plan.specs.Plans.{version_in};
-ghost use Rattle.scenario_tables.specs.Tables.{ShowsMoves, AreMoves, AskedFails, MovesFail, keys_in_both};
+ghost use Rattle.scenario_tables.specs.Tables.{compared, ShowsMoves, AreMoves, AskedFails, MovesFail, keys_in_both};
 
 use crate::asking::{key_for, keys_of_both};
 use command_faults::{CliFault, put_text};
@@ -23,8 +22,8 @@ pub struct Change<'a> {
 
 // The text of what changes for a scenario's service.
 fn text_of(alloc: Global, scenario: &Scenario, change: Change<'_>) -> Result<String, CliFault>
-    ensures text { IfOk result (λ s. ShowsMoves scenario.now change.from change.to (option_map (λ w. w.now) change.service) (string_bytes s)) }
-    ensures fault { IfErr result (λ fault. AskedFails fault (option_map (λ w. w.now) change.service) (keys_in_both (version_in scenario.now change.from) (version_in scenario.now change.to))) }
+    ensures text { IfOk result (λ s. ShowsMoves scenario.now (compared change) (string_bytes s)) }
+    ensures fault { IfErr result (λ fault. AskedFails fault (compared change).word (keys_in_both scenario.now (compared change))) }
     ensures unwritten { IfErr result (λ fault. fault ≢ CliFault.Write) }
 {
     let before = version_of(scenario, change.from)?;
@@ -39,8 +38,8 @@ fn text_of(alloc: Global, scenario: &Scenario, change: Change<'_>) -> Result<Str
 
 // The same of the scenario that a text means.
 fn text_for(alloc: Global, scenario: &[u8], change: Change<'_>) -> Result<String, CliFault>
-    ensures text { IfOk result (λ s. AreMoves scenario.now change.from change.to (option_map (λ w. w.now) change.service) (string_bytes s)) }
-    ensures fault { IfErr result (λ fault. MovesFail fault scenario.now change.from change.to (option_map (λ w. w.now) change.service)) }
+    ensures text { IfOk result (λ s. AreMoves scenario.now (compared change) (string_bytes s)) }
+    ensures fault { IfErr result (λ fault. MovesFail fault scenario.now (compared change)) }
     ensures unwritten { IfErr result (λ fault. fault ≢ CliFault.Write) }
 {
     let scenario = match read(alloc, Played::InTurn, scenario) {
@@ -66,10 +65,10 @@ pub fn compare_in<S: Sink>(
     change: Change<'_>,
     out: &mut S,
 ) -> Result<(), CliFault>
-    ensures written { OnOk result (Prints (AreMoves scenario.now change.from change.to (option_map (λ w. w.now) change.service)) (S.tape out.old) (S.tape out.new)) }
-    ensures broken { IfErr result (λ fault. fault ≡ CliFault.Write → BreaksOff (AreMoves scenario.now change.from change.to (option_map (λ w. w.now) change.service)) (S.tape out.old) (S.tape out.new)) }
+    ensures written { OnOk result (Prints (AreMoves scenario.now (compared change)) (S.tape out.old) (S.tape out.new)) }
+    ensures broken { IfErr result (λ fault. fault ≡ CliFault.Write → BreaksOff (AreMoves scenario.now (compared change)) (S.tape out.old) (S.tape out.new)) }
     ensures silent { IfErr result (λ fault. fault ≢ CliFault.Write → out.new ≡ out.old) }
-    ensures fault { IfErr result (λ fault. MovesFail fault scenario.now change.from change.to (option_map (λ w. w.now) change.service)) }
+    ensures fault { IfErr result (λ fault. MovesFail fault scenario.now (compared change)) }
 {
     let text = match text_for(alloc, scenario, change) {
         Ok(text) => text,

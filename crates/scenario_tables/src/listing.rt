@@ -140,7 +140,8 @@ pub fn table_in<S: Sink>(
     out: &mut S,
 ) -> Result<(), CliFault>
     ensures written { OnOk result (Prints (IsTable scenario.now version (option_map (λ w. w.now) service)) (S.tape out.old) (S.tape out.new)) }
-    ensures broken { IfErr result (λ fault. fault ≡ CliFault.Write → BreaksOff (IsTable scenario.now version (option_map (λ w. w.now) service)) (S.tape out.old) (S.tape out.new)) }
+    ensures broken { IfErr result (λ fault. fault ≡ CliFault.Write →
+        BreaksOff (IsTable scenario.now version (option_map (λ w. w.now) service)) (S.tape out.old) (S.tape out.new)) }
     ensures silent { IfErr result (λ fault. fault ≢ CliFault.Write → out.new ≡ out.old) }
     ensures fault { IfErr result (λ fault. TableFails fault scenario.now version (option_map (λ w. w.now) service)) }
 {

@@ -166,7 +166,8 @@ pub fn pick_in<R: Source, S: Sink>(
     out: &mut S,
 ) -> Result<(), CliFault>
     ensures written { OnOk result (Prints (IsPick scenario.now version check (R.tape input.old).bytes) (S.tape out.old) (S.tape out.new)) }
-    ensures broken { IfErr result (λ fault. fault ≡ CliFault.Write → BreaksOff (IsPick scenario.now version check (R.tape input.old).bytes) (S.tape out.old) (S.tape out.new)) }
+    ensures broken { IfErr result (λ fault. fault ≡ CliFault.Write →
+        BreaksOff (IsPick scenario.now version check (R.tape input.old).bytes) (S.tape out.old) (S.tape out.new)) }
     ensures unfailed { OnOk result (Unfailed (R.tape input.old) (R.tape input.new)) }
     ensures read { IfErr result (λ fault. fault ≡ CliFault.Read → ReadRefused (longest + 1) (R.tape input.old) (R.tape input.new)) }
     ensures silent { IfErr result (λ fault. fault ≢ CliFault.Write → out.new ≡ out.old) }

@@ -43,7 +43,8 @@ moved_slots old new = filter (is_moved old new) (range_with_len 0 old.size)
 -- `size M old N1 new N2 differ D`
 abbrev pub compare_head : ℕ → ℕ → ℕ → ℕ → List ℕ
 compare_head size before after moved =
-    codes "size " ++ (decimal size ++ (codes " old " ++ (decimal before ++ (codes " new " ++ (decimal after ++ (codes " differ " ++ (decimal moved ++ codes "\n")))))))
+    codes "size " ++ (decimal size ++ (codes " old " ++ (decimal before ++ (codes " new " ++ (decimal after ++ (codes " differ " ++ (
+        decimal moved ++ codes "\n")))))))
 
 -- `I OLD NEW`
 abbrev pub moved_line : NamedTable → NamedTable → ℕ → List ℕ
@@ -125,4 +126,5 @@ pub record IsCompareText (plain : List ℕ → ℕ) (size : ℕ) (old new : List
 
 -- the same, for the hash that a word names
 abbrev pub IsCompareTextOf : List ℕ → ℕ → List ℕ → List ℕ → List ℕ → Type 0
-IsCompareTextOf word size old new text = (hash : AnyHash) × (hash_of_word word ≡ Some hash) × (is_table_size size ≡ true) × IsCompareText (plain_of hash) size old new text
+IsCompareTextOf word size old new text = (hash : AnyHash) × (hash_of_word word ≡ Some hash) × (is_table_size size ≡ true) ×
+    IsCompareText (plain_of hash) size old new text

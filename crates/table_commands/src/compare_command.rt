@@ -101,7 +101,8 @@ pub fn compare<S: Sink>(
     out: &mut S,
 ) -> Result<(), CliFault>
     ensures written { OnOk result (Prints (IsCompareTextOf hash.now size old.now new.now) (S.tape out.old) (S.tape out.new)) }
-    ensures broken { IfErr result (λ fault. fault ≡ CliFault.Write → BreaksOff (IsCompareTextOf hash.now size old.now new.now) (S.tape out.old) (S.tape out.new)) }
+    ensures broken { IfErr result (λ fault. fault ≡ CliFault.Write → BreaksOff (IsCompareTextOf hash.now size old.now new.now)
+        (S.tape out.old) (S.tape out.new)) }
     ensures silent { IfErr result (λ fault. fault ≢ CliFault.Write → out.new ≡ out.old) }
     ensures fault { IfErr result (λ fault. CompareFails fault size hash.now old.now new.now) }
 {

@@ -204,8 +204,10 @@ pub fn pick<R: Source, S: Sink>(
     out: &mut S,
 ) -> Result<(), CliFault>
     requires { 0 < length words.now }
-    ensures written { OnOk result (Prints (IsPickLineOf hash.now size (map (λ w. w.now) words.now) check (R.tape input.old).bytes) (S.tape out.old) (S.tape out.new)) }
-    ensures broken { IfErr result (λ fault. fault ≡ CliFault.Write → BreaksOff (IsPickLineOf hash.now size (map (λ w. w.now) words.now) check (R.tape input.old).bytes) (S.tape out.old) (S.tape out.new)) }
+    ensures written { OnOk result (Prints (IsPickLineOf hash.now size (map (λ w. w.now) words.now) check (R.tape input.old).bytes)
+        (S.tape out.old) (S.tape out.new)) }
+    ensures broken { IfErr result (λ fault. fault ≡ CliFault.Write →
+        BreaksOff (IsPickLineOf hash.now size (map (λ w. w.now) words.now) check (R.tape input.old).bytes) (S.tape out.old) (S.tape out.new)) }
     ensures accepted { OnOk result (IsTableWork size hash.now (map (λ w. w.now) words.now) × IsShort (R.tape input.old).bytes) }
     ensures unfailed { OnOk result (Unfailed (R.tape input.old) (R.tape input.new)) }
     ensures read { IfErr result (λ fault. fault ≡ CliFault.Read → ReadRefused (longest + 1) (R.tape input.old) (R.tape input.new)) }

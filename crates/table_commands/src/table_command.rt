@@ -69,7 +69,8 @@ pub fn table<S: Sink>(
 ) -> Result<(), CliFault>
     requires { 0 < length words.now }
     ensures written { OnOk result (Prints (IsTableTextOf hash.now size (map (λ w. w.now) words.now)) (S.tape out.old) (S.tape out.new)) }
-    ensures broken { IfErr result (λ fault. fault ≡ CliFault.Write → BreaksOff (IsTableTextOf hash.now size (map (λ w. w.now) words.now)) (S.tape out.old) (S.tape out.new)) }
+    ensures broken { IfErr result (λ fault. fault ≡ CliFault.Write →
+        BreaksOff (IsTableTextOf hash.now size (map (λ w. w.now) words.now)) (S.tape out.old) (S.tape out.new)) }
     ensures silent { IfErr result (λ fault. fault ≢ CliFault.Write → out.new ≡ out.old) }
 
     // Each fault comes exactly when its reason is the first that holds, and none where nothing is wrong. Only Memory may
