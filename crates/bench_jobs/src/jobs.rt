@@ -40,10 +40,7 @@ pub const ALONE: Cluster = Cluster {
     spread: "hash",
 };
 
-const PLAIN: Wanted = Wanted {
-    list: false,
-    splits: false,
-};
+const PLAIN: Wanted = Wanted::REPORT;
 
 /// So many servers of which so many are down, others in each version.
 pub fn servers(tag: u32, count: u32, down: u32) -> Servers {
@@ -202,13 +199,13 @@ fn roll_out(
 /// Two rollouts of thirty versions each.
 pub fn rollout(rt: &impl Print, alloc: Global, order: Order) -> anyhow::Result<()> {
     let splits = Wanted {
-        list: false,
         splits: true,
+        ..Wanted::REPORT
     };
     roll_out(rt, alloc, order, 3, 700_000, splits)?;
     let list = Wanted {
         list: true,
-        splits: false,
+        ..Wanted::REPORT
     };
     roll_out(rt, alloc, order, 4, 400_000, list)
 }

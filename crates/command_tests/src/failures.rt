@@ -61,10 +61,7 @@ refused 0
 audit agrees
 ";
 
-const REPORT: Wanted = Wanted {
-    list: false,
-    splits: false,
-};
+const REPORT: Wanted = Wanted::REPORT;
 
 #[derive(Clone, Copy)]
 enum Command {

@@ -8,10 +8,7 @@ use std::process::Abort;
 use std::sync::Wait;
 use std::thread::Threads;
 
-const REPORT: Wanted = Wanted {
-    list: false,
-    splits: false,
-};
+const REPORT: Wanted = Wanted::REPORT;
 
 const BEFORE_STEPS: &str = "format = 1
 size = 7

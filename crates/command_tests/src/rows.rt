@@ -125,7 +125,7 @@ fn simulated(alloc: Global, text: &str, capture: &[u8], list: bool) -> Printed {
     let text = text.as_bytes();
     let wanted = Wanted {
         list,
-        splits: false,
+        ..Wanted::REPORT
     };
     let outcome = simulate(alloc, text, &mut input, &mut output, &mut report, wanted);
     done(outcome, output, report)

@@ -158,6 +158,7 @@ pub(crate) fn run_simulate(rt: &HostRuntime, matches: &ArgMatches<'_>) -> u8 {
     let wanted = Wanted {
         list: matches.get_flag("list"),
         splits: matches.get_flag("splits"),
+        ..Wanted::REPORT
     };
     between_captures(
         rt,

@@ -30,11 +30,11 @@ picked_if rules outs k None p e = tt
 picked_if rules outs k (Some o) p e = p k o (sym e)
 
 -- the line that says why two packets went where they went, by the outcomes of their events and by what they sent
-pub line_told : {X E : Type 0} (bytes : X → List ℕ) (r : Result X E) (lookups : Lookups) (asked : Query) (trace : Trace) (packets : ℕ) (ending : InputEnd) (i j : ℕ) (a b : Option Outcome) (p q : Option Sending)
+pub line_told : {X E : Type 0} (bytes : X → List ℕ) (r : Result X E) (lookups : Lookups) (idle : Option ℕ) (asked : Query) (trace : Trace) (packets : ℕ) (ending : InputEnd) (i j : ℕ) (a b : Option Outcome) (p q : Option Sending)
     → asked ≡ Events i j → a ≡ slice_get (outcomes_of (reverse trace.past)) i → b ≡ slice_get (outcomes_of (reverse trace.past)) j → p ≡ sent_at trace.past i → q ≡ sent_at trace.past j
-    → IfOk r (λ s. bytes s ≡ explained_text (explained lookups.slot (option_and_then (λ o. send_of o) a) (option_and_then (λ o. send_of o) b)) (left_drained lookups p q)) → IfOk r (λ s. bytes s ≡ answer_of lookups asked trace packets ending)
-line_told bytes r lookups asked trace packets ending i j a b p q e f g k l h =
-    subst (λ (x : Query). IfOk r (λ s. bytes s ≡ answer_of lookups x trace packets ending)) (sym e)
+    → IfOk r (λ s. bytes s ≡ explained_text (explained lookups.slot (option_and_then (λ o. send_of o) a) (option_and_then (λ o. send_of o) b)) (left_drained lookups p q)) → IfOk r (λ s. bytes s ≡ answer_of lookups idle asked trace packets ending)
+line_told bytes r lookups idle asked trace packets ending i j a b p q e f g k l h =
+    subst (λ (x : Query). IfOk r (λ s. bytes s ≡ answer_of lookups idle x trace packets ending)) (sym e)
     (subst (λ (x : Option Send). IfOk r (λ s. bytes s ≡ explained_text (explained lookups.slot x (send_at (reverse trace.past) j)) (left_drained lookups (sent_at trace.past i) (sent_at trace.past j)))) (send_told (reverse trace.past) i a f)
     (subst (λ (y : Option Send). IfOk r (λ s. bytes s ≡ explained_text (explained lookups.slot (option_and_then (λ o. send_of o) a) y) (left_drained lookups (sent_at trace.past i) (sent_at trace.past j)))) (send_told (reverse trace.past) j b g)
     (subst (λ (x : Option Sending). IfOk r (λ s. bytes s ≡ explained_text (explained lookups.slot (option_and_then (λ o. send_of o) a) (option_and_then (λ o. send_of o) b)) (left_drained lookups x (sent_at trace.past j)))) k

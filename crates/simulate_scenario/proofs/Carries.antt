@@ -45,12 +45,12 @@ described pick_of scheme s e = ap (λ (p : Pick). record {
 
 pub answers : {S : Type 0} (pick_of : S → ℕ → Pick) (scheme : S) (s : Scenario) (r : Deployed S AnyHash) (plan : Planned) (asked : Query) (i i' o o' : Tape) (text : List ℕ)
     → pick_of scheme s.size ≡ pick_by s.scheme (plain_of s.hash) s.size → r ≡ ruling_of scheme s → plan ≡ plan_in s
-    → Answers (cluster_by (rules_of pick_of plain_of r)) (choice_by s.spread (plain_of r.setup.hash)) plan (lookups_of (plain_of r.setup.hash) r.setup.size r.catalogue) asked i i' o o' text
-    → Answers (cluster_in s) (choice_in s) (plan_in s) (lookups_in s) asked i i' o o' text
+    → Answers (cluster_by (rules_of pick_of plain_of r)) (choice_by s.spread (plain_of r.setup.hash)) plan (lookups_of (plain_of r.setup.hash) r.setup.size r.catalogue) r.setup.idle asked i i' o o' text
+    → Answers (cluster_in s) (choice_in s) (plan_in s) (lookups_in s) s.idle asked i i' o o' text
 answers {S} pick_of scheme s r plan asked i i' o o' text e f g h =
-    subst (λ (rules : Rules). Answers (cluster_by rules) (choice_in s) (plan_in s) (lookups_in s) asked i i' o o' text) (described pick_of scheme s e)
-    (subst (λ (q : Deployed S AnyHash). Answers (cluster_by (rules_of pick_of plain_of q)) (choice_by s.spread (plain_of q.setup.hash)) (plan_in s) (lookups_of (plain_of q.setup.hash) q.setup.size q.catalogue) asked i i' o o' text) f
-    (subst (λ (p : Planned). Answers (cluster_by (rules_of pick_of plain_of r)) (choice_by s.spread (plain_of r.setup.hash)) p (lookups_of (plain_of r.setup.hash) r.setup.size r.catalogue) asked i i' o o' text) g h))
+    subst (λ (rules : Rules). Answers (cluster_by rules) (choice_in s) (plan_in s) (lookups_in s) s.idle asked i i' o o' text) (described pick_of scheme s e)
+    (subst (λ (q : Deployed S AnyHash). Answers (cluster_by (rules_of pick_of plain_of q)) (choice_by s.spread (plain_of q.setup.hash)) (plan_in s) (lookups_of (plain_of q.setup.hash) q.setup.size q.catalogue) q.setup.idle asked i i' o o' text) f
+    (subst (λ (p : Planned). Answers (cluster_by (rules_of pick_of plain_of r)) (choice_by s.spread (plain_of r.setup.hash)) p (lookups_of (plain_of r.setup.hash) r.setup.size r.catalogue) r.setup.idle asked i i' o o' text) g h))
 
 pub stops : {S : Type 0} (pick_of : S → ℕ → Pick) (scheme : S) (s : Scenario) (r : Deployed S AnyHash) (plan : Planned) (i i' o o' : Tape) (fault : SimulationFault)
     → pick_of scheme s.size ≡ pick_by s.scheme (plain_of s.hash) s.size → r ≡ ruling_of scheme s → plan ≡ plan_in s

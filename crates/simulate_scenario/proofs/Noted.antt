@@ -1,6 +1,6 @@
 -- What is kept of a record that has one event more.
-use Rattle.std.proofs.Common.{◌≡◌, ℕ, zero, suc, ◌+◌, Bool, true, false, List, [], ◌∷◌, ◌++◌, length, reverse, string_bytes, Option, Some, None, refl, sym, ap, ◌∙◌, subst, arith}
-use Rattle.std.specs.Prelude.{◌==◌, if◌then◌else◌, slice_get}
+use Rattle.std.proofs.Common.{◌≡◌, ℕ, zero, suc, ◌+◌, Bool, true, false, List, [], ◌∷◌, ◌++◌, length, reverse, string_bytes, Option, Some, None, Result, Ok, Err, refl, sym, ap, ◌∙◌, subst, arith, not}
+use Rattle.std.specs.Prelude.{◌==◌, ◌||◌, if◌then◌else◌, slice_get, OnOk}
 use Rattle.std.proofs.lemmas.List.{reverse-append, length-reverse}
 use Rattle.std.proofs.lemmas.Bool.{eqb-true, eq-eqb, true≢false}
 use Rattle.cluster_node.specs.declared.events.LogEntry.{LogEntry}
@@ -17,8 +17,12 @@ use Rattle.run_report.specs.Splits.{sent_by, sent_at}
 use Rattle.run_report.specs.declared.sending.Sending.{Sending}
 use Rattle.simulate_scenario.specs.declared.notes.Notebook.{Notebook}
 use Rattle.simulate_scenario.specs.declared.asking.Query.{Query}
+use Rattle.simulate_scenario.specs.declared.asking.Wanted.{Wanted}
 use Rattle.simulate_scenario.specs.declared.asking.Query.TheVariants.{Report, Events}
-use Rattle.simulate_scenario.specs.Notebooks.{Lists, ListsIf, BookIf, KeepsTwo, AreOf}
+use Rattle.simulate_scenario.specs.Notebooks.{Lists, ListsIf, BookIf, ChangesIf, KeepsMore, KeepsTwo, AreOf}
+use Rattle.simulate_scenario.specs.Asked.{is_plain, keeps_splits, keeps_changes}
+use Rattle.connection_changes.specs.declared.book.ChangeBook.{ChangeBook}
+use Rattle.connection_changes.specs.Books.{IsChangeBookOf}
 use Rattle.simulate_scenario.specs.Answers.{totals_in}
 
 none_listed : (n : Notebook) → n.number ≡ 0 → string_bytes n.lines ≡ [] → (list : Bool) → ListsIf list [] n
@@ -29,14 +33,54 @@ none_booked : (b : SplitBook) → IsBookOf [] b → (splits : Bool) → BookIf s
 none_booked b h true = h
 none_booked b h false = tt
 
-pub none_noted : (n : Notebook) → CountsAre [] n.counts → n.number ≡ 0 → string_bytes n.lines ≡ [] → IsBookOf [] n.book → n.one ≡ None → n.other ≡ None → n.first ≡ None → n.later ≡ None → (asked : Query) → AreOf asked [] n
-none_noted n c k l b o p q r (Report wanted) = (c, none_listed n k l wanted.list, none_booked n.book b wanted.splits)
-none_noted n c k l b o p q r (Events i j) = record { number = k; one_is = o; other_is = p; first_is = q; later_is = r }
+none_changed : (b : ChangeBook) → IsChangeBookOf [] b → (changes : Bool) → ChangesIf changes [] b
+none_changed b h true = h
+none_changed b h false = tt
+
+pub none_noted : (n : Notebook) → CountsAre [] n.counts → n.number ≡ 0 → string_bytes n.lines ≡ [] → IsBookOf [] n.book → IsChangeBookOf [] n.changes → n.one ≡ None → n.other ≡ None → n.first ≡ None → n.later ≡ None → (asked : Query) → AreOf asked [] n
+none_noted n c k l b d o p q r (Report wanted) =
+    (c, (none_listed n k l wanted.list, none_booked n.book b (keeps_splits wanted.places wanted.splits), none_changed n.changes d (keeps_changes wanted.places wanted.summary)))
+none_noted n c k l b d o p q r (Events i j) = record { number = k; one_is = o; other_is = p; first_is = q; later_is = r }
 
 -- the lines are the same
 pub lists_same : (list : Bool) (past : List LogEntry) (n m : Notebook) → m.number ≡ n.number → m.lines ≡ n.lines → ListsIf list past n → ListsIf list past m
 lists_same true past n m e f l = record { number = e ∙ l.number; lines = ap string_bytes f ∙ l.lines }
 lists_same false past n m e f l = ap string_bytes f ∙ l
+
+-- where the report alone is wanted nothing more is kept
+pub plain_more : (w : Wanted) (past : List LogEntry) (s : LogEntry) (n m : Notebook) → is_plain w ≡ true → m.number ≡ n.number → m.lines ≡ n.lines → KeepsMore w past n → KeepsMore w (s ∷ past) m
+plain_more w past s n m plain e f k = go w.list w.splits w.places w.summary plain k
+  where
+    go : (l t p u : Bool) → not (l || t || p || u) ≡ true → ListsIf l past n × BookIf (keeps_splits p t) past n.book × ChangesIf (keeps_changes p u) past n.changes
+        → ListsIf l (s ∷ past) m × BookIf (keeps_splits p t) (s ∷ past) m.book × ChangesIf (keeps_changes p u) (s ∷ past) m.changes
+    go false false false false h k = (ap string_bytes f ∙ k.0, tt, tt)
+    go true t p u h k = absurd cc
+    go false true p u h k = absurd cc
+    go false false true u h k = absurd cc
+    go false false false true h k = absurd cc
+
+-- each of the three books, one after another
+pub more_told : {E : Type 0} (r : Result (Unit {0}) E) (w : Wanted) (past : List LogEntry) (s : LogEntry) (n a b d : Notebook) (splits changes : Bool) → KeepsMore w past n
+    → splits ≡ keeps_splits w.places w.splits → changes ≡ keeps_changes w.places w.summary
+    → (ListsIf w.list past n → ListsIf w.list (s ∷ past) a) → a.book ≡ n.book → a.changes ≡ n.changes
+    → (BookIf splits past a.book → BookIf splits (s ∷ past) b.book) → b.number ≡ a.number → b.lines ≡ a.lines → b.changes ≡ a.changes
+    → (ChangesIf changes past b.changes → OnOk r (ChangesIf changes (s ∷ past) d.changes)) → d ≡ record b { changes = d.changes } → OnOk r (KeepsMore w (s ∷ past) d)
+more_told {E} r w past s n a b d splits changes k splits_is changes_is lists a_book a_changes books b_number b_lines b_changes change d_is = ok r (change before)
+  where
+    before : ChangesIf changes past b.changes
+    before = subst (λ (x : ChangeBook). ChangesIf changes past x) (sym (b_changes ∙ a_changes)) (subst (λ (t : Bool). ChangesIf t past n.changes) (sym changes_is) k.2)
+
+    listed : ListsIf w.list (s ∷ past) d
+    listed = lists_same w.list (s ∷ past) a d (ap (λ (x : Notebook). x.number) d_is ∙ b_number) (ap (λ (x : Notebook). x.lines) d_is ∙ b_lines) (lists k.0)
+
+    booked : BookIf (keeps_splits w.places w.splits) (s ∷ past) d.book
+    booked = subst (λ (x : SplitBook). BookIf (keeps_splits w.places w.splits) (s ∷ past) x) (sym (ap (λ (x : Notebook). x.book) d_is))
+        (subst (λ (t : Bool). BookIf t (s ∷ past) b.book) splits_is
+        (books (subst (λ (x : SplitBook). BookIf splits past x) (sym a_book) (subst (λ (t : Bool). BookIf t past n.book) (sym splits_is) k.1))))
+
+    ok : (q : Result (Unit {0}) E) → OnOk q (ChangesIf changes (s ∷ past) d.changes) → OnOk q (KeepsMore w (s ∷ past) d)
+    ok (Ok u) h = (listed, booked, subst (λ (t : Bool). ChangesIf t (s ∷ past) d.changes) changes_is h)
+    ok (Err e) h = tt
 
 pub lists_more : (past : List LogEntry) (s : LogEntry) (n m : Notebook) → Lists past n → m.number ≡ n.number + 1 → string_bytes m.lines ≡ string_bytes n.lines ++ line_text n.number s → Lists (s ∷ past) m
 lists_more past s n m l e f = record {

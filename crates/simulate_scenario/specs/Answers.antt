@@ -22,6 +22,7 @@ use Rattle.simulation.specs.Plans.{Planned}
 use Rattle.simulation.specs.Simulated.{Simulated}
 use Rattle.run_report.specs.Causes.{Lookups}
 use Rattle.run_report.specs.Texts.{splits_text}
+use Rattle.connection_changes.specs.Texts.{places_text, summary_text}
 use Rattle.scenario.specs.declared.plan.Scenario.{Scenario}
 use Rattle.simulate_scenario.specs.Described.{cluster_in, choice_in, plan_in, lookups_in}
 use Rattle.simulate_scenario.specs.declared.asking.Query.{Query}
@@ -52,14 +53,21 @@ abbrev pub listing_if : Bool → Trace → List ℕ
 listing_if true trace = listing (reverse trace.past)
 listing_if false trace = []
 
--- the line of each split, and how many there are, where they are asked for
-abbrev pub splits_if : Bool → Lookups → Trace → List ℕ
-splits_if true lookups trace = splits_text lookups trace.past
-splits_if false lookups trace = []
+-- the line of each split, and how many there are, where they are asked for: with places, or without
+abbrev pub splits_if : Bool → Bool → Lookups → Option ℕ → Trace → List ℕ
+splits_if true splits lookups idle trace = places_text lookups idle trace.past
+splits_if false true lookups idle trace = splits_text lookups trace.past
+splits_if false false lookups idle trace = []
 
--- the report with what is wanted before it
-abbrev pub report_of : Lookups → Wanted → Trace → ℕ → InputEnd → List ℕ
-report_of lookups wanted trace packets ending = (listing_if wanted.list trace ++ splits_if wanted.splits lookups trace) ++ plain_report trace packets ending
+-- how many connections changed their server, and why, where it is asked for
+abbrev pub summary_if : Bool → Lookups → Option ℕ → Trace → List ℕ
+summary_if true lookups idle trace = summary_text lookups idle trace.past
+summary_if false lookups idle trace = []
+
+-- the report with what is wanted before it, and after it
+abbrev pub report_of : Lookups → Option ℕ → Wanted → Trace → ℕ → InputEnd → List ℕ
+report_of lookups idle wanted trace packets ending =
+    ((listing_if wanted.list trace ++ splits_if wanted.places wanted.splits lookups idle trace) ++ plain_report trace packets ending) ++ summary_if wanted.summary lookups idle trace
 
 -- what was sent at an event, counted from 0
 abbrev pub send_at : List LogEntry → ℕ → Option Send
@@ -71,18 +79,19 @@ line_of lookups trace one other =
     explained_text (explained lookups.slot (send_at (reverse trace.past) one) (send_at (reverse trace.past) other))
     (left_drained lookups (sent_at trace.past one) (sent_at trace.past other))
 
-abbrev pub answer_of : Lookups → Query → Trace → ℕ → InputEnd → List ℕ
-answer_of lookups (Report wanted) trace packets ending = report_of lookups wanted trace packets ending
-answer_of lookups (Events one other) trace packets ending = line_of lookups trace one other
+-- the answer, by the scenario's idle limit
+abbrev pub answer_of : Lookups → Option ℕ → Query → Trace → ℕ → InputEnd → List ℕ
+answer_of lookups idle (Report wanted) trace packets ending = report_of lookups idle wanted trace packets ending
+answer_of lookups idle (Events one other) trace packets ending = line_of lookups trace one other
 
 -- the scenario ran over the whole input, the output got what was sent, and the text answers what was asked
-pub record Answers (cluster : Cluster) (choice : Choice) (plan : Planned) (lookups : Lookups) (asked : Query) (input input' output output' : Tape) (text : List ℕ) : Type 0 where
+pub record Answers (cluster : Cluster) (choice : Choice) (plan : Planned) (lookups : Lookups) (idle : Option ℕ) (asked : Query) (input input' output output' : Tape) (text : List ℕ) : Type 0 where
   pub trace : Trace
   pub packets : ℕ
   pub ending : InputEnd
   pub simulated : Simulated cluster choice plan input input' output output' trace packets ending
-  pub answer : text ≡ answer_of lookups asked trace packets ending
+  pub answer : text ≡ answer_of lookups idle asked trace packets ending
 
 -- the same of a scenario's cluster
 abbrev pub AnswersIn : Scenario → Query → Tape → Tape → Tape → Tape → List ℕ → Type 0
-AnswersIn s asked input input' output output' text = Answers (cluster_in s) (choice_in s) (plan_in s) (lookups_in s) asked input input' output output' text
+AnswersIn s asked input input' output output' text = Answers (cluster_in s) (choice_in s) (plan_in s) (lookups_in s) s.idle asked input input' output output' text

@@ -1,4 +1,5 @@
 pub mod Described
+pub mod Asked
 pub mod Answers
 pub mod Kept
 pub mod Notebooks

@@ -7,7 +7,11 @@ use Rattle.run_report.specs.Lines.{listing}
 use Rattle.run_report.specs.declared.book.SplitBook.{SplitBook}
 use Rattle.run_report.specs.Books.{IsBookOf}
 use Rattle.run_report.specs.Splits.{sent_at}
+use Rattle.connection_changes.specs.declared.book.ChangeBook.{ChangeBook}
+use Rattle.connection_changes.specs.Books.{IsChangeBookOf}
+use Rattle.simulate_scenario.specs.Asked.{keeps_splits, keeps_changes}
 use Rattle.simulate_scenario.specs.declared.asking.Query.{Query}
+use Rattle.simulate_scenario.specs.declared.asking.Wanted.{Wanted}
 use Rattle.simulate_scenario.specs.declared.asking.Query.TheVariants.{Report, Events}
 use Rattle.simulate_scenario.specs.declared.notes.Notebook.{Notebook}
 
@@ -26,6 +30,11 @@ abbrev pub BookIf : Bool → List LogEntry → SplitBook → Type 0
 BookIf true past b = IsBookOf past b
 BookIf false past b = Unit {0}
 
+-- a book of changes is the record's, where they are asked for
+abbrev pub ChangesIf : Bool → List LogEntry → ChangeBook → Type 0
+ChangesIf true past b = IsChangeBookOf past b
+ChangesIf false past b = Unit {0}
+
 -- Of a record, which has so many events, the outcomes of two are kept: those of these numbers, the oldest of number 0. What
 -- they sent is kept too.
 pub record KeepsTwo (one other : ℕ) (past : List LogEntry) (n : Notebook) : Type 0 where
@@ -35,7 +44,11 @@ pub record KeepsTwo (one other : ℕ) (past : List LogEntry) (n : Notebook) : Ty
   pub first_is : n.first ≡ sent_at past one
   pub later_is : n.later ≡ sent_at past other
 
+-- what is kept beside the counts of a report
+abbrev pub KeepsMore : Wanted → List LogEntry → Notebook → Type 0
+KeepsMore wanted past n = ListsIf wanted.list past n × BookIf (keeps_splits wanted.places wanted.splits) past n.book × ChangesIf (keeps_changes wanted.places wanted.summary) past n.changes
+
 -- the notes are those of a record, for what is asked
 abbrev pub AreOf : Query → List LogEntry → Notebook → Type 0
-AreOf (Report wanted) past n = CountsAre (outcomes_of past) n.counts × ListsIf wanted.list past n × BookIf wanted.splits past n.book
+AreOf (Report wanted) past n = CountsAre (outcomes_of past) n.counts × KeepsMore wanted past n
 AreOf (Events one other) past n = KeepsTwo one other past n

@@ -1,5 +1,5 @@
 //! The text that answers what is asked of a run.
-ghost use Rattle.std.specs.Prelude.{◌≡◌, ◌≤◌, ◌++◌, IfOk, OnOk, IfSome, string_bytes, reverse, true, option_and_then};
+ghost use Rattle.std.specs.Prelude.{◌≡◌, ◌≤◌, ◌++◌, List, IfOk, OnOk, IfSome, string_bytes, reverse, true, option_and_then};
 ghost use Rattle.hash_laws.specs.Any.{plain_of};
 ghost use Rattle.selection.specs.Picks.{slot_of_flow};
 ghost use Rattle.cluster_node.specs.Records.{Judged};
@@ -9,15 +9,22 @@ ghost use Rattle.cluster_core.specs.Deployed.{rules_of, cluster_of, IsBalanced};
 ghost use Rattle.event_trace.specs.Counting.{CountsAre};
 ghost use Rattle.simulate_scenario.specs.declared.asking.Query.TheVariants.{Report};
 ghost use Rattle.run_report.specs.Verdicts.{explained_text, left_drained};
+ghost use Rattle.cluster_node.specs.declared.events.LogEntry.{LogEntry};
+ghost use Rattle.run_report.specs.Books.{IsBookOf};
+ghost use Rattle.run_report.specs.Texts.{splits_text};
+ghost use Rattle.connection_changes.specs.Books.{IsChangeBookOf};
+ghost use Rattle.connection_changes.specs.Texts.{places_text, summary_text};
 ghost use Rattle.run_report.specs.Causes.{lookups_of};
 ghost use Rattle.event_trace.specs.Trace.{Trace};
-ghost use Rattle.simulate_scenario.specs.Answers.{is_cut, plain_report, splits_if, report_of, answer_of};
-ghost use Rattle.simulate_scenario.specs.Notebooks.{BookIf, AreOf};
+ghost use Rattle.simulate_scenario.specs.Answers.{is_cut, plain_report, splits_if, summary_if, report_of, answer_of};
+ghost use Rattle.simulate_scenario.specs.Asked.{keeps_splits, keeps_changes};
+ghost use Rattle.simulate_scenario.specs.Notebooks.{BookIf, ChangesIf, AreOf};
 
 use crate::asking::{Query, Wanted};
 use crate::notes::Notebook;
 use cluster_core::{Deployment, Verdict, explain};
 use cluster_node::Outcome;
+use connection_changes::{ChangeBook, push_places, push_summary};
 use event_trace::{Counts, Task};
 use hash_laws::FlowHash;
 use pcap_file::InputEnd;
@@ -52,25 +59,82 @@ fn plain_report<P: Spread>(
     report_text(alloc, tally, &totals, is_cut(played.ending))
 }
 
+// The lines of the changes, and their counts.
+fn push_places_of<S: Scheme, H: FlowHash>(
+    text: &mut String,
+    deployment: &Deployment<S, H>,
+    changes: &ChangeBook,
+) -> Result<(), AllocError>
+    ensures { (past : List LogEntry) → IsChangeBookOf past changes.now →
+        OnOk result (string_bytes text.new ≡ string_bytes text.old ++ places_text (lookups_of (H.plain deployment.now.setup.hash) deployment.now.setup.size deployment.now.catalogue) deployment.now.setup.idle past) }
+{
+    let setup = deployment.setup();
+    let catalogue = deployment.catalogue();
+    push_places(text, &setup.hash(), catalogue, setup.idle(), changes)
+}
+
+// The lines of the splits, and their counts.
+fn push_splits_of<S: Scheme, H: FlowHash>(
+    text: &mut String,
+    deployment: &Deployment<S, H>,
+    book: &SplitBook,
+) -> Result<(), AllocError>
+    ensures { (past : List LogEntry) → IsBookOf past book.now →
+        OnOk result (string_bytes text.new ≡ string_bytes text.old ++ splits_text (lookups_of (H.plain deployment.now.setup.hash) deployment.now.setup.size deployment.now.catalogue) past) }
+{
+    let hash = deployment.setup().hash();
+    push_splits(text, &hash, deployment.catalogue(), book)
+}
+
+// How many connections changed their server, and why.
+fn push_summary_of<S: Scheme, H: FlowHash>(
+    alloc: Global,
+    text: &mut String,
+    deployment: &Deployment<S, H>,
+    changes: &ChangeBook,
+) -> Result<(), AllocError>
+    ensures { (past : List LogEntry) → IsChangeBookOf past changes.now →
+        OnOk result (string_bytes text.new ≡ string_bytes text.old ++ summary_text (lookups_of (H.plain deployment.now.setup.hash) deployment.now.setup.size deployment.now.catalogue) deployment.now.setup.idle past) }
+{
+    let idle = deployment.setup().idle();
+    push_summary(alloc, text, deployment.catalogue(), idle, changes)
+}
+
 // What is reported of the splits, where it is asked for.
 fn push_splits_if<S: Scheme, H: FlowHash>(
     text: &mut String,
     deployment: &Deployment<S, H>,
-    splits: bool,
+    wanted: Wanted,
     book: &SplitBook,
+    changes: &ChangeBook,
 ) -> Result<(), AllocError>
-    ensures { (trace : Trace) → BookIf splits trace.past book.now → OnOk result (string_bytes text.new ≡ string_bytes text.old ++ splits_if splits (lookups_of (H.plain deployment.now.setup.hash) deployment.now.setup.size deployment.now.catalogue) trace) }
+    ensures { (trace : Trace) → BookIf (keeps_splits wanted.places wanted.splits) trace.past book.now → ChangesIf (keeps_changes wanted.places wanted.summary) trace.past changes.now →
+        OnOk result (string_bytes text.new ≡ string_bytes text.old ++ splits_if wanted.places wanted.splits (lookups_of (H.plain deployment.now.setup.hash) deployment.now.setup.size deployment.now.catalogue) deployment.now.setup.idle trace) }
 {
-    if splits {
-        push_splits(
-            text,
-            &deployment.setup().hash(),
-            deployment.catalogue(),
-            book,
-        )
+    if wanted.places {
+        push_places_of(text, deployment, changes)
+    } else if wanted.splits {
+        push_splits_of(text, deployment, book)
     } else {
         Ok(())
     }
+}
+
+// How many connections changed their server, and why, where it is asked for.
+fn push_summary_if<S: Scheme, H: FlowHash>(
+    alloc: Global,
+    text: &mut String,
+    deployment: &Deployment<S, H>,
+    wanted: Wanted,
+    changes: &ChangeBook,
+) -> Result<(), AllocError>
+    ensures { (trace : Trace) → ChangesIf (keeps_changes wanted.places wanted.summary) trace.past changes.now →
+        OnOk result (string_bytes text.new ≡ string_bytes text.old ++ summary_if wanted.summary (lookups_of (H.plain deployment.now.setup.hash) deployment.now.setup.size deployment.now.catalogue) deployment.now.setup.idle trace) }
+{
+    if !wanted.summary {
+        return Ok(());
+    }
+    push_summary_of(alloc, text, deployment, changes)
 }
 
 fn report<S: Scheme, H: FlowHash, P: Spread>(
@@ -83,12 +147,13 @@ fn report<S: Scheme, H: FlowHash, P: Spread>(
     requires read { played.now.play.trace.read ≤ played.now.packets }
     requires balance { IsBalanced (reverse played.now.play.trace.past) }
     requires notes { AreOf (Report wanted) played.now.play.trace.past notes }
-    ensures { IfOk result (λ s. string_bytes s ≡ report_of (lookups_of (H.plain deployment.now.setup.hash) deployment.now.setup.size deployment.now.catalogue) wanted played.now.play.trace played.now.packets played.now.ending) }
+    ensures { IfOk result (λ s. string_bytes s ≡ report_of (lookups_of (H.plain deployment.now.setup.hash) deployment.now.setup.size deployment.now.catalogue) deployment.now.setup.idle wanted played.now.play.trace played.now.packets played.now.ending) }
 {
     let report = plain_report(alloc, played, &notes.counts)?;
     let mut text = notes.lines;
-    push_splits_if(&mut text, deployment, wanted.splits, &notes.book)?;
+    push_splits_if(&mut text, deployment, wanted, &notes.book, &notes.changes)?;
     text.push_str(report.as_str())?;
+    push_summary_if(alloc, &mut text, deployment, wanted, &notes.changes)?;
     Ok(text)
 }
 
@@ -138,7 +203,7 @@ pub(crate) fn answer<S: Scheme, H: FlowHash, P: Spread>(
     requires balance { IsBalanced (reverse played.now.play.trace.past) }
     requires judged { Judged (cluster_of (λ s z. S.pick s z) (λ h. H.plain h) task.now.deployment).judge played.now.play.trace.past }
     requires notes { AreOf task.now.asked played.now.play.trace.past notes }
-    ensures { IfOk result (λ s. string_bytes s ≡ answer_of (lookups_of (H.plain task.now.deployment.setup.hash) task.now.deployment.setup.size task.now.deployment.catalogue) task.now.asked played.now.play.trace played.now.packets played.now.ending) }
+    ensures { IfOk result (λ s. string_bytes s ≡ answer_of (lookups_of (H.plain task.now.deployment.setup.hash) task.now.deployment.setup.size task.now.deployment.catalogue) task.now.deployment.setup.idle task.now.asked played.now.play.trace played.now.packets played.now.ending) }
 {
     match task.asked {
         Query::Report(wanted) => report(alloc, &task.deployment, played, notes, wanted),

@@ -1,9 +1,52 @@
-/// What comes before a report. With `list` it is a line for each event. With `splits` it is then a line for each flow that
-/// was split, and how many there were.
+//! What is asked of a scenario's run.
+ghost use Rattle.std.specs.Prelude.{◌≡◌};
+
+/// What comes before a report, and after it. With `list` a line for each event comes first. With `splits` there is then a line
+/// for each flow that was split, and how many there were. With `places` each of these lines also tells where its two packets
+/// were sent, and why the later one went elsewhere; then they are there without `splits` too. With `summary` the report is
+/// followed by how many connections changed their server, how often, and why.
 #[derive(Clone, Copy, Debug, PartialEq, Eq)]
 pub struct Wanted {
     pub list: bool,
     pub splits: bool,
+    pub places: bool,
+    pub summary: bool,
+}
+
+impl Wanted {
+    ghost use Rattle.simulate_scenario.specs.Asked.{is_plain, keeps_splits, keeps_changes};
+
+    /// The report alone.
+    pub const REPORT: Wanted = Wanted {
+        list: false,
+        splits: false,
+        places: false,
+        summary: false,
+    };
+
+    /// Whether it is the report alone.
+    #[inline(always)]
+    pub(crate) fn is_plain(self) -> bool
+        ensures { result ≡ is_plain self }
+    {
+        !(self.list || self.splits || self.places || self.summary)
+    }
+
+    /// Whether the splits are kept by themselves.
+    #[inline(always)]
+    pub(crate) fn keeps_splits(self) -> bool
+        ensures { result ≡ keeps_splits self.places self.splits }
+    {
+        self.splits && !self.places
+    }
+
+    /// Whether the changes are kept.
+    #[inline(always)]
+    pub(crate) fn keeps_changes(self) -> bool
+        ensures { result ≡ keeps_changes self.places self.summary }
+    {
+        self.places || self.summary
+    }
 }
 
 /// What is asked of a scenario's run.

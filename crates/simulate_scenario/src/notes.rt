@@ -1,26 +1,29 @@
 //! What is kept of a run's events for what is asked of it.
-ghost use Rattle.std.specs.Prelude.{◌≡◌, ◌==◌, ◌+◌, ◌∷◌, [], List, Option, Some, IfOk, OnOk, if◌then◌else◌};
+ghost use Rattle.std.specs.Prelude.{◌≡◌, ◌==◌, ◌+◌, ◌∷◌, [], List, Option, Some, IfOk, OnOk, option_copied, if◌then◌else◌};
 ghost use Rattle.cluster_node.specs.declared.events.Event.{Event};
 ghost use Rattle.simulate_scenario.specs.declared.asking.Query.{Query};
+ghost use Rattle.simulate_scenario.specs.declared.asking.Query.TheVariants.{Report};
 ghost use Rattle.cluster_node.specs.declared.events.LogEntry.{LogEntry};
 ghost use Rattle.cluster_node.specs.declared.packets.Packet.{Packet};
 ghost use Rattle.event_trace.specs.Noting.{said_by};
 ghost use Rattle.run_report.specs.Splits.{sent_by};
 
-use crate::asking::Query;
+use crate::asking::{Query, Wanted};
 use cluster_node::{Event, Outcome, Packet};
+use connection_changes::ChangeBook;
 use connection_table::TableKey;
 use event_trace::{Counts, Notes};
 use run_report::{Sending, SplitBook, push_line, sent_by};
 use std::alloc::{AllocError, Global};
 
-/// For a report the counts, and the lines and the splits where it has them; else the outcomes of two events, and what they
+/// For a report the counts, and the lines, the splits and the changes where it has them; else the outcomes of two events, and what they
 /// sent. How many events there were is kept where it is needed.
 #[derive(Drop)]
 pub(crate) struct Notebook {
     pub(crate) counts: Counts,
     pub(crate) lines: String,
     pub(crate) book: SplitBook,
+    pub(crate) changes: ChangeBook,
     pub(crate) number: u64,
     pub(crate) one: Option<Outcome>,
     pub(crate) other: Option<Outcome>,
@@ -63,9 +66,9 @@ fn kept_send(
 }
 
 impl Notebook {
-    ghost use Rattle.simulate_scenario.specs.Notebooks.{Lists, ListsIf, BookIf, KeepsTwo, AreOf};
+    ghost use Rattle.simulate_scenario.specs.Notebooks.{Lists, ListsIf, BookIf, ChangesIf, KeepsMore, KeepsTwo, AreOf};
 
-    /// Nothing was noted. The book of splits hashes by the key.
+    /// Nothing was noted. The books of splits and of changes hash by the key.
     pub(crate) fn new(alloc: Global, key: TableKey) -> Notebook
         ensures { (asked : Query) → AreOf asked [] result }
     {
@@ -73,6 +76,7 @@ impl Notebook {
             counts: Counts::new(),
             lines: String::new(alloc),
             book: SplitBook::new(alloc, key),
+            changes: ChangeBook::new(alloc, key),
             number: 0,
             one: None,
             other: None,
@@ -86,6 +90,7 @@ impl Notebook {
         ensures lists { (past : List LogEntry) (packet : Option Packet) → Lists past self.old → OnOk result (Lists (said_by event.now packet outcome.now ∷ past) self.new) }
         ensures counts { self.new.counts ≡ self.old.counts }
         ensures book { self.new.book ≡ self.old.book }
+        ensures changes { self.new.changes ≡ self.old.changes }
     {
         push_line(&mut self.lines, self.number, event, outcome)?;
         self.number = next(self.number)?;
@@ -98,6 +103,7 @@ impl Notebook {
         ensures lists { (past : List LogEntry) (packet : Option Packet) → ListsIf list past self.old → OnOk result (ListsIf list (said_by event.now packet outcome.now ∷ past) self.new) }
         ensures counts { self.new.counts ≡ self.old.counts }
         ensures book { self.new.book ≡ self.old.book }
+        ensures changes { self.new.changes ≡ self.old.changes }
     {
         if list {
             self.list(event, outcome)
@@ -113,12 +119,66 @@ impl Notebook {
         ensures lines { self.new.lines ≡ self.old.lines }
         ensures number { self.new.number ≡ self.old.number }
         ensures counts { self.new.counts ≡ self.old.counts }
+        ensures changes { self.new.changes ≡ self.old.changes }
     {
         if splits {
             self.book.note(event, outcome)
         } else {
             Ok(())
         }
+    }
+
+    // The same of the book of changes.
+    #[inline(always)]
+    fn change_if(
+        &mut self,
+        changes: bool,
+        event: &Event,
+        packet: Option<&Packet>,
+        outcome: &Outcome,
+    ) -> Result<(), AllocError>
+        ensures changes { (past : List LogEntry) → ChangesIf changes past self.old.changes → OnOk result (ChangesIf changes (said_by event.now (option_copied packet.entry) outcome.now ∷ past) self.new.changes) }
+        ensures rest { self.new ≡ record self.old { changes = self.new.changes } }
+    {
+        if changes {
+            self.changes.note(event, packet, outcome)
+        } else {
+            Ok(())
+        }
+    }
+
+    // What is kept beside the counts.
+    fn more(
+        &mut self,
+        wanted: Wanted,
+        event: &Event,
+        packet: Option<&Packet>,
+        outcome: &Outcome,
+    ) -> Result<(), AllocError>
+        ensures more { (past : List LogEntry) → KeepsMore wanted past self.old → OnOk result (KeepsMore wanted (said_by event.now (option_copied packet.entry) outcome.now ∷ past) self.new) }
+        ensures counts { self.new.counts ≡ self.old.counts }
+    {
+        self.list_if(wanted.list, event, outcome)?;
+        self.book_if(wanted.keeps_splits(), event, outcome)?;
+        self.change_if(wanted.keeps_changes(), event, packet, outcome)
+    }
+
+    // An event is noted for a report.
+    #[inline(always)]
+    fn report(
+        &mut self,
+        wanted: Wanted,
+        event: &Event,
+        packet: Option<&Packet>,
+        outcome: &Outcome,
+    ) -> Result<(), AllocError>
+        ensures { (past : List LogEntry) → AreOf (Report wanted) past self.old → OnOk result (AreOf (Report wanted) (said_by event.now (option_copied packet.entry) outcome.now ∷ past) self.new) }
+    {
+        self.counts.count(outcome)?;
+        if wanted.is_plain() {
+            return Ok(());
+        }
+        self.more(wanted, event, packet, outcome)
     }
 
     // What an event did, where it is one of the two that are asked for.
@@ -156,13 +216,8 @@ impl Notes for Notebook {
         packet: Option<&Packet>,
         outcome: &Outcome,
     ) -> Result<(), AllocError> {
-        let _ = packet;
         match *asked {
-            Query::Report(wanted) => {
-                self.counts.count(outcome)?;
-                self.list_if(wanted.list, event, outcome)?;
-                self.book_if(wanted.splits, event, outcome)
-            }
+            Query::Report(wanted) => self.report(wanted, event, packet, outcome),
             Query::Events { one, other } => self.keep(one, other, event, outcome),
         }
     }

@@ -42,7 +42,7 @@ fn play_with<S: Scheme, P: Spread, I: Source, O: Outlet>(
     requires workers { task.now.deployment.setup.workers ≤ 16 }
     ensures ok { let d = task.now.deployment in let k = cluster_of (λ s z. S.pick s z) (λ h. plain_of h) d in
         let lookups = lookups_of (plain_of d.setup.hash) d.setup.size d.catalogue in
-        IfOk result (λ s. Answers k (P.choice spread) (planned plan.entry) lookups task.now.asked
+        IfOk result (λ s. Answers k (P.choice spread) (planned plan.entry) lookups d.setup.idle task.now.asked
         (I.tape input.old) (I.tape input.new) (O.tape output.old) (O.tape output.new) (string_bytes s)) }
     ensures stopped { let d = task.now.deployment in let k = cluster_of (λ s z. S.pick s z) (λ h. plain_of h) d in
         IfErr result (Stopped k (P.choice spread) (planned plan.entry) (I.tape input.old) (I.tape input.new) (O.tape output.old) (O.tape output.new)) }
@@ -86,7 +86,7 @@ fn play_over<S: Scheme, I: Source, O: Outlet>(
     requires workers { task.now.deployment.setup.workers ≤ 16 }
     ensures ok { let d = task.now.deployment in let k = cluster_of (λ s z. S.pick s z) (λ h. plain_of h) d in
         let lookups = lookups_of (plain_of d.setup.hash) d.setup.size d.catalogue in
-        IfOk result (λ s. Answers k (choice_by spread (plain_of d.setup.hash)) (planned plan.entry) lookups task.now.asked
+        IfOk result (λ s. Answers k (choice_by spread (plain_of d.setup.hash)) (planned plan.entry) lookups d.setup.idle task.now.asked
         (I.tape input.old) (I.tape input.new) (O.tape output.old) (O.tape output.new) (string_bytes s)) }
     ensures stopped { let d = task.now.deployment in let k = cluster_of (λ s z. S.pick s z) (λ h. plain_of h) d in
         IfErr result (Stopped k (choice_by spread (plain_of d.setup.hash)) (planned plan.entry)
@@ -173,7 +173,7 @@ fn play_named<I: Source, O: Outlet>(
 
 /// Plays a scenario over a capture, and answers what is asked of the run. What the cluster sends goes to the
 /// outlet, whose capture is begun once the input's header was accepted. Whatever goes wrong but a write, the output is cut between
-/// records. The connection tables and the book of splits hash by the key. The memory of a run is given back before its answer
+/// records. The connection tables and the books of splits and changes hash by the key. The memory of a run is given back before its answer
 /// is made. A step `stop`, which no scenario has that was read as one played in turn, is played as the restart that it is in a
 /// trace.
 ///

@@ -20,5 +20,5 @@ line-requires-clause-other g c = λ steady.
 pub returns-in-Events : goal.returns-in-Events
 returns-in-Events g c =
     let two = subst (λ (a : Query). AreOf a c.args.played.now.play.trace.past c.args.notes) c.in-Events.is c.requires.notes in
-    line_told string_bytes c.line.result (lookups_of (g.H.FlowHash.plain c.args.task.now.deployment.setup.hash) c.args.task.now.deployment.setup.size c.args.task.now.deployment.catalogue) c.args.task.now.asked c.args.played.now.play.trace c.args.played.now.packets c.args.played.now.ending c.in-Events.one c.in-Events.other
+    line_told string_bytes c.line.result (lookups_of (g.H.FlowHash.plain c.args.task.now.deployment.setup.hash) c.args.task.now.deployment.setup.size c.args.task.now.deployment.catalogue) c.args.task.now.deployment.setup.idle c.args.task.now.asked c.args.played.now.play.trace c.args.played.now.packets c.args.played.now.ending c.in-Events.one c.in-Events.other
     c.args.notes.one c.args.notes.other c.args.notes.first c.args.notes.later c.in-Events.is two.one_is two.other_is two.first_is two.later_is c.line.ensures

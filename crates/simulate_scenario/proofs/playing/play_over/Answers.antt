@@ -17,5 +17,5 @@ returns-clause-ok g c =
     let lookups = lookups_of (plain_of d.setup.hash) d.setup.size d.catalogue in
     let hash : c.hash-hash.result ≡ d.setup.hash = c.hash-hash.ensures ∙ ap (λ s. s.hash) c.setup.ensures.setup in
     let choice = c.in_ok-spread.ensures.choice ∙ ap (λ (h : AnyHash). choice_by c.args.spread (plain_of h)) hash in
-    subst (λ (x : Choice). IfOk c.play_with.result (λ s. Answers k x (planned c.args.plan) lookups c.args.task.now.asked
+    subst (λ (x : Choice). IfOk c.play_with.result (λ s. Answers k x (planned c.args.plan) lookups d.setup.idle c.args.task.now.asked
     (g.I.Source.tape c.args.input.now) (g.I.Source.tape c.play_with.new.input) (g.O.Outlet.tape c.args.output.now) (g.O.Outlet.tape c.play_with.new.output) (string_bytes s))) choice c.play_with.ensures.ok
