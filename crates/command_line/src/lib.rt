@@ -328,6 +328,24 @@ fn splits<'a>(alloc: Global) -> Arg<'a> {
         .action(ArgAction::SetTrue)
 }
 
+fn places<'a>(alloc: Global) -> Arg<'a> {
+    Arg::new(alloc, "where")
+        .long("where")
+        .help(
+            "print the splits with where both packets were sent, when, and why the later one went elsewhere",
+        )
+        .action(ArgAction::SetTrue)
+}
+
+fn summary<'a>(alloc: Global) -> Arg<'a> {
+    Arg::new(alloc, "summary")
+        .long("summary")
+        .help(
+            "print behind the report how many connections changed their server, how often, and why",
+        )
+        .action(ArgAction::SetTrue)
+}
+
 fn pace<'a>(alloc: Global) -> Arg<'a> {
     Arg::new(alloc, "pace")
         .long("pace")
@@ -389,6 +407,8 @@ fn simulate<'a>(alloc: Global) -> Result<Command<'a>, AllocError> {
     let args = [
         list(alloc),
         splits(alloc),
+        places(alloc),
+        summary(alloc),
         of_places(alloc),
         scenario(alloc),
         input(alloc),

@@ -158,7 +158,8 @@ pub(crate) fn run_simulate(rt: &HostRuntime, matches: &ArgMatches<'_>) -> u8 {
     let wanted = Wanted {
         list: matches.get_flag("list"),
         splits: matches.get_flag("splits"),
-        ..Wanted::REPORT
+        places: matches.get_flag("where"),
+        summary: matches.get_flag("summary"),
     };
     between_captures(
         rt,

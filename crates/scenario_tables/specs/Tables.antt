@@ -8,7 +8,7 @@ use Rattle.pool_versions.specs.declared.service.Version.{Version}
 use Rattle.pool_versions.specs.Pool.{key_of}
 use Rattle.selection.specs.Picks.{NamedTable, slot_names}
 use Rattle.scenario.specs.declared.playing.Played.TheVariants.{InTurn}
-use Rattle.scenario.specs.declared.reading.Scenario.{Scenario}
+use Rattle.scenario.specs.declared.plan.Scenario.{Scenario}
 use Rattle.scenario.specs.Meaning.{Means}
 use Rattle.scenario_faults.specs.Refusals.{ScenarioFails}
 use Rattle.command_faults.specs.declared.fault.CliFault.{CliFault}
