@@ -4,6 +4,7 @@
 The last line is 'N passed, N failed'. Expected values are worked out by hand or by another program, never taken from the
 program's own output.
 """
+import collections
 import errno
 import os
 import pathlib
@@ -1039,12 +1040,40 @@ def test_verbose_of_words():
     prints("verbose: a table", ["table", "-v", *seven, "A"], run(["table", *seven, "A"])[1].decode())
 
 
+HELPS = {
+    "NotIpv4": "their frames aren't IPv4: VLAN tags and IPv6 aren't read",
+    "Truncated": "the capture has only the beginnings of its packets: capture whole ones, with tcpdump -s 0",
+    "NoService": "SCENARIO has no service of their address, protocol and port: maglev scenario INPUT lists those that INPUT has",
+    "NoBackend": "every member of their service was down or drained",
+    "NoVersion": "their balancer had no version yet: begin with a step install",
+    "RingsFull": "every ring was full: give more places by ring in SCENARIO, or let drivers wait by --pace",
+}
+
+
+def advised(text):
+    """What may be amiss by a report, line by line."""
+    count = collections.defaultdict(int, {line.rsplit(" ", 1)[0]: int(line.rsplit(" ", 1)[1]) for line in text.splitlines() if line[-1].isdigit()})
+    few = count["forwarded"] <= count["received"] // 10
+    causes = [(cause, count[f"drop {cause}"]) for cause in HELPS if count[f"drop {cause}"]]
+    most = max(causes, key=lambda one: one[1], default=None) if few else next((one for one in causes if one[0] == "RingsFull"), None)
+    lines = [f"of {count['received']} packets {most[1]} were dropped as {most[0]}: {HELPS[most[0]]}"] if most else []
+    for word, what in [
+        ("unrouted", "{} packet{} came when no balancer was live"),
+        ("left", "{} record{} at the end of INPUT: no step reads them"),
+        ("refused", "{} event{} refused, as an install of a version that isn't newer: simulate --list shows which"),
+    ]:
+        if count[word]:
+            lines.append(what.format(count[word], "s" * (count[word] != 1)))
+    return lines
+
+
 def warns(name, steps, expected, words=("simulate", "-v", "s.toml", "in.pcap", "out.pcap")):
-    """The command's report is as without `--verbose`, and these lines stand behind it on standard error."""
+    """The command's report is as without `--verbose`. On standard error these lines stand behind it, and then what may be amiss by
+    the report."""
     text = scenario(steps)
     with_it = with_files(text, capture("yz"), lambda folder: run(words, cwd=folder))
     without = with_files(text, capture("yz"), lambda folder: run([word for word in words if word != "-v"], cwd=folder))
-    lines = "".join(f"warning: {line}\n" for line in expected)
+    lines = "".join(f"warning: {line}\n" for line in expected + advised(without[1].decode()))
     check(f"warned: {name}", with_it == (0, without[1], lines.encode()) and without[::2] == (0, b""), f"{with_it} {without}")
 
 
@@ -1066,6 +1095,11 @@ def test_warnings():
     ]:
         warns(name, steps, expected)
         warns(f"{name}, by run", steps, expected, on_threads)
+    for name, steps, letters in [("of no service", ["live 0", "install 0 1", "take 40"], "w" * 40), ("nobody is live", ["live", "take 2"], "yz")]:
+        text = scenario(steps)
+        answer = with_files(text, capture(letters), lambda folder: run(["simulate", "-v", "s.toml", "in.pcap", "out.pcap"], cwd=folder))
+        lines = advised(answer[1].decode())
+        check(f"advised: {name}", len(lines) == 1 and answer[2].decode() == f"warning: {lines[0]}\n", f"{answer} {lines}")
     many = [lacks.format(step, 7, 0) for step in range(25)]
     warns("many", ["install 0 7"] * 25, many[:20] + ["5 more of these"])
     warns("a stop", ["install 0 1", "stop 0", "take 1"], [bare.format(1)], on_threads)
@@ -1098,12 +1132,14 @@ def test_what_is_told_at_a_terminal():
     warned = scenario(["install 0 1", "install 0 7", "take 2"])
     lacks = "warning: step 1 installs version 7 on node 0, which the catalogue lacks\n"
     bare = "warning: node 1 is live when packets come, and never has a version\n"
+    refused = "warning: 1 event refused, as an install of a version that isn't newer: simulate --list shows which\n"
     for words in [["simulate", *files], ["run", *files], ["explain", *files[:2], "2", "3"], ["plan", "s.toml", "1", "2"]]:
         tells(f"{words[0]}, a scenario", words, "fault: BadKey\n", size, good.replace("size = 7", "size = 8"), capture("yz"))
         tells(f"{words[0]}, no scenario", words, "fault: OpenScenario\n", f"s.toml: {os.strerror(errno.ENOENT)} (os error 2)\n", None, capture("yz"))
         tells(f"{words[0]}, nothing to say", words, "", "", good, capture("yz"))
-        tells(f"{words[0]}, warnings", words, "", lacks + bare, warned, capture("yz"))
-    tells("run, a list of splits", ["run", "--splits", *files], "", lacks + bare, warned, capture("yz"))
+        more = lacks + bare + (refused if words[0] in ("simulate", "run") else "")
+        tells(f"{words[0]}, warnings", words, "", more, warned, capture("yz"))
+    tells("run, a list of splits", ["run", "--splits", *files], "", lacks + bare + refused, warned, capture("yz"))
     modified = bytes.fromhex("34cdb2a1") + bytes(40)
     magic = "in.pcap: found modified pcap, expected classic pcap: editcap -F pcap INPUT out.pcap\n"
     for words in [["simulate", *files], ["run", *files], ["explain", *files[:2], "2", "3"], ["scenario", "in.pcap"]]:
@@ -1116,6 +1152,34 @@ def test_what_is_told_at_a_terminal():
     members = ["--old", "A@10.8.0.1", "--new", "A@10.8.0.1 A@10.8.0.2"]
     tells("compare, a word", ["compare", *seven, *members], "fault: DoubleName\n", '--new, word 2 of 2: found "A@10.8.0.2", expected a name that no earlier word gives\n')
     tells("compare, nothing to say", ["compare", *seven, "--old", "A@10.8.0.1", "--new", "B@10.8.0.2"], "", "")
+
+
+def test_readers_that_go_away():
+    """Where whoever reads standard output goes away the program ends quietly, with 141 as a program that the signal ends."""
+    text = scenario(["install 0 1", "install 1 1", "take 2"])
+    for words in [
+        ["table", "--size", "7", "--hash", "sum", "A"],
+        ["compare", "--size", "7", "--hash", "sum", "--old", "A@10.8.0.1", "--new", "B@10.8.0.2"],
+        ["plan", "s.toml", "1", "2"],
+        ["table", "--scenario", "s.toml", "--version", "1"],
+        ["scenario", "in.pcap"],
+        ["explain", "s.toml", "in.pcap", "2", "3"],
+        ["simulate", "--list", "s.toml", "in.pcap", "out.pcap"],
+        ["run", "s.toml", "in.pcap", "out.pcap"],
+        ["simulate", "s.toml", "in.pcap", "-"],
+    ]:
+        for more in [[], ["-v"]]:
+
+            def broken(folder):
+                reading, writing = os.pipe()
+                os.close(reading)
+                command = [PROGRAM, *words[:1], *more, *words[1:]]
+                done = subprocess.run(command, stdin=subprocess.DEVNULL, stdout=writing, stderr=subprocess.PIPE, cwd=folder, timeout=600)
+                os.close(writing)
+                return done.returncode, done.stderr
+
+            answer = with_files(text, capture("yz"), broken)
+            check(f"a reader goes away: {' '.join(words + more)}", answer == (141, b""), answer)
 
 
 def test_captures_as_scenarios():
@@ -1418,7 +1482,7 @@ def test_plan_faults():
     faults("plan of no scenario", ["plan", "no/such/file", "1"], "OpenScenario")
     with_files(good, None, lambda folder: unprinted(["plan", "s.toml", "1", "2"], folder))
     says("plan", good.replace('"maglev"', "1"), None, "BadKey", 'scheme, line 7: found 1, expected "maglev", "plain" or "round"\n', ("plan", "s.toml", "1"))
-    says("plan of a version that isn't there", good, None, "BadNumber", "FROM or TO: expected the number of a version that the scenario has\n", ("plan", "s.toml", "1", "3"))
+    says("plan of a version that isn't there", good, None, "BadNumber", "version: expected the number of one that the scenario has\n", ("plan", "s.toml", "1", "3"))
     says("plan of a version of the number 0", good.replace("number = 2", "number = 0"), None, "BadNumber", "versions[1].number, line 18: found 0, expected a number from 1\n", ("plan", "s.toml", "1", "3"))
     for words in [[], ["s.toml"], ["s.toml", "one"], ["s.toml", "1", "2", "3"], ["s.toml", "-1"], ["s.toml", "1", "4294967296"]]:
         misused(f"plan {words}", ["plan", *words])

@@ -150,7 +150,8 @@ fn version_by<'a>(
         .help(help)
         .action(ArgAction::Set)
         .value_parser(value_parser!(u32))
-        .requires_arg("described")
+        .requires_arg("described")?
+        .conflicts_with("size")
 }
 
 fn of_version<'a>(alloc: Global) -> Result<Arg<'a>, AllocError> {
