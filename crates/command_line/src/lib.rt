@@ -164,7 +164,8 @@ fn service<'a>(alloc: Global) -> Result<Arg<'a>, AllocError> {
         .value_name("ADDRESS:PORT/PROTOCOL")
         .help("the scenario's service, as plan prints it; the only one where it is left out")
         .action(ArgAction::Set)
-        .requires_arg("described")
+        .requires_arg("described")?
+        .conflicts_with("size")
 }
 
 fn names<'a>(alloc: Global) -> Result<Arg<'a>, AllocError> {
