@@ -1,0 +1,13 @@
+use Rattle.std.proofs.Common.{◌≡◌, List, ◌++◌, reverse}
+use Rattle.std.specs.Iterator.Adapters.{zip_first, zip_second}
+use Rattle.std.specs.Slice.Iter.{iter_rest}
+use Rattle.cluster_node.specs.declared.events.LogEntry.{LogEntry}
+use Rattle.connection_changes.specs.Seen.{seen_of}
+use Rattle.connection_changes.specs.Books.{IsChangeBookOf}
+use Rattle.connection_changes.proofs.book.ChangeBook.note_all.Given as goal
+
+abbrev pub invariant-loop-event : goal.invariant-loop-event
+invariant-loop-event l =
+    (first : List LogEntry) → IsChangeBookOf first l.initial.self →
+    (past : List LogEntry) × IsChangeBookOf past l.self
+    × (reverse past ++ seen_of l.packets (iter_rest (zip_first l.event-iterator)) (iter_rest (zip_second l.event-iterator)) ≡ reverse first ++ seen_of l.packets l.events l.outcomes)
