@@ -445,6 +445,8 @@ fn explain<'a>(alloc: Global) -> Result<Command<'a>, AllocError> {
 fn run<'a>(alloc: Global) -> Result<Command<'a>, AllocError> {
     let args = [
         splits(alloc),
+        places(alloc),
+        summary(alloc),
         pace(alloc),
         of_places(alloc),
         scenario(alloc),

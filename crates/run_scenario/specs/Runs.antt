@@ -10,6 +10,8 @@ use Rattle.cluster_node.specs.declared.packets.Packet.{Packet}
 use Rattle.cluster_node.specs.declared.events.LogEntry.{LogEntry}
 use Rattle.run_report.specs.Splits.{said_of}
 use Rattle.run_report.specs.Texts.{splits_text}
+use Rattle.connection_changes.specs.Seen.{seen_of}
+use Rattle.connection_changes.specs.Texts.{places_text, summary_text}
 use Rattle.cluster_core.specs.declared.counts.Totals.{Totals}
 use Rattle.event_trace.specs.declared.play.Tally.{Tally}
 use Rattle.event_trace.specs.Tally.{tally_of}
@@ -30,6 +32,7 @@ use Rattle.simulation.specs.declared.fault.SimulationFault.TheVariants.{Memory}
 use Rattle.simulation.specs.Sent.{time_of, packets_of, capture_text}
 use Rattle.simulation.specs.Simulated.{traffic_of, CaptureUntil, IsOfRun}
 use Rattle.run_scenario.specs.declared.failure.RunFailure.{RunFailure}
+use Rattle.run_scenario.specs.declared.options.RunOptions.{RunOptions}
 use Rattle.run_scenario.specs.declared.failure.RunFailure.TheVariants.{Simulation, Threads}
 use Rattle.run_scenario.specs.Inputs.{IsReadWhole, WholeWasRead, ReadingFails}
 use Rattle.run_scenario.specs.Sends.{sent_by_nodes}
@@ -62,18 +65,28 @@ audit_line false = codes "audit differs\n"
 abbrev pub record_of : History → List LogEntry
 record_of h = reverse (said_of h.events.items h.outcomes.items)
 
--- what is reported of the splits of a history, where it is asked for
-abbrev pub splits_if : Bool → Scenario → History → List ℕ
-splits_if true s h = splits_text (lookups_in s) (record_of h)
-splits_if false s h = []
+-- the same with these packets, which arrivals name
+abbrev pub seen_in : List Packet → History → List LogEntry
+seen_in packets h = reverse (seen_of packets h.events.items h.outcomes.items)
+
+-- what is reported of the splits of a history, where it is asked for: with places, or without
+abbrev pub splits_if : Bool → Bool → Scenario → List Packet → History → List ℕ
+splits_if true splits s packets h = places_text (lookups_in s) s.idle (seen_in packets h)
+splits_if false true s packets h = splits_text (lookups_in s) (record_of h)
+splits_if false false s packets h = []
+
+-- how many of its connections changed their server, and why, where it is asked for
+abbrev pub summary_if : Bool → Scenario → List Packet → History → List ℕ
+summary_if true s packets h = summary_text (lookups_in s) s.idle (seen_in packets h)
+summary_if false s packets h = []
 
 abbrev pub audited_report : Tally → Totals → Bool → Bool → List ℕ
 audited_report tally totals cut agrees = report_text tally totals cut ++ audit_line agrees
 
 -- A cluster on threads knows each step, and it ran over the whole input. The output got the capture of what the nodes sent,
--- node by node and life by life. The text is the report of that run, after what is reported of its splits where it is asked
--- for.
-pub record Ran (s : Scenario) (splits : Bool) (input input' output output' : Tape) (text : List ℕ) : Type 0 where
+-- node by node and life by life. The text is the report of that run, after what is reported of its splits, and before a summary,
+-- where they are asked for.
+pub record Ran (s : Scenario) (options : RunOptions) (input input' output output' : Tape) (text : List ℕ) : Type 0 where
   pub known : first_unsupported_in s.steps.items ≡ None
   pub head : Head
   pub records : List Record
@@ -84,7 +97,9 @@ pub record Ran (s : Scenario) (splits : Bool) (input input' output output' : Tap
   pub run : AreOfRun s head.link records nodes history
   pub written : Appends output.bytes output'.bytes (capture_text (sent_by_nodes (traffic_of (plan_in s) head.link records) nodes))
   pub unfailed : Unfailed output output'
-  pub report : text ≡ splits_if splits s history ++ audited_report (tally_in s head.link records) (totals_in history.outcomes.items) (is_cut ending) true
+  pub report : text ≡ (splits_if options.places options.splits s (packets_in s head.link records) history
+      ++ audited_report (tally_in s head.link records) (totals_in history.outcomes.items) (is_cut ending) true)
+      ++ summary_if options.summary s (packets_in s head.link records) history
 
 -- the same up to the output, which got a prefix of that capture; it is cut between records, unless writing failed
 pub record BreaksOff (fault : SimulationFault) (s : Scenario) (input input' output output' : Tape) : Type 0 where

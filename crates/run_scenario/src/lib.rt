@@ -5,6 +5,7 @@
 mod blocks;
 mod failure;
 mod histories;
+mod options;
 mod orders;
 mod reading;
 mod records;
@@ -14,4 +15,5 @@ mod sending;
 mod threads;
 
 pub use failure::RunFailure;
-pub use running::{RunOptions, run_scenario};
+pub use options::RunOptions;
+pub use running::run_scenario;

@@ -9,6 +9,7 @@ ghost use Rattle.run_scenario.specs.PrivateHistories.{RanOver};
 
 use crate::failure::RunFailure;
 use crate::histories::totals_of;
+use crate::options::RunOptions;
 use crate::orders::orders_of;
 use crate::reading::{Captured, packets_of, read_whole};
 use crate::report::audited_report;
@@ -23,15 +24,6 @@ use std::alloc::Global;
 use std::sync::Wait;
 use std::thread::Threads;
 use thread_records::NodeRecord;
-
-/// What is asked of a run beside its scenario.
-#[derive(Clone, Copy, Debug, PartialEq, Eq)]
-pub struct RunOptions {
-    /// The report begins with the splits.
-    pub splits: bool,
-    /// A node's driver waits at a full ring.
-    pub paced: bool,
-}
 
 // What the nodes did, and the report.
 #[derive(Drop)]
@@ -63,7 +55,7 @@ fn run_over<R: Threads + Wait + Sync>(
     options: RunOptions,
 ) -> Result<Done, RunFailure>
     requires few { length captured.now.records ≤ max_records }
-    ensures over { IfOk result (λ d. RanOver scenario.now options.splits captured.now.head.link captured.now.records captured.now.ending d.nodes.items (string_bytes d.text)) }
+    ensures over { IfOk result (λ d. RanOver scenario.now options captured.now.head.link captured.now.records captured.now.ending d.nodes.items (string_bytes d.text)) }
     ensures paced { options.paced ≡ true → IfOk result (λ d. NoneRefused d.nodes.items) }
     ensures stopped { IfErr result IsOfThreads }
 {
@@ -75,8 +67,7 @@ fn run_over<R: Threads + Wait + Sync>(
         scenario,
         packets: packets.as_slice(),
         commands: orders.commands.as_slice(),
-        splits: options.splits,
-        paced: options.paced,
+        options,
     };
     let audited = run_named(rt, alloc, &task)?;
     let totals = totals_of(&audited.run);
@@ -87,8 +78,9 @@ fn run_over<R: Threads + Wait + Sync>(
         captured.ending,
         audited.agrees,
     )?;
-    let mut text = audited.splits;
+    let mut text = audited.told.splits;
     text.push_str(report.as_str())?;
+    text.push_str(audited.told.summary.as_str())?;
     Ok(Done {
         nodes: audited.run.nodes,
         text,
@@ -96,8 +88,9 @@ fn run_over<R: Threads + Wait + Sync>(
 }
 
 /// Runs a scenario's cluster on threads over a capture, and answers the report. The report ends in `audit agrees` where a
-/// replay of the run's history gives the outcomes that it has: by the clause `ok` it always does. With the option `splits` the report
-/// begins with a line for each split, and then how many there were. A split is two packets that follow one another in a
+/// replay of the run's history gives the outcomes that it has: by the clause `ok` it always does. With the option `splits`, or
+/// `places`, the report begins with a line for each split, and then how many there were; with `summary` it is followed by how many
+/// connections changed their server. A split is two packets that follow one another in a
 /// flow, in the history's order, and went to different backends; events are numbered as in the history.
 ///
 /// The capture is read to its end before any thread starts, and the steps become the nodes' commands. Once all threads are
@@ -127,12 +120,12 @@ pub fn run_scenario<R: Threads + Wait + Sync, I: Source, O: Sink>(
     output: &mut O,
 ) -> Result<String, RunFailure>
     ensures ok { IfOk result (λ s.
-        Ran scenario.now.scenario options.splits (I.tape input.old) (I.tape input.new) (O.tape output.old) (O.tape output.new) (string_bytes s)) }
+        Ran scenario.now.scenario options (I.tape input.old) (I.tape input.new) (O.tape output.old) (O.tape output.new) (string_bytes s)) }
     ensures kept { IfOk result (λ s.
-        (ran : Ran scenario.now.scenario options.splits (I.tape input.old) (I.tape input.new) (O.tape output.old) (O.tape output.new) (string_bytes s)) →
+        (ran : Ran scenario.now.scenario options (I.tape input.old) (I.tape input.new) (O.tape output.old) (O.tape output.new) (string_bytes s)) →
         KeepsPromises scenario.now.scenario ran.head.link ran.records ran.history) }
     ensures paced { options.paced ≡ true → IfOk result (λ s.
-        (ran : Ran scenario.now.scenario options.splits (I.tape input.old) (I.tape input.new) (O.tape output.old) (O.tape output.new) (string_bytes s))
+        (ran : Ran scenario.now.scenario options (I.tape input.old) (I.tape input.new) (O.tape output.old) (O.tape output.new) (string_bytes s))
         × NoneRefused ran.nodes) }
     ensures stopped { IfErr result (Halted scenario.now.scenario (I.tape input.old) (I.tape input.new) (O.tape output.old) (O.tape output.new)) }
 {
