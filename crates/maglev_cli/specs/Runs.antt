@@ -10,7 +10,7 @@ use Rattle.scenario.specs.declared.plan.Scenario.{Scenario}
 use Rattle.scenario.specs.Meaning.{Means}
 use Rattle.driver_commands.specs.Knowing.{first_unsupported_in}
 use Rattle.run_scenario.specs.declared.failure.RunFailure.{RunFailure}
-use Rattle.run_scenario.specs.declared.options.RunOptions.{RunOptions}
+use Rattle.run_scenario.specs.declared.running.RunOptions.{RunOptions}
 use Rattle.run_scenario.specs.declared.failure.RunFailure.TheVariants.{Simulation, Threads}
 use Rattle.run_scenario.specs.Runs.{Ran, Halted}
 use Rattle.run_scenario.specs.Kept.{KeepsPromises}
@@ -31,12 +31,12 @@ abbrev pub failure_fault : RunFailure → CliFault
 failure_fault (Simulation fault) = run_fault fault
 failure_fault (Threads fault) = threads_fault fault
 
--- no driver waits, and of a run its report is asked for, with the splits or without
-abbrev pub with_splits : Bool → RunOptions
-with_splits splits = record { splits = splits; places = false; summary = false; paced = false }
+-- nothing is asked for but the splits, where they are
+abbrev pub only_splits : Bool → RunOptions
+only_splits splits = record { splits = splits; places = false; summary = false; paced = false }
 
 -- the cluster of the scenario that the text means ran on threads over the input, the output got what the nodes sent, and the
--- report the run's, behind its splits and before a summary where they are asked for; and the run keeps the promises
+-- report the run's, with what is asked for before and behind it; and the run keeps the promises
 pub record Runs (options : RunOptions) (text : List ℕ) (input input' output output' report report' : Tape) : Type 0 where
   pub scenario : Scenario
   pub means : Means OnThreads text scenario

@@ -1,6 +1,6 @@
 //! The command that runs a scenario's cluster on threads.
 ghost use Rattle.std.specs.Prelude.{◌≡◌, true, IfErr, OnOk};
-ghost use Rattle.maglev_cli.specs.Runs.{Runs, PacedRuns, RunCommandFails, with_splits, failure_fault, threads_fault};
+ghost use Rattle.maglev_cli.specs.Runs.{Runs, PacedRuns, RunCommandFails, failure_fault, only_splits, threads_fault};
 
 use command_faults::{CliFault, put_text};
 use connection_table::TableKey;
@@ -51,16 +51,18 @@ pub fn run<T: Threads + Wait + Sync, I: Source, O: Sink, R: Sink>(
     report: &mut R,
     splits: bool,
 ) -> Result<(), CliFault>
-    ensures ran { OnOk result (Runs (with_splits splits) scenario.now (I.tape input.old) (I.tape input.new)
+    ensures ran { OnOk result (Runs (only_splits splits) scenario.now (I.tape input.old) (I.tape input.new)
         (O.tape output.old) (O.tape output.new) (R.tape report.old) (R.tape report.new)) }
-    ensures stopped { IfErr result (λ fault. RunCommandFails fault (with_splits splits) scenario.now (I.tape input.old) (I.tape input.new)
+    ensures stopped { IfErr result (λ fault. RunCommandFails fault (only_splits splits) scenario.now (I.tape input.old) (I.tape input.new)
         (O.tape output.old) (O.tape output.new) (R.tape report.old) (R.tape report.new)
         ((input.new ≡ input.old) × (output.new ≡ output.old) × (report.new ≡ report.old)) (report.new ≡ report.old)) }
 {
     let key = TableKey::fixed();
     let options = RunOptions {
         splits,
-        ..RunOptions::REPORT
+        places: false,
+        summary: false,
+        paced: false,
     };
     match run_keyed(rt, alloc, key, scenario, options, input, output, report) {
         Ok(()) => Ok(()),

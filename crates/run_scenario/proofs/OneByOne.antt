@@ -19,10 +19,8 @@ use Rattle.thread_records.specs.Runs.{AreRuns, JoinsRuns}
 use Rattle.thread_records.proofs.Joins.{events_more, outcomes_more, whole, own, runs_told}
 use Rattle.node_threads.specs.declared.cluster.NodesRun.{NodesRun}
 use Rattle.scenario.specs.declared.plan.Scenario.{Scenario}
-use Rattle.connection_changes.specs.Seen.{seen_of}
-use Rattle.connection_changes.proofs.SeenWalks.{seen_append}
 use Rattle.run_scenario.specs.Runs.{splits_if, summary_if}
-use Rattle.run_scenario.specs.PrivateHistories.{AreEven, said_by, seen_by, splits_over, summary_over}
+use Rattle.run_scenario.specs.PrivateHistories.{AreEven, said_by, splits_over, summary_over}
 
 -- there is an outcome for each event
 verdicts_long : (rules : Rules) (past : List LogEntry) (packets : List Packet) (es : List Event) → length (verdicts rules past packets es) ≡ length es
@@ -62,17 +60,6 @@ said_more rs i r lt is even =
     ∙ ap (λ (l : List Outcome). reverse (said_of (es ++ r.events.items) l)) (outcomes_more rs i r lt ∙ ap (λ (q : NodeRecord). os ++ q.outcomes.items) (sym is))
     ∙ ap (λ (l : List LogEntry). reverse l) (said_append es r.events.items os r.outcomes.items (all_even (take i rs) (take_even rs i even)))
     ∙ reverse-append (said_of es os) (said_of r.events.items r.outcomes.items)
-
--- the same with the packets that arrivals name
-pub seen_more : (packets : List Packet) (rs : List NodeRecord) (i : ℕ) (r : NodeRecord) → i < length rs → r ≡ get_or rs i r → AreEven rs
-    → seen_by packets (take (i + 1) rs) ≡ reverse (seen_of packets r.events.items r.outcomes.items) ++ seen_by packets (take i rs)
-seen_more packets rs i r lt is even =
-    let es = all_events (take i rs) in
-    let os = all_outcomes (take i rs) in
-    ap (λ (l : List Event). reverse (seen_of packets l (all_outcomes (take (i + 1) rs)))) (events_more rs i r lt ∙ ap (λ (q : NodeRecord). es ++ q.events.items) (sym is))
-    ∙ ap (λ (l : List Outcome). reverse (seen_of packets (es ++ r.events.items) l)) (outcomes_more rs i r lt ∙ ap (λ (q : NodeRecord). os ++ q.outcomes.items) (sym is))
-    ∙ ap (λ (l : List LogEntry). reverse l) (seen_append packets es r.events.items os r.outcomes.items (all_even (take i rs) (take_even rs i even)))
-    ∙ reverse-append (seen_of packets es os) (seen_of packets r.events.items r.outcomes.items)
 
 -- how many outcomes there are, with one node more, and with all
 pub count_more : (rs : List NodeRecord) (i : ℕ) (r : NodeRecord) → i < length rs → r ≡ get_or rs i r → length (all_outcomes (take (i + 1) rs)) ≡ length (all_outcomes (take i rs)) + length r.outcomes.items
@@ -125,15 +112,13 @@ joins rules packets ring cs run even few runs =
     let told = runs_told rules packets ring 0 cs rs runs in
     record { events = refl; outcomes = refl; told = whole rules packets rs told; own = λ n r h. own rules packets rs n r told h }
 
-pub same_splits : (places splits : Bool) (s : Scenario) (packets : List Packet) (run : NodesRun) (even : AreEven run.nodes.items) (few : length (all_outcomes run.nodes.items) < 2 ^ 63)
-    → splits_over places splits s packets run.nodes.items ≡ splits_if places splits s packets (history_of run even few)
+pub same_splits : (places splits : Bool) (s : Scenario) (packets : List Packet) (run : NodesRun) (even : AreEven run.nodes.items) (few : length (all_outcomes run.nodes.items) < 2 ^ 63) → splits_over places splits s packets run.nodes.items ≡ splits_if places splits s packets (history_of run even few)
 unfolding history_of
 same_splits true splits s packets run even few = refl
 same_splits false true s packets run even few = refl
 same_splits false false s packets run even few = refl
 
-pub same_summary : (summary : Bool) (s : Scenario) (packets : List Packet) (run : NodesRun) (even : AreEven run.nodes.items) (few : length (all_outcomes run.nodes.items) < 2 ^ 63)
-    → summary_over summary s packets run.nodes.items ≡ summary_if summary s packets (history_of run even few)
+pub same_summary : (b : Bool) (s : Scenario) (packets : List Packet) (run : NodesRun) (even : AreEven run.nodes.items) (few : length (all_outcomes run.nodes.items) < 2 ^ 63) → summary_over b s packets run.nodes.items ≡ summary_if b s packets (history_of run even few)
 unfolding history_of
 same_summary true s packets run even few = refl
 same_summary false s packets run even few = refl

@@ -1,21 +1,23 @@
 //! What is told of the nodes' histories, one after another. No list has them all.
-ghost use Rattle.std.specs.Prelude.{◌≡◌, ◌+◌, ◌<◌, ◌≤◌, ◌^◌, false, List, length, IfOk, IfSome, string_bytes};
+ghost use Rattle.std.specs.Prelude.{◌≡◌, ◌+◌, ◌<◌, ◌≤◌, ◌^◌, ◌++◌, false, List, length, reverse, IfOk, IfSome, OnOk, string_bytes};
+ghost use Rattle.cluster_node.specs.declared.events.LogEntry.{LogEntry};
+ghost use Rattle.cluster_node.specs.declared.packets.Packet.{Packet};
 ghost use Rattle.cluster_core.specs.OutcomeCounts.{is_refused, how_many};
 ghost use Rattle.cluster_core.specs.Totals.{came_all, went_all};
 ghost use Rattle.run_report.specs.Books.{IsBookOf};
+ghost use Rattle.connection_changes.specs.Books.{IsChangeBookOf};
+ghost use Rattle.connection_changes.specs.Texts.{places_text};
+ghost use Rattle.thread_records.specs.declared.nodes.NodeRecord.{NodeRecord};
 ghost use Rattle.thread_records.specs.Joins.{all_outcomes};
 ghost use Rattle.thread_roles.specs.Counts.{AreTotals};
 ghost use Rattle.simulate_scenario.specs.Answers.{totals_in};
-ghost use Rattle.cluster_node.specs.declared.events.LogEntry.{LogEntry};
-ghost use Rattle.cluster_node.specs.declared.packets.Packet.{Packet};
-ghost use Rattle.connection_changes.specs.Books.{IsChangeBookOf};
-ghost use Rattle.connection_changes.specs.Texts.{places_text, summary_text};
 ghost use Rattle.simulate_scenario.specs.Described.{lookups_in};
-ghost use Rattle.run_scenario.specs.PrivateHistories.{AreEven, AreTold, said_by, seen_by, splits_over, summary_over};
+ghost use Rattle.run_scenario.specs.Runs.{said_with};
+ghost use Rattle.run_scenario.specs.PrivateHistories.{AreEven, said_by, said_whole, splits_over, summary_over};
 
-use crate::options::RunOptions;
-use cluster_core::Totals;
-use cluster_node::{Outcome, Packet};
+use crate::running::RunOptions;
+use cluster_core::{Totals, packet_at};
+use cluster_node::{Event, Outcome, Packet};
 use connection_changes::{ChangeBook, push_places, push_summary};
 use connection_table::TableKey;
 use node_threads::NodesRun;
@@ -93,24 +95,6 @@ pub(crate) fn totals_of(run: &NodesRun) -> Totals
     }
 }
 
-/// What is asked of the nodes' histories: of which scenario, over which packets. The books hash by the key.
-#[derive(Clone, Copy)]
-pub(crate) struct Asked<'a> {
-    pub(crate) key: TableKey,
-    pub(crate) scenario: &'a Scenario,
-    pub(crate) packets: &'a [Packet],
-    pub(crate) options: RunOptions,
-}
-
-/// What is told of a run's history beside its report.
-#[derive(Drop)]
-pub(crate) struct Told {
-    /// What comes before it.
-    pub(crate) splits: String,
-    /// What comes behind it.
-    pub(crate) summary: String,
-}
-
 // The book of the splits.
 fn book_of(alloc: Global, key: TableKey, nodes: &[NodeRecord]) -> Result<SplitBook, AllocError>
     requires { AreEven nodes.now }
@@ -123,7 +107,22 @@ fn book_of(alloc: Global, key: TableKey, nodes: &[NodeRecord]) -> Result<SplitBo
     Ok(book)
 }
 
-// The book of the changes. Arrivals name these packets.
+// A node's history goes into the book of changes, event by event, with the packets that arrivals name.
+fn note_node(
+    book: &mut ChangeBook,
+    packets: &[Packet],
+    events: &[Event],
+    outcomes: &[Outcome],
+) -> Result<(), AllocError>
+    ensures { (past : List LogEntry) → IsChangeBookOf past book.old → OnOk result (IsChangeBookOf (reverse (said_with packets.now events.now outcomes.now) ++ past) book.new) }
+{
+    for (event, outcome) in events.iter().zip(outcomes.iter()) {
+        book.note(event, packet_at(packets, event), outcome)?;
+    }
+    Ok(())
+}
+
+// The book of the changes.
 fn changes_of(
     alloc: Global,
     key: TableKey,
@@ -131,11 +130,12 @@ fn changes_of(
     nodes: &[NodeRecord],
 ) -> Result<ChangeBook, AllocError>
     requires { AreEven nodes.now }
-    ensures { IfOk result (λ b. IsChangeBookOf (seen_by packets.now nodes.now) b) }
+    ensures { IfOk result (λ b. IsChangeBookOf (said_whole packets.now nodes.now) b) }
 {
     let mut book = ChangeBook::new(alloc, key);
     for node in nodes {
-        book.note_all(packets, node.events.as_slice(), node.outcomes.as_slice())?;
+        let events = node.events.as_slice();
+        note_node(&mut book, packets, events, node.outcomes.as_slice())?;
     }
     Ok(book)
 }
@@ -148,7 +148,7 @@ fn splits_told(
     nodes: &[NodeRecord],
     splits: bool,
 ) -> Result<String, AllocError>
-    requires { AreEven nodes.now }
+    requires even { AreEven nodes.now }
     ensures { (packets : List Packet) → IfOk result (λ s. string_bytes s ≡ splits_over false splits scenario.now packets nodes.now) }
 {
     let mut text = String::new(alloc);
@@ -160,113 +160,98 @@ fn splits_told(
     Ok(text)
 }
 
-// What is reported of the splits with their places.
+// The lines of the changes, and their counts.
 fn places_told(
     alloc: Global,
     scenario: &Scenario,
-    changes: &ChangeBook,
+    book: &ChangeBook,
 ) -> Result<String, AllocError>
-    ensures { (past : List LogEntry) → IsChangeBookOf past changes.now →
-        IfOk result (λ s. string_bytes s ≡ places_text (lookups_in scenario.now) scenario.now.idle past) }
+    ensures { (past : List LogEntry) → IsChangeBookOf past book.now → IfOk result (λ s. string_bytes s ≡ places_text (lookups_in scenario.now) scenario.now.idle past) }
 {
     let mut text = String::new(alloc);
-    let catalogue = &scenario.catalogue;
-    push_places(&mut text, &scenario.hash, catalogue, scenario.idle, changes)?;
+    let idle = scenario.idle;
+    push_places(&mut text, &scenario.hash, &scenario.catalogue, idle, book)?;
     Ok(text)
 }
 
-// How many connections changed their server, and why.
-fn changes_told(
-    alloc: Global,
-    scenario: &Scenario,
-    changes: &ChangeBook,
-) -> Result<String, AllocError>
-    ensures { (past : List LogEntry) → IsChangeBookOf past changes.now →
-        IfOk result (λ s. string_bytes s ≡ summary_text (lookups_in scenario.now) scenario.now.idle past) }
-{
-    let mut text = String::new(alloc);
-    push_summary(
-        alloc,
-        &mut text,
-        &scenario.catalogue,
-        scenario.idle,
-        changes,
-    )?;
-    Ok(text)
-}
-
-// The splits, with or without their places, where they are asked for.
-fn lines_told(
-    alloc: Global,
-    asked: &Asked<'_>,
-    nodes: &[NodeRecord],
-    changes: &ChangeBook,
-) -> Result<String, AllocError>
-    requires even { AreEven nodes.now }
-    requires book { IsChangeBookOf (seen_by asked.now.packets.now nodes.now) changes.now }
-    ensures { let o = asked.now.options in
-        IfOk result (λ s. string_bytes s ≡ splits_over o.places o.splits asked.now.scenario.now asked.now.packets.now nodes.now) }
-{
-    let scenario = asked.scenario;
-    if asked.options.places {
-        places_told(alloc, scenario, changes)
-    } else {
-        splits_told(alloc, asked.key, scenario, nodes, asked.options.splits)
-    }
-}
-
-// The summary, where it is asked for.
+// How many connections changed their server, and why, where it is asked for.
 fn summary_told(
     alloc: Global,
-    asked: &Asked<'_>,
-    nodes: &[NodeRecord],
-    changes: &ChangeBook,
+    scenario: &Scenario,
+    book: &ChangeBook,
+    summary: bool,
 ) -> Result<String, AllocError>
-    requires { IsChangeBookOf (seen_by asked.now.packets.now nodes.now) changes.now }
-    ensures { IfOk result (λ s. string_bytes s ≡ summary_over asked.now.options.summary asked.now.scenario.now asked.now.packets.now nodes.now) }
+    ensures { (packets : List Packet) (nodes : List NodeRecord) → IsChangeBookOf (said_whole packets nodes) book.now →
+        IfOk result (λ s. string_bytes s ≡ summary_over summary scenario.now packets nodes) }
 {
-    let _ = nodes;
-    if asked.options.summary {
-        changes_told(alloc, asked.scenario, changes)
-    } else {
-        Ok(String::new(alloc))
+    let mut text = String::new(alloc);
+    if !summary {
+        return Ok(text);
     }
+    let idle = scenario.idle;
+    push_summary(alloc, &mut text, &scenario.catalogue, idle, book)?;
+    Ok(text)
 }
 
-// What is told where it needs no book of changes.
-fn plainly_told(alloc: Global, asked: &Asked<'_>, nodes: &[NodeRecord]) -> Result<Told, AllocError>
-    requires even { AreEven nodes.now }
-    requires plain { (asked.now.options.places ≡ false) × (asked.now.options.summary ≡ false) }
-    ensures { IfOk result (λ t. AreTold t asked.now.options asked.now.scenario.now asked.now.packets.now nodes.now) }
-{
-    let splits = splits_told(
-        alloc,
-        asked.key,
-        asked.scenario,
-        nodes,
-        asked.options.splits,
-    )?;
-    Ok(Told {
-        splits,
-        summary: String::new(alloc),
-    })
+/// What is told of the connections of a run beside its report.
+#[derive(Drop)]
+pub(crate) struct Told {
+    pub(crate) before: String,
+    pub(crate) behind: String,
 }
 
-/// What is told of the nodes' histories beside the report, where it is asked for.
-pub(crate) fn told(
-    alloc: Global,
-    asked: &Asked<'_>,
-    nodes: &[NodeRecord],
-) -> Result<Told, AllocError>
-    requires { AreEven nodes.now }
-    ensures { IfOk result (λ t. AreTold t asked.now.options asked.now.scenario.now asked.now.packets.now nodes.now) }
-{
-    if !asked.options.places && !asked.options.summary {
-        return plainly_told(alloc, asked, nodes);
+/// A run's history, and how it is told. The books of splits and changes hash by the key.
+#[derive(Clone, Copy)]
+pub(crate) struct Telling<'a> {
+    pub(crate) key: TableKey,
+    pub(crate) scenario: &'a Scenario,
+    pub(crate) packets: &'a [Packet],
+    pub(crate) options: RunOptions,
+}
+
+impl Telling<'_> {
+    ghost use Rattle.run_scenario.specs.PrivateHistories.{TellsOf};
+
+    // The splits are told, with places or without.
+    fn before(
+        &self,
+        alloc: Global,
+        nodes: &[NodeRecord],
+        book: &ChangeBook,
+    ) -> Result<String, AllocError>
+        requires even { AreEven nodes.now }
+        requires book { IsChangeBookOf (said_whole self.now.packets.now nodes.now) book.now }
+        ensures { IfOk result (λ s. string_bytes s ≡ splits_over self.now.options.places self.now.options.splits self.now.scenario.now self.now.packets.now nodes.now) }
+    {
+        if self.options.places {
+            places_told(alloc, self.scenario, book)
+        } else {
+            splits_told(alloc, self.key, self.scenario, nodes, self.options.splits)
+        }
     }
-    let changes = changes_of(alloc, asked.key, asked.packets, nodes)?;
-    Ok(Told {
-        splits: lines_told(alloc, asked, nodes, &changes)?,
-        summary: summary_told(alloc, asked, nodes, &changes)?,
-    })
+
+    // The same, and the summary where it is asked for.
+    fn tell_changes(&self, alloc: Global, nodes: &[NodeRecord]) -> Result<Told, AllocError>
+        requires even { AreEven nodes.now }
+        ensures { IfOk result (TellsOf self.now.options self.now.scenario.now self.now.packets.now nodes.now) }
+    {
+        let book = changes_of(alloc, self.key, self.packets, nodes)?;
+        let before = self.before(alloc, nodes, &book)?;
+        let behind = summary_told(alloc, self.scenario, &book, self.options.summary)?;
+        Ok(Told { before, behind })
+    }
+
+    /// What is told of the nodes' histories, where it is asked for.
+    pub(crate) fn tell(&self, alloc: Global, nodes: &[NodeRecord]) -> Result<Told, AllocError>
+        requires even { AreEven nodes.now }
+        ensures { IfOk result (TellsOf self.now.options self.now.scenario.now self.now.packets.now nodes.now) }
+    {
+        if self.options.places || self.options.summary {
+            return self.tell_changes(alloc, nodes);
+        }
+        let splits = self.options.splits;
+        let before = splits_told(alloc, self.key, self.scenario, nodes, splits)?;
+        let behind = String::new(alloc);
+        Ok(Told { before, behind })
+    }
 }

@@ -5,7 +5,6 @@
 mod blocks;
 mod failure;
 mod histories;
-mod options;
 mod orders;
 mod reading;
 mod records;
@@ -15,5 +14,4 @@ mod sending;
 mod threads;
 
 pub use failure::RunFailure;
-pub use options::RunOptions;
-pub use running::run_scenario;
+pub use running::{RunOptions, run_scenario};

@@ -9,7 +9,6 @@ ghost use Rattle.run_scenario.specs.PrivateHistories.{RanOver};
 
 use crate::failure::RunFailure;
 use crate::histories::totals_of;
-use crate::options::RunOptions;
 use crate::orders::orders_of;
 use crate::reading::{Captured, packets_of, read_whole};
 use crate::report::audited_report;
@@ -24,6 +23,26 @@ use std::alloc::Global;
 use std::sync::Wait;
 use std::thread::Threads;
 use thread_records::NodeRecord;
+
+/// What is asked of a run beside its scenario.
+#[derive(Clone, Copy, Debug, PartialEq, Eq)]
+pub struct RunOptions {
+    /// The report begins with the splits.
+    pub splits: bool,
+    /// It does, and each split's line tells where its two packets were sent, and why the later one went elsewhere.
+    pub places: bool,
+    /// It ends with how many connections changed their server, how often, and why.
+    pub summary: bool,
+    /// A node's driver waits at a full ring.
+    pub paced: bool,
+}
+
+impl RunOptions {
+    /// Whether anything is told beside the report.
+    pub(crate) fn tells(self) -> bool {
+        self.splits || self.places || self.summary
+    }
+}
 
 // What the nodes did, and the report.
 #[derive(Drop)]
@@ -78,9 +97,9 @@ fn run_over<R: Threads + Wait + Sync>(
         captured.ending,
         audited.agrees,
     )?;
-    let mut text = audited.told.splits;
+    let mut text = audited.told.before;
     text.push_str(report.as_str())?;
-    text.push_str(audited.told.summary.as_str())?;
+    text.push_str(audited.told.behind.as_str())?;
     Ok(Done {
         nodes: audited.run.nodes,
         text,
@@ -88,9 +107,8 @@ fn run_over<R: Threads + Wait + Sync>(
 }
 
 /// Runs a scenario's cluster on threads over a capture, and answers the report. The report ends in `audit agrees` where a
-/// replay of the run's history gives the outcomes that it has: by the clause `ok` it always does. With the option `splits`, or
-/// `places`, the report begins with a line for each split, and then how many there were; with `summary` it is followed by how many
-/// connections changed their server. A split is two packets that follow one another in a
+/// replay of the run's history gives the outcomes that it has: by the clause `ok` it always does. With the option `splits` the report
+/// begins with a line for each split, and then how many there were. A split is two packets that follow one another in a
 /// flow, in the history's order, and went to different backends; events are numbered as in the history.
 ///
 /// The capture is read to its end before any thread starts, and the steps become the nodes' commands. Once all threads are

@@ -10,11 +10,11 @@ ghost use Rattle.thread_records.specs.Runs.{AreRuns};
 ghost use Rattle.thread_roles.specs.Counts.{AreTotals};
 ghost use Rattle.simulate_scenario.specs.Described.{pick_by, rules_in};
 ghost use Rattle.run_scenario.specs.PrivateFailures.{IsOfThreads};
-ghost use Rattle.run_scenario.specs.PrivateHistories.{AreEven, AreTold};
+ghost use Rattle.run_scenario.specs.PrivateHistories.{AreEven, TellsOf};
 
 use crate::failure::RunFailure;
-use crate::histories::{Asked, Told, outcome_count, told};
-use crate::options::RunOptions;
+use crate::histories::{Telling, Told, outcome_count};
+use crate::running::RunOptions;
 use cluster_core::Setup;
 use cluster_node::Packet;
 use connection_table::{PlaceTable, TableKey};
@@ -29,7 +29,7 @@ use std::thread::Threads;
 use thread_records::{Command, NodeRecord};
 
 /// What is to be run: a scenario's cluster over packets that were read, each node by its list of commands. The tables and the
-/// books of splits and changes hash by the key. Where it is paced the nodes' drivers wait at full rings.
+/// books of splits and changes hash by the key.
 #[derive(Clone, Copy)]
 pub(crate) struct Task<'a> {
     pub(crate) key: TableKey,
@@ -39,7 +39,7 @@ pub(crate) struct Task<'a> {
     pub(crate) options: RunOptions,
 }
 
-/// A run, whether each node's history agrees with its replay, and what is told of the histories beside the report.
+/// A run, whether each node's history agrees with its replay, and what is told of it beside the report.
 #[derive(Drop)]
 pub(crate) struct Audited {
     pub(crate) run: NodesRun,
@@ -47,8 +47,8 @@ pub(crate) struct Audited {
     pub(crate) told: Told,
 }
 
-// Whether each node's history agrees with its replay, and what is told beside the report: both at once, since neither waits for
-// the other. Where nothing is asked for, no thread is started for it.
+// Whether each node's history agrees with its replay, and what is told of the connections: both at once, since neither waits
+// for the other. Where nothing is asked for, no thread is started for it.
 fn judged<S: Scheme + Send + Sync, R: Threads + Sync>(
     rt: &R,
     alloc: Global,
@@ -63,7 +63,7 @@ where
     requires even { AreEven nodes.now }
     ensures audit { let rules = rules_for (λ s z. S.pick s z) (λ h. plain_of h) setup.now task.now.scenario.now.catalogue in
         IfOk result.0 (λ b. IsTrue b ↔ All (λ r. r.outcomes.items ≡ verdicts rules [] task.now.packets.now r.events.items) nodes.now) }
-    ensures told { IfOk result.1 (λ t. AreTold t task.now.options task.now.scenario.now task.now.packets.now nodes.now) }
+    ensures told { IfOk result.1 (TellsOf task.now.options task.now.scenario.now task.now.packets.now nodes.now) }
 {
     let Task {
         key,
@@ -80,22 +80,22 @@ where
         let catalogue = &scenario.catalogue;
         audit_nodes::<S, AnyHash, PlaceTable, R>(rt, alloc, nodes, setup, catalogue, packets)
     };
-    let tell = || -> Result<Told, AllocError>
+    let told = || -> Result<Told, AllocError>
         requires { AreEven nodes.now }
-        ensures { IfOk result (λ t. AreTold t options scenario.entry.now packets.entry.now nodes.entry.now) }
+        ensures { IfOk result (TellsOf options scenario.entry.now packets.entry.now nodes.entry.now) }
     {
-        let asked = Asked {
+        let telling = Telling {
             key,
             scenario,
             packets,
             options,
         };
-        told(alloc, &asked, nodes)
+        telling.tell(alloc, nodes)
     };
-    if options.splits || options.places || options.summary {
-        thread::join(rt, replay, tell)
+    if options.tells() {
+        thread::join(rt, replay, told)
     } else {
-        (replay(), tell())
+        (replay(), told())
     }
 }
 
@@ -116,7 +116,7 @@ where
     ensures counts { IfOk result (λ a. AreTotals a.run.stats (all_outcomes a.run.nodes.items)) }
     ensures few { IfOk result (λ a. length (all_outcomes a.run.nodes.items) < 2 ^ 63) }
     ensures audit { IfOk result (λ a. a.agrees ≡ true) }
-    ensures told { IfOk result (λ a. AreTold a.told task.now.options task.now.scenario.now task.now.packets.now a.run.nodes.items) }
+    ensures told { IfOk result (λ a. TellsOf task.now.options task.now.scenario.now task.now.packets.now a.run.nodes.items a.told) }
     ensures stopped { IfErr result IsOfThreads }
 {
     let scenario = task.scenario;
@@ -172,7 +172,7 @@ pub(crate) fn run_named<R: Threads + Wait + Sync>(
     ensures counts { IfOk result (λ a. AreTotals a.run.stats (all_outcomes a.run.nodes.items)) }
     ensures few { IfOk result (λ a. length (all_outcomes a.run.nodes.items) < 2 ^ 63) }
     ensures audit { IfOk result (λ a. a.agrees ≡ true) }
-    ensures told { IfOk result (λ a. AreTold a.told task.now.options task.now.scenario.now task.now.packets.now a.run.nodes.items) }
+    ensures told { IfOk result (λ a. TellsOf task.now.options task.now.scenario.now task.now.packets.now a.run.nodes.items a.told) }
     ensures stopped { IfErr result IsOfThreads }
 {
     let hash = task.scenario.hash;
