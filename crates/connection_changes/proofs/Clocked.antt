@@ -1,8 +1,9 @@
 -- The times, lives and clocks after one event more.
-use Rattle.std.proofs.Common.{◌≡◌, ℕ, ◌+◌, ◌≤◌, Bool, true, false, List, ◌∷◌, Option, Some, None, Result, Ok, Err, refl, sym, ap, ◌∙◌, subst, arith, cond}
+use Rattle.std.proofs.Common.{◌≡◌, ℕ, ◌+◌, ◌≤◌, suc, Bool, true, false, List, ◌∷◌, Option, Some, None, Result, Ok, Err, refl, sym, ap, ◌∙◌, subst, arith, cond}
 use Rattle.std.specs.Prelude.{◌==◌, ◌&&◌, max, slice_index, IfSome, OnOk, if◌then◌else◌}
 use Rattle.std.specs.HashMap.{get}
 use Rattle.std.proofs.lemmas.Bool.{eqb-true, eq-eqb, cond-true, cond-false, ne_eqb}
+use Rattle.std.proofs.lemmas.Bool.Decides.{nat_tests}
 use Rattle.cluster_node.specs.declared.events.LogEntry.{LogEntry}
 use Rattle.connection_changes.specs.declared.clocks.Clocks.{Clocks}
 use Rattle.connection_changes.specs.declared.clocks.LifeClock.{LifeClock}
@@ -10,7 +11,7 @@ use Rattle.connection_changes.specs.declared.clocks.WorkerKey.{WorkerKey}
 use Rattle.connection_changes.specs.declared.numbers.Numbers.{Numbers}
 use Rattle.connection_changes.specs.declared.sites.Arrived.{Arrived}
 use Rattle.connection_changes.specs.declared.sites.Served.{Served}
-use Rattle.connection_changes.specs.Sites.{arrived_by, time_with, time_of, begun_by, life_with, served_by, clock_begun, clock_with, clock_of}
+use Rattle.connection_changes.specs.Sites.{arrived_by, time_with, time_of, begun_by, life_with, life_of, served_by, clock_begun, clock_with, clock_of}
 use Rattle.connection_changes.specs.Books.{clock_told, same_worker, life_in, clock_in, AreYoung, AreClocksOf}
 
 -- ---- a clock that was put

@@ -1,5 +1,5 @@
 -- What is kept of the events is that of one event more.
-use Rattle.std.proofs.Common.{◌≡◌, ℕ, ◌+◌, Bool, true, false, List, [], ◌∷◌, ◌++◌, length, Option, Some, None, refl, sym, ap, ◌∙◌, subst, arith, cond, not}
+use Rattle.std.proofs.Common.{◌≡◌, ℕ, ◌+◌, suc, Bool, true, false, List, [], ◌∷◌, ◌++◌, length, Option, Some, None, refl, sym, ap, ◌∙◌, subst, arith, cond, not}
 use Rattle.std.specs.Prelude.{◌||◌, if◌then◌else◌}
 use Rattle.std.specs.List.{list_any}
 use Rattle.std.specs.HashMap.{get}
@@ -12,7 +12,7 @@ use Rattle.cluster_node.specs.declared.events.LogEntry.{LogEntry}
 use Rattle.run_report.specs.declared.book.SplitBook.{SplitBook}
 use Rattle.run_report.specs.declared.sending.Split.{Split}
 use Rattle.run_report.specs.Books.{IsBookOf}
-use Rattle.run_report.specs.Splits.{sent_by, last_sent, split_by}
+use Rattle.run_report.specs.Splits.{sent_by, last_sent, split_by, splits_of}
 use Rattle.connection_changes.specs.declared.book.ChangeBook.{ChangeBook}
 use Rattle.connection_changes.specs.declared.causes.Change.{Change}
 use Rattle.connection_changes.specs.declared.changed.ChangedFlows.{ChangedFlows}
@@ -21,7 +21,7 @@ use Rattle.connection_changes.specs.declared.last_sites.FlowKey.{FlowKey}
 use Rattle.connection_changes.specs.declared.last_sites.LastSites.{LastSites}
 use Rattle.connection_changes.specs.declared.sites.Site.{Site}
 use Rattle.connection_changes.specs.Sites.{sent_flow}
-use Rattle.connection_changes.specs.Changes.{changed_of}
+use Rattle.connection_changes.specs.Changes.{changes_of, changed_of}
 use Rattle.connection_changes.specs.Books.{same_key, AreClocksOf, AreSites, AreChanged, with_site, last_site, IsNoted, IsChangeBookOf}
 use Rattle.connection_changes.proofs.Steps.{changes_none, changed_none, no_split_unsent, last_unsent, last_more, IsNew, changes_one, changed_one, sites_same}
 

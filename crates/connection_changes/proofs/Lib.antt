@@ -5,4 +5,3 @@ pub mod Kept
 pub mod Told
 pub mod Counts
 pub mod Alone
-pub mod SeenWalks

@@ -3,4 +3,3 @@ pub mod Changes
 pub mod Texts
 pub mod Books
 pub mod Laws
-pub mod Seen

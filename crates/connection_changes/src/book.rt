@@ -1,18 +1,16 @@
 //! The changes so far.
-ghost use Rattle.std.specs.Prelude.{◌≡◌, ◌∷◌, ◌++◌, [], List, length, reverse, OnOk, option_copied, slice_get};
+ghost use Rattle.std.specs.Prelude.{◌≡◌, ◌∷◌, [], List, length, OnOk, option_copied, slice_get};
 ghost use Rattle.cluster_node.specs.declared.events.LogEntry.{LogEntry};
 ghost use Rattle.event_trace.specs.Noting.{said_by};
 ghost use Rattle.run_report.specs.Books.{IsBookOf};
 ghost use Rattle.connection_changes.specs.Sites.{sent_flow};
 ghost use Rattle.connection_changes.specs.Changes.{changed_of, changes_of};
-ghost use Rattle.connection_changes.specs.Seen.{seen_of};
 
 use crate::causes::Change;
 use crate::changed::ChangedFlows;
 use crate::clocks::Clocks;
 use crate::last_sites::LastSites;
 use crate::sites::Site;
-use cluster_core::packet_at;
 use cluster_node::{Event, Outcome, Packet};
 use connection_table::TableKey;
 use five_tuple::Flow;
@@ -115,24 +113,6 @@ impl ChangeBook {
                 self.send(&flow, &site, before)
             }
         }
-    }
-
-    /// Events more, one after another, as far as both lists go: each with its outcome, and an arrival with the packet that it
-    /// names among these. So a history in parts needn't be put together. Where memory is refused nothing more is known of the
-    /// book.
-    pub fn note_all(
-        &mut self,
-        packets: &[Packet],
-        events: &[Event],
-        outcomes: &[Outcome],
-    ) -> Result<(), AllocError>
-        ensures { (past : List LogEntry) → IsChangeBookOf past self.old →
-            OnOk result (IsChangeBookOf (reverse (seen_of packets.now events.now outcomes.now) ++ past) self.new) }
-    {
-        for (event, outcome) in events.iter().zip(outcomes.iter()) {
-            self.note(event, packet_at(packets, event), outcome)?;
-        }
-        Ok(())
     }
 
     /// How many connections changed their server.

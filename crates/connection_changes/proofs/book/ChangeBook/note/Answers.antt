@@ -1,4 +1,4 @@
-use Rattle.std.proofs.Common.{sym, ap, ◌∙◌, length, ◌∷◌}
+use Rattle.std.proofs.Common.{◌≡◌, refl, sym, ap, ◌∙◌, length, ◌∷◌}
 use Rattle.std.specs.Prelude.{option_copied}
 use Rattle.event_trace.specs.Noting.{said_by}
 use Rattle.connection_changes.proofs.Kept.{unsent_noted}
