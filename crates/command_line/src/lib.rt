@@ -161,8 +161,8 @@ fn of_version<'a>(alloc: Global) -> Result<Arg<'a>, AllocError> {
 fn service<'a>(alloc: Global) -> Result<Arg<'a>, AllocError> {
     Arg::new(alloc, "service")
         .long("service")
-        .value_name("ADDRESS:PORT/PROTOCOL")
-        .help("the scenario's service, as plan prints it; the only one where it is left out")
+        .value_name("S")
+        .help("the scenario's service, as 192.0.2.1:80/tcp; the only one where it is left out")
         .action(ArgAction::Set)
         .requires_arg("described")?
         .conflicts_with("size")
