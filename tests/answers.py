@@ -13,7 +13,7 @@ import tempfile
 import end_to_end as rows
 import format_three
 import model
-from end_to_end import ALL, B_DOWN, HEAD, TCP, capture, counts, faults, limited, misused, report, run, runs, scenario, simulates, told, with_files
+from end_to_end import ALL, B_DOWN, HEAD, TCP, capture, counts, faults, limited, misused, report, run, scenario, simulates, told, with_files
 from harness import PROGRAM, TOP, check, run_tests
 
 FIRST, COUNT = (int(word) for word in sys.argv[1:3]) if len(sys.argv) > 2 else (0, 400)
@@ -120,8 +120,12 @@ def test_on_threads():
         source = random.Random(9000 + seed)
         text, data = rows.random_scenario(source, ("", "*2"), rows.steps_by_lives, 20), rows.random_capture(source)
         told_of = model.Run(text, data).on_threads()
-        lines = told_of.splits(True) + told_of.report() + told_of.summary()
-        runs(f"run {seed}", text, data, lines, words=["--where", "--summary"])
+        lines = told_of.splits(True) + told_of.report() + "audit agrees\n" + told_of.summary()
+        answer = rows.ran(text, data, ["--where", "--summary"])
+        check(f"run {seed}", answer[:3] == (0, lines.encode(), b""), f"{answer} {lines}")
+        answer = rows.ran(text, data, ["--summary", "--pace"])
+        lines = told_of.report() + "audit agrees\n" + told_of.summary()
+        check(f"run {seed}, paced", answer[:3] == (0, lines.encode(), b""), f"{answer} {lines}")
 
 
 def test_pages():
