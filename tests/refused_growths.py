@@ -92,6 +92,12 @@ def all_came(text):
     return (counts["packets"], counts["received"], sums, counts["waiting"], counts["audit"]) == ("10", "10", 10, "0", "agrees")
 
 
+# What the model says of two packets of one flow at two nodes, simulated and on threads.
+TOLD = model.Run(APART.decode(), SPLIT["in.pcap"])
+PLACES, SUMMARY, RUN_PLACES = TOLD.splits(True), TOLD.summary(), TOLD.on_threads().splits(True)
+DOWN = model.compared(APART.decode(), 1, 2, "192.0.2.1:80/tcp")
+
+
 @dataclasses.dataclass
 class Case:
     """A command, what it is given, and what it prints with ample memory."""
@@ -115,6 +121,11 @@ CASES = [
     Case(["table", "--size", "7", "--hash", "sum", "A", "B", "C"], TABLE),
     Case(["compare", "--size", "7", "--hash", "sum", "--old", THREE, "--new", THREE.replace(".2", ".2/down")], MOVED),
     Case(["pick", "--size", "7", "--hash", "sum", "A", "B", "C"], "tcp 10.0.0.1:1000>192.0.2.1:80 slot 6 backend A\n", TCP),
+    Case(["table", "--scenario", "s.toml", "--version", "1"], TABLE, files=FILES),
+    Case(["compare", "--scenario", "s.toml", "--from", "1", "--to", "2"], DOWN, files=SPLIT),
+    Case(["pick", "--scenario", "s.toml", "--version", "1"], "tcp 10.0.0.1:1000>192.0.2.1:80 slot 6 backend A\n", TCP, files=FILES),
+    Case(["simulate", "--where", "--summary", "s.toml", "in.pcap", "out.pcap"], PLACES + TWO + SUMMARY, files=SPLIT),
+    Case(["run", "--where", "--summary", "--pace", "s.toml", "in.pcap", "out.pcap"], RUN_PLACES + TWO + "audit agrees\n" + SUMMARY, files=SPLIT, faults=[LOST]),
     Case(["plan", "s.toml", "1"], SHOWN, files=FILES),
     Case(["scenario", "in.pcap"], SKETCHED, files={"in.pcap": CAPTURE + 5 * CAPTURE[24:]}),
     Case(["plan", "s.toml", "1", "2"], CHANGED, files=SPLIT),
