@@ -6,7 +6,7 @@ use Rattle.event_trace.specs.Noting.{said_by}
 use Rattle.event_trace.specs.Counting.{CountsAre}
 use Rattle.event_trace.proofs.Counted.{then_ok}
 use Rattle.simulate_scenario.specs.Asked.{is_plain}
-use Rattle.simulate_scenario.proofs.Noted.{plain_more}
+use Rattle.simulate_scenario.proofs.Noted.{plain_more, lists_same}
 use Rattle.simulate_scenario.proofs.notes.Notebook.report.Goals as goal
 
 pub returns-then-is_plain : goal.returns-then-is_plain
@@ -18,4 +18,4 @@ pub returns : goal.returns
 returns c = λ past h.
     then_ok c.more.result _ _
     (λ k. (subst (λ (x : Counts). CountsAre (outcomes_of (said_by c.args.event.now (option_copied c.args.packet) c.args.outcome.now ∷ past)) x) (sym c.more.ensures.counts) (c.in_ok-count.ensures (outcomes_of past) h.0), k))
-    (c.more.ensures.more past h.1)
+    (c.more.ensures.more past (lists_same c.args.wanted.list past c.args.self.now _ refl refl h.1.0, h.1.1, h.1.2))
