@@ -1,5 +1,5 @@
 -- The command that runs a scenario's cluster on threads.
-use Rattle.std.specs.Prelude.{◌≡◌, ◌⊎◌, Bool, List, ℕ, None}
+use Rattle.std.specs.Prelude.{◌≡◌, ◌⊎◌, Bool, false, List, ℕ, None}
 use Rattle.std.specs.Io.KnownBytes.{Appends}
 use Rattle.pcap_file.specs.Device.{Tape, Unfailed, PutRefused}
 use Rattle.thread_records.specs.Paced.{NoneRefused}
@@ -10,6 +10,7 @@ use Rattle.scenario.specs.declared.plan.Scenario.{Scenario}
 use Rattle.scenario.specs.Meaning.{Means}
 use Rattle.driver_commands.specs.Knowing.{first_unsupported_in}
 use Rattle.run_scenario.specs.declared.failure.RunFailure.{RunFailure}
+use Rattle.run_scenario.specs.declared.running.RunOptions.{RunOptions}
 use Rattle.run_scenario.specs.declared.failure.RunFailure.TheVariants.{Simulation, Threads}
 use Rattle.run_scenario.specs.Runs.{Ran, Halted}
 use Rattle.run_scenario.specs.Kept.{KeepsPromises}
@@ -30,20 +31,24 @@ abbrev pub failure_fault : RunFailure → CliFault
 failure_fault (Simulation fault) = run_fault fault
 failure_fault (Threads fault) = threads_fault fault
 
+-- nothing is asked for but the splits, where they are
+abbrev pub only_splits : Bool → RunOptions
+only_splits splits = record { splits = splits; places = false; summary = false; paced = false }
+
 -- the cluster of the scenario that the text means ran on threads over the input, the output got what the nodes sent, and the
--- report the run's, behind its splits where they are asked for; and the run keeps the promises
-pub record Runs (splits : Bool) (text : List ℕ) (input input' output output' report report' : Tape) : Type 0 where
+-- report the run's, with what is asked for before and behind it; and the run keeps the promises
+pub record Runs (options : RunOptions) (text : List ℕ) (input input' output output' report report' : Tape) : Type 0 where
   pub scenario : Scenario
   pub means : Means OnThreads text scenario
   pub answer : List ℕ
-  pub ran : Ran scenario splits input input' output output' answer
+  pub ran : Ran scenario options input input' output output' answer
   pub kept : KeepsPromises scenario ran.head.link ran.records ran.history
   pub written : Appends report.bytes report'.bytes answer
   pub unfailed : Unfailed report report'
 
 -- the same, and no ring of its run refused a packet
-pub record PacedRuns (splits : Bool) (text : List ℕ) (input input' output output' report report' : Tape) : Type 0 where
-  pub runs : Runs splits text input input' output output' report report'
+pub record PacedRuns (options : RunOptions) (text : List ℕ) (input input' output output' report report' : Tape) : Type 0 where
+  pub runs : Runs options text input input' output output' report report'
   pub none_refused : NoneRefused runs.ran.nodes
 
 -- the text means a scenario that is played on threads, so that a cluster on threads knows each step, and its run stopped by
@@ -57,18 +62,18 @@ pub record RunFails (fault : CliFault) (text : List ℕ) (input input' output ou
   pub stopped : Halted scenario input input' output output' why
 
 -- the same as when the cluster ran, but the report was given up
-pub record RunReportFails (fault : CliFault) (splits : Bool) (text : List ℕ) (input input' output output' report report' : Tape) : Type 0 where
+pub record RunReportFails (fault : CliFault) (options : RunOptions) (text : List ℕ) (input input' output output' report report' : Tape) : Type 0 where
   pub scenario : Scenario
   pub means : Means OnThreads text scenario
   pub answer : List ℕ
-  pub ran : Ran scenario splits input input' output output' answer
+  pub ran : Ran scenario options input input' output output' answer
   pub named : fault ≡ Write
   pub refused : PutRefused answer report report'
 
 -- the command stopped by this fault: the text is no scenario that is played on threads, and nothing was called; or the run
 -- stopped, and nothing was reported; or the report was given up
-abbrev pub RunCommandFails : CliFault → Bool → List ℕ → Tape → Tape → Tape → Tape → Tape → Tape → Type 0 → Type 0 → Type 0
-RunCommandFails fault splits text input input' output output' report report' Uncalled Unreported =
+abbrev pub RunCommandFails : CliFault → RunOptions → List ℕ → Tape → Tape → Tape → Tape → Tape → Tape → Type 0 → Type 0 → Type 0
+RunCommandFails fault options text input input' output output' report report' Uncalled Unreported =
     (ScenarioFails OnThreads fault text × Uncalled)
     ⊎ ((RunFails fault text input input' output output' × Unreported)
-    ⊎ RunReportFails fault splits text input input' output output' report report')
+    ⊎ RunReportFails fault options text input input' output output' report report')

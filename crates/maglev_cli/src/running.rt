@@ -1,6 +1,6 @@
 //! The command that runs a scenario's cluster on threads.
 ghost use Rattle.std.specs.Prelude.{◌≡◌, true, IfErr, OnOk};
-ghost use Rattle.maglev_cli.specs.Runs.{Runs, PacedRuns, RunCommandFails, failure_fault, threads_fault};
+ghost use Rattle.maglev_cli.specs.Runs.{Runs, PacedRuns, RunCommandFails, failure_fault, only_splits, threads_fault};
 
 use command_faults::{CliFault, put_text};
 use connection_table::TableKey;
@@ -51,15 +51,17 @@ pub fn run<T: Threads + Wait + Sync, I: Source, O: Sink, R: Sink>(
     report: &mut R,
     splits: bool,
 ) -> Result<(), CliFault>
-    ensures ran { OnOk result (Runs splits scenario.now (I.tape input.old) (I.tape input.new)
+    ensures ran { OnOk result (Runs (only_splits splits) scenario.now (I.tape input.old) (I.tape input.new)
         (O.tape output.old) (O.tape output.new) (R.tape report.old) (R.tape report.new)) }
-    ensures stopped { IfErr result (λ fault. RunCommandFails fault splits scenario.now (I.tape input.old) (I.tape input.new)
+    ensures stopped { IfErr result (λ fault. RunCommandFails fault (only_splits splits) scenario.now (I.tape input.old) (I.tape input.new)
         (O.tape output.old) (O.tape output.new) (R.tape report.old) (R.tape report.new)
         ((input.new ≡ input.old) × (output.new ≡ output.old) × (report.new ≡ report.old)) (report.new ≡ report.old)) }
 {
     let key = TableKey::fixed();
     let options = RunOptions {
         splits,
+        places: false,
+        summary: false,
         paced: false,
     };
     match run_keyed(rt, alloc, key, scenario, options, input, output, report) {
@@ -79,11 +81,11 @@ pub fn run_keyed<T: Threads + Wait + Sync, I: Source, O: Sink, R: Sink>(
     output: &mut O,
     report: &mut R,
 ) -> Result<(), CliFault>
-    ensures ran { OnOk result (Runs options.splits scenario.now (I.tape input.old) (I.tape input.new)
+    ensures ran { OnOk result (Runs options scenario.now (I.tape input.old) (I.tape input.new)
         (O.tape output.old) (O.tape output.new) (R.tape report.old) (R.tape report.new)) }
-    ensures paced { options.paced ≡ true → OnOk result (PacedRuns options.splits scenario.now
+    ensures paced { options.paced ≡ true → OnOk result (PacedRuns options scenario.now
         (I.tape input.old) (I.tape input.new) (O.tape output.old) (O.tape output.new) (R.tape report.old) (R.tape report.new)) }
-    ensures stopped { IfErr result (λ fault. RunCommandFails fault options.splits scenario.now
+    ensures stopped { IfErr result (λ fault. RunCommandFails fault options scenario.now
         (I.tape input.old) (I.tape input.new) (O.tape output.old) (O.tape output.new) (R.tape report.old) (R.tape report.new)
         ((input.new ≡ input.old) × (output.new ≡ output.old) × (report.new ≡ report.old)) (report.new ≡ report.old)) }
 {

@@ -1,3 +1,4 @@
+pub mod Whole
 pub mod Walks
 pub mod Stores
 pub mod Ruled

@@ -19,8 +19,8 @@ use Rattle.thread_records.specs.Runs.{AreRuns, JoinsRuns}
 use Rattle.thread_records.proofs.Joins.{events_more, outcomes_more, whole, own, runs_told}
 use Rattle.node_threads.specs.declared.cluster.NodesRun.{NodesRun}
 use Rattle.scenario.specs.declared.plan.Scenario.{Scenario}
-use Rattle.run_scenario.specs.Runs.{splits_if}
-use Rattle.run_scenario.specs.PrivateHistories.{AreEven, said_by, splits_over}
+use Rattle.run_scenario.specs.Runs.{splits_if, summary_if}
+use Rattle.run_scenario.specs.PrivateHistories.{AreEven, said_by, splits_over, summary_over}
 
 -- there is an outcome for each event
 verdicts_long : (rules : Rules) (past : List LogEntry) (packets : List Packet) (es : List Event) → length (verdicts rules past packets es) ≡ length es
@@ -112,10 +112,16 @@ joins rules packets ring cs run even few runs =
     let told = runs_told rules packets ring 0 cs rs runs in
     record { events = refl; outcomes = refl; told = whole rules packets rs told; own = λ n r h. own rules packets rs n r told h }
 
-pub same_splits : (b : Bool) (s : Scenario) (run : NodesRun) (even : AreEven run.nodes.items) (few : length (all_outcomes run.nodes.items) < 2 ^ 63) → splits_over b s run.nodes.items ≡ splits_if b s (history_of run even few)
+pub same_splits : (places splits : Bool) (s : Scenario) (packets : List Packet) (run : NodesRun) (even : AreEven run.nodes.items) (few : length (all_outcomes run.nodes.items) < 2 ^ 63) → splits_over places splits s packets run.nodes.items ≡ splits_if places splits s packets (history_of run even few)
 unfolding history_of
-same_splits true s run even few = refl
-same_splits false s run even few = refl
+same_splits true splits s packets run even few = refl
+same_splits false true s packets run even few = refl
+same_splits false false s packets run even few = refl
+
+pub same_summary : (b : Bool) (s : Scenario) (packets : List Packet) (run : NodesRun) (even : AreEven run.nodes.items) (few : length (all_outcomes run.nodes.items) < 2 ^ 63) → summary_over b s packets run.nodes.items ≡ summary_if b s packets (history_of run even few)
+unfolding history_of
+same_summary true s packets run even few = refl
+same_summary false s packets run even few = refl
 
 pub same_outcomes : (run : NodesRun) (even : AreEven run.nodes.items) (few : length (all_outcomes run.nodes.items) < 2 ^ 63) → all_outcomes run.nodes.items ≡ (history_of run even few).outcomes.items
 unfolding history_of

@@ -1,5 +1,5 @@
 -- The run of a scenario's cluster on threads over a capture that was read whole.
-use Rattle.std.specs.Prelude.{◌≡◌, ◌⊎◌, ℕ, Bool, true, false, List, [], ◌++◌, length, map, reverse, codes, Some, None}
+use Rattle.std.specs.Prelude.{◌≡◌, ◌⊎◌, ℕ, Bool, true, false, List, [], ◌∷◌, ◌++◌, length, map, reverse, codes, Some, None}
 use Rattle.std.specs.Io.KnownBytes.{Appends}
 use Rattle.ip_headers.specs.declared.Link.{Link}
 use Rattle.pcap_file.specs.declared.format.Head.{Head}
@@ -7,9 +7,13 @@ use Rattle.pcap_file.specs.declared.format.InputEnd.{InputEnd}
 use Rattle.pcap_file.specs.Device.{Tape, Unfailed}
 use Rattle.pcap_file.specs.Format.{Record}
 use Rattle.cluster_node.specs.declared.packets.Packet.{Packet}
+use Rattle.cluster_node.specs.declared.events.Event.{Event}
 use Rattle.cluster_node.specs.declared.events.LogEntry.{LogEntry}
+use Rattle.cluster_node.specs.declared.outcomes.Outcome.{Outcome}
+use Rattle.cluster_core.specs.Runs.{packet_of}
 use Rattle.run_report.specs.Splits.{said_of}
 use Rattle.run_report.specs.Texts.{splits_text}
+use Rattle.connection_changes.specs.Texts.{places_text, summary_text}
 use Rattle.cluster_core.specs.declared.counts.Totals.{Totals}
 use Rattle.event_trace.specs.declared.play.Tally.{Tally}
 use Rattle.event_trace.specs.Tally.{tally_of}
@@ -29,6 +33,7 @@ use Rattle.simulation.specs.declared.fault.SimulationFault.{SimulationFault}
 use Rattle.simulation.specs.declared.fault.SimulationFault.TheVariants.{Memory}
 use Rattle.simulation.specs.Sent.{time_of, packets_of, capture_text}
 use Rattle.simulation.specs.Simulated.{traffic_of, CaptureUntil, IsOfRun}
+use Rattle.run_scenario.specs.declared.running.RunOptions.{RunOptions}
 use Rattle.run_scenario.specs.declared.failure.RunFailure.{RunFailure}
 use Rattle.run_scenario.specs.declared.failure.RunFailure.TheVariants.{Simulation, Threads}
 use Rattle.run_scenario.specs.Inputs.{IsReadWhole, WholeWasRead, ReadingFails}
@@ -62,18 +67,39 @@ audit_line false = codes "audit differs\n"
 abbrev pub record_of : History → List LogEntry
 record_of h = reverse (said_of h.events.items h.outcomes.items)
 
--- what is reported of the splits of a history, where it is asked for
-abbrev pub splits_if : Bool → Scenario → History → List ℕ
-splits_if true s h = splits_text (lookups_in s) (record_of h)
-splits_if false s h = []
+-- what is said by a history's events and the outcome of each, the oldest in front, with the packets that arrivals name
+abbrev pub said_with : List Packet → List Event → List Outcome → List LogEntry
+said_with packets [] os = []
+said_with packets (e ∷ es) [] = []
+said_with packets (e ∷ es) (o ∷ os) = record { event = e; packet = packet_of packets e; outcome = o } ∷ said_with packets es os
+
+-- the record of a history with the packets of arrivals
+abbrev pub record_with : List Packet → History → List LogEntry
+record_with packets h = reverse (said_with packets h.events.items h.outcomes.items)
+
+-- what is reported of the splits of a history, where it is asked for: with places, or without
+abbrev pub splits_if : Bool → Bool → Scenario → List Packet → History → List ℕ
+splits_if true splits s packets h = places_text (lookups_in s) s.idle (record_with packets h)
+splits_if false true s packets h = splits_text (lookups_in s) (record_of h)
+splits_if false false s packets h = []
+
+-- how many connections changed their server, and why, where it is asked for
+abbrev pub summary_if : Bool → Scenario → List Packet → History → List ℕ
+summary_if true s packets h = summary_text (lookups_in s) s.idle (record_with packets h)
+summary_if false s packets h = []
 
 abbrev pub audited_report : Tally → Totals → Bool → Bool → List ℕ
 audited_report tally totals cut agrees = report_text tally totals cut ++ audit_line agrees
 
+-- the report of a run by its history, with what is asked for before it and behind it
+abbrev pub report_in : Scenario → RunOptions → Link → List Record → InputEnd → History → List ℕ
+report_in s options link records ending h =
+    (splits_if options.places options.splits s (packets_in s link records) h ++ audited_report (tally_in s link records) (totals_in h.outcomes.items) (is_cut ending) true)
+    ++ summary_if options.summary s (packets_in s link records) h
+
 -- A cluster on threads knows each step, and it ran over the whole input. The output got the capture of what the nodes sent,
--- node by node and life by life. The text is the report of that run, after what is reported of its splits where it is asked
--- for.
-pub record Ran (s : Scenario) (splits : Bool) (input input' output output' : Tape) (text : List ℕ) : Type 0 where
+-- node by node and life by life. The text is the report of that run, with what is asked for before it and behind it.
+pub record Ran (s : Scenario) (options : RunOptions) (input input' output output' : Tape) (text : List ℕ) : Type 0 where
   pub known : first_unsupported_in s.steps.items ≡ None
   pub head : Head
   pub records : List Record
@@ -84,7 +110,7 @@ pub record Ran (s : Scenario) (splits : Bool) (input input' output output' : Tap
   pub run : AreOfRun s head.link records nodes history
   pub written : Appends output.bytes output'.bytes (capture_text (sent_by_nodes (traffic_of (plan_in s) head.link records) nodes))
   pub unfailed : Unfailed output output'
-  pub report : text ≡ splits_if splits s history ++ audited_report (tally_in s head.link records) (totals_in history.outcomes.items) (is_cut ending) true
+  pub report : text ≡ report_in s options head.link records ending history
 
 -- the same up to the output, which got a prefix of that capture; it is cut between records, unless writing failed
 pub record BreaksOff (fault : SimulationFault) (s : Scenario) (input input' output output' : Tape) : Type 0 where

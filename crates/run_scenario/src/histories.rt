@@ -1,15 +1,24 @@
 //! What is told of the nodes' histories, one after another. No list has them all.
-ghost use Rattle.std.specs.Prelude.{◌≡◌, ◌+◌, ◌<◌, ◌≤◌, ◌^◌, length, IfOk, IfSome, string_bytes};
+ghost use Rattle.std.specs.Prelude.{◌≡◌, ◌+◌, ◌<◌, ◌≤◌, ◌^◌, ◌++◌, false, List, length, reverse, IfOk, IfSome, OnOk, string_bytes};
+ghost use Rattle.cluster_node.specs.declared.events.LogEntry.{LogEntry};
+ghost use Rattle.cluster_node.specs.declared.packets.Packet.{Packet};
 ghost use Rattle.cluster_core.specs.OutcomeCounts.{is_refused, how_many};
 ghost use Rattle.cluster_core.specs.Totals.{came_all, went_all};
 ghost use Rattle.run_report.specs.Books.{IsBookOf};
+ghost use Rattle.connection_changes.specs.Books.{IsChangeBookOf};
+ghost use Rattle.connection_changes.specs.Texts.{places_text};
+ghost use Rattle.thread_records.specs.declared.nodes.NodeRecord.{NodeRecord};
 ghost use Rattle.thread_records.specs.Joins.{all_outcomes};
 ghost use Rattle.thread_roles.specs.Counts.{AreTotals};
 ghost use Rattle.simulate_scenario.specs.Answers.{totals_in};
-ghost use Rattle.run_scenario.specs.PrivateHistories.{AreEven, said_by, splits_over};
+ghost use Rattle.simulate_scenario.specs.Described.{lookups_in};
+ghost use Rattle.run_scenario.specs.Runs.{said_with};
+ghost use Rattle.run_scenario.specs.PrivateHistories.{AreEven, said_by, said_whole, splits_over, summary_over};
 
-use cluster_core::Totals;
-use cluster_node::Outcome;
+use crate::running::RunOptions;
+use cluster_core::{Totals, packet_at};
+use cluster_node::{Event, Outcome, Packet};
+use connection_changes::{ChangeBook, push_places, push_summary};
 use connection_table::TableKey;
 use node_threads::NodesRun;
 use run_report::{SplitBook, push_splits};
@@ -98,8 +107,41 @@ fn book_of(alloc: Global, key: TableKey, nodes: &[NodeRecord]) -> Result<SplitBo
     Ok(book)
 }
 
-/// What is reported of the splits of a run's history, where it is asked for. The book of splits hashes by the key.
-pub(crate) fn splits_told(
+// A node's history goes into the book of changes, event by event, with the packets that arrivals name.
+fn note_node(
+    book: &mut ChangeBook,
+    packets: &[Packet],
+    events: &[Event],
+    outcomes: &[Outcome],
+) -> Result<(), AllocError>
+    ensures { (past : List LogEntry) → IsChangeBookOf past book.old → OnOk result (IsChangeBookOf (reverse (said_with packets.now events.now outcomes.now) ++ past) book.new) }
+{
+    for (event, outcome) in events.iter().zip(outcomes.iter()) {
+        book.note(event, packet_at(packets, event), outcome)?;
+    }
+    Ok(())
+}
+
+// The book of the changes.
+fn changes_of(
+    alloc: Global,
+    key: TableKey,
+    packets: &[Packet],
+    nodes: &[NodeRecord],
+) -> Result<ChangeBook, AllocError>
+    requires { AreEven nodes.now }
+    ensures { IfOk result (λ b. IsChangeBookOf (said_whole packets.now nodes.now) b) }
+{
+    let mut book = ChangeBook::new(alloc, key);
+    for node in nodes {
+        let events = node.events.as_slice();
+        note_node(&mut book, packets, events, node.outcomes.as_slice())?;
+    }
+    Ok(book)
+}
+
+// What is reported of the splits without their places, where it is asked for.
+fn splits_told(
     alloc: Global,
     key: TableKey,
     scenario: &Scenario,
@@ -107,7 +149,7 @@ pub(crate) fn splits_told(
     splits: bool,
 ) -> Result<String, AllocError>
     requires even { AreEven nodes.now }
-    ensures { IfOk result (λ s. string_bytes s ≡ splits_over splits scenario.now nodes.now) }
+    ensures { (packets : List Packet) → IfOk result (λ s. string_bytes s ≡ splits_over false splits scenario.now packets nodes.now) }
 {
     let mut text = String::new(alloc);
     if !splits {
@@ -116,4 +158,100 @@ pub(crate) fn splits_told(
     let book = book_of(alloc, key, nodes)?;
     push_splits(&mut text, &scenario.hash, &scenario.catalogue, &book)?;
     Ok(text)
+}
+
+// The lines of the changes, and their counts.
+fn places_told(
+    alloc: Global,
+    scenario: &Scenario,
+    book: &ChangeBook,
+) -> Result<String, AllocError>
+    ensures { (past : List LogEntry) → IsChangeBookOf past book.now → IfOk result (λ s. string_bytes s ≡ places_text (lookups_in scenario.now) scenario.now.idle past) }
+{
+    let mut text = String::new(alloc);
+    let idle = scenario.idle;
+    push_places(&mut text, &scenario.hash, &scenario.catalogue, idle, book)?;
+    Ok(text)
+}
+
+// How many connections changed their server, and why, where it is asked for.
+fn summary_told(
+    alloc: Global,
+    scenario: &Scenario,
+    book: &ChangeBook,
+    summary: bool,
+) -> Result<String, AllocError>
+    ensures { (packets : List Packet) (nodes : List NodeRecord) → IsChangeBookOf (said_whole packets nodes) book.now →
+        IfOk result (λ s. string_bytes s ≡ summary_over summary scenario.now packets nodes) }
+{
+    let mut text = String::new(alloc);
+    if !summary {
+        return Ok(text);
+    }
+    let idle = scenario.idle;
+    push_summary(alloc, &mut text, &scenario.catalogue, idle, book)?;
+    Ok(text)
+}
+
+/// What is told of the connections of a run beside its report.
+#[derive(Drop)]
+pub(crate) struct Told {
+    pub(crate) before: String,
+    pub(crate) behind: String,
+}
+
+/// A run's history, and how it is told. The books of splits and changes hash by the key.
+#[derive(Clone, Copy)]
+pub(crate) struct Telling<'a> {
+    pub(crate) key: TableKey,
+    pub(crate) scenario: &'a Scenario,
+    pub(crate) packets: &'a [Packet],
+    pub(crate) options: RunOptions,
+}
+
+impl Telling<'_> {
+    ghost use Rattle.run_scenario.specs.PrivateHistories.{TellsOf};
+
+    // The splits are told, with places or without.
+    fn before(
+        &self,
+        alloc: Global,
+        nodes: &[NodeRecord],
+        book: &ChangeBook,
+    ) -> Result<String, AllocError>
+        requires even { AreEven nodes.now }
+        requires book { IsChangeBookOf (said_whole self.now.packets.now nodes.now) book.now }
+        ensures { IfOk result (λ s. string_bytes s ≡ splits_over self.now.options.places self.now.options.splits self.now.scenario.now self.now.packets.now nodes.now) }
+    {
+        if self.options.places {
+            places_told(alloc, self.scenario, book)
+        } else {
+            splits_told(alloc, self.key, self.scenario, nodes, self.options.splits)
+        }
+    }
+
+    // The same, and the summary where it is asked for.
+    fn tell_changes(&self, alloc: Global, nodes: &[NodeRecord]) -> Result<Told, AllocError>
+        requires even { AreEven nodes.now }
+        ensures { IfOk result (TellsOf self.now.options self.now.scenario.now self.now.packets.now nodes.now) }
+    {
+        let book = changes_of(alloc, self.key, self.packets, nodes)?;
+        let before = self.before(alloc, nodes, &book)?;
+        let behind = summary_told(alloc, self.scenario, &book, self.options.summary)?;
+        Ok(Told { before, behind })
+    }
+
+    /// What is told of the nodes' histories, where it is asked for.
+    pub(crate) fn tell(&self, alloc: Global, nodes: &[NodeRecord]) -> Result<Told, AllocError>
+        requires even { AreEven nodes.now }
+        ensures { IfOk result (TellsOf self.now.options self.now.scenario.now self.now.packets.now nodes.now) }
+    {
+        if self.options.places || self.options.summary {
+            return self.tell_changes(alloc, nodes);
+        }
+        let splits = self.options.splits;
+        let before = splits_told(alloc, self.key, self.scenario, nodes, splits)?;
+        let behind = String::new(alloc);
+        Ok(Told { before, behind })
+    }
 }

@@ -29,8 +29,19 @@ use thread_records::NodeRecord;
 pub struct RunOptions {
     /// The report begins with the splits.
     pub splits: bool,
+    /// It does, and each split's line tells where its two packets were sent, and why the later one went elsewhere.
+    pub places: bool,
+    /// It ends with how many connections changed their server, how often, and why.
+    pub summary: bool,
     /// A node's driver waits at a full ring.
     pub paced: bool,
+}
+
+impl RunOptions {
+    /// Whether anything is told beside the report.
+    pub(crate) fn tells(self) -> bool {
+        self.splits || self.places || self.summary
+    }
 }
 
 // What the nodes did, and the report.
@@ -63,7 +74,7 @@ fn run_over<R: Threads + Wait + Sync>(
     options: RunOptions,
 ) -> Result<Done, RunFailure>
     requires few { length captured.now.records ≤ max_records }
-    ensures over { IfOk result (λ d. RanOver scenario.now options.splits captured.now.head.link captured.now.records captured.now.ending d.nodes.items (string_bytes d.text)) }
+    ensures over { IfOk result (λ d. RanOver scenario.now options captured.now.head.link captured.now.records captured.now.ending d.nodes.items (string_bytes d.text)) }
     ensures paced { options.paced ≡ true → IfOk result (λ d. NoneRefused d.nodes.items) }
     ensures stopped { IfErr result IsOfThreads }
 {
@@ -75,8 +86,7 @@ fn run_over<R: Threads + Wait + Sync>(
         scenario,
         packets: packets.as_slice(),
         commands: orders.commands.as_slice(),
-        splits: options.splits,
-        paced: options.paced,
+        options,
     };
     let audited = run_named(rt, alloc, &task)?;
     let totals = totals_of(&audited.run);
@@ -87,8 +97,9 @@ fn run_over<R: Threads + Wait + Sync>(
         captured.ending,
         audited.agrees,
     )?;
-    let mut text = audited.splits;
+    let mut text = audited.told.before;
     text.push_str(report.as_str())?;
+    text.push_str(audited.told.behind.as_str())?;
     Ok(Done {
         nodes: audited.run.nodes,
         text,
@@ -127,12 +138,12 @@ pub fn run_scenario<R: Threads + Wait + Sync, I: Source, O: Sink>(
     output: &mut O,
 ) -> Result<String, RunFailure>
     ensures ok { IfOk result (λ s.
-        Ran scenario.now.scenario options.splits (I.tape input.old) (I.tape input.new) (O.tape output.old) (O.tape output.new) (string_bytes s)) }
+        Ran scenario.now.scenario options (I.tape input.old) (I.tape input.new) (O.tape output.old) (O.tape output.new) (string_bytes s)) }
     ensures kept { IfOk result (λ s.
-        (ran : Ran scenario.now.scenario options.splits (I.tape input.old) (I.tape input.new) (O.tape output.old) (O.tape output.new) (string_bytes s)) →
+        (ran : Ran scenario.now.scenario options (I.tape input.old) (I.tape input.new) (O.tape output.old) (O.tape output.new) (string_bytes s)) →
         KeepsPromises scenario.now.scenario ran.head.link ran.records ran.history) }
     ensures paced { options.paced ≡ true → IfOk result (λ s.
-        (ran : Ran scenario.now.scenario options.splits (I.tape input.old) (I.tape input.new) (O.tape output.old) (O.tape output.new) (string_bytes s))
+        (ran : Ran scenario.now.scenario options (I.tape input.old) (I.tape input.new) (O.tape output.old) (O.tape output.new) (string_bytes s))
         × NoneRefused ran.nodes) }
     ensures stopped { IfErr result (Halted scenario.now.scenario (I.tape input.old) (I.tape input.new) (O.tape output.old) (O.tape output.new)) }
 {

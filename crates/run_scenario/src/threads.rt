@@ -10,10 +10,11 @@ ghost use Rattle.thread_records.specs.Runs.{AreRuns};
 ghost use Rattle.thread_roles.specs.Counts.{AreTotals};
 ghost use Rattle.simulate_scenario.specs.Described.{pick_by, rules_in};
 ghost use Rattle.run_scenario.specs.PrivateFailures.{IsOfThreads};
-ghost use Rattle.run_scenario.specs.PrivateHistories.{AreEven, splits_over};
+ghost use Rattle.run_scenario.specs.PrivateHistories.{AreEven, TellsOf};
 
 use crate::failure::RunFailure;
-use crate::histories::{outcome_count, splits_told};
+use crate::histories::{Telling, Told, outcome_count};
+use crate::running::RunOptions;
 use cluster_core::Setup;
 use cluster_node::Packet;
 use connection_table::{PlaceTable, TableKey};
@@ -28,34 +29,33 @@ use std::thread::Threads;
 use thread_records::{Command, NodeRecord};
 
 /// What is to be run: a scenario's cluster over packets that were read, each node by its list of commands. The tables and the
-/// book of splits hash by the key. Where it is paced the nodes' drivers wait at full rings.
+/// books of splits and changes hash by the key.
 #[derive(Clone, Copy)]
 pub(crate) struct Task<'a> {
     pub(crate) key: TableKey,
     pub(crate) scenario: &'a Scenario,
     pub(crate) packets: &'a [Packet],
     pub(crate) commands: &'a [Vec<Command>],
-    pub(crate) splits: bool,
-    pub(crate) paced: bool,
+    pub(crate) options: RunOptions,
 }
 
-/// A run, whether each node's history agrees with its replay, and what is reported of the splits.
+/// A run, whether each node's history agrees with its replay, and what is told of it beside the report.
 #[derive(Drop)]
 pub(crate) struct Audited {
     pub(crate) run: NodesRun,
     pub(crate) agrees: bool,
-    pub(crate) splits: String,
+    pub(crate) told: Told,
 }
 
-// Whether each node's history agrees with its replay, and what is reported of the splits: both at once, since neither waits
-// for the other. Where no splits are asked for, no thread is started for them.
+// Whether each node's history agrees with its replay, and what is told of the connections: both at once, since neither waits
+// for the other. Where nothing is asked for, no thread is started for it.
 fn judged<S: Scheme + Send + Sync, R: Threads + Sync>(
     rt: &R,
     alloc: Global,
     setup: &Setup<S, AnyHash>,
     task: &Task<'_>,
     nodes: &[NodeRecord],
-) -> (Result<bool, AllocError>, Result<String, AllocError>)
+) -> (Result<bool, AllocError>, Result<Told, AllocError>)
 where
     S::Prepared: Send + Sync,
     requires sized { setup.now.size ≡ task.now.scenario.now.size }
@@ -63,13 +63,13 @@ where
     requires even { AreEven nodes.now }
     ensures audit { let rules = rules_for (λ s z. S.pick s z) (λ h. plain_of h) setup.now task.now.scenario.now.catalogue in
         IfOk result.0 (λ b. IsTrue b ↔ All (λ r. r.outcomes.items ≡ verdicts rules [] task.now.packets.now r.events.items) nodes.now) }
-    ensures splits { IfOk result.1 (λ s. string_bytes s ≡ splits_over task.now.splits task.now.scenario.now nodes.now) }
+    ensures told { IfOk result.1 (TellsOf task.now.options task.now.scenario.now task.now.packets.now nodes.now) }
 {
     let Task {
         key,
         scenario,
         packets,
-        splits,
+        options,
         ..
     } = *task;
     let replay = || -> Result<bool, AllocError>
@@ -80,11 +80,19 @@ where
         let catalogue = &scenario.catalogue;
         audit_nodes::<S, AnyHash, PlaceTable, R>(rt, alloc, nodes, setup, catalogue, packets)
     };
-    let told = || -> Result<String, AllocError>
+    let told = || -> Result<Told, AllocError>
         requires { AreEven nodes.now }
-        ensures { IfOk result (λ s. string_bytes s ≡ splits_over splits scenario.entry.now nodes.entry.now) }
-    { splits_told(alloc, key, scenario, nodes, splits) };
-    if splits {
+        ensures { IfOk result (TellsOf options scenario.entry.now packets.entry.now nodes.entry.now) }
+    {
+        let telling = Telling {
+            key,
+            scenario,
+            packets,
+            options,
+        };
+        telling.tell(alloc, nodes)
+    };
+    if options.tells() {
         thread::join(rt, replay, told)
     } else {
         (replay(), told())
@@ -104,11 +112,11 @@ where
     requires nodes { length task.now.commands.now ≡ length task.now.scenario.now.nodes.items }
     requires read { WereRead task.now.packets.now }
     ensures runs { IfOk result (λ a. AreRuns (rules_in task.now.scenario.now) task.now.packets.now task.now.scenario.now.ring 0 (map (λ c. c.items) task.now.commands.now) a.run.nodes.items) }
-    ensures paced { task.now.paced ≡ true → IfOk result (λ a. NoneRefused a.run.nodes.items) }
+    ensures paced { task.now.options.paced ≡ true → IfOk result (λ a. NoneRefused a.run.nodes.items) }
     ensures counts { IfOk result (λ a. AreTotals a.run.stats (all_outcomes a.run.nodes.items)) }
     ensures few { IfOk result (λ a. length (all_outcomes a.run.nodes.items) < 2 ^ 63) }
     ensures audit { IfOk result (λ a. a.agrees ≡ true) }
-    ensures splits { IfOk result (λ a. string_bytes a.splits ≡ splits_over task.now.splits task.now.scenario.now a.run.nodes.items) }
+    ensures told { IfOk result (λ a. TellsOf task.now.options task.now.scenario.now task.now.packets.now a.run.nodes.items a.told) }
     ensures stopped { IfErr result IsOfThreads }
 {
     let scenario = task.scenario;
@@ -127,7 +135,7 @@ where
     let setup = setup.keyed(task.key);
     let rings = RingRules {
         places: scenario.ring,
-        paced: task.paced,
+        paced: task.options.paced,
     };
     let run = run_each::<S, AnyHash, PlaceTable, OpenGate, R>(
         rt,
@@ -142,16 +150,16 @@ where
     let Some(_) = outcome_count(run.nodes.as_slice()) else {
         return Err(RunFailure::Threads(RunFault::Memory));
     };
-    let (agrees, splits) = judged(rt, alloc, &setup, task, run.nodes.as_slice());
+    let (agrees, told) = judged(rt, alloc, &setup, task, run.nodes.as_slice());
     Ok(Audited {
         run,
         agrees: agrees?,
-        splits: splits?,
+        told: told?,
     })
 }
 
 /// Runs the cluster with the scheme that the scenario names, each node by its list of commands, and replays its history. What
-/// is reported of the splits is made meanwhile.
+/// is told beside the report is made meanwhile.
 pub(crate) fn run_named<R: Threads + Wait + Sync>(
     rt: &R,
     alloc: Global,
@@ -160,11 +168,11 @@ pub(crate) fn run_named<R: Threads + Wait + Sync>(
     requires nodes { length task.now.commands.now ≡ length task.now.scenario.now.nodes.items }
     requires read { WereRead task.now.packets.now }
     ensures runs { IfOk result (λ a. AreRuns (rules_in task.now.scenario.now) task.now.packets.now task.now.scenario.now.ring 0 (map (λ c. c.items) task.now.commands.now) a.run.nodes.items) }
-    ensures paced { task.now.paced ≡ true → IfOk result (λ a. NoneRefused a.run.nodes.items) }
+    ensures paced { task.now.options.paced ≡ true → IfOk result (λ a. NoneRefused a.run.nodes.items) }
     ensures counts { IfOk result (λ a. AreTotals a.run.stats (all_outcomes a.run.nodes.items)) }
     ensures few { IfOk result (λ a. length (all_outcomes a.run.nodes.items) < 2 ^ 63) }
     ensures audit { IfOk result (λ a. a.agrees ≡ true) }
-    ensures splits { IfOk result (λ a. string_bytes a.splits ≡ splits_over task.now.splits task.now.scenario.now a.run.nodes.items) }
+    ensures told { IfOk result (λ a. TellsOf task.now.options task.now.scenario.now task.now.packets.now a.run.nodes.items a.told) }
     ensures stopped { IfErr result IsOfThreads }
 {
     let hash = task.scenario.hash;

@@ -13,7 +13,7 @@ pub returns-in-Ok-run_scenario-clause-ran : goal.returns-in-Ok-run_scenario-clau
 returns-in-Ok-run_scenario-clause-ran g c =
     IfOk-weaker c.put_text.result
     (λ _. Appends (g.R.Sink.tape c.args.report.now).bytes (g.R.Sink.tape c.put_text.new.sink).bytes c.as_str.result.now × Unfailed (g.R.Sink.tape c.args.report.now) (g.R.Sink.tape c.put_text.new.sink))
-    (λ _. Runs c.args.options.splits c.args.scenario.now (g.I.Source.tape c.args.input.now) (g.I.Source.tape c.run_scenario.new.input) (g.O.Sink.tape c.args.output.now) (g.O.Sink.tape c.run_scenario.new.output) (g.R.Sink.tape c.args.report.now) (g.R.Sink.tape c.put_text.new.sink))
+    (λ _. Runs c.args.options c.args.scenario.now (g.I.Source.tape c.args.input.now) (g.I.Source.tape c.run_scenario.new.input) (g.O.Sink.tape c.args.output.now) (g.O.Sink.tape c.run_scenario.new.output) (g.R.Sink.tape c.args.report.now) (g.R.Sink.tape c.put_text.new.sink))
     (λ _ written. record {
       scenario = c.in-Ok.scenario.scenario;
       means = c.in-Ok.ensures.means;
@@ -30,7 +30,7 @@ returns-in-Ok-run_scenario-clause-paced g c = λ paced.
     let both = c.in-Ok-run_scenario.ensures.paced paced in
     IfOk-weaker c.put_text.result
     (λ _. Appends (g.R.Sink.tape c.args.report.now).bytes (g.R.Sink.tape c.put_text.new.sink).bytes c.as_str.result.now × Unfailed (g.R.Sink.tape c.args.report.now) (g.R.Sink.tape c.put_text.new.sink))
-    (λ _. PacedRuns c.args.options.splits c.args.scenario.now (g.I.Source.tape c.args.input.now) (g.I.Source.tape c.run_scenario.new.input) (g.O.Sink.tape c.args.output.now) (g.O.Sink.tape c.run_scenario.new.output) (g.R.Sink.tape c.args.report.now) (g.R.Sink.tape c.put_text.new.sink))
+    (λ _. PacedRuns c.args.options c.args.scenario.now (g.I.Source.tape c.args.input.now) (g.I.Source.tape c.run_scenario.new.input) (g.O.Sink.tape c.args.output.now) (g.O.Sink.tape c.run_scenario.new.output) (g.R.Sink.tape c.args.report.now) (g.R.Sink.tape c.put_text.new.sink))
     (λ _ written. record {
       runs = record {
         scenario = c.in-Ok.scenario.scenario;
@@ -50,7 +50,7 @@ returns-in-Ok-run_scenario-clause-stopped g c =
     IfErr-weaker c.put_text.result (λ fault. (fault ≡ Write) × PutRefused c.as_str.result.now (g.R.Sink.tape c.args.report.now) (g.R.Sink.tape c.put_text.new.sink))
     (λ fault. (ScenarioFails OnThreads fault c.args.scenario.now × ((c.run_scenario.new.input ≡ c.args.input.now) × (c.run_scenario.new.output ≡ c.args.output.now) × (c.put_text.new.sink ≡ c.args.report.now)))
     ⊎ ((RunFails fault c.args.scenario.now (g.I.Source.tape c.args.input.now) (g.I.Source.tape c.run_scenario.new.input) (g.O.Sink.tape c.args.output.now) (g.O.Sink.tape c.run_scenario.new.output) × (c.put_text.new.sink ≡ c.args.report.now))
-    ⊎ RunReportFails fault c.args.options.splits c.args.scenario.now (g.I.Source.tape c.args.input.now) (g.I.Source.tape c.run_scenario.new.input) (g.O.Sink.tape c.args.output.now) (g.O.Sink.tape c.run_scenario.new.output) (g.R.Sink.tape c.args.report.now) (g.R.Sink.tape c.put_text.new.sink)))
+    ⊎ RunReportFails fault c.args.options c.args.scenario.now (g.I.Source.tape c.args.input.now) (g.I.Source.tape c.run_scenario.new.input) (g.O.Sink.tape c.args.output.now) (g.O.Sink.tape c.run_scenario.new.output) (g.R.Sink.tape c.args.report.now) (g.R.Sink.tape c.put_text.new.sink)))
     (λ _ is. inr (inr (record {
       scenario = c.in-Ok.scenario.scenario;
       means = c.in-Ok.ensures.means;

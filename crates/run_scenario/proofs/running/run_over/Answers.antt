@@ -13,10 +13,10 @@ use Rattle.event_trace.specs.declared.play.Tally.{Tally}
 use Rattle.simulate_scenario.specs.Answers.{totals_in, is_cut}
 use Rattle.simulate_scenario.specs.Described.{rules_in, choice_in}
 use Rattle.node_threads.proofs.Settled.{all_settled}
-use Rattle.run_scenario.specs.PrivateHistories.{AreEven}
+use Rattle.run_scenario.specs.PrivateHistories.{AreEven, splits_over, summary_over}
 use Rattle.run_scenario.specs.Runs.{audited_report, splits_if, tally_in, packets_in, commands_in, steps_in}
 use Rattle.run_scenario.proofs.InWords.{packets_are, tally_is}
-use Rattle.run_scenario.proofs.OneByOne.{are_even, history_of, joins, same_splits, same_outcomes}
+use Rattle.run_scenario.proofs.OneByOne.{are_even, history_of, joins, same_splits, same_summary, same_outcomes}
 use Rattle.run_scenario.proofs.running.run_over.Goals as goal
 
 pub run_named-requires-clause-nodes : goal.run_named-requires-clause-nodes
@@ -46,6 +46,7 @@ returns-clause-over g c =
     let records = c.args.captured.now.records in
     let ending = c.args.captured.now.ending in
     let run = c.in_ok-audited.audited.run in
+    let o = c.args.options in
     let commands = map (λ l. l.items) c.as_slice-3.result.now in
     let read : c.in_ok-packets.packets.items ≡ packets_in s link records = c.in_ok-packets.ensures.packets ∙ packets_are s c.wire_of-wire.result link c.args.captured.now.records c.wire_of-wire.ensures.link c.wire_of-wire.ensures.check in
     let first : c.as_slice.result.now ≡ packets_in s link records = c.as_slice.ensures.value ∙ read in
@@ -61,10 +62,13 @@ returns-clause-over g c =
     record {
       history = history_of run even few;
       run = record { runs = runs; joins = joins (rules_in s) (packets_in s link records) s.ring (commands_in s link records) run even few runs };
-      report = c.in_ok-push_str.ensures.bytes
-          ∙ ap (λ (l : List ℕ). l ++ c.as_str.result.now) (c.in_ok-audited.ensures.splits ∙ same_splits c.args.options.splits s run even few)
-          ∙ ap (λ (l : List ℕ). splits_if c.args.options.splits s (history_of run even few) ++ l) (c.as_str.ensures.value ∙ c.in_ok-report.ensures
+      report = c.in_ok-push_str-2.ensures.bytes
+          ∙ ap (λ (l : List ℕ). l ++ c.as_str-2.result.now) (c.in_ok-push_str.ensures.bytes
+          ∙ ap (λ (l : List ℕ). l ++ c.as_str.result.now) (c.in_ok-audited.ensures.told.before ∙ ap (λ (ps : List Packet). splits_over o.places o.splits s ps run.nodes.items) are ∙ same_splits o.places o.splits s (packets_in s link records) run even few)
+          ∙ ap (λ (l : List ℕ). splits_if o.places o.splits s (packets_in s link records) (history_of run even few) ++ l) (c.as_str.ensures.value ∙ c.in_ok-report.ensures
           ∙ ap (λ (t : Tally). audited_report t c.totals_of-totals.result (is_cut ending) c.in_ok-audited.audited.agrees) tally
           ∙ ap (λ (t : Totals). audited_report (tally_in s link records) t (is_cut ending) c.in_ok-audited.audited.agrees) (c.totals_of-totals.ensures ∙ ap (λ (os : List Outcome). totals_in os) (same_outcomes run even few))
-          ∙ ap (λ (b : Bool). audited_report (tally_in s link records) (totals_in (history_of run even few).outcomes.items) (is_cut ending) b) c.in_ok-audited.ensures.audit);
+          ∙ ap (λ (b : Bool). audited_report (tally_in s link records) (totals_in (history_of run even few).outcomes.items) (is_cut ending) b) c.in_ok-audited.ensures.audit))
+          ∙ ap (λ (l : List ℕ). (splits_if o.places o.splits s (packets_in s link records) (history_of run even few) ++ audited_report (tally_in s link records) (totals_in (history_of run even few).outcomes.items) (is_cut ending) true) ++ l)
+          (c.as_str-2.ensures.value ∙ c.in_ok-audited.ensures.told.behind ∙ ap (λ (ps : List Packet). summary_over o.summary s ps run.nodes.items) are ∙ same_summary o.summary s (packets_in s link records) run even few);
     }
