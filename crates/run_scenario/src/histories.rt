@@ -161,11 +161,7 @@ fn splits_told(
 }
 
 // The lines of the changes, and their counts.
-fn places_told(
-    alloc: Global,
-    scenario: &Scenario,
-    book: &ChangeBook,
-) -> Result<String, AllocError>
+fn places_told(alloc: Global, scenario: &Scenario, book: &ChangeBook) -> Result<String, AllocError>
     ensures { (past : List LogEntry) → IsChangeBookOf past book.now → IfOk result (λ s. string_bytes s ≡ places_text (lookups_in scenario.now) scenario.now.idle past) }
 {
     let mut text = String::new(alloc);
