@@ -6,13 +6,15 @@ scenarios, 400 in the gate, print what tests/model.py says; some run on threads.
 """
 import collections
 import random
+import subprocess
 import sys
+import tempfile
 
 import end_to_end as rows
 import format_three
 import model
 from end_to_end import ALL, B_DOWN, HEAD, TCP, capture, counts, faults, limited, misused, report, run, runs, scenario, simulates, told, with_files
-from harness import check, run_tests
+from harness import PROGRAM, TOP, check, run_tests
 
 FIRST, COUNT = (int(word) for word in sys.argv[1:3]) if len(sys.argv) > 2 else (0, 400)
 A1, C2 = "1 A@10.8.0.1", "2 C@10.8.0.3"
@@ -120,6 +122,20 @@ def test_on_threads():
         told_of = model.Run(text, data).on_threads()
         lines = told_of.splits(True) + told_of.report() + told_of.summary()
         runs(f"run {seed}", text, data, lines, words=["--where", "--summary"])
+
+
+def test_pages():
+    """What USING.md shows of these answers is what is printed, and what the model says."""
+    shown = [one for one in rows.commands_of((TOP / "docs" / "USING.md").read_text()) if {"--summary", "--where"} & set(one[0])]
+    check("USING.md shows both", len(shown) == 2, shown)
+    for words, lines in shown:
+        with tempfile.TemporaryDirectory() as folder:
+            command = " ".join([PROGRAM, *words[1:]]).replace("sent.pcap", f"{folder}/sent.pcap")
+            done = subprocess.run(command, shell=True, capture_output=True, cwd=TOP, timeout=600, check=False)
+        printed = done.stdout.decode()
+        check(f"USING.md: {' '.join(words[:3])}", printed and lines.startswith(printed) and not done.stderr, f"{done} {lines}")
+    text, data, _ = rows.example("failover", "failover")
+    check("the summary of USING.md", shown and shown[0][1] == model.Run(text, data).summary(), shown)
 
 
 # tables of a scenario's services

@@ -818,7 +818,8 @@ def test_pages():
     text, data, drained = rows.example("draining", "draining")
     runs = [drained, model.Run(text.replace("drain =", "down ="), data)]
     counted = ["".join(line for line in run.splits().splitlines(True) if not line.startswith("split tcp")) for run in runs]
-    for name, expected in [("README.md", counted), ("docs/USING.md", counted[:1])]:
+    summed = ["".join(run.summary().splitlines(True)[:5]) for run in runs]
+    for name, expected in [("README.md", summed), ("docs/USING.md", counted[:1])]:
         page = (rows.TOP / name).read_text()
         shown = [lines for words, lines in rows.commands_of(page) if "examples/draining.pcap" in words]
         check(f"the example's figures in {name}", shown == expected, f"{shown} {expected}")

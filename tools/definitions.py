@@ -44,6 +44,15 @@ PROMISES = [
         [("rollout_plan", "plan_command", "plan"), ("rollout_plan", "laws", "plans_add_up"), ("rollout_order", "order_command", "order")],
     ),
     (
+        "`table`, `pick` and `compare` over a scenario",
+        "These functions of `scenario_tables`.",
+        [
+            ("scenario_tables", "listing", "table_in"),
+            ("scenario_tables", "picking", "pick_in"),
+            ("scenario_tables", "comparing", "compare_in"),
+        ],
+    ),
+    (
         "libmaglev: the table for programs in other languages",
         "These functions of `maglev_ffi`.",
         [("maglev_ffi", "lib", f"maglev_{name}") for name in ("table", "slot", "slots", "differing")],
@@ -52,6 +61,16 @@ PROMISES = [
         "`simulate` and `explain`: a scenario's events over a capture's records, and what is written",
         "`simulate` and `explain_run` of `scenario_commands`.",
         [("scenario_commands", "playing", "simulate"), ("scenario_commands", "playing", "explain_run")],
+    ),
+    (
+        "Which connections changed their server, where, when and why",
+        "`push_places` and `push_summary` of `connection_changes`, which `--where` and `--summary` print, and the laws of its causes.",
+        [
+            ("connection_changes", "lines", "push_places"),
+            ("connection_changes", "summary", "push_summary"),
+            ("connection_changes", "laws", "causes_add_up"),
+            ("connection_changes", "laws", "moves_of_one_worker_are_evictions"),
+        ],
     ),
     (
         "A node and a cluster on threads",

@@ -161,10 +161,11 @@ fn of_version<'a>(alloc: Global) -> Result<Arg<'a>, AllocError> {
 fn service<'a>(alloc: Global) -> Result<Arg<'a>, AllocError> {
     Arg::new(alloc, "service")
         .long("service")
-        .value_name("ADDRESS:PORT/PROTOCOL")
-        .help("the scenario's service, as plan prints it; the only one where it is left out")
+        .value_name("S")
+        .help("the scenario's service, as 192.0.2.1:80/tcp; the only one where it is left out")
         .action(ArgAction::Set)
-        .requires_arg("described")
+        .requires_arg("described")?
+        .conflicts_with("size")
 }
 
 fn names<'a>(alloc: Global) -> Result<Arg<'a>, AllocError> {
@@ -444,6 +445,8 @@ fn explain<'a>(alloc: Global) -> Result<Command<'a>, AllocError> {
 fn run<'a>(alloc: Global) -> Result<Command<'a>, AllocError> {
     let args = [
         splits(alloc),
+        places(alloc),
+        summary(alloc),
         pace(alloc),
         of_places(alloc),
         scenario(alloc),

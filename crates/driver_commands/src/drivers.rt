@@ -103,8 +103,7 @@ fn tell_steps<P: Spread>(
 /// What the steps tell the drivers of so many nodes, and what becomes of the capture's records.
 ///
 /// The spreader is asked once for each packet that is delivered, in the order of the steps. `full`, `hold` and `drain` tell
-/// nobody anything; [`first_unsupported_step`](crate::first_unsupported_step) finds them. Neither does what names a node
-/// that isn't there.
+/// nobody anything; a scenario that is read for threads has none of them. Neither does what names a node that isn't there.
 /// These are the commands and the counts of the steps' trace on any cluster (`anywhere`). Only the servings, and the marks
 /// of workers that refuse, are left out of it. In a trace a stop is a restart; the commands have it as a stop (`ends`).
 pub fn orders<P: Spread>(

@@ -18,7 +18,7 @@ ChangedAreCompared = (before after : NamedTable) → changed before after ≡ le
 abbrev pub CausesAddUp : Type 0
 CausesAddUp =
     (before after : NamedTable) (draining : List Backend) →
-        changed before after ≡ down before after draining + moved before after + drained before after draining
+    changed before after ≡ down before after draining + moved before after + drained before after draining
 
 -- no backend is in the list twice
 abbrev pub NamesOnce : List Backend → Type 0

@@ -75,15 +75,15 @@ drained_text (Some n) = codes " drained " ++ decimal n
 unfoldable pub counts_line : NamedTable → NamedTable → List Backend → List ℕ
 counts_line before after draining =
     codes "slots " ++ (decimal before.size ++ (codes " changed " ++ (decimal (changed before after) ++ (codes " down " ++ (
-        decimal (down before after draining) ++ (codes " moved " ++ (decimal (moved before after) ++ (codes " least " ++ (
-        decimal (least before after) ++ (drained_text (told draining (drained before after draining)) ++ codes "\n"))))))))))
+    decimal (down before after draining) ++ (codes " moved " ++ (decimal (moved before after) ++ (codes " least " ++ (
+    decimal (least before after) ++ (drained_text (told draining (drained before after draining)) ++ codes "\n"))))))))))
 
 -- `BACKEND weight W before N after N`, and ` drain` or ` down` where it isn't up after
 unfoldable pub change_line : NamedTable → NamedTable → List Backend → Member → List ℕ
 change_line before after draining m =
     backend_text m.backend ++ (codes " weight " ++ (decimal m.weight ++ (codes " before " ++ (decimal (slots_naming (Some m.backend) before) ++ (
-        codes " after " ++ (decimal (slots_naming (Some m.backend) after) ++ (
-        state_text (is_up after m.backend) (drains draining m.backend) ++ codes "\n")))))))
+    codes " after " ++ (decimal (slots_naming (Some m.backend) after) ++ (
+    state_text (is_up after m.backend) (drains draining m.backend) ++ codes "\n")))))))
 
 -- what changes for a service, between the members before and after
 unfoldable pub change_text : TableRule → ServiceKey → List Member → List Member → List ℕ
@@ -121,7 +121,7 @@ slots_line size = codes "slots " ++ (decimal size ++ codes "\n")
 unfoldable pub backend_line : NamedTable → List Backend → Member → List ℕ
 backend_line t draining m =
     backend_text m.backend ++ (codes " weight " ++ (decimal m.weight ++ (codes " slots " ++ (decimal (slots_naming (Some m.backend) t) ++ (
-        state_text (is_up t m.backend) (drains draining m.backend) ++ codes "\n")))))
+    state_text (is_up t m.backend) (drains draining m.backend) ++ codes "\n")))))
 
 -- what a service has
 unfoldable pub service_text : TableRule → Service → List ℕ

@@ -44,7 +44,7 @@ moved_slots old new = filter (is_moved old new) (range_with_len 0 old.size)
 abbrev pub compare_head : ℕ → ℕ → ℕ → ℕ → List ℕ
 compare_head size before after moved =
     codes "size " ++ (decimal size ++ (codes " old " ++ (decimal before ++ (codes " new " ++ (decimal after ++ (codes " differ " ++ (
-        decimal moved ++ codes "\n")))))))
+    decimal moved ++ codes "\n")))))))
 
 -- `I OLD NEW`
 abbrev pub moved_line : NamedTable → NamedTable → ℕ → List ℕ

@@ -63,7 +63,7 @@ longest = 524289
 abbrev pub IsPickLine : (List ℕ → ℕ) → ℕ → List (List ℕ) → Bool → Option (List ℕ) → List ℕ → Type 0
 IsPickLine plain size words check input line =
     (entrants : List Entrant) × IsRanked (entrants_of words) entrants × (bytes : List ℕ) × IfSome input (IsHexOf bytes) ×
-        (line ≡ pick_line plain size entrants (packet_of check bytes))
+    (line ≡ pick_line plain size entrants (packet_of check bytes))
 
 -- the same, for the hash that a word names
 abbrev pub IsPickLineOf : List ℕ → ℕ → List (List ℕ) → Bool → Option (List ℕ) → List ℕ → Type 0
