@@ -8,12 +8,12 @@ ghost use Rattle.run_scenario.specs.PrivateFailures.{IsOfThreads};
 ghost use Rattle.run_scenario.specs.PrivateHistories.{RanOver};
 
 use crate::failure::RunFailure;
-use crate::histories::totals_of;
+use crate::histories::{Told, totals_of};
 use crate::orders::orders_of;
 use crate::reading::{Captured, packets_of, read_whole};
 use crate::report::audited_report;
 use crate::sending::{Sender, write_capture};
-use crate::threads::{Task, run_named};
+use crate::threads::{Audited, Task, run_named};
 use connection_table::TableKey;
 use ip_headers::Link;
 use pcap_file::{Sink, Source};
@@ -89,19 +89,15 @@ fn run_over<R: Threads + Wait + Sync>(
         options,
     };
     let audited = run_named(rt, alloc, &task)?;
-    let totals = totals_of(&audited.run);
-    let report = audited_report(
-        alloc,
-        orders.tally,
-        &totals,
-        captured.ending,
-        audited.agrees,
-    )?;
-    let mut text = audited.told.before;
+    let Audited { run, agrees, told } = audited;
+    let Told { before, behind } = told;
+    let totals = totals_of(&run);
+    let report = audited_report(alloc, orders.tally, &totals, captured.ending, agrees)?;
+    let mut text = before;
     text.push_str(report.as_str())?;
-    text.push_str(audited.told.behind.as_str())?;
+    text.push_str(behind.as_str())?;
     Ok(Done {
-        nodes: audited.run.nodes,
+        nodes: run.nodes,
         text,
     })
 }

@@ -1,4 +1,4 @@
-use Rattle.std.proofs.Common.{◌≡◌, ◌+◌, ◌≤◌, ℕ, ◌∙◌, ◌++◌, Bool, List, length, map, ap, sym, subst, arith}
+use Rattle.std.proofs.Common.{◌≡◌, ◌+◌, ◌≤◌, ℕ, ◌∙◌, ◌++◌, Bool, true, List, length, map, ap, sym, subst, arith}
 use Rattle.std.proofs.lemmas.List.{length-map}
 use Rattle.driver_commands.proofs.Telling.{below_long}
 use Rattle.driver_commands.specs.Orders.{orders_of, orders_on}

@@ -26,6 +26,7 @@ returns-in-Ok-clause-ok g c =
     }
 
 pub returns-in-Ok-clause-paced : goal.returns-in-Ok-clause-paced
+unfolding returns-in-Ok-clause-ok
 returns-in-Ok-clause-paced g c = λ paced. (returns-in-Ok-clause-ok g c, c.in_ok-done.ensures.paced paced)
 
 pub returns-in-Ok-clause-kept : goal.returns-in-Ok-clause-kept
