@@ -1,5 +1,5 @@
 -- What `pick` prints of a scenario's version, and when it gives up, by which fault.
-use Rattle.std.specs.Prelude.{◌≡◌, ◌×◌, ◌⊎◌, ℕ, Bool, List, Option, Some, None, is_some, true, IfSome, ⊥}
+use Rattle.std.specs.Prelude.{◌≡◌, ◌⊎◌, ℕ, Bool, List, Option, Some, None, is_some, true, IfSome}
 use Rattle.hash_laws.specs.Any.{plain_of}
 use Rattle.five_tuple.specs.declared.Flow.{Flow}
 use Rattle.pool_versions.specs.declared.backend.Backend.{Backend}
@@ -19,7 +19,7 @@ use Rattle.scenario.specs.Meaning.{Means}
 use Rattle.scenario_faults.specs.Refusals.{ScenarioFails}
 use Rattle.command_faults.specs.declared.fault.CliFault.{CliFault}
 use Rattle.command_faults.specs.declared.fault.CliFault.TheVariants.{Pool, BadScheme}
-use Rattle.table_commands.specs.Pick.{flow_line, drop_line, packet_of, IsHexOf, InputFails}
+use Rattle.table_commands.specs.Pick.{flow_line, drop_line, packet_of, IsHexOf, IsShort, InputFails}
 use Rattle.rollout_plan.specs.declared.slots.TableRule.{TableRule}
 use Rattle.rollout_plan.specs.Plans.{version_in}
 use Rattle.rollout_plan.specs.Tables.{rule_of, table_by}
@@ -50,6 +50,7 @@ pub record ShowsPick (s : Scenario) (number : ℕ) (check : Bool) (input : Optio
   pub of_scheme : s.scheme ≡ Maglev
   pub of_number : version_in s number ≡ Some version
   pub of_input : IfSome input (IsHexOf bytes)
+  pub short : IsShort input
   pub is : line ≡ packet_line (rule_of s) version (packet_of check bytes)
 
 -- what there is where a command gives up: another scheme, no such version, or an input that isn't a datagram's

@@ -28,11 +28,11 @@ owner_name None = codes "-"
 owner_name (Some b) = b.name
 
 -- `I NAME`
-abbrev pub owner_line : NamedTable → ℕ → List ℕ
+unfoldable pub owner_line : NamedTable → ℕ → List ℕ
 owner_line t slot = slot_line slot (owner_name (slot_names t.ups t.owners slot))
 
 -- `count NAME C`
-abbrev pub share_line : NamedTable → Backend → List ℕ
+unfoldable pub share_line : NamedTable → Backend → List ℕ
 share_line t b = count_line b.name (slots_naming (Some b) t)
 
 -- the text of a table: its size and how many share it, a line for each slot, and for each backend its slots

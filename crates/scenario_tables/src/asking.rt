@@ -51,8 +51,8 @@ pub(crate) fn key_for(
     keys: &[ServiceKey],
     word: Option<&str>,
 ) -> Result<ServiceKey, CliFault>
-    ensures found { IfOk result (λ k. asked_key (option_map (λ w. w.now) word) keys.now ≡ Some k) }
-    ensures missing { IfErr result (λ fault. KeyFails fault (asked_key (option_map (λ w. w.now) word) keys.now)) }
+    ensures found { IfOk result (λ k. asked_key (option_map (λ w. w.now) word.entry) keys.now ≡ Some k) }
+    ensures missing { IfErr result (λ fault. KeyFails fault (asked_key (option_map (λ w. w.now) word.entry) keys.now)) }
 {
     let found = match word {
         None => only_key(keys),

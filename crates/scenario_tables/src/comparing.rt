@@ -22,8 +22,8 @@ pub struct Change<'a> {
 
 // The text of what changes for a scenario's service.
 fn text_of(alloc: Global, scenario: &Scenario, change: Change<'_>) -> Result<String, CliFault>
-    ensures text { IfOk result (λ s. ShowsMoves scenario.now (compared change) (string_bytes s)) }
-    ensures fault { IfErr result (λ fault. AskedFails fault (compared change).word (keys_in_both scenario.now (compared change))) }
+    ensures text { IfOk result (λ s. ShowsMoves scenario.now (compared change.entry) (string_bytes s)) }
+    ensures fault { IfErr result (λ fault. AskedFails fault (compared change.entry).word (keys_in_both scenario.now (compared change.entry))) }
     ensures unwritten { IfErr result (λ fault. fault ≢ CliFault.Write) }
 {
     let before = version_of(scenario, change.from)?;
@@ -38,8 +38,8 @@ fn text_of(alloc: Global, scenario: &Scenario, change: Change<'_>) -> Result<Str
 
 // The same of the scenario that a text means.
 fn text_for(alloc: Global, scenario: &[u8], change: Change<'_>) -> Result<String, CliFault>
-    ensures text { IfOk result (λ s. AreMoves scenario.now (compared change) (string_bytes s)) }
-    ensures fault { IfErr result (λ fault. MovesFail fault scenario.now (compared change)) }
+    ensures text { IfOk result (λ s. AreMoves scenario.now (compared change.entry) (string_bytes s)) }
+    ensures fault { IfErr result (λ fault. MovesFail fault scenario.now (compared change.entry)) }
     ensures unwritten { IfErr result (λ fault. fault ≢ CliFault.Write) }
 {
     let scenario = match read(alloc, Played::InTurn, scenario) {
@@ -65,10 +65,10 @@ pub fn compare_in<S: Sink>(
     change: Change<'_>,
     out: &mut S,
 ) -> Result<(), CliFault>
-    ensures written { OnOk result (Prints (AreMoves scenario.now (compared change)) (S.tape out.old) (S.tape out.new)) }
-    ensures broken { IfErr result (λ fault. fault ≡ CliFault.Write → BreaksOff (AreMoves scenario.now (compared change)) (S.tape out.old) (S.tape out.new)) }
+    ensures written { OnOk result (Prints (AreMoves scenario.now (compared change.entry)) (S.tape out.old) (S.tape out.new)) }
+    ensures broken { IfErr result (λ fault. fault ≡ CliFault.Write → BreaksOff (AreMoves scenario.now (compared change.entry)) (S.tape out.old) (S.tape out.new)) }
     ensures silent { IfErr result (λ fault. fault ≢ CliFault.Write → out.new ≡ out.old) }
-    ensures fault { IfErr result (λ fault. MovesFail fault scenario.now (compared change)) }
+    ensures fault { IfErr result (λ fault. MovesFail fault scenario.now (compared change.entry)) }
 {
     let text = match text_for(alloc, scenario, change) {
         Ok(text) => text,

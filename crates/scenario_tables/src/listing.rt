@@ -36,6 +36,7 @@ impl fmt::Display for OwnerText {
     }
 }
 
+#[tactic(auto, unfolding(crate::specs::Tables::owner_line))]
 fn push_owner_line(text: &mut String, table: &SlotTable, slot: u32) -> Result<(), AllocError>
     requires { slot < table.now.size }
     ensures { OnOk result (string_bytes text.new ≡ string_bytes text.old ++ owner_line table.now slot) }
@@ -53,6 +54,7 @@ fn push_owner_lines(text: &mut String, table: &SlotTable) -> Result<(), AllocErr
     Ok(())
 }
 
+#[tactic(auto, unfolding(crate::specs::Tables::share_line))]
 fn push_share_line(
     text: &mut String,
     table: &SlotTable,
@@ -65,10 +67,14 @@ fn push_share_line(
     write!(text, "count {name} {slots}\n")
 }
 
-fn push_share_lines(text: &mut String, table: &SlotTable) -> Result<(), AllocError>
-    ensures { OnOk result (string_bytes text.new ≡ string_bytes text.old ++ flat_map (share_line table.now) table.now.ups) }
+fn push_share_lines(
+    text: &mut String,
+    table: &SlotTable,
+    backends: &[Backend],
+) -> Result<(), AllocError>
+    ensures { OnOk result (string_bytes text.new ≡ string_bytes text.old ++ flat_map (share_line table.now) backends.now) }
 {
-    for backend in table.ups() {
+    for backend in backends {
         push_share_line(text, table, backend)?;
     }
     Ok(())
@@ -80,10 +86,11 @@ fn slots_text_of(alloc: Global, table: &SlotTable) -> Result<String, AllocError>
     ensures { IfOk result (λ s. string_bytes s ≡ slots_text table.now) }
 {
     let size = table.size();
-    let backends = table.ups().len();
+    let ups = table.ups();
+    let backends = ups.len();
     let mut text = format!(in alloc; "size {size} backends {backends}\n")?;
     push_owner_lines(&mut text, table)?;
-    push_share_lines(&mut text, table)?;
+    push_share_lines(&mut text, table, ups)?;
     Ok(text)
 }
 
@@ -94,8 +101,8 @@ fn text_of(
     number: u32,
     word: Option<&str>,
 ) -> Result<String, CliFault>
-    ensures text { IfOk result (λ s. ShowsTable scenario.now number (option_map (λ w. w.now) word) (string_bytes s)) }
-    ensures fault { IfErr result (λ fault. AskedFails fault (option_map (λ w. w.now) word) (keys_in (version_in scenario.now number))) }
+    ensures text { IfOk result (λ s. ShowsTable scenario.now number (option_map (λ w. w.now) word.entry) (string_bytes s)) }
+    ensures fault { IfErr result (λ fault. AskedFails fault (option_map (λ w. w.now) word.entry) (keys_in (version_in scenario.now number))) }
     ensures unwritten { IfErr result (λ fault. fault ≢ CliFault.Write) }
 {
     let version = version_of(scenario, number)?;
@@ -112,8 +119,8 @@ fn text_for(
     number: u32,
     word: Option<&str>,
 ) -> Result<String, CliFault>
-    ensures text { IfOk result (λ s. IsTable scenario.now number (option_map (λ w. w.now) word) (string_bytes s)) }
-    ensures fault { IfErr result (λ fault. TableFails fault scenario.now number (option_map (λ w. w.now) word)) }
+    ensures text { IfOk result (λ s. IsTable scenario.now number (option_map (λ w. w.now) word.entry) (string_bytes s)) }
+    ensures fault { IfErr result (λ fault. TableFails fault scenario.now number (option_map (λ w. w.now) word.entry)) }
     ensures unwritten { IfErr result (λ fault. fault ≢ CliFault.Write) }
 {
     let scenario = match read(alloc, Played::InTurn, scenario) {
@@ -139,11 +146,11 @@ pub fn table_in<S: Sink>(
     service: Option<&str>,
     out: &mut S,
 ) -> Result<(), CliFault>
-    ensures written { OnOk result (Prints (IsTable scenario.now version (option_map (λ w. w.now) service)) (S.tape out.old) (S.tape out.new)) }
+    ensures written { OnOk result (Prints (IsTable scenario.now version (option_map (λ w. w.now) service.entry)) (S.tape out.old) (S.tape out.new)) }
     ensures broken { IfErr result (λ fault. fault ≡ CliFault.Write →
-        BreaksOff (IsTable scenario.now version (option_map (λ w. w.now) service)) (S.tape out.old) (S.tape out.new)) }
+        BreaksOff (IsTable scenario.now version (option_map (λ w. w.now) service.entry)) (S.tape out.old) (S.tape out.new)) }
     ensures silent { IfErr result (λ fault. fault ≢ CliFault.Write → out.new ≡ out.old) }
-    ensures fault { IfErr result (λ fault. TableFails fault scenario.now version (option_map (λ w. w.now) service)) }
+    ensures fault { IfErr result (λ fault. TableFails fault scenario.now version (option_map (λ w. w.now) service.entry)) }
 {
     let text = match text_for(alloc, scenario, version, service) {
         Ok(text) => text,

@@ -1,5 +1,5 @@
 //! The command `pick` under a scenario's version.
-ghost use Rattle.std.specs.Prelude.{◌≡◌, ◌≢◌, ◌+◌, ◌<◌, IfOk, IfErr, OnOk, MatchBool, ⊥, string_bytes};
+ghost use Rattle.std.specs.Prelude.{◌≡◌, ◌≢◌, ◌+◌, ◌<◌, IfOk, IfErr, OnOk, MatchBool, string_bytes};
 ghost use Rattle.hash_laws.specs.Any.{plain_of};
 ghost use Rattle.pool_versions.specs.Pool.{find_service};
 ghost use Rattle.rollout_plan.specs.Tables.{rule_of};
