@@ -132,7 +132,7 @@ fn read(
     text: &str,
 ) -> Option<Result<Vec<Version>, PoolsFault>> {
     let table = toml::table_from_str(alloc, text).expect(rt, "a document");
-    let drafts = drafts_in(alloc, format, &table).expect(rt, "memory")?;
+    let drafts = drafts_in(alloc, format, &table).expect(rt, "memory").ok()?;
     Some(versions_of(alloc, drafts.as_slice()))
 }
 

@@ -1,5 +1,5 @@
 -- A draft's fault is its document's.
-use Rattle.std.proofs.Common.{◌≡◌, ℕ, List, Option, Some, None, Result, Ok, Err, IfErr, IsErrAnd, ◌∙◌, sym, ap, subst}
+use Rattle.std.proofs.Common.{◌≡◌, ℕ, List, Option, Some, None, Result, Ok, Err, IfErr, IsErrAnd, ◌∙◌, refl, sym, ap, subst}
 use Rattle.version_drafts.specs.Plain.{PlainVersion}
 use Rattle.version_drafts.specs.Drafts.{PlainVersionDraft}
 use Rattle.scenario_pools.specs.declared.fault.PoolsFault.{PoolsFault}
@@ -12,6 +12,7 @@ use Rattle.scenario_keys.specs.declared.formats.Format.{Format}
 use Rattle.scenario.specs.declared.fault.ScenarioFault.{ScenarioFault}
 use Rattle.scenario.specs.declared.fault.ScenarioFault.TheVariants as fault
 use Rattle.scenario.specs.declared.plan.Scenario.{Scenario}
+use Rattle.scenario.specs.Places.{IsAt}
 use Rattle.pool_versions.specs.declared.backend.Member.{Member}
 use Rattle.pool_versions.specs.declared.catalogue.PoolFault.{PoolFault}
 use Rattle.pool_versions.specs.declared.catalogue.PoolFault.TheVariants as pool
@@ -62,7 +63,7 @@ pub document_says : (played : Played) (ms : Members) (f : Format) (d : PlainDraf
 unfolding plan_of
 document_says played ms f d same is = ap (λ p. with_format played p ms) same ∙ ap (with_draft f played) is
 
-one_refused : (f : Format) (played : Played) (text : List ℕ) (ms : Members) (d : PlainDraft) (e : ScenarioFault) → IsDocument text ms → plan_of played ms ≡ plan_of_draft f played d → IsDraftRefused f played d e → IsRefused played text e
+pub one_refused : (f : Format) (played : Played) (text : List ℕ) (ms : Members) (d : PlainDraft) (e : ScenarioFault) → IsDocument text ms → plan_of played ms ≡ plan_of_draft f played d → IsDraftRefused f played d e → IsRefused played text e
 one_refused f played text ms d fault.Memory document same refused = tt
 one_refused f played text ms d fault.TooLong document same refused = late_refused played text ms fault.TooLong document (late_draft f played d fault.TooLong refused) (same ∙ refused)
 one_refused f played text ms d fault.BadToml document same refused = late_refused played text ms fault.BadToml document (late_draft f played d fault.BadToml refused) (same ∙ refused)
@@ -71,6 +72,17 @@ one_refused f played text ms d fault.BadKey document same refused = late_refused
 one_refused f played text ms d fault.BadMember document same refused = late_refused played text ms fault.BadMember document (late_draft f played d fault.BadMember refused) (same ∙ refused)
 one_refused f played text ms d (fault.Pool e) document same refused = late_refused played text ms (fault.Pool e) document (late_draft f played d (fault.Pool e) refused) (same ∙ refused)
 one_refused f played text ms d (fault.BadStep n) document same refused = late_refused played text ms (fault.BadStep n) document (late_draft f played d (fault.BadStep n) refused) (same ∙ refused)
+
+-- a fault of a draft has no place
+pub draft_nowhere : (f : Format) (played : Played) (text : List ℕ) (d : PlainDraft) (e : ScenarioFault) → IsDraftRefused f played d e → IsAt text e None
+draft_nowhere f played text d fault.TooLong h = refl
+draft_nowhere f played text d fault.BadToml h = refl
+draft_nowhere f played text d fault.BadFormat h = refl
+draft_nowhere f played text d fault.BadKey h = absurd (late_draft f played d fault.BadKey h)
+draft_nowhere f played text d fault.BadMember h = refl
+draft_nowhere f played text d (fault.Pool e) h = refl
+draft_nowhere f played text d (fault.BadStep n) h = refl
+draft_nowhere f played text d fault.Memory h = refl
 
 -- a fault that is passed on
 pub passed_on : (r : Result Scenario ScenarioFault) (e : ScenarioFault) (P : ScenarioFault → Type 0) → IsErrAnd r (λ f. f ≡ e) → P e → IfErr r P

@@ -6,3 +6,4 @@ pub mod Told
 pub mod Plain
 pub mod Meaning
 pub mod Alike
+pub mod Places

@@ -1,16 +1,19 @@
 //! A scenario as its document holds it. All keys are as they should be, but a word may be no member and a text no step.
-ghost use Rattle.std.specs.Prelude.{◌≡◌, ◌≤◌, map, length, option_map, option_and_then, string_bytes, codes, IfOk, IfSome};
+ghost use Rattle.std.specs.Prelude.{◌≡◌, ◌≤◌, map, length, option_map, option_and_then, string_bytes, codes, is_none, is_some, IfOk};
+ghost use Rattle.std.specs.Result.{result_ok, result_err};
 ghost use Rattle.toml.specs.Data.{as_str};
 ghost use Rattle.toml.specs.View.{table_view, items_view};
 ghost use Rattle.scenario_keys.specs.Lookups.{items_at, all_items};
+ghost use Rattle.version_drafts.specs.Places.{item_from, is_text};
 ghost use Rattle.scenario.specs.Meaning.{address_in, few_nodes, few_steps, nodes_of, steps_in, draft_of, draft_in, plain_draft, IsLimited};
+ghost use Rattle.scenario.specs.Places.{is_address, nodes_flaw, steps_flaw, at_key, draft_flaw, place_of};
 
 use crate::setup::{Choices, Limits, choices_at, limits_at};
 use maglev_texts::address;
 use scenario_keys::{Format, Key, MOST_NODES, MOST_STEPS, Owner, has_only_keys, items_at};
 use std::alloc::{AllocError, Global};
 use toml::{Table, Value};
-use version_drafts::{VersionDraft, drafts_in};
+use version_drafts::{Flaw, Place, VersionDraft, drafts_in};
 
 /// A scenario as its document holds it.
 #[derive(Drop)]
@@ -22,93 +25,118 @@ pub(crate) struct Draft {
     pub(crate) steps: Vec<String>,
 }
 
+// The addresses that some items are, or the number of the first that is none.
 #[tactic(auto, using(scenario_keys::proofs::Views::items_from))]
-fn addresses(alloc: Global, values: &[Value]) -> Result<Option<Vec<u32>>, AllocError>
-    ensures { IfOk result (λ o. option_map (λ v. v.items) o ≡ all_items address_in (items_view values.now)) }
+fn addresses(alloc: Global, values: &[Value]) -> Result<Result<Vec<u32>, usize>, AllocError>
+    ensures value { IfOk result (λ r. option_map (λ v. v.items) (result_ok r) ≡ all_items address_in (items_view values.now)) }
+    ensures item { IfOk result (λ r. result_err r ≡ item_from is_address 0 (items_view values.now)) }
 {
     let mut found: Vec<u32> = Vec::new(alloc);
-    for value in values {
+    for (n, value) in values.iter().enumerate() {
         let Some(text) = value.as_str() else {
-            return Ok(None);
+            return Ok(Err(n));
         };
         let Some(address) = address(alloc, text.as_bytes())? else {
-            return Ok(None);
+            return Ok(Err(n));
         };
         found.push(address)?;
     }
-    Ok(Some(found))
+    Ok(Ok(found))
 }
 
+// The texts that some items are, or the number of the first that is none.
 #[tactic(auto, using(scenario_keys::proofs::Views::items_from))]
-fn texts(alloc: Global, values: &[Value]) -> Result<Option<Vec<String>>, AllocError>
-    ensures { IfOk result (λ o. option_map (λ v. map string_bytes v.items) o ≡ all_items as_str (items_view values.now)) }
+fn texts(alloc: Global, values: &[Value]) -> Result<Result<Vec<String>, usize>, AllocError>
+    ensures value { IfOk result (λ r. option_map (λ v. map string_bytes v.items) (result_ok r) ≡ all_items as_str (items_view values.now)) }
+    ensures item { IfOk result (λ r. result_err r ≡ item_from is_text 0 (items_view values.now)) }
 {
     let mut found: Vec<String> = Vec::new(alloc);
-    for value in values {
+    for (n, value) in values.iter().enumerate() {
         let Some(text) = value.as_str() else {
-            return Ok(None);
+            return Ok(Err(n));
         };
         let text = String::from_str(alloc, text)?;
         let Ok(()) = found.push(text) else {
             return Err(AllocError);
         };
     }
-    Ok(Some(found))
+    Ok(Ok(found))
 }
 
-fn nodes_at(alloc: Global, table: &Table) -> Result<Option<Vec<u32>>, AllocError>
-    ensures value { IfOk result (λ o. option_map (λ v. v.items) o ≡ nodes_of (table_view table.now)) }
-    ensures few { IfOk result (λ o. IfSome o (λ v. (1 ≤ length v.items) × (length v.items ≤ 64))) }
+fn nodes_at(alloc: Global, table: &Table) -> Result<Result<Vec<u32>, Flaw>, AllocError>
+    ensures value { IfOk result (λ r. option_map (λ v. v.items) (result_ok r) ≡ nodes_of (table_view table.now)) }
+    ensures flaw { IfOk result (λ r. result_err r ≡ nodes_flaw (table_view table.now)) }
+    ensures few { IfOk result (λ r. IfOk r (λ v. (1 ≤ length v.items) × (length v.items ≤ 64))) }
 {
     let Some(values) = items_at(table, Key::Nodes.name()) else {
-        return Ok(None);
+        return Ok(Err(Flaw::Value(Key::Nodes)));
     };
-    let Some(nodes) = addresses(alloc, values)? else {
-        return Ok(None);
+    let nodes = match addresses(alloc, values)? {
+        Ok(nodes) => nodes,
+        Err(n) => return Ok(Err(Flaw::Item(Key::Nodes, n))),
     };
     if nodes.is_empty() || nodes.len() > MOST_NODES {
-        return Ok(None);
+        return Ok(Err(Flaw::Value(Key::Nodes)));
     }
-    Ok(Some(nodes))
+    Ok(Ok(nodes))
 }
 
-fn steps_at(alloc: Global, table: &Table) -> Result<Option<Vec<String>>, AllocError>
-    ensures value { IfOk result (λ o. option_map (λ v. map string_bytes v.items) o ≡ steps_in (table_view table.now)) }
-    ensures few { IfOk result (λ o. IfSome o (λ v. length v.items ≤ 100000)) }
+fn steps_at(alloc: Global, table: &Table) -> Result<Result<Vec<String>, Flaw>, AllocError>
+    ensures value { IfOk result (λ r. option_map (λ v. map string_bytes v.items) (result_ok r) ≡ steps_in (table_view table.now)) }
+    ensures flaw { IfOk result (λ r. result_err r ≡ steps_flaw (table_view table.now)) }
+    ensures few { IfOk result (λ r. IfOk r (λ v. length v.items ≤ 100000)) }
 {
     let Some(values) = items_at(table, Key::Steps.name()) else {
-        return Ok(None);
+        return Ok(Err(Flaw::Value(Key::Steps)));
     };
-    let Some(steps) = texts(alloc, values)? else {
-        return Ok(None);
+    let steps = match texts(alloc, values)? {
+        Ok(steps) => steps,
+        Err(n) => return Ok(Err(Flaw::Item(Key::Steps, n))),
     };
     if steps.len() > MOST_STEPS {
-        return Ok(None);
+        return Ok(Err(Flaw::Value(Key::Steps)));
     }
-    Ok(Some(steps))
+    Ok(Ok(steps))
 }
 
-#[tactic(auto, unfolding(crate::specs::Meaning::draft_of))]
-fn read_draft(alloc: Global, format: Format, table: &Table) -> Result<Option<Draft>, AllocError>
-    ensures value { IfOk result (λ o. option_map plain_draft o ≡ draft_of format (table_view table.now)) }
-    ensures limits { IfOk result (λ o. IfSome o IsLimited) }
+// The place of a key of the document, whose value is missing or isn't one that it may have.
+fn at_key(key: Key) -> Place
+    ensures { result ≡ at_key key }
 {
-    let Some(choices) = choices_at(table) else {
-        return Ok(None);
+    Place::Root(Flaw::Value(key))
+}
+
+#[tactic(auto, unfolding(crate::specs::Meaning::draft_of, crate::specs::Places::draft_flaw))]
+fn read_draft(
+    alloc: Global,
+    format: Format,
+    table: &Table,
+) -> Result<Result<Draft, Place>, AllocError>
+    ensures value { IfOk result (λ r. option_map plain_draft (result_ok r) ≡ draft_of format (table_view table.now)) }
+    ensures place { IfOk result (λ r. result_err r ≡ draft_flaw format (table_view table.now)) }
+    ensures limits { IfOk result (λ r. IfOk r IsLimited) }
+{
+    let choices = match choices_at(table) {
+        Ok(choices) => choices,
+        Err(key) => return Ok(Err(at_key(key))),
     };
-    let Some(limits) = limits_at(table) else {
-        return Ok(None);
+    let limits = match limits_at(table) {
+        Ok(limits) => limits,
+        Err(key) => return Ok(Err(at_key(key))),
     };
-    let Some(nodes) = nodes_at(alloc, table)? else {
-        return Ok(None);
+    let nodes = match nodes_at(alloc, table)? {
+        Ok(nodes) => nodes,
+        Err(flaw) => return Ok(Err(Place::Root(flaw))),
     };
-    let Some(versions) = drafts_in(alloc, format, table)? else {
-        return Ok(None);
+    let versions = match drafts_in(alloc, format, table)? {
+        Ok(versions) => versions,
+        Err(place) => return Ok(Err(place)),
     };
-    let Some(steps) = steps_at(alloc, table)? else {
-        return Ok(None);
+    let steps = match steps_at(alloc, table)? {
+        Ok(steps) => steps,
+        Err(flaw) => return Ok(Err(Place::Root(flaw))),
     };
-    Ok(Some(Draft {
+    Ok(Ok(Draft {
         choices,
         limits,
         nodes,
@@ -117,18 +145,19 @@ fn read_draft(alloc: Global, format: Format, table: &Table) -> Result<Option<Dra
     }))
 }
 
-/// The draft that a document of a format is, None where a key isn't as it should be.
+/// The draft that a document of a format is, or the first place at which a key isn't as it should be.
 pub(crate) fn draft_in(
     alloc: Global,
     format: Format,
     table: &Table,
-) -> Result<Option<Draft>, AllocError>
-    ensures value { IfOk result (λ o. option_map plain_draft o ≡ draft_in format (table_view table.now)) }
-    ensures limits { IfOk result (λ o. IfSome o IsLimited) }
+) -> Result<Result<Draft, Place>, AllocError>
+    ensures value { IfOk result (λ r. option_map plain_draft (result_ok r) ≡ draft_in format (table_view table.now)) }
+    ensures place { IfOk result (λ r. result_err r ≡ place_of format (table_view table.now)) }
+    ensures limits { IfOk result (λ r. IfOk r IsLimited) }
 {
     if has_only_keys(Owner::Document, format, table) {
         read_draft(alloc, format, table)
     } else {
-        Ok(None)
+        Ok(Err(Place::Root(Flaw::Unknown)))
     }
 }

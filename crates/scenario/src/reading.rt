@@ -1,5 +1,5 @@
 //! Reads a scenario.
-ghost use Rattle.std.specs.Prelude.{◌≡◌, ◌≤◌, length, map, string_bytes, option_map, IfOk, IfErr, Ok, Some};
+ghost use Rattle.std.specs.Prelude.{◌≡◌, ◌≤◌, length, map, string_bytes, option_map, IfOk, IfErr, Ok, Some, None};
 ghost use Rattle.toml.specs.View.{table_view};
 ghost use Rattle.scenario.specs.Steps.{plain_timed};
 ghost use Rattle.scenario.specs.Told.{steps_of};
@@ -9,12 +9,14 @@ ghost use Rattle.scenario_pools.specs.Writing.{versions_of};
 ghost use Rattle.scenario.specs.declared.playing.Played.{Played};
 ghost use Rattle.scenario.specs.declared.playing.Played.TheVariants.{OnThreads};
 ghost use Rattle.scenario.specs.Meaning.{pools_of, IsDocument, IsRefused, IsDraftRefused, IsLimited, IsSupported, AreVersionsRefused, AreStepsRefused, if_written, Means, plan_of, plan_of_draft, plan_view, plain_draft, pool_refused};
+ghost use Rattle.scenario.specs.Places.{IsAt};
 
 use crate::building::catalogue_of;
 use crate::draft::{Draft, draft_in};
 use crate::fault::ScenarioFault;
 use crate::plan::Scenario;
 use crate::playing::Played;
+use crate::refused::Refused;
 use crate::threads::ThreadScenario;
 use crate::told::{StepRules, add_told, told_of};
 use backend_names::TableSize;
@@ -33,6 +35,7 @@ const LONGEST: usize = 1_048_576;
 fn document(alloc: Global, text: &[u8]) -> Result<Table, ScenarioFault>
     ensures ok { IfOk result (λ t. IsDocument text.now (table_view t)) }
     ensures refused { IfErr result (λ fault. (played : Played) → IsRefused played text.now fault) }
+    ensures place { IfErr result (λ fault. IsAt text.now fault None) }
 {
     if text.len() > LONGEST {
         return Err(ScenarioFault::TooLong);
@@ -160,7 +163,7 @@ pub fn pools_in(
     let Some(format) = format_of(table) else {
         return Ok(None);
     };
-    let Some(draft) = draft_in(alloc, format, table)? else {
+    let Ok(draft) = draft_in(alloc, format, table)? else {
         return Ok(None);
     };
     let Some(versions) = if_written(alloc, draft.versions.as_slice())? else {
@@ -169,21 +172,52 @@ pub fn pools_in(
     Ok(Some((draft.choices.size, versions)))
 }
 
-/// Reads a scenario that is played so: a TOML 1.1 document in UTF-8 of format 1, 2 or 3.
+/// Reads a scenario that is played so. Where it is refused because of a key, it says at which place.
 #[tactic(auto, unfolding(crate::specs::Meaning::plan_of))]
+pub fn read_placed(alloc: Global, played: Played, text: &[u8]) -> Result<Scenario, Refused>
+    ensures means { IfOk result (Means played text.now) }
+    ensures supported { IfOk result (IsSupported played) }
+    ensures refused { IfErr result (λ r. IsRefused played text.now r.fault) }
+    ensures place { IfErr result (λ r. IsAt text.now r.fault r.place) }
+{
+    let table = match document(alloc, text) {
+        Ok(table) => table,
+        Err(fault) => return Err(Refused { fault, place: None }),
+    };
+    let Some(format) = format_of(&table) else {
+        let fault = ScenarioFault::BadFormat;
+        return Err(Refused { fault, place: None });
+    };
+    let draft = match draft_in(alloc, format, &table) {
+        Ok(Ok(draft)) => draft,
+        Ok(Err(place)) => {
+            let fault = ScenarioFault::BadKey;
+            return Err(Refused {
+                fault,
+                place: Some(place),
+            });
+        }
+        Err(_) => {
+            let fault = ScenarioFault::Memory;
+            return Err(Refused { fault, place: None });
+        }
+    };
+    match scenario_of(alloc, format, played, draft) {
+        Ok(scenario) => Ok(scenario),
+        Err(fault) => Err(Refused { fault, place: None }),
+    }
+}
+
+/// Reads a scenario that is played so: a TOML 1.1 document in UTF-8 of format 1, 2 or 3.
 pub fn read(alloc: Global, played: Played, text: &[u8]) -> Result<Scenario, ScenarioFault>
     ensures means { IfOk result (Means played text.now) }
     ensures supported { IfOk result (IsSupported played) }
     ensures refused { IfErr result (IsRefused played text.now) }
 {
-    let table = document(alloc, text)?;
-    let Some(format) = format_of(&table) else {
-        return Err(ScenarioFault::BadFormat);
-    };
-    let Some(draft) = draft_in(alloc, format, &table)? else {
-        return Err(ScenarioFault::BadKey);
-    };
-    scenario_of(alloc, format, played, draft)
+    match read_placed(alloc, played, text) {
+        Ok(scenario) => Ok(scenario),
+        Err(refused) => Err(refused.fault),
+    }
 }
 
 /// Reads a scenario that is played on threads. A step that a cluster on threads doesn't know is refused as BadStep, as a text is

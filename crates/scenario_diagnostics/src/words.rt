@@ -1,10 +1,11 @@
 //! The words.
 use crate::spots::{below, line_of, spot_of};
 use backend_names::Name;
+use maglev_texts::address;
 use pool_versions::PoolFault;
-use scenario::{ScenarioFault, pools_in};
+use scenario::{Flaw, Place, Played, ScenarioFault, pools_in, read_placed};
 use scenario_keys::{Form, Format, Key, Owner, format_of, value_at};
-use scenario_places::{Flaw, Place, is_address, key_place, member_place, pool_place};
+use scenario_places::{member_place, pool_place};
 use shown_text::shown;
 use std::alloc::Global;
 use toml::{Table, Value};
@@ -95,8 +96,10 @@ fn path_of(alloc: Global, table: String, flaw: Flaw) -> Option<String> {
     }
 }
 
+// However a scenario is played, a key refuses it at the same place.
 fn bad_key(alloc: Global, text: &str, document: &Table) -> Option<String> {
-    let place = key_place(alloc, format_of(document)?, document).ok()??;
+    let refused = read_placed(alloc, Played::InTurn, text.as_bytes()).err()?;
+    let place = refused.place?;
     let (table, flaw) = table_of(alloc, place)?;
     let path = path_of(alloc, table, flaw)?;
     let path = path.as_str();
@@ -117,6 +120,14 @@ fn bad_key(alloc: Global, text: &str, document: &Table) -> Option<String> {
 /// What is expected of a key of changes that stands where none may.
 const CHANGES_NEED: &str = "no such key without a base or beside members";
 
+// Whether a value is the text of an address.
+fn is_address(alloc: Global, value: &Value) -> Option<bool> {
+    match value.as_str() {
+        Some(text) => Some(address(alloc, text.as_bytes()).ok()?.is_some()),
+        None => Some(false),
+    }
+}
+
 // What is said of a table of servers: of its first entry that is none, if there is one.
 fn bad_servers(alloc: Global, text: &str, path: &str, document: &Table) -> Option<String> {
     let Some(Value::Table(servers)) = document.get("servers") else {
@@ -132,7 +143,7 @@ fn bad_servers(alloc: Global, text: &str, path: &str, document: &Table) -> Optio
             let path = below(alloc, path, name.as_str())?;
             return at(alloc, text, path.as_str(), NAMES);
         }
-        if !is_address(alloc, value).ok()? {
+        if !is_address(alloc, value)? {
             let path = below(alloc, path, name.as_str())?;
             return at(alloc, text, path.as_str(), "an address, as \"10.8.0.1\"");
         }

@@ -1,3 +1,3 @@
-mod Laws
+mod Items
 mod MemberLaws
 pub mod PoolLaws

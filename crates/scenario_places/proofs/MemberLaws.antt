@@ -13,8 +13,8 @@ use Rattle.scenario_pools.proofs.Refused.{bad_words_are_bad_members}
 use Rattle.scenario.specs.Setup.{choices_of, limits_of}
 use Rattle.scenario.specs.Meaning.{nodes_of, steps_in, draft_of}
 use Rattle.scenario_places.specs.MemberPlaces.{word_place, member_place_in, OneWordOrAllMembers}
-use Rattle.scenario_places.specs.declared.place.Place.{Place}
-use Rattle.scenario_places.proofs.Laws.{some_map}
+use Rattle.version_drafts.specs.declared.place.Place.{Place}
+use Rattle.scenario_places.proofs.Items.{some_map}
 
 -- what stands at a table's key, where the table has only its keys
 only_law : {A : Type 0} (b : Bool) (o : Option A) (P : A → Type 0) → IfSome o P → IfSome (cond b o None) P

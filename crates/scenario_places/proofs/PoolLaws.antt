@@ -10,11 +10,11 @@ use Rattle.pool_versions.specs.declared.catalogue.PoolFault.TheVariants as fault
 use Rattle.version_drafts.specs.Plain.{PlainService, PlainVersion}
 use Rattle.scenario.specs.Plain.{same_flows, names_double, is_long, passes_limit, services_refused, version_refused, first_refused}
 use Rattle.scenario_keys.specs.declared.key.Key.TheVariants as key
-use Rattle.scenario_places.specs.declared.place.Flaw.TheVariants as flaw
-use Rattle.scenario_places.specs.declared.place.Place.{Place}
-use Rattle.scenario_places.specs.declared.place.Place.TheVariants as place
+use Rattle.version_drafts.specs.declared.place.Flaw.TheVariants as flaw
+use Rattle.version_drafts.specs.declared.place.Place.{Place}
+use Rattle.version_drafts.specs.declared.place.Place.TheVariants as place
 use Rattle.scenario_places.specs.PoolPlaces.{double_from, first_double, key_of, same_key, double_service, double_member, double_name_from, most_members, long_from, over_place, services_place, version_place, pool_from, OnePlaceOrACatalogue}
-use Rattle.scenario_places.proofs.Laws.{some_map}
+use Rattle.scenario_places.proofs.Items.{some_map}
 
 -- a set has the keys of a list, by their equality
 abbrev pub HasThose : {K : Type 0} → (K → K → Bool) → (K → Bool) → List K → Type 0

@@ -1,5 +1,5 @@
 -- Where a word of a document's versions is no member or change, or names what isn't there.
-use Rattle.std.specs.Prelude.{◌≡◌, ℕ, ◌+◌, ◌-◌, ◌==◌, nat_lt, if◌then◌else◌, List, [], ◌∷◌, Option, Some, None, is_some, option_and_then, option_map, IfSome}
+use Rattle.std.specs.Prelude.{◌≡◌, ℕ, suc, ◌+◌, ◌-◌, ◌==◌, nat_lt, if◌then◌else◌, List, [], ◌∷◌, Option, Some, None, is_some, option_and_then, option_map, IfSome}
 use Rattle.toml.specs.Data.{Data, Items, no_items, item, Members, as_table}
 use Rattle.scenario_keys.specs.Lookups.{items_at}
 use Rattle.scenario_keys.specs.Keys.{key_name}
@@ -13,11 +13,10 @@ use Rattle.scenario_pools.specs.BadWords.{bad_word_of, is_bad_member}
 use Rattle.scenario_pools.specs.declared.bad_words.BadWord.{BadWord}
 use Rattle.scenario_pools.specs.declared.bad_words.BadWord.TheVariants as bad
 use Rattle.scenario.specs.Meaning.{draft_in}
-use Rattle.scenario_places.specs.Places.{count}
-use Rattle.scenario_places.specs.declared.place.Flaw.{Flaw}
-use Rattle.scenario_places.specs.declared.place.Flaw.TheVariants as flaw
-use Rattle.scenario_places.specs.declared.place.Place.{Place}
-use Rattle.scenario_places.specs.declared.place.Place.TheVariants as place
+use Rattle.version_drafts.specs.declared.place.Flaw.{Flaw}
+use Rattle.version_drafts.specs.declared.place.Flaw.TheVariants as flaw
+use Rattle.version_drafts.specs.declared.place.Place.{Place}
+use Rattle.version_drafts.specs.declared.place.Place.TheVariants as place
 
 -- the item of a number, the first being n
 abbrev pub item_number : ℕ → ℕ → Items → Option Data
@@ -27,6 +26,11 @@ item_number n wanted (item d ds) = if n == wanted then Some d else item_number (
 -- the table of a number in the array at a key
 abbrev pub table_number : Key → ℕ → Members → Option Members
 table_number k n ms = option_and_then as_table (option_and_then (item_number 0 n) (items_at (key_name k) ms))
+
+-- how many items there are
+abbrev pub count : Items → ℕ
+count no_items = 0
+count (item d ds) = suc (count ds)
 
 abbrev pub count_if : Option Items → ℕ
 count_if None = 0

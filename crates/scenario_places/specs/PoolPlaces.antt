@@ -8,9 +8,9 @@ use Rattle.version_drafts.specs.Plain.{PlainService, PlainVersion}
 use Rattle.scenario.specs.Plain.{is_long, first_refused}
 use Rattle.scenario_places.specs.declared.doubles.ServiceKey.{ServiceKey}
 use Rattle.scenario_keys.specs.declared.key.Key.TheVariants as key
-use Rattle.scenario_places.specs.declared.place.Flaw.TheVariants as flaw
-use Rattle.scenario_places.specs.declared.place.Place.{Place}
-use Rattle.scenario_places.specs.declared.place.Place.TheVariants as place
+use Rattle.version_drafts.specs.declared.place.Flaw.TheVariants as flaw
+use Rattle.version_drafts.specs.declared.place.Place.{Place}
+use Rattle.version_drafts.specs.declared.place.Place.TheVariants as place
 
 -- the number of the first element that is the same as an earlier one, by a test, the first being n, after some others
 abbrev pub double_from : {X : Type 0} → (X → X → Bool) → List X → ℕ → List X → Option ℕ

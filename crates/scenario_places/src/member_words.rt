@@ -5,15 +5,13 @@ ghost use Rattle.toml.specs.View.{table_view, view, items_view};
 ghost use Rattle.scenario_keys.specs.Lookups.{items_at};
 ghost use Rattle.scenario_keys.specs.Keys.{key_name};
 ghost use Rattle.scenario_keys.specs.declared.key.Key.TheVariants as key;
-ghost use Rattle.scenario_places.specs.MemberPlaces.{item_number, table_number, count_if, item_among, change_flaw, word_place, member_place_in, OneWordOrAllMembers};
+ghost use Rattle.scenario_places.specs.MemberPlaces.{item_number, table_number, count, count_if, item_among, change_flaw, word_place, member_place_in, OneWordOrAllMembers};
 
-use crate::flaws::count;
-use crate::place::{Flaw, Place};
 use scenario_keys::{Format, Key, items_at};
 use scenario_pools::{BadWord, bad_word};
 use std::alloc::{AllocError, Global};
 use toml::{Table, Value};
-use version_drafts::{CHANGE_KEYS, drafts_in};
+use version_drafts::{CHANGE_KEYS, Flaw, Place, drafts_in};
 
 // The item of a number.
 #[tactic(auto, using(scenario_keys::proofs::Views::items_from))]
@@ -33,6 +31,13 @@ fn table_number<'a>(table: &'a Table, key: Key, wanted: usize) -> Option<&'a Tab
     ensures { option_map (λ t. table_view t.now) result ≡ table_number key wanted (table_view table.entry.now) }
 {
     item_number(items_at(table, key.name())?, wanted)?.as_table()
+}
+
+// How many items there are.
+fn count(values: &[Value]) -> usize
+    ensures { result ≡ count (items_view values.now) }
+{
+    values.len()
 }
 
 // How many items there are at a key.
@@ -111,7 +116,7 @@ pub fn member_place(
 ) -> Result<Option<Place>, AllocError>
     ensures { IfOk result (λ o. o ≡ member_place_in format (table_view table.now)) }
 {
-    let Some(drafts) = drafts_in(alloc, format, table)? else {
+    let Ok(drafts) = drafts_in(alloc, format, table)? else {
         return Ok(None);
     };
     match bad_word(alloc, drafts.as_slice())? {

@@ -6,11 +6,11 @@ ghost use Rattle.scenario.specs.Plain.{is_long};
 ghost use Rattle.scenario_places.specs.PoolPlaces.{double_service, double_name_from, most_members, long_from, over_place, services_place, version_place, pool_place_of, OnePlaceOrACatalogue};
 
 use crate::doubles::{double_name, double_service};
-use crate::place::{Flaw, Place};
 use backend_names::TableSize;
 use pool_versions::{MOST_MEMBERS, MOST_SERVICES, MOST_VERSIONS, Service, Version};
 use scenario_keys::Key;
 use std::alloc::{AllocError, Global};
+use version_drafts::{Flaw, Place};
 
 // The first service of a version that is for the flows of an earlier one.
 fn double_service_place(

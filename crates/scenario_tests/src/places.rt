@@ -1,7 +1,7 @@
 //! The places at which a scenario is refused, and that reading refuses it there.
 
-use scenario::{Played, ScenarioFault, format_of, pools_in};
-use scenario_diagnostics::{Flaw, Key, Place, key_place, member_place, pool_place, words_of};
+use scenario::{Played, Refused, ScenarioFault, format_of, pools_in, read_placed};
+use scenario_diagnostics::{Flaw, Key, Place, member_place, pool_place, words_of};
 use std::alloc::Global;
 use std::process::Abort;
 
@@ -171,12 +171,23 @@ fn finds_keys(rt: &impl Abort, alloc: Global, row: &Row, at: usize) {
     finds_key_in(rt, alloc, text.as_str(), row, at);
 }
 
+// The place is there where the fault is BadKey, however the scenario is played.
 fn finds_key_in(rt: &impl Abort, alloc: Global, text: &str, row: &Row, at: usize) {
-    let table = toml::table_from_str(alloc, text).expect(rt, "a document");
-    let format = format_of(&table).expect(rt, "a format");
-    let place = key_place(alloc, format, &table).expect(rt, "memory");
-    let fault = scenario::read(alloc, Played::InTurn, text.as_bytes()).err();
-    is_at(rt, place, row, fault == Some(ScenarioFault::BadKey), at);
+    for played in [Played::InTurn, Played::OnThreads] {
+        let refused = read_placed(alloc, played, text.as_bytes()).err();
+        let fault = scenario::read(alloc, played, text.as_bytes()).err();
+        assert_eq!(rt; refused.map(fault_of), fault, "row {at}");
+        let place = refused.and_then(place_of);
+        is_at(rt, place, row, fault == Some(ScenarioFault::BadKey), at);
+    }
+}
+
+fn fault_of(refused: Refused) -> ScenarioFault {
+    refused.fault
+}
+
+fn place_of(refused: Refused) -> Option<Place> {
+    refused.place
 }
 
 #[test]

@@ -3,3 +3,4 @@ pub mod Changes
 pub mod Drafts
 pub mod Words
 pub mod Reading
+pub mod Places

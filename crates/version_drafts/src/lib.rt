@@ -5,12 +5,14 @@
 mod change;
 mod changes;
 mod draft;
+mod place;
 mod reading;
 mod services;
 mod words;
 
 pub use change::Change;
-pub use changes::{CHANGE_KEYS, has_change_key};
+pub use changes::CHANGE_KEYS;
 pub use draft::{ServiceDraft, VersionDraft};
-pub use reading::{are_in_order, drafts_in};
-pub use words::{change_in, member_in, served_member, servers_in};
+pub use place::{Flaw, Place};
+pub use reading::drafts_in;
+pub use words::{change_in, member_in, served_member};

@@ -43,7 +43,7 @@ fn servers_of(alloc: Global, table: &Table) -> Result<Option<Vec<Backend>>, Allo
 }
 
 /// The servers of a document, none where it names none. None: a key is no name, or its value no address.
-pub fn servers_in(alloc: Global, table: &Table) -> Result<Option<Vec<Backend>>, AllocError>
+pub(crate) fn servers_in(alloc: Global, table: &Table) -> Result<Option<Vec<Backend>>, AllocError>
     ensures { IfOk result (λ o. option_map (λ v. v.items) o ≡ servers_in (table_view table.now)) }
 {
     let Some(value) = value_at(table, Key::Servers.name()) else {

@@ -1,9 +1,0 @@
-use Rattle.std.proofs.Common.{◌≡◌, drop, is_some}
-use Rattle.std.specs.List.{list_any}
-use Rattle.toml.specs.Data.{get_member}
-use Rattle.toml.specs.View.{table_view}
-use Rattle.scenario_keys.specs.Keys.{key_name}
-use Rattle.version_drafts.proofs.changes.has_one_of.Given as goal
-
-abbrev pub invariant-loop-key : goal.invariant-loop-key
-invariant-loop-key l = list_any (λ k. is_some (get_member (key_name k) (table_view l.table))) (drop l.key-index l.keys) ≡ list_any (λ k. is_some (get_member (key_name k) (table_view l.table))) l.keys
