@@ -3,13 +3,14 @@ use Rattle.std.specs.Prelude.{ℕ, ◌-◌, ◌==◌, nat_lt, Bool, false, List,
 use Rattle.std.specs.List.{list_any, count_by}
 use Rattle.five_tuple.specs.declared.Flow.{Flow}
 use Rattle.connection_table.specs.Touches.{same_flow}
+use Rattle.change_share.specs.declared.counts.ChangeCounts.{ChangeCounts}
 use Rattle.cluster_node.specs.declared.events.LogEntry.{LogEntry}
 use Rattle.run_report.specs.declared.cause.SplitCause.{SplitCause}
 use Rattle.run_report.specs.declared.cause.SplitCause.TheVariants as splits
 use Rattle.run_report.specs.declared.sending.Sending.{Sending}
 use Rattle.run_report.specs.declared.sending.Split.{Split}
 use Rattle.run_report.specs.Causes.{Lookups, cause_of}
-use Rattle.run_report.specs.Splits.{sent_by, last_sent, split_by, splits_of}
+use Rattle.run_report.specs.Splits.{sent_by, last_sent, split_by, splits_of, flows_of}
 use Rattle.connection_changes.specs.declared.causes.Change.{Change}
 use Rattle.connection_changes.specs.declared.causes.ChangeCause.{ChangeCause}
 use Rattle.connection_changes.specs.declared.causes.ChangeCause.TheVariants.{Down, Drained, Node, Restart, Worker, Idle, Evicted}
@@ -33,6 +34,10 @@ changed_with (p ∷ ps) xs = changed_with ps (if list_any (same_flow p.later.flo
 abbrev pub changed_of : List LogEntry → List Flow
 changed_of [] = []
 changed_of (s ∷ past) = changed_with (split_by (λ x. last_sent past x) (sent_by (length past) s.event s.outcome)) (changed_of past)
+
+-- how many connections there were, and how many of them changed their server
+abbrev pub counts_of : List LogEntry → ChangeCounts
+counts_of past = record { connections = length (flows_of past); changed = length (changed_of past) }
 
 -- there is an idle limit, and the clock at the later send is past it
 abbrev pub is_past : Option ℕ → Site → Site → Bool

@@ -4,13 +4,14 @@ ghost use Rattle.cluster_node.specs.declared.events.LogEntry.{LogEntry};
 ghost use Rattle.event_trace.specs.Noting.{said_by};
 ghost use Rattle.run_report.specs.Books.{IsBookOf};
 ghost use Rattle.connection_changes.specs.Sites.{sent_flow};
-ghost use Rattle.connection_changes.specs.Changes.{changed_of, changes_of};
+ghost use Rattle.connection_changes.specs.Changes.{changed_of, changes_of, counts_of};
 
 use crate::causes::Change;
 use crate::changed::ChangedFlows;
 use crate::clocks::Clocks;
 use crate::last_sites::LastSites;
 use crate::sites::Site;
+use change_share::ChangeCounts;
 use cluster_node::{Event, Outcome, Packet};
 use connection_table::TableKey;
 use five_tuple::Flow;
@@ -120,6 +121,16 @@ impl ChangeBook {
         ensures { (past : List LogEntry) → IsChangeBookOf past self.now → result ≡ length (changed_of past) }
     {
         self.changed.len()
+    }
+
+    /// How many connections there were, and how many of them changed their server.
+    pub fn counts(&self) -> ChangeCounts
+        ensures { (past : List LogEntry) → IsChangeBookOf past self.now → result ≡ counts_of past }
+    {
+        ChangeCounts {
+            connections: self.splits.flows() as u64,
+            changed: self.changed() as u64,
+        }
     }
 
     /// The changes, in the order of their later sends.

@@ -18,6 +18,6 @@ mod summary;
 pub use book::ChangeBook;
 pub use causes::{Change, ChangeCause, cause_in};
 pub use laws::{causes_add_up, moves_of_one_worker_are_evictions};
-pub use lines::push_places;
+pub use lines::{ChangeCauseText, TimeText, push_places};
 pub use sites::Site;
-pub use summary::push_summary;
+pub use summary::{causes_of, count_of, push_summary};

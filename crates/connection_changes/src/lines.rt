@@ -17,10 +17,10 @@ use std::alloc::AllocError;
 use std::fmt;
 
 /// A cause, printed as its word.
-#[derive(Clone, Copy)]
-pub(crate) struct CauseText(pub(crate) ChangeCause);
+#[derive(Clone, Copy, Debug)]
+pub struct ChangeCauseText(pub ChangeCause);
 
-impl fmt::Display for CauseText {
+impl fmt::Display for ChangeCauseText {
     ghost use Rattle.std.specs.Prelude.{Some};
     ghost use Rattle.connection_changes.specs.Texts.{cause_text};
 
@@ -58,8 +58,8 @@ impl fmt::Display for SixDigits {
 }
 
 /// Microseconds, printed as seconds with six digits behind the point.
-#[derive(Clone, Copy)]
-struct TimeText(u64);
+#[derive(Clone, Copy, Debug)]
+pub struct TimeText(pub u64);
 
 impl fmt::Display for TimeText {
     ghost use Rattle.std.specs.Prelude.{Some};
@@ -103,7 +103,7 @@ fn push_change(
 {
     let first = SiteText(change.first);
     let later = SiteText(change.later);
-    let cause = CauseText(cause);
+    let cause = ChangeCauseText(cause);
     write!(text, "{split} at {first} {later} {cause}\n")
 }
 

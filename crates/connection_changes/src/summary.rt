@@ -12,7 +12,7 @@ ghost use Rattle.connection_changes.specs.Texts.{causes, cause_line, summary_tex
 
 use crate::book::ChangeBook;
 use crate::causes::{Change, ChangeCause, cause_with, same_cause};
-use crate::lines::CauseText;
+use crate::lines::ChangeCauseText;
 use pool_versions::Catalogue;
 use run_report::does_anybody_drain;
 use std::alloc::{AllocError, Global};
@@ -27,8 +27,8 @@ const CAUSES: [ChangeCause; 7] = [
     ChangeCause::Evicted,
 ];
 
-// Why each connection changed its server.
-fn causes_of(
+/// Why each connection changed its server.
+pub fn causes_of(
     alloc: Global,
     catalogue: &Catalogue,
     idle: Option<u64>,
@@ -46,7 +46,8 @@ fn causes_of(
     Ok(causes)
 }
 
-fn count_of(causes: &[ChangeCause], cause: ChangeCause) -> usize
+/// How many of some causes are this one.
+pub fn count_of(causes: &[ChangeCause], cause: ChangeCause) -> usize
     ensures { result ≡ count_by (λ c. same_cause cause c) causes.now }
 {
     causes.iter().filter(|one| same_cause(cause, **one)).count()
@@ -55,7 +56,7 @@ fn count_of(causes: &[ChangeCause], cause: ChangeCause) -> usize
 fn push_cause(text: &mut String, cause: ChangeCause, count: usize) -> Result<(), AllocError>
     ensures { OnOk result (string_bytes text.new ≡ string_bytes text.old ++ cause_line cause count) }
 {
-    let cause = CauseText(cause);
+    let cause = ChangeCauseText(cause);
     write!(text, "changes {cause} {count}\n")
 }
 
