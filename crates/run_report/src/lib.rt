@@ -22,8 +22,10 @@ pub use book::SplitBook;
 pub use cause::{SplitCause, cause_of, cause_where, does_anybody_drain};
 pub use laws::{splits_are_all_pairs, splits_are_explained, splits_follow_picks};
 pub use lines::push_line;
-pub use names::CauseText;
-pub use reports::report_text;
+pub use names::{CauseText, ReasonText};
+pub use reports::{CAUSES, report_text};
 pub use sending::{Sending, Split, sent_by};
-pub use split_lines::{SplitText, push_split_counts, push_splits, slot_of};
+pub use split_lines::{
+    Gone, SplitCauseText, SplitText, gone_of, push_split_counts, push_splits, slot_of,
+};
 pub use verdicts::{explained_text, left_drained, verdict_text};

@@ -20,6 +20,21 @@ impl fmt::Display for CauseText {
     }
 }
 
+/// A reason of a refusal, printed by its name.
+#[derive(Clone, Copy, Debug)]
+pub struct ReasonText(pub Reason);
+
+impl fmt::Display for ReasonText {
+    ghost use Rattle.std.specs.Prelude.{Some};
+    ghost use Rattle.run_report.specs.Names.{reason_name};
+
+    ghost output = { λ r. Some (reason_name r.0) };
+
+    fn fmt<W: fmt::Write>(&self, f: &mut fmt::Formatter<W>) -> fmt::Result {
+        f.write_str(reason_word(self.0))
+    }
+}
+
 // The name of a cause, of up to 13 letters.
 pub(crate) fn cause_word(cause: Cause) -> &'static str
     ensures name { result.now ≡ cause_name cause }

@@ -9,7 +9,7 @@ use event_trace::Tally;
 use std::alloc::{AllocError, Global};
 
 /// The causes in the order in which `Totals` counts them.
-const CAUSES: [Cause; 13] = [
+pub const CAUSES: [Cause; 13] = [
     Cause::NotIpv4,
     Cause::Truncated,
     Cause::BadHeader,

@@ -20,10 +20,11 @@ use pool_versions::Catalogue;
 use std::alloc::AllocError;
 use std::fmt;
 
-#[derive(Clone, Copy)]
-struct CauseText(SplitCause);
+/// Why a flow was split, printed as a word.
+#[derive(Clone, Copy, Debug)]
+pub struct SplitCauseText(pub SplitCause);
 
-impl fmt::Display for CauseText {
+impl fmt::Display for SplitCauseText {
     ghost use Rattle.std.specs.Prelude.{Some};
     ghost use Rattle.run_report.specs.Texts.{cause_text};
 
@@ -91,7 +92,7 @@ impl fmt::Display for SplitText {
         let later = ChoiceText(split.later.origin, split.later.backend);
         let events = EventsText(split.later.flow, split.first.number, split.later.number);
         let choices = ChoicesText(self.1, first, later);
-        let cause = CauseText(self.2);
+        let cause = SplitCauseText(self.2);
         write!(f, "split {events} {choices} {cause}")
     }
 }
@@ -117,10 +118,10 @@ fn count_drained(cause: SplitCause) -> usize
 }
 
 /// How many splits have a first backend that is down, and how many one that left after it had drained.
-#[derive(Clone, Copy)]
-struct Gone {
-    down: usize,
-    drained: usize,
+#[derive(Clone, Copy, Debug, PartialEq, Eq)]
+pub struct Gone {
+    pub down: usize,
+    pub drained: usize,
 }
 
 /// The slot of a flow in tables of the catalogue's size.
@@ -197,8 +198,8 @@ fn push_lines<H: FlowHash>(
     Ok(Gone { down, drained })
 }
 
-// How many splits have the cause `down`, and how many `drained`.
-fn gone_of(catalogue: &Catalogue, drains: bool, splits: &[Split]) -> Gone
+/// How many splits have the cause `down`, and how many `drained`, where it is known whether a member of a version drains.
+pub fn gone_of(catalogue: &Catalogue, drains: bool, splits: &[Split]) -> Gone
     requires { drains ≡ does_anybody_drain catalogue.now.versions }
     ensures down { (lookups : Lookups) → lookups.ups ≡ (λ v x. candidates_of catalogue.now v x) → lookups.versions ≡ catalogue.now.versions → result.down ≡ down_count lookups splits.now }
     ensures drained { (lookups : Lookups) → lookups.ups ≡ (λ v x. candidates_of catalogue.now v x) → lookups.versions ≡ catalogue.now.versions → result.drained ≡ drained_count lookups splits.now }

@@ -1,0 +1,66 @@
+-- What is printed of a run, in each form.
+use Rattle.std.specs.Prelude.{ℕ, Bool, true, false, List, [], ◌++◌, codes, Option}
+use Rattle.cluster_node.specs.declared.events.LogEntry.{LogEntry}
+use Rattle.cluster_core.specs.declared.counts.Totals.{Totals}
+use Rattle.cluster_core.specs.declared.explaining.Verdict.{Verdict}
+use Rattle.event_trace.specs.declared.play.Tally.{Tally}
+use Rattle.run_report.specs.Causes.{Lookups}
+use Rattle.run_report.specs.Lines.{line_text, listing}
+use Rattle.run_report.specs.Report.{report_text}
+use Rattle.run_report.specs.Texts.{splits_text}
+use Rattle.run_report.specs.Verdicts.{explained_text}
+use Rattle.connection_changes.specs.Texts.{places_text, summary_text}
+use Rattle.json_lines.specs.declared.forms.Form.{Form}
+use Rattle.json_lines.specs.declared.forms.Form.TheVariants.{Plain, Json}
+use Rattle.json_lines.specs.Heads.{head_json, audit_json}
+use Rattle.json_lines.specs.Events.{event_json, listing_json}
+use Rattle.json_lines.specs.Splits.{splits_json}
+use Rattle.json_lines.specs.Places.{places_json}
+use Rattle.json_lines.specs.Reports.{report_json}
+use Rattle.json_lines.specs.Summaries.{summary_json}
+use Rattle.json_lines.specs.Verdicts.{verdict_json}
+
+-- what a command's output begins with
+abbrev pub head_as : Form → List ℕ → List ℕ
+head_as Plain command = []
+head_as Json command = head_json command
+
+-- an event's line
+abbrev pub event_as : Form → ℕ → LogEntry → List ℕ
+event_as Plain k said = line_text k said
+event_as Json k said = event_json k said
+
+-- a line for each event, the oldest first, numbered from 0
+abbrev pub listing_as : Form → List LogEntry → List ℕ
+listing_as Plain history = listing history
+listing_as Json history = listing_json history
+
+abbrev pub splits_as : Form → Lookups → List LogEntry → List ℕ
+splits_as Plain lookups past = splits_text lookups past
+splits_as Json lookups past = splits_json lookups past
+
+abbrev pub places_as : Form → Lookups → Option ℕ → List LogEntry → List ℕ
+places_as Plain lookups idle past = places_text lookups idle past
+places_as Json lookups idle past = places_json lookups idle past
+
+abbrev pub report_as : Form → Tally → Totals → Bool → List ℕ
+report_as Plain tally totals is_cut = report_text tally totals is_cut
+report_as Json tally totals is_cut = report_json tally totals is_cut
+
+-- whether a history agrees with its replay
+abbrev pub audit_line : Bool → List ℕ
+audit_line true = codes "audit agrees\n"
+audit_line false = codes "audit differs\n"
+
+abbrev pub audit_as : Form → Bool → List ℕ
+audit_as Plain agrees = audit_line agrees
+audit_as Json agrees = audit_json agrees
+
+abbrev pub summary_as : Form → Lookups → Option ℕ → List LogEntry → List ℕ
+summary_as Plain lookups idle past = summary_text lookups idle past
+summary_as Json lookups idle past = summary_json lookups idle past
+
+-- an explanation, with what its output begins with
+abbrev pub verdict_as : Form → Verdict → Bool → List ℕ
+verdict_as Plain verdict drained = explained_text verdict drained
+verdict_as Json verdict drained = head_json (codes "explain") ++ verdict_json verdict drained

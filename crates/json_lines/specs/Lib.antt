@@ -1,0 +1,9 @@
+pub mod Members
+pub mod Heads
+pub mod Events
+pub mod Splits
+pub mod Places
+pub mod Reports
+pub mod Summaries
+pub mod Verdicts
+pub mod Forms

@@ -1,0 +1,173 @@
+//! What is printed of a run, in the form that is asked for.
+ghost use Rattle.std.specs.Prelude.{◌≡◌, ◌++◌, List, IfOk, OnOk, option_copied, string_bytes};
+ghost use Rattle.cluster_node.specs.declared.events.LogEntry.{LogEntry};
+ghost use Rattle.selection.specs.Candidates.{candidates_of};
+ghost use Rattle.event_trace.specs.Noting.{said_by};
+ghost use Rattle.run_report.specs.Books.{IsBookOf};
+ghost use Rattle.run_report.specs.Causes.{Lookups, lookups_of};
+ghost use Rattle.connection_changes.specs.Books.{IsChangeBookOf};
+ghost use Rattle.json_lines.specs.Forms.{head_as, event_as, splits_as, places_as, report_as, audit_as, summary_as, verdict_as};
+
+use crate::events::push_json_event;
+use crate::heads::{push_json_audit, push_json_head};
+use crate::places::push_json_places;
+use crate::reports::push_json_report;
+use crate::splits::push_json_splits;
+use crate::summaries::push_json_summary;
+use crate::verdicts::push_json_verdict;
+use cluster_core::{Totals, Verdict};
+use cluster_node::{Event, Outcome, Packet};
+use connection_changes::{ChangeBook, push_places, push_summary};
+use event_trace::Tally;
+use hash_laws::FlowHash;
+use pool_versions::Catalogue;
+use run_report::{SplitBook, explained_text, push_line, push_splits, report_text};
+use std::alloc::{AllocError, Global};
+
+/// How a command prints what it says.
+#[derive(Clone, Copy, Debug, PartialEq, Eq)]
+pub enum Form {
+    /// In lines for people.
+    Plain,
+    /// As JSON Lines.
+    Json,
+}
+
+impl Form {
+    /// Puts after a text what a command's output begins with: of JSON Lines the first object, with the command's name.
+    pub fn push_head(self, text: &mut String, command: &str) -> Result<(), AllocError>
+        ensures { OnOk result (string_bytes text.new ≡ string_bytes text.old ++ head_as self command.now) }
+    {
+        match self {
+            Form::Plain => Ok(()),
+            Form::Json => push_json_head(text, command),
+        }
+    }
+
+    /// Puts the line of an event after a text, with its number, the packet that it names where it is an arrival, and its
+    /// outcome.
+    pub fn push_event(
+        self,
+        text: &mut String,
+        number: u64,
+        event: &Event,
+        packet: Option<&Packet>,
+        outcome: &Outcome,
+    ) -> Result<(), AllocError>
+        ensures { OnOk result (string_bytes text.new ≡ string_bytes text.old
+            ++ event_as self number (said_by event.now (option_copied packet.entry) outcome.now)) }
+    {
+        match self {
+            Form::Plain => push_line(text, number, event, outcome),
+            Form::Json => push_json_event(text, number, event, packet, outcome),
+        }
+    }
+
+    /// Puts a line for each split of a book after a text, and then their counts.
+    pub fn push_splits<H: FlowHash>(
+        self,
+        text: &mut String,
+        hash: &H,
+        catalogue: &Catalogue,
+        book: &SplitBook,
+    ) -> Result<(), AllocError>
+        ensures { (past : List LogEntry) → IsBookOf past book.now →
+            OnOk result (string_bytes text.new ≡ string_bytes text.old
+            ++ splits_as self (lookups_of (H.plain hash.now) catalogue.now.size catalogue.now) past) }
+    {
+        match self {
+            Form::Plain => push_splits(text, hash, catalogue, book),
+            Form::Json => push_json_splits(text, hash, catalogue, book),
+        }
+    }
+
+    /// The same of the changes, with where their packets were sent. `idle` is the limit in microseconds after which an entry of
+    /// a connection table no longer counts.
+    pub fn push_places<H: FlowHash>(
+        self,
+        text: &mut String,
+        hash: &H,
+        catalogue: &Catalogue,
+        idle: Option<u64>,
+        book: &ChangeBook,
+    ) -> Result<(), AllocError>
+        ensures { (past : List LogEntry) → IsChangeBookOf past book.now →
+            OnOk result (string_bytes text.new ≡ string_bytes text.old
+            ++ places_as self (lookups_of (H.plain hash.now) catalogue.now.size catalogue.now) idle past) }
+    {
+        match self {
+            Form::Plain => push_places(text, hash, catalogue, idle, book),
+            Form::Json => push_json_places(text, hash, catalogue, idle, book),
+        }
+    }
+
+    /// The report of a run, whose capture was cut off in a record or wasn't.
+    pub fn report(
+        self,
+        alloc: Global,
+        tally: Tally,
+        totals: &Totals,
+        is_cut: bool,
+    ) -> Result<String, AllocError>
+        ensures { IfOk result (λ s. string_bytes s ≡ report_as self tally totals.now is_cut) }
+    {
+        match self {
+            Form::Plain => report_text(alloc, tally, totals, is_cut),
+            Form::Json => {
+                let mut text = String::new(alloc);
+                push_json_report(&mut text, tally, totals, is_cut)?;
+                Ok(text)
+            }
+        }
+    }
+
+    /// Puts after a text whether the history agrees with its replay.
+    pub fn push_audit(self, text: &mut String, agrees: bool) -> Result<(), AllocError>
+        ensures { OnOk result (string_bytes text.new ≡ string_bytes text.old ++ audit_as self agrees) }
+    {
+        match self {
+            Form::Plain if agrees => text.push_str("audit agrees\n"),
+            Form::Plain => text.push_str("audit differs\n"),
+            Form::Json => push_json_audit(text, agrees),
+        }
+    }
+
+    /// Puts after a text how many connections there were, how many of them changed their server, how often they did, and why.
+    /// `idle` is as for the places.
+    pub fn push_summary(
+        self,
+        alloc: Global,
+        text: &mut String,
+        catalogue: &Catalogue,
+        idle: Option<u64>,
+        book: &ChangeBook,
+    ) -> Result<(), AllocError>
+        ensures { (past : List LogEntry) (lookups : Lookups) → lookups.ups ≡ (λ v x. candidates_of catalogue.now v x) → lookups.versions ≡ catalogue.now.versions → IsChangeBookOf past book.now →
+            OnOk result (string_bytes text.new ≡ string_bytes text.old ++ summary_as self lookups idle past) }
+    {
+        match self {
+            Form::Plain => push_summary(alloc, text, catalogue, idle, book),
+            Form::Json => push_json_summary(alloc, text, catalogue, idle, book),
+        }
+    }
+
+    /// Why two packets went where they went, with whether the first one's server left after it had drained.
+    pub fn verdict(
+        self,
+        alloc: Global,
+        verdict: &Verdict,
+        drained: bool,
+    ) -> Result<String, AllocError>
+        ensures { IfOk result (λ s. string_bytes s ≡ verdict_as self verdict.now drained) }
+    {
+        match self {
+            Form::Plain => explained_text(alloc, verdict, drained),
+            Form::Json => {
+                let mut text = String::new(alloc);
+                push_json_head(&mut text, "explain")?;
+                push_json_verdict(&mut text, verdict, drained)?;
+                Ok(text)
+            }
+        }
+    }
+}
