@@ -1,5 +1,5 @@
 -- The command that runs a scenario's cluster on threads.
-use Rattle.std.specs.Prelude.{◌≡◌, ◌⊎◌, Bool, false, List, ℕ, None}
+use Rattle.std.specs.Prelude.{◌≡◌, ◌⊎◌, Bool, false, List, ℕ, Option, None}
 use Rattle.std.specs.Io.KnownBytes.{Appends}
 use Rattle.pcap_file.specs.Device.{Tape, Unfailed, PutRefused}
 use Rattle.thread_records.specs.Paced.{NoneRefused}
@@ -9,13 +9,15 @@ use Rattle.scenario.specs.declared.playing.Played.TheVariants.{OnThreads}
 use Rattle.scenario.specs.declared.plan.Scenario.{Scenario}
 use Rattle.scenario.specs.Meaning.{Means}
 use Rattle.driver_commands.specs.Knowing.{first_unsupported_in}
+use Rattle.json_lines.specs.declared.forms.Form.TheVariants.{Plain}
 use Rattle.run_scenario.specs.declared.failure.RunFailure.{RunFailure}
 use Rattle.run_scenario.specs.declared.running.RunOptions.{RunOptions}
 use Rattle.run_scenario.specs.declared.failure.RunFailure.TheVariants.{Simulation, Threads}
-use Rattle.run_scenario.specs.Runs.{Ran, Halted}
+use Rattle.run_scenario.specs.Runs.{Ran, Halted, counts_in}
 use Rattle.run_scenario.specs.Kept.{KeepsPromises}
 use Rattle.scenario_faults.specs.Refusals.{ScenarioFails}
 use Rattle.scenario_commands.specs.Scenarios.{run_fault}
+use Rattle.change_share.specs.declared.counts.ChangeCounts.{ChangeCounts}
 use Rattle.command_faults.specs.declared.fault.CliFault.{CliFault}
 use Rattle.command_faults.specs.declared.fault.CliFault.TheVariants.{Write, Foreign, RingLost, ThreadLost, BookLost, Memory}
 
@@ -33,7 +35,7 @@ failure_fault (Threads fault) = threads_fault fault
 
 -- nothing is asked for but the splits, where they are
 abbrev pub only_splits : Bool → RunOptions
-only_splits splits = record { splits = splits; places = false; summary = false; paced = false }
+only_splits splits = record { splits = splits; places = false; summary = false; paced = false; form = Plain }
 
 -- the cluster of the scenario that the text means ran on threads over the input, the output got what the nodes sent, and the
 -- report the run's, with what is asked for before and behind it; and the run keeps the promises
@@ -46,7 +48,12 @@ pub record Runs (options : RunOptions) (text : List ℕ) (input input' output ou
   pub written : Appends report.bytes report'.bytes answer
   pub unfailed : Unfailed report report'
 
--- the same, and no ring of its run refused a packet
+-- the same, and these are the counts of its connections, where the changes are kept
+pub record CountedRuns (options : RunOptions) (text : List ℕ) (input input' output output' report report' : Tape) (counts : Option ChangeCounts) : Type 0 where
+  pub runs : Runs options text input input' output output' report report'
+  pub counted : counts ≡ counts_in runs.scenario options runs.ran.head.link runs.ran.records runs.ran.history
+
+-- the cluster ran so, and no ring of its run refused a packet
 pub record PacedRuns (options : RunOptions) (text : List ℕ) (input input' output output' report report' : Tape) : Type 0 where
   pub runs : Runs options text input input' output output' report report'
   pub none_refused : NoneRefused runs.ran.nodes

@@ -1,9 +1,11 @@
 //! The command that runs a scenario's cluster on threads.
-ghost use Rattle.std.specs.Prelude.{◌≡◌, true, IfErr, OnOk};
-ghost use Rattle.maglev_cli.specs.Runs.{Runs, PacedRuns, RunCommandFails, failure_fault, only_splits, threads_fault};
+ghost use Rattle.std.specs.Prelude.{◌≡◌, true, IfOk, IfErr, OnOk};
+ghost use Rattle.maglev_cli.specs.Runs.{Runs, CountedRuns, PacedRuns, RunCommandFails, failure_fault, only_splits, threads_fault};
 
+use change_share::ChangeCounts;
 use command_faults::{CliFault, put_text};
 use connection_table::TableKey;
+use json_lines::Form;
 use node_threads::RunFault;
 use pcap_file::{Sink, Source};
 use run_scenario::{RunFailure, RunOptions, run_scenario};
@@ -63,14 +65,16 @@ pub fn run<T: Threads + Wait + Sync, I: Source, O: Sink, R: Sink>(
         places: false,
         summary: false,
         paced: false,
+        form: Form::Plain,
     };
     match run_keyed(rt, alloc, key, scenario, options, input, output, report) {
-        Ok(()) => Ok(()),
+        Ok(_) => Ok(()),
         Err(fault) => Err(fault),
     }
 }
 
-/// The same, with a key for the hash of the connection tables. Where drivers are paced no ring refuses a packet.
+/// The same, with a key for the hash of the connection tables. Where drivers are paced no ring refuses a packet. Where the
+/// changes are kept, it also answers how many connections there were, and how many of them changed their server.
 pub fn run_keyed<T: Threads + Wait + Sync, I: Source, O: Sink, R: Sink>(
     rt: &T,
     alloc: Global,
@@ -80,8 +84,10 @@ pub fn run_keyed<T: Threads + Wait + Sync, I: Source, O: Sink, R: Sink>(
     input: &mut I,
     output: &mut O,
     report: &mut R,
-) -> Result<(), CliFault>
+) -> Result<Option<ChangeCounts>, CliFault>
     ensures ran { OnOk result (Runs options scenario.now (I.tape input.old) (I.tape input.new)
+        (O.tape output.old) (O.tape output.new) (R.tape report.old) (R.tape report.new)) }
+    ensures counted { IfOk result (CountedRuns options scenario.now (I.tape input.old) (I.tape input.new)
         (O.tape output.old) (O.tape output.new) (R.tape report.old) (R.tape report.new)) }
     ensures paced { options.paced ≡ true → OnOk result (PacedRuns options scenario.now
         (I.tape input.old) (I.tape input.new) (O.tape output.old) (O.tape output.new) (R.tape report.old) (R.tape report.new)) }
@@ -93,8 +99,12 @@ pub fn run_keyed<T: Threads + Wait + Sync, I: Source, O: Sink, R: Sink>(
         Ok(scenario) => scenario,
         Err(fault) => return Err(scenario_fault(fault)),
     };
-    match run_scenario(rt, alloc, key, &scenario, options, input, output) {
-        Ok(text) => put_text(report, text.as_str()),
-        Err(stop) => Err(failure_fault(stop)),
+    let answer = match run_scenario(rt, alloc, key, &scenario, options, input, output) {
+        Ok(answer) => answer,
+        Err(stop) => return Err(failure_fault(stop)),
+    };
+    match put_text(report, answer.text.as_str()) {
+        Ok(()) => Ok(answer.counts),
+        Err(fault) => Err(fault),
     }
 }

@@ -7,3 +7,4 @@ pub mod Halts
 pub mod Audited
 pub mod Known
 pub mod OneByOne
+pub mod Stripped

@@ -3,6 +3,8 @@ use Rattle.std.proofs.Common.{◌≡◌, ℕ, zero, suc, ◌+◌, ◌<◌, ◌�
 use Rattle.std.specs.Prelude.{if◌then◌else◌}
 use Rattle.std.proofs.lemmas.List.{reverse-append, take_more}
 use Rattle.std.proofs.lemmas.List.Elements.{All-nil, All-cons, All-head, All-tail, All-take}
+use Rattle.ip_headers.specs.declared.Link.{Link}
+use Rattle.pcap_file.specs.Format.{Record}
 use Rattle.cluster_node.specs.Rules.{Rules}
 use Rattle.cluster_node.specs.declared.packets.Packet.{Packet}
 use Rattle.cluster_node.specs.declared.events.Event.{Event}
@@ -19,8 +21,10 @@ use Rattle.thread_records.specs.Runs.{AreRuns, JoinsRuns}
 use Rattle.thread_records.proofs.Joins.{events_more, outcomes_more, whole, own, runs_told}
 use Rattle.node_threads.specs.declared.cluster.NodesRun.{NodesRun}
 use Rattle.scenario.specs.declared.plan.Scenario.{Scenario}
-use Rattle.run_scenario.specs.Runs.{splits_if, summary_if}
-use Rattle.run_scenario.specs.PrivateHistories.{AreEven, said_by, splits_over, summary_over}
+use Rattle.json_lines.specs.declared.forms.Form.{Form}
+use Rattle.run_scenario.specs.Runs.{packets_in, splits_if, summary_if, counts_in}
+use Rattle.run_scenario.specs.PrivateHistories.{AreEven, said_by, splits_over, summary_over, counts_over}
+use Rattle.run_scenario.specs.declared.running.RunOptions.{RunOptions}
 
 -- there is an outcome for each event
 verdicts_long : (rules : Rules) (past : List LogEntry) (packets : List Packet) (es : List Event) → length (verdicts rules past packets es) ≡ length es
@@ -112,16 +116,21 @@ joins rules packets ring cs run even few runs =
     let told = runs_told rules packets ring 0 cs rs runs in
     record { events = refl; outcomes = refl; told = whole rules packets rs told; own = λ n r h. own rules packets rs n r told h }
 
-pub same_splits : (places splits : Bool) (s : Scenario) (packets : List Packet) (run : NodesRun) (even : AreEven run.nodes.items) (few : length (all_outcomes run.nodes.items) < 2 ^ 63) → splits_over places splits s packets run.nodes.items ≡ splits_if places splits s packets (history_of run even few)
+pub same_splits : (form : Form) (places splits : Bool) (s : Scenario) (packets : List Packet) (run : NodesRun) (even : AreEven run.nodes.items) (few : length (all_outcomes run.nodes.items) < 2 ^ 63) → splits_over form places splits s packets run.nodes.items ≡ splits_if form places splits s packets (history_of run even few)
 unfolding history_of
-same_splits true splits s packets run even few = refl
-same_splits false true s packets run even few = refl
-same_splits false false s packets run even few = refl
+same_splits form true splits s packets run even few = refl
+same_splits form false true s packets run even few = refl
+same_splits form false false s packets run even few = refl
 
-pub same_summary : (b : Bool) (s : Scenario) (packets : List Packet) (run : NodesRun) (even : AreEven run.nodes.items) (few : length (all_outcomes run.nodes.items) < 2 ^ 63) → summary_over b s packets run.nodes.items ≡ summary_if b s packets (history_of run even few)
+pub same_summary : (form : Form) (b : Bool) (s : Scenario) (packets : List Packet) (run : NodesRun) (even : AreEven run.nodes.items) (few : length (all_outcomes run.nodes.items) < 2 ^ 63) → summary_over form b s packets run.nodes.items ≡ summary_if form b s packets (history_of run even few)
 unfolding history_of
-same_summary true s packets run even few = refl
-same_summary false s packets run even few = refl
+same_summary form true s packets run even few = refl
+same_summary form false s packets run even few = refl
+
+pub same_counts : (options : RunOptions) (s : Scenario) (link : Link) (records : List Record) (run : NodesRun) (even : AreEven run.nodes.items) (few : length (all_outcomes run.nodes.items) < 2 ^ 63)
+    → counts_over options (packets_in s link records) run.nodes.items ≡ counts_in s options link records (history_of run even few)
+unfolding history_of
+same_counts options s link records run even few = refl
 
 pub same_outcomes : (run : NodesRun) (even : AreEven run.nodes.items) (few : length (all_outcomes run.nodes.items) < 2 ^ 63) → all_outcomes run.nodes.items ≡ (history_of run even few).outcomes.items
 unfolding history_of

@@ -24,7 +24,8 @@ use Rattle.thread_records.specs.Runs.{JoinsRuns}
 use Rattle.scenario.specs.declared.plan.Scenario.{Scenario}
 use Rattle.scenario_keys.specs.declared.words.SchemeKind.{SchemeKind}
 use Rattle.scenario_keys.specs.declared.words.SchemeKind.TheVariants.{Maglev}
-use Rattle.simulate_scenario.specs.Described.{pick_by, rules_in}
+use Rattle.named_scheme.specs.Picking.{pick_by}
+use Rattle.simulate_scenario.specs.Described.{rules_in}
 use Rattle.run_scenario.specs.Runs.{packets_in}
 use Rattle.run_scenario.specs.Kept.{KeepsPromises}
 

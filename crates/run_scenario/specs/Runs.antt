@@ -1,5 +1,5 @@
 -- The run of a scenario's cluster on threads over a capture that was read whole.
-use Rattle.std.specs.Prelude.{◌≡◌, ◌⊎◌, ℕ, Bool, true, false, List, [], ◌∷◌, ◌++◌, length, map, reverse, codes, Some, None}
+use Rattle.std.specs.Prelude.{◌≡◌, ◌⊎◌, ℕ, Bool, true, false, List, [], ◌∷◌, ◌++◌, length, map, reverse, codes, Option, Some, None}
 use Rattle.std.specs.Io.KnownBytes.{Appends}
 use Rattle.ip_headers.specs.declared.Link.{Link}
 use Rattle.pcap_file.specs.declared.format.Head.{Head}
@@ -12,8 +12,8 @@ use Rattle.cluster_node.specs.declared.events.LogEntry.{LogEntry}
 use Rattle.cluster_node.specs.declared.outcomes.Outcome.{Outcome}
 use Rattle.cluster_core.specs.Runs.{packet_of}
 use Rattle.run_report.specs.Splits.{said_of}
-use Rattle.run_report.specs.Texts.{splits_text}
-use Rattle.connection_changes.specs.Texts.{places_text, summary_text}
+use Rattle.json_lines.specs.declared.forms.Form.{Form}
+use Rattle.json_lines.specs.Forms.{head_as, splits_as, places_as, report_as, audit_as, summary_as}
 use Rattle.cluster_core.specs.declared.counts.Totals.{Totals}
 use Rattle.event_trace.specs.declared.play.Tally.{Tally}
 use Rattle.event_trace.specs.Tally.{tally_of}
@@ -27,8 +27,9 @@ use Rattle.thread_records.specs.declared.nodes.History.{History}
 use Rattle.thread_records.specs.Runs.{AreRuns, JoinsRuns}
 use Rattle.scenario.specs.declared.plan.Scenario.{Scenario}
 use Rattle.simulate_scenario.specs.Described.{rules_in, choice_in, plan_in, lookups_in}
-use Rattle.simulate_scenario.specs.Answers.{totals_in, is_cut}
-use Rattle.run_report.specs.Report.{report_text}
+use Rattle.simulate_scenario.specs.Answers.{totals_in, is_cut, counts_if}
+use Rattle.simulate_scenario.specs.Asked.{keeps_changes}
+use Rattle.change_share.specs.declared.counts.ChangeCounts.{ChangeCounts}
 use Rattle.simulation.specs.declared.fault.SimulationFault.{SimulationFault}
 use Rattle.simulation.specs.declared.fault.SimulationFault.TheVariants.{Memory}
 use Rattle.simulation.specs.Sent.{time_of, packets_of, capture_text}
@@ -58,11 +59,6 @@ pub record AreOfRun (s : Scenario) (link : Link) (records : List Record) (nodes 
   pub runs : AreRuns (rules_in s) (packets_in s link records) s.ring 0 (commands_in s link records) nodes
   pub joins : JoinsRuns (rules_in s) (packets_in s link records) nodes history
 
--- whether a replay of the history's events gives the outcomes that it has
-abbrev pub audit_line : Bool → List ℕ
-audit_line true = codes "audit agrees\n"
-audit_line false = codes "audit differs\n"
-
 -- the record of a history, which has the newest event in front; the packets of arrivals are left out
 abbrev pub record_of : History → List LogEntry
 record_of h = reverse (said_of h.events.items h.outcomes.items)
@@ -78,24 +74,34 @@ abbrev pub record_with : List Packet → History → List LogEntry
 record_with packets h = reverse (said_with packets h.events.items h.outcomes.items)
 
 -- what is reported of the splits of a history, where it is asked for: with places, or without
-abbrev pub splits_if : Bool → Bool → Scenario → List Packet → History → List ℕ
-splits_if true splits s packets h = places_text (lookups_in s) s.idle (record_with packets h)
-splits_if false true s packets h = splits_text (lookups_in s) (record_of h)
-splits_if false false s packets h = []
+abbrev pub splits_if : Form → Bool → Bool → Scenario → List Packet → History → List ℕ
+splits_if form true splits s packets h = places_as form (lookups_in s) s.idle (record_with packets h)
+splits_if form false true s packets h = splits_as form (lookups_in s) (record_of h)
+splits_if form false false s packets h = []
 
 -- how many connections changed their server, and why, where it is asked for
-abbrev pub summary_if : Bool → Scenario → List Packet → History → List ℕ
-summary_if true s packets h = summary_text (lookups_in s) s.idle (record_with packets h)
-summary_if false s packets h = []
+abbrev pub summary_if : Form → Bool → Scenario → List Packet → History → List ℕ
+summary_if form true s packets h = summary_as form (lookups_in s) s.idle (record_with packets h)
+summary_if form false s packets h = []
 
-abbrev pub audited_report : Tally → Totals → Bool → Bool → List ℕ
-audited_report tally totals cut agrees = report_text tally totals cut ++ audit_line agrees
+-- how many connections there were, and how many of them changed their server, where the changes are kept
+abbrev pub counts_in : Scenario → RunOptions → Link → List Record → History → Option ChangeCounts
+counts_in s options link records h = counts_if (keeps_changes options.places options.summary) (record_with (packets_in s link records) h)
+
+-- the report, and whether a replay of the history's events gives the outcomes that it has
+abbrev pub audited_report : Form → Tally → Totals → Bool → Bool → List ℕ
+audited_report form tally totals cut agrees = report_as form tally totals cut ++ audit_as form agrees
+
+-- what it begins with
+abbrev pub begun : Form → List ℕ
+begun form = head_as form (codes "run")
 
 -- the report of a run by its history, with what is asked for before it and behind it
 abbrev pub report_in : Scenario → RunOptions → Link → List Record → InputEnd → History → List ℕ
 report_in s options link records ending h =
-    (splits_if options.places options.splits s (packets_in s link records) h ++ audited_report (tally_in s link records) (totals_in h.outcomes.items) (is_cut ending) true)
-    ++ summary_if options.summary s (packets_in s link records) h
+    ((begun options.form ++ splits_if options.form options.places options.splits s (packets_in s link records) h)
+    ++ audited_report options.form (tally_in s link records) (totals_in h.outcomes.items) (is_cut ending) true)
+    ++ summary_if options.form options.summary s (packets_in s link records) h
 
 -- A cluster on threads knows each step, and it ran over the whole input. The output got the capture of what the nodes sent,
 -- node by node and life by life. The text is the report of that run, with what is asked for before it and behind it.

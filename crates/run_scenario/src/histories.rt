@@ -1,12 +1,13 @@
 //! What is told of the nodes' histories, one after another. No list has them all.
-ghost use Rattle.std.specs.Prelude.{◌≡◌, ◌+◌, ◌<◌, ◌≤◌, ◌^◌, ◌++◌, false, List, length, reverse, IfOk, IfSome, OnOk, string_bytes};
+ghost use Rattle.std.specs.Prelude.{◌≡◌, ◌+◌, ◌<◌, ◌≤◌, ◌^◌, ◌++◌, true, false, List, length, reverse, IfOk, IfSome, OnOk, string_bytes};
 ghost use Rattle.cluster_node.specs.declared.events.LogEntry.{LogEntry};
 ghost use Rattle.cluster_node.specs.declared.packets.Packet.{Packet};
 ghost use Rattle.cluster_core.specs.OutcomeCounts.{is_refused, how_many};
 ghost use Rattle.cluster_core.specs.Totals.{came_all, went_all};
 ghost use Rattle.run_report.specs.Books.{IsBookOf};
 ghost use Rattle.connection_changes.specs.Books.{IsChangeBookOf};
-ghost use Rattle.connection_changes.specs.Texts.{places_text};
+ghost use Rattle.json_lines.specs.Forms.{splits_as, places_as};
+ghost use Rattle.simulate_scenario.specs.Asked.{keeps_changes};
 ghost use Rattle.thread_records.specs.declared.nodes.NodeRecord.{NodeRecord};
 ghost use Rattle.thread_records.specs.Joins.{all_outcomes};
 ghost use Rattle.thread_roles.specs.Counts.{AreTotals};
@@ -16,12 +17,14 @@ ghost use Rattle.run_scenario.specs.Runs.{said_with};
 ghost use Rattle.run_scenario.specs.PrivateHistories.{AreEven, said_by, said_whole, splits_over, summary_over};
 
 use crate::running::RunOptions;
+use change_share::ChangeCounts;
 use cluster_core::{Totals, packet_at};
 use cluster_node::{Event, Outcome, Packet};
-use connection_changes::{ChangeBook, push_places, push_summary};
+use connection_changes::ChangeBook;
 use connection_table::TableKey;
+use json_lines::Form;
 use node_threads::NodesRun;
-use run_report::{SplitBook, push_splits};
+use run_report::SplitBook;
 use scenario::Scenario;
 use std::alloc::{AllocError, Global};
 use thread_records::NodeRecord;
@@ -140,33 +143,50 @@ fn changes_of(
     Ok(book)
 }
 
-// What is reported of the splits without their places, where it is asked for.
+// The lines of the splits, and their counts.
 fn splits_told(
+    alloc: Global,
+    form: Form,
+    scenario: &Scenario,
+    book: &SplitBook,
+) -> Result<String, AllocError>
+    ensures { (past : List LogEntry) → IsBookOf past book.now → IfOk result (λ s. string_bytes s ≡ splits_as form (lookups_in scenario.now) past) }
+{
+    let mut text = String::new(alloc);
+    form.push_splits(&mut text, &scenario.hash, &scenario.catalogue, book)?;
+    Ok(text)
+}
+
+// What is reported of the splits by themselves, where it is asked for.
+fn splits_alone(
     alloc: Global,
     key: TableKey,
     scenario: &Scenario,
     nodes: &[NodeRecord],
-    splits: bool,
+    options: RunOptions,
 ) -> Result<String, AllocError>
     requires even { AreEven nodes.now }
-    ensures { (packets : List Packet) → IfOk result (λ s. string_bytes s ≡ splits_over false splits scenario.now packets nodes.now) }
+    ensures { (packets : List Packet) → IfOk result (λ s. string_bytes s ≡ splits_over options.form false options.splits scenario.now packets nodes.now) }
 {
-    let mut text = String::new(alloc);
-    if !splits {
-        return Ok(text);
+    if !options.splits {
+        return Ok(String::new(alloc));
     }
     let book = book_of(alloc, key, nodes)?;
-    push_splits(&mut text, &scenario.hash, &scenario.catalogue, &book)?;
-    Ok(text)
+    splits_told(alloc, options.form, scenario, &book)
 }
 
 // The lines of the changes, and their counts.
-fn places_told(alloc: Global, scenario: &Scenario, book: &ChangeBook) -> Result<String, AllocError>
-    ensures { (past : List LogEntry) → IsChangeBookOf past book.now → IfOk result (λ s. string_bytes s ≡ places_text (lookups_in scenario.now) scenario.now.idle past) }
+fn places_told(
+    alloc: Global,
+    form: Form,
+    scenario: &Scenario,
+    book: &ChangeBook,
+) -> Result<String, AllocError>
+    ensures { (past : List LogEntry) → IsChangeBookOf past book.now → IfOk result (λ s. string_bytes s ≡ places_as form (lookups_in scenario.now) scenario.now.idle past) }
 {
     let mut text = String::new(alloc);
     let idle = scenario.idle;
-    push_places(&mut text, &scenario.hash, &scenario.catalogue, idle, book)?;
+    form.push_places(&mut text, &scenario.hash, &scenario.catalogue, idle, book)?;
     Ok(text)
 }
 
@@ -175,25 +195,28 @@ fn summary_told(
     alloc: Global,
     scenario: &Scenario,
     book: &ChangeBook,
-    summary: bool,
+    options: RunOptions,
 ) -> Result<String, AllocError>
     ensures { (packets : List Packet) (nodes : List NodeRecord) → IsChangeBookOf (said_whole packets nodes) book.now →
-        IfOk result (λ s. string_bytes s ≡ summary_over summary scenario.now packets nodes) }
+        IfOk result (λ s. string_bytes s ≡ summary_over options.form options.summary scenario.now packets nodes) }
 {
     let mut text = String::new(alloc);
-    if !summary {
+    if !options.summary {
         return Ok(text);
     }
     let idle = scenario.idle;
-    push_summary(alloc, &mut text, &scenario.catalogue, idle, book)?;
+    options
+        .form
+        .push_summary(alloc, &mut text, &scenario.catalogue, idle, book)?;
     Ok(text)
 }
 
-/// What is told of the connections of a run beside its report.
+/// What is told of the connections of a run beside its report. The counts are there where the changes are kept.
 #[derive(Drop)]
 pub(crate) struct Told {
     pub(crate) before: String,
     pub(crate) behind: String,
+    pub(crate) counts: Option<ChangeCounts>,
 }
 
 /// A run's history, and how it is told. The books of splits and changes hash by the key.
@@ -208,33 +231,46 @@ pub(crate) struct Telling<'a> {
 impl Telling<'_> {
     ghost use Rattle.run_scenario.specs.PrivateHistories.{TellsOf};
 
-    // The splits are told, with places or without.
-    fn before(
-        &self,
-        alloc: Global,
-        nodes: &[NodeRecord],
-        book: &ChangeBook,
-    ) -> Result<String, AllocError>
-        requires even { AreEven nodes.now }
-        requires book { IsChangeBookOf (said_whole self.now.packets.now nodes.now) book.now }
-        ensures { IfOk result (λ s. string_bytes s ≡ splits_over self.now.options.places self.now.options.splits self.now.scenario.now self.now.packets.now nodes.now) }
+    // The splits are told, with places or without. The book of changes has both.
+    fn before(&self, alloc: Global, book: &ChangeBook) -> Result<String, AllocError>
+        ensures { (nodes : List NodeRecord) → IsChangeBookOf (said_whole self.now.packets.now nodes) book.now →
+            IfOk result (λ s. string_bytes s ≡ splits_over self.now.options.form self.now.options.places self.now.options.splits self.now.scenario.now self.now.packets.now nodes) }
     {
         if self.options.places {
-            places_told(alloc, self.scenario, book)
+            places_told(alloc, self.options.form, self.scenario, book)
+        } else if self.options.splits {
+            splits_told(alloc, self.options.form, self.scenario, book.splits())
         } else {
-            splits_told(alloc, self.key, self.scenario, nodes, self.options.splits)
+            Ok(String::new(alloc))
         }
     }
 
-    // The same, and the summary where it is asked for.
+    // What is told where the changes are kept.
     fn tell_changes(&self, alloc: Global, nodes: &[NodeRecord]) -> Result<Told, AllocError>
         requires even { AreEven nodes.now }
-        ensures { IfOk result (TellsOf self.now.options self.now.scenario.now self.now.packets.now nodes.now) }
+        ensures { keeps_changes self.now.options.places self.now.options.summary ≡ true → IfOk result (TellsOf self.now.options self.now.scenario.now self.now.packets.now nodes.now) }
     {
         let book = changes_of(alloc, self.key, self.packets, nodes)?;
-        let before = self.before(alloc, nodes, &book)?;
-        let behind = summary_told(alloc, self.scenario, &book, self.options.summary)?;
-        Ok(Told { before, behind })
+        let before = self.before(alloc, &book)?;
+        let behind = summary_told(alloc, self.scenario, &book, self.options)?;
+        let counts = Some(book.counts());
+        Ok(Told {
+            before,
+            behind,
+            counts,
+        })
+    }
+
+    // What is told where they aren't.
+    fn tell_splits(&self, alloc: Global, nodes: &[NodeRecord]) -> Result<Told, AllocError>
+        requires even { AreEven nodes.now }
+        ensures { keeps_changes self.now.options.places self.now.options.summary ≡ false → IfOk result (TellsOf self.now.options self.now.scenario.now self.now.packets.now nodes.now) }
+    {
+        Ok(Told {
+            before: splits_alone(alloc, self.key, self.scenario, nodes, self.options)?,
+            behind: String::new(alloc),
+            counts: None,
+        })
     }
 
     /// What is told of the nodes' histories, where it is asked for.
@@ -242,12 +278,10 @@ impl Telling<'_> {
         requires even { AreEven nodes.now }
         ensures { IfOk result (TellsOf self.now.options self.now.scenario.now self.now.packets.now nodes.now) }
     {
-        if self.options.places || self.options.summary {
-            return self.tell_changes(alloc, nodes);
+        if self.options.keeps_changes() {
+            self.tell_changes(alloc, nodes)
+        } else {
+            self.tell_splits(alloc, nodes)
         }
-        let splits = self.options.splits;
-        let before = splits_told(alloc, self.key, self.scenario, nodes, splits)?;
-        let behind = String::new(alloc);
-        Ok(Told { before, behind })
     }
 }

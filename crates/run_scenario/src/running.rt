@@ -2,7 +2,7 @@
 ghost use Rattle.std.specs.Prelude.{◌≡◌, ◌≤◌, true, length, IfOk, IfErr, string_bytes};
 ghost use Rattle.pcap_file.specs.Format.{max_records};
 ghost use Rattle.thread_records.specs.Paced.{NoneRefused};
-ghost use Rattle.run_scenario.specs.Runs.{Ran, Halted};
+ghost use Rattle.run_scenario.specs.Runs.{Ran, Halted, counts_in};
 ghost use Rattle.run_scenario.specs.Kept.{KeepsPromises};
 ghost use Rattle.run_scenario.specs.PrivateFailures.{IsOfThreads};
 ghost use Rattle.run_scenario.specs.PrivateHistories.{RanOver};
@@ -16,8 +16,10 @@ use crate::sending::{Sender, write_capture};
 use crate::threads::{Audited, Task, run_named};
 use connection_table::TableKey;
 use ip_headers::Link;
+use json_lines::Form;
 use pcap_file::{Sink, Source};
 use scenario::{Scenario, ThreadScenario};
+use simulate_scenario::Answer;
 use simulation::Wire;
 use std::alloc::Global;
 use std::sync::Wait;
@@ -35,20 +37,31 @@ pub struct RunOptions {
     pub summary: bool,
     /// A node's driver waits at a full ring.
     pub paced: bool,
+    /// How the report is printed.
+    pub form: Form,
 }
 
 impl RunOptions {
+    ghost use Rattle.simulate_scenario.specs.Asked.{keeps_changes};
+
+    /// Whether the changes are kept: the splits are told with places, or the summary is.
+    pub(crate) fn keeps_changes(self) -> bool
+        ensures { result ≡ keeps_changes self.places self.summary }
+    {
+        self.places || self.summary
+    }
+
     /// Whether anything is told beside the report.
     pub(crate) fn tells(self) -> bool {
         self.splits || self.places || self.summary
     }
 }
 
-// What the nodes did, and the report.
+// What the nodes did, and what is answered.
 #[derive(Drop)]
 struct Done {
     nodes: Vec<NodeRecord>,
-    text: String,
+    answer: Answer,
 }
 
 // The nodes' addresses, and how the records of a capture are read.
@@ -74,7 +87,7 @@ fn run_over<R: Threads + Wait + Sync>(
     options: RunOptions,
 ) -> Result<Done, RunFailure>
     requires few { length captured.now.records ≤ max_records }
-    ensures over { IfOk result (λ d. RanOver scenario.now options captured.now.head.link captured.now.records captured.now.ending d.nodes.items (string_bytes d.text)) }
+    ensures over { IfOk result (λ d. RanOver scenario.now options captured.now.head.link captured.now.records captured.now.ending d.nodes.items (string_bytes d.answer.text) d.answer.counts) }
     ensures paced { options.paced ≡ true → IfOk result (λ d. NoneRefused d.nodes.items) }
     ensures stopped { IfErr result IsOfThreads }
 {
@@ -90,19 +103,27 @@ fn run_over<R: Threads + Wait + Sync>(
     };
     let audited = run_named(rt, alloc, &task)?;
     let Audited { run, agrees, told } = audited;
-    let Told { before, behind } = told;
+    let Told {
+        before,
+        behind,
+        counts,
+    } = told;
     let totals = totals_of(&run);
-    let report = audited_report(alloc, orders.tally, &totals, captured.ending, agrees)?;
-    let mut text = before;
+    let form = options.form;
+    let report = audited_report(alloc, form, orders.tally, &totals, captured.ending, agrees)?;
+    let mut text = String::new(alloc);
+    form.push_head(&mut text, "run")?;
+    text.push_str(before.as_str())?;
     text.push_str(report.as_str())?;
     text.push_str(behind.as_str())?;
     Ok(Done {
         nodes: run.nodes,
-        text,
+        answer: Answer { text, counts },
     })
 }
 
-/// Runs a scenario's cluster on threads over a capture, and answers the report. The report ends in `audit agrees` where a
+/// Runs a scenario's cluster on threads over a capture, and answers the report. Where its changes are kept, it also answers
+/// how many connections there were, and how many of them changed their server (`counts`). The report ends in `audit agrees` where a
 /// replay of the run's history gives the outcomes that it has: by the clause `ok` it always does. With the option `splits` the report
 /// begins with a line for each split, and then how many there were. A split is two packets that follow one another in a
 /// flow, in the history's order, and went to different backends; events are numbered as in the history.
@@ -132,14 +153,17 @@ pub fn run_scenario<R: Threads + Wait + Sync, I: Source, O: Sink>(
     options: RunOptions,
     input: &mut I,
     output: &mut O,
-) -> Result<String, RunFailure>
-    ensures ok { IfOk result (λ s.
-        Ran scenario.now.scenario options (I.tape input.old) (I.tape input.new) (O.tape output.old) (O.tape output.new) (string_bytes s)) }
-    ensures kept { IfOk result (λ s.
-        (ran : Ran scenario.now.scenario options (I.tape input.old) (I.tape input.new) (O.tape output.old) (O.tape output.new) (string_bytes s)) →
+) -> Result<Answer, RunFailure>
+    ensures ok { IfOk result (λ a.
+        Ran scenario.now.scenario options (I.tape input.old) (I.tape input.new) (O.tape output.old) (O.tape output.new) (string_bytes a.text)) }
+    ensures counts { IfOk result (λ a.
+        (ran : Ran scenario.now.scenario options (I.tape input.old) (I.tape input.new) (O.tape output.old) (O.tape output.new) (string_bytes a.text))
+        × (a.counts ≡ counts_in scenario.now.scenario options ran.head.link ran.records ran.history)) }
+    ensures kept { IfOk result (λ a.
+        (ran : Ran scenario.now.scenario options (I.tape input.old) (I.tape input.new) (O.tape output.old) (O.tape output.new) (string_bytes a.text)) →
         KeepsPromises scenario.now.scenario ran.head.link ran.records ran.history) }
-    ensures paced { options.paced ≡ true → IfOk result (λ s.
-        (ran : Ran scenario.now.scenario options (I.tape input.old) (I.tape input.new) (O.tape output.old) (O.tape output.new) (string_bytes s))
+    ensures paced { options.paced ≡ true → IfOk result (λ a.
+        (ran : Ran scenario.now.scenario options (I.tape input.old) (I.tape input.new) (O.tape output.old) (O.tape output.new) (string_bytes a.text))
         × NoneRefused ran.nodes) }
     ensures stopped { IfErr result (Halted scenario.now.scenario (I.tape input.old) (I.tape input.new) (O.tape output.old) (O.tape output.new)) }
 {
@@ -153,7 +177,7 @@ pub fn run_scenario<R: Threads + Wait + Sync, I: Source, O: Sink>(
     let records = &captured.records;
     let sender = Sender { wire, records };
     match write_capture(alloc, output, &sender, nodes) {
-        Ok(()) => Ok(done.text),
+        Ok(()) => Ok(done.answer),
         Err(fault) => Err(RunFailure::Simulation(fault)),
     }
 }

@@ -8,7 +8,8 @@ ghost use Rattle.thread_records.specs.Joins.{all_outcomes};
 ghost use Rattle.thread_records.specs.Paced.{NoneRefused};
 ghost use Rattle.thread_records.specs.Runs.{AreRuns};
 ghost use Rattle.thread_roles.specs.Counts.{AreTotals};
-ghost use Rattle.simulate_scenario.specs.Described.{pick_by, rules_in};
+ghost use Rattle.named_scheme.specs.Picking.{pick_of};
+ghost use Rattle.simulate_scenario.specs.Described.{rules_in};
 ghost use Rattle.run_scenario.specs.PrivateFailures.{IsOfThreads};
 ghost use Rattle.run_scenario.specs.PrivateHistories.{AreEven, TellsOf};
 
@@ -19,9 +20,9 @@ use cluster_core::Setup;
 use cluster_node::Packet;
 use connection_table::{PlaceTable, TableKey};
 use hash_laws::AnyHash;
+use named_scheme::{NamedScheme, scheme_of};
 use node_threads::{NodesRun, OpenGate, RingRules, RunFault, audit_nodes, run_each};
-use scenario::{Scenario, SchemeKind};
-use selection::{Maglev, PlainHash, RoundRobin, Scheme};
+use scenario::Scenario;
 use std::alloc::{AllocError, Global};
 use std::sync::Wait;
 use std::thread;
@@ -49,19 +50,17 @@ pub(crate) struct Audited {
 
 // Whether each node's history agrees with its replay, and what is told of the connections: both at once, since neither waits
 // for the other. Where nothing is asked for, no thread is started for it.
-fn judged<S: Scheme + Send + Sync, R: Threads + Sync>(
+fn judged<R: Threads + Sync>(
     rt: &R,
     alloc: Global,
-    setup: &Setup<S, AnyHash>,
+    setup: &Setup<NamedScheme, AnyHash>,
     task: &Task<'_>,
     nodes: &[NodeRecord],
 ) -> (Result<bool, AllocError>, Result<Told, AllocError>)
-where
-    S::Prepared: Send + Sync,
     requires sized { setup.now.size ≡ task.now.scenario.now.size }
     requires read { WereRead task.now.packets.now }
     requires even { AreEven nodes.now }
-    ensures audit { let rules = rules_for (λ s z. S.pick s z) (λ h. plain_of h) setup.now task.now.scenario.now.catalogue in
+    ensures audit { let rules = rules_for (λ s z. pick_of s z) (λ h. plain_of h) setup.now task.now.scenario.now.catalogue in
         IfOk result.0 (λ b. IsTrue b ↔ All (λ r. r.outcomes.items ≡ verdicts rules [] task.now.packets.now r.events.items) nodes.now) }
     ensures told { IfOk result.1 (TellsOf task.now.options task.now.scenario.now task.now.packets.now nodes.now) }
 {
@@ -74,11 +73,13 @@ where
     } = *task;
     let replay = || -> Result<bool, AllocError>
         requires { (scenario.now.catalogue.size ≡ setup.now.size) × WereRead packets.now }
-        ensures { let rules = rules_for (λ s z. S.pick s z) (λ h. plain_of h) setup.entry.now scenario.entry.now.catalogue in
+        ensures { let rules = rules_for (λ s z. pick_of s z) (λ h. plain_of h) setup.entry.now scenario.entry.now.catalogue in
             IfOk result (λ b. IsTrue b ↔ All (λ r. r.outcomes.items ≡ verdicts rules [] packets.entry.now r.events.items) nodes.entry.now) }
     {
         let catalogue = &scenario.catalogue;
-        audit_nodes::<S, AnyHash, PlaceTable, R>(rt, alloc, nodes, setup, catalogue, packets)
+        audit_nodes::<NamedScheme, AnyHash, PlaceTable, R>(
+            rt, alloc, nodes, setup, catalogue, packets,
+        )
     };
     let told = || -> Result<Told, AllocError>
         requires { AreEven nodes.now }
@@ -99,16 +100,13 @@ where
     }
 }
 
-// Runs the cluster with this scheme.
-fn run_by<S: Scheme + Send + Sync, R: Threads + Wait + Sync>(
+/// Runs the cluster with the scheme that the scenario names, each node by its list of commands, and replays its history. What
+/// is told beside the report is made meanwhile.
+pub(crate) fn run_named<R: Threads + Wait + Sync>(
     rt: &R,
     alloc: Global,
-    scheme: S,
     task: &Task<'_>,
 ) -> Result<Audited, RunFailure>
-where
-    S::Prepared: Send + Sync,
-    requires picks { S.pick scheme task.now.scenario.now.size ≡ pick_by task.now.scenario.now.scheme (plain_of task.now.scenario.now.hash) task.now.scenario.now.size }
     requires nodes { length task.now.commands.now ≡ length task.now.scenario.now.nodes.items }
     requires read { WereRead task.now.packets.now }
     ensures runs { IfOk result (λ a. AreRuns (rules_in task.now.scenario.now) task.now.packets.now task.now.scenario.now.ring 0 (map (λ c. c.items) task.now.commands.now) a.run.nodes.items) }
@@ -121,6 +119,7 @@ where
 {
     let scenario = task.scenario;
     let nodes = Vec::from_slice(alloc, scenario.nodes.as_slice())?;
+    let scheme = scheme_of(scenario.scheme, scenario.hash);
     let Ok(setup) = Setup::new(
         scenario.hash,
         scheme,
@@ -137,7 +136,7 @@ where
         places: scenario.ring,
         paced: task.options.paced,
     };
-    let run = run_each::<S, AnyHash, PlaceTable, OpenGate, R>(
+    let run = run_each::<NamedScheme, AnyHash, PlaceTable, OpenGate, R>(
         rt,
         alloc,
         &setup,
@@ -156,29 +155,4 @@ where
         agrees: agrees?,
         told: told?,
     })
-}
-
-/// Runs the cluster with the scheme that the scenario names, each node by its list of commands, and replays its history. What
-/// is told beside the report is made meanwhile.
-pub(crate) fn run_named<R: Threads + Wait + Sync>(
-    rt: &R,
-    alloc: Global,
-    task: &Task<'_>,
-) -> Result<Audited, RunFailure>
-    requires nodes { length task.now.commands.now ≡ length task.now.scenario.now.nodes.items }
-    requires read { WereRead task.now.packets.now }
-    ensures runs { IfOk result (λ a. AreRuns (rules_in task.now.scenario.now) task.now.packets.now task.now.scenario.now.ring 0 (map (λ c. c.items) task.now.commands.now) a.run.nodes.items) }
-    ensures paced { task.now.options.paced ≡ true → IfOk result (λ a. NoneRefused a.run.nodes.items) }
-    ensures counts { IfOk result (λ a. AreTotals a.run.stats (all_outcomes a.run.nodes.items)) }
-    ensures few { IfOk result (λ a. length (all_outcomes a.run.nodes.items) < 2 ^ 63) }
-    ensures audit { IfOk result (λ a. a.agrees ≡ true) }
-    ensures told { IfOk result (λ a. TellsOf task.now.options task.now.scenario.now task.now.packets.now a.run.nodes.items a.told) }
-    ensures stopped { IfErr result IsOfThreads }
-{
-    let hash = task.scenario.hash;
-    match task.scenario.scheme {
-        SchemeKind::Maglev => run_by(rt, alloc, Maglev { hash }, task),
-        SchemeKind::Plain => run_by(rt, alloc, PlainHash { hash }, task),
-        SchemeKind::Round => run_by(rt, alloc, RoundRobin, task),
-    }
 }

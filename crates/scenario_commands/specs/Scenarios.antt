@@ -1,5 +1,5 @@
 -- The commands that play a scenario over a capture.
-use Rattle.std.specs.Prelude.{◌≡◌, ◌≢◌, ◌⊎◌, ℕ, List}
+use Rattle.std.specs.Prelude.{◌≡◌, ◌≢◌, ◌⊎◌, ℕ, List, Option}
 use Rattle.std.specs.Io.KnownBytes.{Appends}
 use Rattle.pcap_file.specs.Device.{Tape, Unfailed, PutRefused}
 use Rattle.scenario.specs.declared.playing.Played.TheVariants.{InTurn}
@@ -10,8 +10,9 @@ use Rattle.simulation.specs.declared.fault.SimulationFault.TheVariants as run
 use Rattle.simulation.specs.Wires.{unkept}
 use Rattle.simulate_scenario.specs.declared.asking.Query.{Query}
 use Rattle.simulate_scenario.specs.Described.{StoppedIn}
-use Rattle.simulate_scenario.specs.Answers.{AnswersIn}
+use Rattle.simulate_scenario.specs.Answers.{AnswersIn, counts_for}
 use Rattle.simulate_scenario.specs.Kept.{KeepsPromises}
+use Rattle.change_share.specs.declared.counts.ChangeCounts.{ChangeCounts}
 use Rattle.command_faults.specs.declared.fault.CliFault.{CliFault}
 use Rattle.command_faults.specs.declared.fault.CliFault.TheVariants.{Write, Memory}
 use Rattle.command_faults.specs.Faults.{capture_fault}
@@ -33,6 +34,11 @@ pub record Plays (asked : Query) (text : List ℕ) (input input' output output' 
   pub kept : KeepsPromises scenario answers.trace
   pub written : Appends report.bytes report'.bytes answer
   pub unfailed : Unfailed report report'
+
+-- the same, and these are the counts of its connections, where the changes are kept
+pub record CountedPlays (asked : Query) (text : List ℕ) (input input' output output' report report' : Tape) (counts : Option ChangeCounts) : Type 0 where
+  pub plays : Plays asked text input input' output output' report report'
+  pub counted : counts ≡ counts_for asked plays.answers.trace.past
 
 -- the text means a scenario, and its run stopped by this fault
 pub record RunFails (fault : CliFault) (text : List ℕ) (input input' output output' : Tape) : Type 0 where
@@ -60,8 +66,8 @@ PlayFails fault asked text input input' output output' report report' Uncalled U
     ⊎ ReportFails fault asked text input input' output output' report report')
 
 -- the same of a command that has no output, and so never fails in writing it
-abbrev pub ExplainFails : CliFault → ℕ → ℕ → List ℕ → Tape → Tape → Tape → Tape → Type 0 → Type 0 → Type 0
-ExplainFails fault one other text input input' report report' Uncalled Unreported =
+abbrev pub ExplainFails : CliFault → Query → List ℕ → Tape → Tape → Tape → Tape → Type 0 → Type 0 → Type 0
+ExplainFails fault asked text input input' report report' Uncalled Unreported =
     (ScenarioFails InTurn fault text × Uncalled)
     ⊎ ((RunFails fault text input input' unkept unkept × (fault ≢ Write) × Unreported)
-    ⊎ ReportFails fault (Query.Events one other) text input input' unkept unkept report report')
+    ⊎ ReportFails fault asked text input input' unkept unkept report report')

@@ -3,4 +3,4 @@
 
 mod playing;
 
-pub use playing::{explain_keyed, explain_run, run_fault, simulate, simulate_keyed};
+pub use playing::{answer_keyed, explain_run, run_fault, simulate, simulate_keyed};

@@ -1,10 +1,13 @@
 //! The commands that play a scenario over a capture.
-ghost use Rattle.std.specs.Prelude.{◌≡◌, IfErr, OnOk};
+ghost use Rattle.std.specs.Prelude.{◌≡◌, IfOk, IfErr, OnOk};
 ghost use Rattle.simulation.specs.Wires.{unkept};
-ghost use Rattle.scenario_commands.specs.Scenarios.{Plays, PlayFails, ExplainFails, run_fault};
+ghost use Rattle.json_lines.specs.declared.forms.Form.TheVariants.{Plain};
+ghost use Rattle.scenario_commands.specs.Scenarios.{Plays, CountedPlays, PlayFails, ExplainFails, run_fault};
 
+use change_share::ChangeCounts;
 use command_faults::{CliFault, capture_fault, put_text};
 use connection_table::TableKey;
+use json_lines::Form;
 use pcap_file::{Sink, Source};
 use scenario::{Played, read};
 use scenario_faults::scenario_fault;
@@ -23,7 +26,7 @@ pub fn run_fault(fault: SimulationFault) -> CliFault
     }
 }
 
-// Plays the scenario that a text means, and writes what was asked of it.
+// Plays the scenario that a text means, writes what was asked of it, and answers the counts of its connections.
 fn play<I: Source, O: Outlet, R: Sink>(
     alloc: Global,
     key: TableKey,
@@ -32,8 +35,8 @@ fn play<I: Source, O: Outlet, R: Sink>(
     input: &mut I,
     output: &mut O,
     report: &mut R,
-) -> Result<(), CliFault>
-    ensures played { OnOk result (Plays asked scenario.now
+) -> Result<Option<ChangeCounts>, CliFault>
+    ensures counted { IfOk result (CountedPlays asked scenario.now
         (I.tape input.old) (I.tape input.new) (O.tape output.old) (O.tape output.new) (R.tape report.old) (R.tape report.new)) }
     ensures stopped { IfErr result (λ fault. PlayFails fault asked scenario.now
         (I.tape input.old) (I.tape input.new) (O.tape output.old) (O.tape output.new) (R.tape report.old) (R.tape report.new)
@@ -43,9 +46,13 @@ fn play<I: Source, O: Outlet, R: Sink>(
         Ok(scenario) => scenario,
         Err(fault) => return Err(scenario_fault(fault)),
     };
-    match play_scenario(alloc, key, scenario, asked, input, output) {
-        Ok(text) => put_text(report, text.as_str()),
-        Err(fault) => Err(run_fault(fault)),
+    let answer = match play_scenario(alloc, key, scenario, asked, input, output) {
+        Ok(answer) => answer,
+        Err(fault) => return Err(run_fault(fault)),
+    };
+    match put_text(report, answer.text.as_str()) {
+        Ok(()) => Ok(answer.counts),
+        Err(fault) => Err(fault),
     }
 }
 
@@ -71,12 +78,13 @@ pub fn simulate<I: Source, O: Sink, R: Sink>(
 {
     let key = TableKey::fixed();
     match simulate_keyed(alloc, key, scenario, input, output, report, wanted) {
-        Ok(()) => Ok(()),
+        Ok(_) => Ok(()),
         Err(fault) => Err(fault),
     }
 }
 
-/// The same, with a key for the hash of the connection tables.
+/// The same, with a key for the hash of the connection tables. Where the changes are kept, which are with places or with a
+/// summary, it also answers how many connections there were, and how many of them changed their server.
 pub fn simulate_keyed<I: Source, O: Sink, R: Sink>(
     alloc: Global,
     key: TableKey,
@@ -85,8 +93,10 @@ pub fn simulate_keyed<I: Source, O: Sink, R: Sink>(
     output: &mut O,
     report: &mut R,
     wanted: Wanted,
-) -> Result<(), CliFault>
+) -> Result<Option<ChangeCounts>, CliFault>
     ensures played { OnOk result (Plays (Query.Report wanted) scenario.now
+        (I.tape input.old) (I.tape input.new) (O.tape output.old) (O.tape output.new) (R.tape report.old) (R.tape report.new)) }
+    ensures counted { IfOk result (CountedPlays (Query.Report wanted) scenario.now
         (I.tape input.old) (I.tape input.new) (O.tape output.old) (O.tape output.new) (R.tape report.old) (R.tape report.new)) }
     ensures stopped { IfErr result (λ fault. PlayFails fault (Query.Report wanted) scenario.now
         (I.tape input.old) (I.tape input.new) (O.tape output.old) (O.tape output.new) (R.tape report.old) (R.tape report.new)
@@ -94,7 +104,7 @@ pub fn simulate_keyed<I: Source, O: Sink, R: Sink>(
 {
     let asked = Query::Report(wanted);
     match play(alloc, key, scenario, asked, input, output, report) {
-        Ok(()) => Ok(()),
+        Ok(counts) => Ok(counts),
         Err(fault) => Err(fault),
     }
 }
@@ -109,39 +119,38 @@ pub fn explain_run<I: Source, R: Sink>(
     other: u64,
     report: &mut R,
 ) -> Result<(), CliFault>
-    ensures played { OnOk result (Plays (Query.Events one other) scenario.now
+    ensures played { OnOk result (Plays (Query.Events one other Plain) scenario.now
         (I.tape input.old) (I.tape input.new) unkept unkept (R.tape report.old) (R.tape report.new)) }
-    ensures stopped { IfErr result (λ fault. ExplainFails fault one other scenario.now
+    ensures stopped { IfErr result (λ fault. ExplainFails fault (Query.Events one other Plain) scenario.now
         (I.tape input.old) (I.tape input.new) (R.tape report.old) (R.tape report.new)
         ((input.new ≡ input.old) × (report.new ≡ report.old)) (report.new ≡ report.old)) }
 {
-    let key = TableKey::fixed();
-    match explain_keyed(alloc, key, scenario, input, one, other, report) {
+    let form = Form::Plain;
+    let asked = Query::Events { one, other, form };
+    match answer_keyed(alloc, TableKey::fixed(), scenario, asked, input, report) {
         Ok(()) => Ok(()),
         Err(fault) => Err(fault),
     }
 }
 
-/// The same, with a key for the hash of the connection tables.
-pub fn explain_keyed<I: Source, R: Sink>(
+/// The same of whatever is asked, with a key for the hash of the connection tables.
+pub fn answer_keyed<I: Source, R: Sink>(
     alloc: Global,
     key: TableKey,
     scenario: &[u8],
+    asked: Query,
     input: &mut I,
-    one: u64,
-    other: u64,
     report: &mut R,
 ) -> Result<(), CliFault>
-    ensures played { OnOk result (Plays (Query.Events one other) scenario.now
+    ensures played { OnOk result (Plays asked scenario.now
         (I.tape input.old) (I.tape input.new) unkept unkept (R.tape report.old) (R.tape report.new)) }
-    ensures stopped { IfErr result (λ fault. ExplainFails fault one other scenario.now
+    ensures stopped { IfErr result (λ fault. ExplainFails fault asked scenario.now
         (I.tape input.old) (I.tape input.new) (R.tape report.old) (R.tape report.new)
         ((input.new ≡ input.old) × (report.new ≡ report.old)) (report.new ≡ report.old)) }
 {
-    let asked = Query::Events { one, other };
     let mut output = Nowhere;
     match play(alloc, key, scenario, asked, input, &mut output, report) {
-        Ok(()) => Ok(()),
+        Ok(_) => Ok(()),
         Err(fault) => Err(fault),
     }
 }

@@ -10,7 +10,9 @@ use Rattle.cluster_core.specs.Histories.{outcomes_of}
 use Rattle.cluster_core.specs.Explain.{Send, send_of, explained, PickedSend, PickedSends}
 use Rattle.pcap_file.specs.declared.format.InputEnd.{InputEnd}
 use Rattle.event_trace.specs.Trace.{Trace}
-use Rattle.run_report.specs.Verdicts.{explained_text, left_drained}
+use Rattle.run_report.specs.Verdicts.{left_drained}
+use Rattle.json_lines.specs.declared.forms.Form.{Form}
+use Rattle.json_lines.specs.Forms.{verdict_as}
 use Rattle.run_report.specs.Splits.{sent_at}
 use Rattle.run_report.specs.declared.sending.Sending.{Sending}
 use Rattle.simulate_scenario.specs.declared.asking.Query.{Query}
@@ -30,12 +32,12 @@ picked_if rules outs k None p e = tt
 picked_if rules outs k (Some o) p e = p k o (sym e)
 
 -- the line that says why two packets went where they went, by the outcomes of their events and by what they sent
-pub line_told : {X E : Type 0} (bytes : X → List ℕ) (r : Result X E) (lookups : Lookups) (idle : Option ℕ) (asked : Query) (trace : Trace) (packets : ℕ) (ending : InputEnd) (i j : ℕ) (a b : Option Outcome) (p q : Option Sending)
-    → asked ≡ Events i j → a ≡ slice_get (outcomes_of (reverse trace.past)) i → b ≡ slice_get (outcomes_of (reverse trace.past)) j → p ≡ sent_at trace.past i → q ≡ sent_at trace.past j
-    → IfOk r (λ s. bytes s ≡ explained_text (explained lookups.slot (option_and_then (λ o. send_of o) a) (option_and_then (λ o. send_of o) b)) (left_drained lookups p q)) → IfOk r (λ s. bytes s ≡ answer_of lookups idle asked trace packets ending)
-line_told bytes r lookups idle asked trace packets ending i j a b p q e f g k l h =
+pub line_told : {X E : Type 0} (bytes : X → List ℕ) (r : Result X E) (lookups : Lookups) (idle : Option ℕ) (asked : Query) (trace : Trace) (packets : ℕ) (ending : InputEnd) (i j : ℕ) (form : Form) (a b : Option Outcome) (p q : Option Sending)
+    → asked ≡ Events i j form → a ≡ slice_get (outcomes_of (reverse trace.past)) i → b ≡ slice_get (outcomes_of (reverse trace.past)) j → p ≡ sent_at trace.past i → q ≡ sent_at trace.past j
+    → IfOk r (λ s. bytes s ≡ verdict_as form (explained lookups.slot (option_and_then (λ o. send_of o) a) (option_and_then (λ o. send_of o) b)) (left_drained lookups p q)) → IfOk r (λ s. bytes s ≡ answer_of lookups idle asked trace packets ending)
+line_told bytes r lookups idle asked trace packets ending i j form a b p q e f g k l h =
     subst (λ (x : Query). IfOk r (λ s. bytes s ≡ answer_of lookups idle x trace packets ending)) (sym e)
-    (subst (λ (x : Option Send). IfOk r (λ s. bytes s ≡ explained_text (explained lookups.slot x (send_at (reverse trace.past) j)) (left_drained lookups (sent_at trace.past i) (sent_at trace.past j)))) (send_told (reverse trace.past) i a f)
-    (subst (λ (y : Option Send). IfOk r (λ s. bytes s ≡ explained_text (explained lookups.slot (option_and_then (λ o. send_of o) a) y) (left_drained lookups (sent_at trace.past i) (sent_at trace.past j)))) (send_told (reverse trace.past) j b g)
-    (subst (λ (x : Option Sending). IfOk r (λ s. bytes s ≡ explained_text (explained lookups.slot (option_and_then (λ o. send_of o) a) (option_and_then (λ o. send_of o) b)) (left_drained lookups x (sent_at trace.past j)))) k
-    (subst (λ (y : Option Sending). IfOk r (λ s. bytes s ≡ explained_text (explained lookups.slot (option_and_then (λ o. send_of o) a) (option_and_then (λ o. send_of o) b)) (left_drained lookups p y))) l h))))
+    (subst (λ (x : Option Send). IfOk r (λ s. bytes s ≡ verdict_as form (explained lookups.slot x (send_at (reverse trace.past) j)) (left_drained lookups (sent_at trace.past i) (sent_at trace.past j)))) (send_told (reverse trace.past) i a f)
+    (subst (λ (y : Option Send). IfOk r (λ s. bytes s ≡ verdict_as form (explained lookups.slot (option_and_then (λ o. send_of o) a) y) (left_drained lookups (sent_at trace.past i) (sent_at trace.past j)))) (send_told (reverse trace.past) j b g)
+    (subst (λ (x : Option Sending). IfOk r (λ s. bytes s ≡ verdict_as form (explained lookups.slot (option_and_then (λ o. send_of o) a) (option_and_then (λ o. send_of o) b)) (left_drained lookups x (sent_at trace.past j)))) k
+    (subst (λ (y : Option Sending). IfOk r (λ s. bytes s ≡ verdict_as form (explained lookups.slot (option_and_then (λ o. send_of o) a) (option_and_then (λ o. send_of o) b)) (left_drained lookups p y))) l h))))

@@ -1,5 +1,5 @@
 -- The setup that is made of a scenario is what the scenario describes.
-use Rattle.std.proofs.Common.{◌≡◌, ℕ, List, ap, ◌∙◌, subst, length}
+use Rattle.std.proofs.Common.{◌≡◌, ℕ, List, Option, ap, ◌∙◌, subst, length}
 use Rattle.std.specs.Prelude.{is_some}
 use Rattle.hash_laws.specs.declared.any.AnyHash.{AnyHash}
 use Rattle.hash_laws.specs.Any.{plain_of}
@@ -17,10 +17,12 @@ use Rattle.pcap_file.specs.Device.{Tape}
 use Rattle.simulation.specs.declared.fault.SimulationFault.{SimulationFault}
 use Rattle.simulation.specs.Plans.{Planned}
 use Rattle.simulation.specs.Simulated.{Stopped}
+use Rattle.change_share.specs.declared.counts.ChangeCounts.{ChangeCounts}
 use Rattle.simulate_scenario.specs.declared.asking.Query.{Query}
-use Rattle.simulate_scenario.specs.Described.{pick_by, rules_in, cluster_in, choice_in, plan_in, lookups_in}
+use Rattle.named_scheme.specs.Picking.{pick_by}
+use Rattle.simulate_scenario.specs.Described.{rules_in, cluster_in, choice_in, plan_in, lookups_in}
 use Rattle.named_spread.specs.Choosing.{choice_by}
-use Rattle.simulate_scenario.specs.Answers.{Answers}
+use Rattle.simulate_scenario.specs.Answers.{CountedAnswers}
 
 abbrev pub fixed_of : {S : Type 0} → S → Scenario → Fixed S AnyHash
 fixed_of scheme s = record { hash = s.hash; scheme = scheme; size = s.size; nodes = s.nodes.items; workers = s.workers; capacity = s.capacity; idle = s.idle }
@@ -43,14 +45,14 @@ described pick_of scheme s e = ap (λ (p : Pick). record {
   idle = s.idle;
 }) e
 
-pub answers : {S : Type 0} (pick_of : S → ℕ → Pick) (scheme : S) (s : Scenario) (r : Deployed S AnyHash) (plan : Planned) (asked : Query) (i i' o o' : Tape) (text : List ℕ)
+pub answers : {S : Type 0} (pick_of : S → ℕ → Pick) (scheme : S) (s : Scenario) (r : Deployed S AnyHash) (plan : Planned) (asked : Query) (i i' o o' : Tape) (text : List ℕ) (counts : Option ChangeCounts)
     → pick_of scheme s.size ≡ pick_by s.scheme (plain_of s.hash) s.size → r ≡ ruling_of scheme s → plan ≡ plan_in s
-    → Answers (cluster_by (rules_of pick_of plain_of r)) (choice_by s.spread (plain_of r.setup.hash)) plan (lookups_of (plain_of r.setup.hash) r.setup.size r.catalogue) r.setup.idle asked i i' o o' text
-    → Answers (cluster_in s) (choice_in s) (plan_in s) (lookups_in s) s.idle asked i i' o o' text
-answers {S} pick_of scheme s r plan asked i i' o o' text e f g h =
-    subst (λ (rules : Rules). Answers (cluster_by rules) (choice_in s) (plan_in s) (lookups_in s) s.idle asked i i' o o' text) (described pick_of scheme s e)
-    (subst (λ (q : Deployed S AnyHash). Answers (cluster_by (rules_of pick_of plain_of q)) (choice_by s.spread (plain_of q.setup.hash)) (plan_in s) (lookups_of (plain_of q.setup.hash) q.setup.size q.catalogue) q.setup.idle asked i i' o o' text) f
-    (subst (λ (p : Planned). Answers (cluster_by (rules_of pick_of plain_of r)) (choice_by s.spread (plain_of r.setup.hash)) p (lookups_of (plain_of r.setup.hash) r.setup.size r.catalogue) r.setup.idle asked i i' o o' text) g h))
+    → CountedAnswers (cluster_by (rules_of pick_of plain_of r)) (choice_by s.spread (plain_of r.setup.hash)) plan (lookups_of (plain_of r.setup.hash) r.setup.size r.catalogue) r.setup.idle asked i i' o o' text counts
+    → CountedAnswers (cluster_in s) (choice_in s) (plan_in s) (lookups_in s) s.idle asked i i' o o' text counts
+answers {S} pick_of scheme s r plan asked i i' o o' text counts e f g h =
+    subst (λ (rules : Rules). CountedAnswers (cluster_by rules) (choice_in s) (plan_in s) (lookups_in s) s.idle asked i i' o o' text counts) (described pick_of scheme s e)
+    (subst (λ (q : Deployed S AnyHash). CountedAnswers (cluster_by (rules_of pick_of plain_of q)) (choice_by s.spread (plain_of q.setup.hash)) (plan_in s) (lookups_of (plain_of q.setup.hash) q.setup.size q.catalogue) q.setup.idle asked i i' o o' text counts) f
+    (subst (λ (p : Planned). CountedAnswers (cluster_by (rules_of pick_of plain_of r)) (choice_by s.spread (plain_of r.setup.hash)) p (lookups_of (plain_of r.setup.hash) r.setup.size r.catalogue) r.setup.idle asked i i' o o' text counts) g h))
 
 pub stops : {S : Type 0} (pick_of : S → ℕ → Pick) (scheme : S) (s : Scenario) (r : Deployed S AnyHash) (plan : Planned) (i i' o o' : Tape) (fault : SimulationFault)
     → pick_of scheme s.size ≡ pick_by s.scheme (plain_of s.hash) s.size → r ≡ ruling_of scheme s → plan ≡ plan_in s

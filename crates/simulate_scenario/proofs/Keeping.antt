@@ -19,7 +19,8 @@ use Rattle.scenario_keys.specs.declared.words.SchemeKind.{SchemeKind}
 use Rattle.scenario_keys.specs.declared.words.SchemeKind.TheVariants.{Maglev}
 use Rattle.simulation.specs.Plans.{Planned}
 use Rattle.simulation.specs.Simulated.{Simulated}
-use Rattle.simulate_scenario.specs.Described.{pick_by, rules_in, cluster_in}
+use Rattle.named_scheme.specs.Picking.{pick_by}
+use Rattle.simulate_scenario.specs.Described.{rules_in, cluster_in}
 use Rattle.simulate_scenario.specs.Kept.{KeepsPromises}
 use Rattle.simulate_scenario.proofs.Runs.{judged}
 

@@ -1,7 +1,7 @@
 -- What is kept of a record that has one event more.
-use Rattle.std.proofs.Common.{◌≡◌, ℕ, zero, suc, ◌+◌, Bool, true, false, List, [], ◌∷◌, ◌++◌, length, reverse, string_bytes, Option, Some, None, Result, Ok, Err, refl, sym, ap, ◌∙◌, subst, arith, not}
+use Rattle.std.proofs.Common.{◌≡◌, ℕ, zero, suc, ◌+◌, Bool, true, false, List, [], ◌∷◌, ◌++◌, length, reverse, string_bytes, Option, Some, None, Result, Ok, Err, refl, sym, ap, ◌∙◌, append_assoc, subst, arith, not}
 use Rattle.std.specs.Prelude.{◌==◌, ◌||◌, if◌then◌else◌, slice_get, OnOk}
-use Rattle.std.proofs.lemmas.List.{reverse-append, length-reverse}
+use Rattle.std.proofs.lemmas.List.{append-nil, reverse-append, length-reverse}
 use Rattle.std.proofs.lemmas.Bool.{eqb-true, eq-eqb, true≢false}
 use Rattle.cluster_node.specs.declared.events.LogEntry.{LogEntry}
 use Rattle.cluster_node.specs.declared.outcomes.Outcome.{Outcome}
@@ -9,8 +9,6 @@ use Rattle.cluster_core.specs.Histories.{outcomes_of}
 use Rattle.event_trace.specs.declared.counts.Counts.{Counts}
 use Rattle.event_trace.specs.Counting.{CountsAre, totals_by}
 use Rattle.event_trace.proofs.Counted.{counted_turned, outcomes_turned}
-use Rattle.run_report.specs.Lines.{line_text, listing}
-use Rattle.run_report.proofs.Walks.{lines_push}
 use Rattle.run_report.specs.declared.book.SplitBook.{SplitBook}
 use Rattle.run_report.specs.Books.{IsBookOf}
 use Rattle.run_report.specs.Splits.{sent_by, sent_at}
@@ -20,14 +18,19 @@ use Rattle.simulate_scenario.specs.declared.asking.Query.{Query}
 use Rattle.simulate_scenario.specs.declared.asking.Wanted.{Wanted}
 use Rattle.simulate_scenario.specs.declared.asking.Query.TheVariants.{Report, Events}
 use Rattle.simulate_scenario.specs.Notebooks.{Lists, ListsIf, BookIf, ChangesIf, KeepsMore, KeepsTwo, AreOf}
-use Rattle.simulate_scenario.specs.Asked.{is_plain, keeps_splits, keeps_changes}
+use Rattle.json_lines.specs.declared.forms.Form.{Form}
+use Rattle.json_lines.specs.declared.forms.Form.TheVariants.{Plain, Json}
+use Rattle.json_lines.specs.Forms.{event_as, listing_as}
+use Rattle.json_lines.proofs.Listed.{listing_push}
+use Rattle.simulate_scenario.specs.Asked.{form_of, begun, is_plain, keeps_splits, keeps_changes}
 use Rattle.connection_changes.specs.declared.book.ChangeBook.{ChangeBook}
 use Rattle.connection_changes.specs.Books.{IsChangeBookOf}
 use Rattle.simulate_scenario.specs.Answers.{totals_in}
 
-none_listed : (n : Notebook) → n.number ≡ 0 → string_bytes n.lines ≡ [] → (list : Bool) → ListsIf list [] n
-none_listed n k l true = record { number = k; lines = l }
-none_listed n k l false = l
+none_listed : (n : Notebook) (form : Form) → n.number ≡ 0 → string_bytes n.lines ≡ begun form → (list : Bool) → ListsIf form list [] n
+none_listed n Plain k l true = record { number = k; lines = l }
+none_listed n Json k l true = record { number = k; lines = l ∙ sym (append-nil (begun Json)) }
+none_listed n form k l false = l
 
 none_booked : (b : SplitBook) → IsBookOf [] b → (splits : Bool) → BookIf splits [] b
 none_booked b h true = h
@@ -37,22 +40,32 @@ none_changed : (b : ChangeBook) → IsChangeBookOf [] b → (changes : Bool) →
 none_changed b h true = h
 none_changed b h false = tt
 
-pub none_noted : (n : Notebook) → CountsAre [] n.counts → n.number ≡ 0 → string_bytes n.lines ≡ [] → IsBookOf [] n.book → IsChangeBookOf [] n.changes → n.one ≡ None → n.other ≡ None → n.first ≡ None → n.later ≡ None → (asked : Query) → AreOf asked [] n
-none_noted n c k l b d o p q r (Report wanted) =
-    (c, (none_listed n k l wanted.list, none_booked n.book b (keeps_splits wanted.places wanted.splits), none_changed n.changes d (keeps_changes wanted.places wanted.summary)))
-none_noted n c k l b d o p q r (Events i j) = record { number = k; one_is = o; other_is = p; first_is = q; later_is = r }
+pub none_noted : (n : Notebook) (asked : Query) → CountsAre [] n.counts → n.number ≡ 0 → string_bytes n.lines ≡ begun (form_of asked) → IsBookOf [] n.book → IsChangeBookOf [] n.changes → n.one ≡ None → n.other ≡ None → n.first ≡ None → n.later ≡ None → AreOf asked [] n
+none_noted n (Report wanted) c k l b d o p q r =
+    (c, (none_listed n wanted.form k l wanted.list, none_booked n.book b (keeps_splits (keeps_changes wanted.places wanted.summary) wanted.splits), none_changed n.changes d (keeps_changes wanted.places wanted.summary)))
+none_noted n (Events i j form) c k l b d o p q r = record { number = k; one_is = o; other_is = p; first_is = q; later_is = r }
 
 -- the lines are the same
-pub lists_same : (list : Bool) (past : List LogEntry) (n m : Notebook) → m.number ≡ n.number → m.lines ≡ n.lines → ListsIf list past n → ListsIf list past m
-lists_same true past n m e f l = record { number = e ∙ l.number; lines = ap string_bytes f ∙ l.lines }
-lists_same false past n m e f l = ap string_bytes f ∙ l
+pub lists_same : (form : Form) (list : Bool) (past : List LogEntry) (n m : Notebook) → m.number ≡ n.number → m.lines ≡ n.lines → ListsIf form list past n → ListsIf form list past m
+lists_same form true past n m e f l = record { number = e ∙ l.number; lines = ap string_bytes f ∙ l.lines }
+lists_same form false past n m e f l = ap string_bytes f ∙ l
+
+-- the book of splits is the record's where no changes are kept, and that of the changes where they are
+pub own_splits : (changes splits : Bool) (past : List LogEntry) (b : SplitBook) → changes ≡ false → splits ≡ true → BookIf (keeps_splits changes splits) past b → IsBookOf past b
+own_splits false true past b e f h = h
+own_splits false false past b e f h = absurd cc
+own_splits true splits past b e f h = absurd cc
+
+pub kept_changes : (changes : Bool) (past : List LogEntry) (d : ChangeBook) → changes ≡ true → ChangesIf changes past d → IsChangeBookOf past d
+kept_changes true past d e h = h
+kept_changes false past d e h = absurd cc
 
 -- where the report alone is wanted nothing more is kept
 pub plain_more : (w : Wanted) (past : List LogEntry) (s : LogEntry) (n m : Notebook) → is_plain w ≡ true → m.number ≡ n.number → m.lines ≡ n.lines → KeepsMore w past n → KeepsMore w (s ∷ past) m
 plain_more w past s n m plain e f k = go w.list w.splits w.places w.summary plain k
   where
-    go : (l t p u : Bool) → not (l || t || p || u) ≡ true → ListsIf l past n × BookIf (keeps_splits p t) past n.book × ChangesIf (keeps_changes p u) past n.changes
-        → ListsIf l (s ∷ past) m × BookIf (keeps_splits p t) (s ∷ past) m.book × ChangesIf (keeps_changes p u) (s ∷ past) m.changes
+    go : (l t p u : Bool) → not (l || t || p || u) ≡ true → ListsIf w.form l past n × BookIf (keeps_splits (keeps_changes p u) t) past n.book × ChangesIf (keeps_changes p u) past n.changes
+        → ListsIf w.form l (s ∷ past) m × BookIf (keeps_splits (keeps_changes p u) t) (s ∷ past) m.book × ChangesIf (keeps_changes p u) (s ∷ past) m.changes
     go false false false false h k = (ap string_bytes f ∙ k.0, tt, tt)
     go true t p u h k = absurd cc
     go false true p u h k = absurd cc
@@ -61,8 +74,8 @@ plain_more w past s n m plain e f k = go w.list w.splits w.places w.summary plai
 
 -- each of the three books, one after another
 pub more_told : {E : Type 0} (r : Result (Unit {0}) E) (w : Wanted) (past : List LogEntry) (s : LogEntry) (n a b d : Notebook) (splits changes : Bool) → KeepsMore w past n
-    → splits ≡ keeps_splits w.places w.splits → changes ≡ keeps_changes w.places w.summary
-    → (ListsIf w.list past n → ListsIf w.list (s ∷ past) a) → a.book ≡ n.book → a.changes ≡ n.changes
+    → splits ≡ keeps_splits (keeps_changes w.places w.summary) w.splits → changes ≡ keeps_changes w.places w.summary
+    → (ListsIf w.form w.list past n → ListsIf w.form w.list (s ∷ past) a) → a.book ≡ n.book → a.changes ≡ n.changes
     → (BookIf splits past a.book → BookIf splits (s ∷ past) b.book) → b.number ≡ a.number → b.lines ≡ a.lines → b.changes ≡ a.changes
     → (ChangesIf changes past b.changes → OnOk r (ChangesIf changes (s ∷ past) d.changes)) → d ≡ record b { changes = d.changes } → OnOk r (KeepsMore w (s ∷ past) d)
 more_told {E} r w past s n a b d splits changes k splits_is changes_is lists a_book a_changes books b_number b_lines b_changes change d_is = ok r (change before)
@@ -70,11 +83,11 @@ more_told {E} r w past s n a b d splits changes k splits_is changes_is lists a_b
     before : ChangesIf changes past b.changes
     before = subst (λ (x : ChangeBook). ChangesIf changes past x) (sym (b_changes ∙ a_changes)) (subst (λ (t : Bool). ChangesIf t past n.changes) (sym changes_is) k.2)
 
-    listed : ListsIf w.list (s ∷ past) d
-    listed = lists_same w.list (s ∷ past) a d (ap (λ (x : Notebook). x.number) d_is ∙ b_number) (ap (λ (x : Notebook). x.lines) d_is ∙ b_lines) (lists k.0)
+    listed : ListsIf w.form w.list (s ∷ past) d
+    listed = lists_same w.form w.list (s ∷ past) a d (ap (λ (x : Notebook). x.number) d_is ∙ b_number) (ap (λ (x : Notebook). x.lines) d_is ∙ b_lines) (lists k.0)
 
-    booked : BookIf (keeps_splits w.places w.splits) (s ∷ past) d.book
-    booked = subst (λ (x : SplitBook). BookIf (keeps_splits w.places w.splits) (s ∷ past) x) (sym (ap (λ (x : Notebook). x.book) d_is))
+    booked : BookIf (keeps_splits (keeps_changes w.places w.summary) w.splits) (s ∷ past) d.book
+    booked = subst (λ (x : SplitBook). BookIf (keeps_splits (keeps_changes w.places w.summary) w.splits) (s ∷ past) x) (sym (ap (λ (x : Notebook). x.book) d_is))
         (subst (λ (t : Bool). BookIf t (s ∷ past) b.book) splits_is
         (books (subst (λ (x : SplitBook). BookIf splits past x) (sym a_book) (subst (λ (t : Bool). BookIf t past n.book) (sym splits_is) k.1))))
 
@@ -82,15 +95,20 @@ more_told {E} r w past s n a b d splits changes k splits_is changes_is lists a_b
     ok (Ok u) h = (listed, booked, subst (λ (t : Bool). ChangesIf t (s ∷ past) d.changes) changes_is h)
     ok (Err e) h = tt
 
-pub lists_more : (past : List LogEntry) (s : LogEntry) (n m : Notebook) → Lists past n → m.number ≡ n.number + 1 → string_bytes m.lines ≡ string_bytes n.lines ++ line_text n.number s → Lists (s ∷ past) m
-lists_more past s n m l e f = record {
+pub lists_more : (form : Form) (past : List LogEntry) (s : LogEntry) (n m : Notebook) → Lists form past n → m.number ≡ n.number + 1 → string_bytes m.lines ≡ string_bytes n.lines ++ event_as form n.number s → Lists form (s ∷ past) m
+lists_more form past s n m l e f = record {
   number = omega (arith, e, l.number);
   lines = f
-      ∙ ap (λ (text : List ℕ). text ++ line_text n.number s) l.lines
-      ∙ ap (λ (k : ℕ). listing (reverse past) ++ line_text k s) (l.number ∙ sym (length-reverse past) ∙ (let e : length (reverse past) ≡ 0 + length (reverse past) = omega arith in e))
-      ∙ sym (lines_push 0 (reverse past) s)
-      ∙ ap listing (sym (reverse-append (s ∷ []) past));
+      ∙ ap (λ (text : List ℕ). text ++ event_as form n.number s) l.lines
+      ∙ append_assoc (begun form) (listing_as form (reverse past)) (event_as form n.number s)
+      ∙ ap (λ (text : List ℕ). begun form ++ text) one_more;
 }
+  where
+    one_more : listing_as form (reverse past) ++ event_as form n.number s ≡ listing_as form (reverse (s ∷ past))
+    one_more =
+        ap (λ (k : ℕ). listing_as form (reverse past) ++ event_as form k s) (l.number ∙ sym (length-reverse past) ∙ (let e : length (reverse past) ≡ 0 + length (reverse past) = omega arith in e))
+        ∙ sym (listing_push form (reverse past) s)
+        ∙ ap (λ (h : List LogEntry). listing_as form h) (sym (reverse-append (s ∷ []) past))
 
 -- an outcome behind others
 at_end : (os : List Outcome) (o : Outcome) → slice_get (os ++ o ∷ []) (length os) ≡ Some o

@@ -13,7 +13,8 @@ use Rattle.event_trace.specs.Trace.{Trace}
 use Rattle.event_trace.specs.Steps.{world_of, start}
 use Rattle.event_trace.specs.declared.play.Tally.{Tally}
 use Rattle.event_trace.proofs.Judging.{run_told}
-use Rattle.run_report.specs.Report.{report_text}
+use Rattle.json_lines.specs.declared.forms.Form.{Form}
+use Rattle.json_lines.specs.Forms.{report_as}
 use Rattle.simulation.specs.Plans.{Planned}
 use Rattle.timed_steps.specs.Timed.{counted}
 use Rattle.simulation.specs.Sent.{time_of, packets_of}
@@ -26,8 +27,8 @@ trace_told cluster choice plan link records = run_told (world_of cluster choice 
 pub judged : (cluster : Cluster) (choice : Choice) (plan : Planned) (i i' o o' : Tape) (c : Trace) (n : ℕ) (e : InputEnd) → Simulated cluster choice plan i i' o o' c n e → Judged cluster.judge c.past
 judged cluster choice plan i i' o o' c n e s = subst (λ (d : Trace). Judged cluster.judge d.past) (sym s.trace_is) (trace_told cluster choice plan s.head.link s.records)
 
-pub told : {X : Type 0} (bytes : X → List ℕ) (r : Result X AllocError) (t t' : Tally) (a a' : Totals) (b b' : Bool) → t ≡ t' → a ≡ a' → b ≡ b' → IfOk r (λ s. bytes s ≡ report_text t a b) → IfOk r (λ s. bytes s ≡ report_text t' a' b')
-told bytes r t t' a a' b b' e f g h =
-    subst (λ (x : Bool). IfOk r (λ s. bytes s ≡ report_text t' a' x)) g
-    (subst (λ (x : Totals). IfOk r (λ s. bytes s ≡ report_text t' x b)) f
-    (subst (λ (x : Tally). IfOk r (λ s. bytes s ≡ report_text x a b)) e h))
+pub told : {X : Type 0} (form : Form) (bytes : X → List ℕ) (r : Result X AllocError) (t t' : Tally) (a a' : Totals) (b b' : Bool) → t ≡ t' → a ≡ a' → b ≡ b' → IfOk r (λ s. bytes s ≡ report_as form t a b) → IfOk r (λ s. bytes s ≡ report_as form t' a' b')
+told form bytes r t t' a a' b b' e f g h =
+    subst (λ (x : Bool). IfOk r (λ s. bytes s ≡ report_as form t' a' x)) g
+    (subst (λ (x : Totals). IfOk r (λ s. bytes s ≡ report_as form t' x b)) f
+    (subst (λ (x : Tally). IfOk r (λ s. bytes s ≡ report_as form x a b)) e h))

@@ -1,5 +1,5 @@
 -- What is asked of a scenario's run, and the text that answers it.
-use Rattle.std.specs.Prelude.{◌≡◌, ℕ, ◌-◌, Bool, true, false, List, [], ◌++◌, reverse, Option, option_and_then, slice_get}
+use Rattle.std.specs.Prelude.{◌≡◌, ℕ, ◌-◌, Bool, true, false, List, [], ◌++◌, reverse, Option, Some, None, option_and_then, slice_get}
 use Rattle.pcap_file.specs.declared.format.InputEnd.{InputEnd}
 use Rattle.pcap_file.specs.declared.format.InputEnd.TheVariants.{End, Cut}
 use Rattle.pcap_file.specs.Device.{Tape}
@@ -14,17 +14,18 @@ use Rattle.cluster_core.specs.Explain.{Send, send_of, explained}
 use Rattle.cluster_core.specs.Cluster.{Cluster}
 use Rattle.event_trace.specs.Trace.{Trace}
 use Rattle.event_trace.specs.Tally.{tally_of}
-use Rattle.run_report.specs.Lines.{listing}
-use Rattle.run_report.specs.Report.{report_text}
-use Rattle.run_report.specs.Verdicts.{explained_text, left_drained}
+use Rattle.run_report.specs.Verdicts.{left_drained}
 use Rattle.run_report.specs.Splits.{sent_at}
 use Rattle.simulation.specs.Plans.{Planned}
 use Rattle.simulation.specs.Simulated.{Simulated}
 use Rattle.run_report.specs.Causes.{Lookups}
-use Rattle.run_report.specs.Texts.{splits_text}
-use Rattle.connection_changes.specs.Texts.{places_text, summary_text}
+use Rattle.change_share.specs.declared.counts.ChangeCounts.{ChangeCounts}
+use Rattle.connection_changes.specs.Changes.{counts_of}
+use Rattle.json_lines.specs.declared.forms.Form.{Form}
+use Rattle.json_lines.specs.Forms.{listing_as, splits_as, places_as, report_as, summary_as, verdict_as}
 use Rattle.scenario.specs.declared.plan.Scenario.{Scenario}
 use Rattle.simulate_scenario.specs.Described.{cluster_in, choice_in, plan_in, lookups_in}
+use Rattle.simulate_scenario.specs.Asked.{begun, keeps_changes}
 use Rattle.simulate_scenario.specs.declared.asking.Query.{Query}
 use Rattle.simulate_scenario.specs.declared.asking.Wanted.{Wanted}
 use Rattle.simulate_scenario.specs.declared.asking.Query.TheVariants.{Report, Events}
@@ -45,44 +46,55 @@ is_cut End = false
 is_cut Cut = true
 
 -- the report of a run over so many records
-abbrev pub plain_report : Trace → ℕ → InputEnd → List ℕ
-plain_report trace packets ending = report_text (tally_of packets trace) (totals_in (outcomes_of (reverse trace.past))) (is_cut ending)
+abbrev pub plain_report : Form → Trace → ℕ → InputEnd → List ℕ
+plain_report form trace packets ending = report_as form (tally_of packets trace) (totals_in (outcomes_of (reverse trace.past))) (is_cut ending)
 
--- the line of each event, where they are asked for
-abbrev pub listing_if : Bool → Trace → List ℕ
-listing_if true trace = listing (reverse trace.past)
-listing_if false trace = []
+-- what a report begins with, and the line of each event, where they are asked for
+abbrev pub listing_if : Form → Bool → Trace → List ℕ
+listing_if form true trace = begun form ++ listing_as form (reverse trace.past)
+listing_if form false trace = begun form
 
 -- the line of each split, and how many there are, where they are asked for: with places, or without
-abbrev pub splits_if : Bool → Bool → Lookups → Option ℕ → Trace → List ℕ
-splits_if true splits lookups idle trace = places_text lookups idle trace.past
-splits_if false true lookups idle trace = splits_text lookups trace.past
-splits_if false false lookups idle trace = []
+abbrev pub splits_if : Form → Bool → Bool → Lookups → Option ℕ → Trace → List ℕ
+splits_if form true splits lookups idle trace = places_as form lookups idle trace.past
+splits_if form false true lookups idle trace = splits_as form lookups trace.past
+splits_if form false false lookups idle trace = []
 
 -- how many connections changed their server, and why, where it is asked for
-abbrev pub summary_if : Bool → Lookups → Option ℕ → Trace → List ℕ
-summary_if true lookups idle trace = summary_text lookups idle trace.past
-summary_if false lookups idle trace = []
+abbrev pub summary_if : Form → Bool → Lookups → Option ℕ → Trace → List ℕ
+summary_if form true lookups idle trace = summary_as form lookups idle trace.past
+summary_if form false lookups idle trace = []
 
 -- the report with what is wanted before it, and after it
 abbrev pub report_of : Lookups → Option ℕ → Wanted → Trace → ℕ → InputEnd → List ℕ
 report_of lookups idle wanted trace packets ending =
-    ((listing_if wanted.list trace ++ splits_if wanted.places wanted.splits lookups idle trace) ++ plain_report trace packets ending) ++ summary_if wanted.summary lookups idle trace
+    ((listing_if wanted.form wanted.list trace ++ splits_if wanted.form wanted.places wanted.splits lookups idle trace)
+    ++ plain_report wanted.form trace packets ending) ++ summary_if wanted.form wanted.summary lookups idle trace
 
 -- what was sent at an event, counted from 0
 abbrev pub send_at : List LogEntry → ℕ → Option Send
 send_at history k = option_and_then (λ s. send_of s.outcome) (slice_get history k)
 
 -- why the packets of two events went where they went
-abbrev pub line_of : Lookups → Trace → ℕ → ℕ → List ℕ
-line_of lookups trace one other =
-    explained_text (explained lookups.slot (send_at (reverse trace.past) one) (send_at (reverse trace.past) other))
+abbrev pub line_of : Form → Lookups → Trace → ℕ → ℕ → List ℕ
+line_of form lookups trace one other =
+    verdict_as form (explained lookups.slot (send_at (reverse trace.past) one) (send_at (reverse trace.past) other))
     (left_drained lookups (sent_at trace.past one) (sent_at trace.past other))
 
 -- the answer, by the scenario's idle limit
 abbrev pub answer_of : Lookups → Option ℕ → Query → Trace → ℕ → InputEnd → List ℕ
 answer_of lookups idle (Report wanted) trace packets ending = report_of lookups idle wanted trace packets ending
-answer_of lookups idle (Events one other) trace packets ending = line_of lookups trace one other
+answer_of lookups idle (Events one other form) trace packets ending = line_of form lookups trace one other
+
+-- how many connections there were, and how many of them changed their server, where the changes are kept
+abbrev pub counts_if : Bool → List LogEntry → Option ChangeCounts
+counts_if true past = Some (counts_of past)
+counts_if false past = None
+
+-- the same by what is asked: a report with places, or with a summary, keeps them
+abbrev pub counts_for : Query → List LogEntry → Option ChangeCounts
+counts_for (Report wanted) past = counts_if (keeps_changes wanted.places wanted.summary) past
+counts_for (Events one other form) past = None
 
 -- the scenario ran over the whole input, the output got what was sent, and the text answers what was asked
 pub record Answers (cluster : Cluster) (choice : Choice) (plan : Planned) (lookups : Lookups) (idle : Option ℕ) (asked : Query) (input input' output output' : Tape) (text : List ℕ) : Type 0 where
@@ -92,6 +104,15 @@ pub record Answers (cluster : Cluster) (choice : Choice) (plan : Planned) (looku
   pub simulated : Simulated cluster choice plan input input' output output' trace packets ending
   pub answer : text ≡ answer_of lookups idle asked trace packets ending
 
+-- the same, and these are the counts of its connections
+abbrev pub CountedAnswers : Cluster → Choice → Planned → Lookups → Option ℕ → Query → Tape → Tape → Tape → Tape → List ℕ → Option ChangeCounts → Type 0
+CountedAnswers cluster choice plan lookups idle asked input input' output output' text counts =
+    (a : Answers cluster choice plan lookups idle asked input input' output output' text) × (counts ≡ counts_for asked a.trace.past)
+
 -- the same of a scenario's cluster
 abbrev pub AnswersIn : Scenario → Query → Tape → Tape → Tape → Tape → List ℕ → Type 0
 AnswersIn s asked input input' output output' text = Answers (cluster_in s) (choice_in s) (plan_in s) (lookups_in s) s.idle asked input input' output output' text
+
+abbrev pub CountedIn : Scenario → Query → Tape → Tape → Tape → Tape → List ℕ → Option ChangeCounts → Type 0
+CountedIn s asked input input' output output' text counts =
+    CountedAnswers (cluster_in s) (choice_in s) (plan_in s) (lookups_in s) s.idle asked input input' output output' text counts

@@ -1,17 +1,30 @@
 -- What is kept of a run's events for what is wanted of it.
-use Rattle.std.specs.Prelude.{Bool, true, false, ◌||◌, not}
+use Rattle.std.specs.Prelude.{ℕ, Bool, true, false, ◌||◌, not, List, codes}
+use Rattle.json_lines.specs.declared.forms.Form.{Form}
+use Rattle.json_lines.specs.Forms.{head_as}
+use Rattle.simulate_scenario.specs.declared.asking.Query.{Query}
+use Rattle.simulate_scenario.specs.declared.asking.Query.TheVariants.{Report, Events}
 use Rattle.simulate_scenario.specs.declared.asking.Wanted.{Wanted}
+
+-- in which form the answer is
+abbrev pub form_of : Query → Form
+form_of (Report wanted) = wanted.form
+form_of (Events one other form) = form
+
+-- what a report begins with
+abbrev pub begun : Form → List ℕ
+begun form = head_as form (codes "simulate")
 
 -- the report alone is wanted
 abbrev pub is_plain : Wanted → Bool
 is_plain w = not (w.list || w.splits || w.places || w.summary)
 
--- the splits are kept by themselves: they are wanted without their places
-abbrev pub keeps_splits : Bool → Bool → Bool
-keeps_splits true splits = false
-keeps_splits false splits = splits
-
 -- the changes are kept: they are wanted with their places, or in a summary
 abbrev pub keeps_changes : Bool → Bool → Bool
 keeps_changes true summary = true
 keeps_changes false summary = summary
+
+-- the splits are kept by themselves: they are wanted, and no changes are kept, which have them too
+abbrev pub keeps_splits : Bool → Bool → Bool
+keeps_splits true splits = false
+keeps_splits false splits = splits

@@ -3,27 +3,18 @@ use Rattle.std.specs.Prelude.{ℕ, List, length, is_some}
 use Rattle.hash_laws.specs.Any.{plain_of}
 use Rattle.pool_versions.specs.Pool.{version_at}
 use Rattle.selection.specs.Candidates.{candidates_of}
-use Rattle.selection.specs.Picks.{pick_at, flow_hash, table_pick}
-use Rattle.forwarder.specs.Serving.{Pick}
 use Rattle.spreader.specs.Choices.{Choice}
+use Rattle.named_scheme.specs.Picking.{pick_by}
 use Rattle.named_spread.specs.Choosing.{choice_by}
 use Rattle.cluster_node.specs.Rules.{Rules}
 use Rattle.cluster_core.specs.Cluster.{Cluster}
 use Rattle.cluster_core.specs.Runs.{cluster_by}
 use Rattle.run_report.specs.Causes.{Lookups, lookups_of}
-use Rattle.scenario_keys.specs.declared.words.SchemeKind.{SchemeKind}
-use Rattle.scenario_keys.specs.declared.words.SchemeKind.TheVariants.{Maglev, Plain, Round}
 use Rattle.scenario.specs.declared.plan.Scenario.{Scenario}
 use Rattle.pcap_file.specs.Device.{Tape}
 use Rattle.simulation.specs.declared.fault.SimulationFault.{SimulationFault}
 use Rattle.simulation.specs.Plans.{Planned}
 use Rattle.simulation.specs.Simulated.{Stopped}
-
--- how a flow gets its backend among those that are up: by its slot in their table, by its hash, or by turns
-abbrev pub pick_by : SchemeKind → (List ℕ → ℕ) → ℕ → Pick
-pick_by Maglev plain size = λ ups x turn. table_pick plain size ups x
-pick_by Plain plain size = λ ups x turn. pick_at ups.backends (flow_hash plain x)
-pick_by Round plain size = λ ups x turn. pick_at ups.backends turn
 
 abbrev pub rules_in : Scenario → Rules
 rules_in s = record {

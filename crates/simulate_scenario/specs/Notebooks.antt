@@ -1,29 +1,30 @@
 -- What is kept of a run's events for what is asked of it.
-use Rattle.std.specs.Prelude.{◌≡◌, ℕ, Bool, true, false, List, [], length, reverse, string_bytes, slice_get}
+use Rattle.std.specs.Prelude.{◌≡◌, ℕ, Bool, true, false, List, ◌++◌, length, reverse, string_bytes, slice_get}
 use Rattle.cluster_node.specs.declared.events.LogEntry.{LogEntry}
 use Rattle.cluster_core.specs.Histories.{outcomes_of}
 use Rattle.event_trace.specs.Counting.{CountsAre}
-use Rattle.run_report.specs.Lines.{listing}
 use Rattle.run_report.specs.declared.book.SplitBook.{SplitBook}
 use Rattle.run_report.specs.Books.{IsBookOf}
 use Rattle.run_report.specs.Splits.{sent_at}
 use Rattle.connection_changes.specs.declared.book.ChangeBook.{ChangeBook}
 use Rattle.connection_changes.specs.Books.{IsChangeBookOf}
-use Rattle.simulate_scenario.specs.Asked.{keeps_splits, keeps_changes}
+use Rattle.json_lines.specs.declared.forms.Form.{Form}
+use Rattle.json_lines.specs.Forms.{listing_as}
+use Rattle.simulate_scenario.specs.Asked.{begun, keeps_splits, keeps_changes}
 use Rattle.simulate_scenario.specs.declared.asking.Query.{Query}
 use Rattle.simulate_scenario.specs.declared.asking.Wanted.{Wanted}
 use Rattle.simulate_scenario.specs.declared.asking.Query.TheVariants.{Report, Events}
 use Rattle.simulate_scenario.specs.declared.notes.Notebook.{Notebook}
 
--- the lines are those of a record, which has so many events
-pub record Lists (past : List LogEntry) (n : Notebook) : Type 0 where
+-- the text begins as this form does, and then has the lines of a record, which has so many events
+pub record Lists (form : Form) (past : List LogEntry) (n : Notebook) : Type 0 where
   pub number : n.number ≡ length past
-  pub lines : string_bytes n.lines ≡ listing (reverse past)
+  pub lines : string_bytes n.lines ≡ begun form ++ listing_as form (reverse past)
 
 -- where they are asked for, and else there are none
-abbrev pub ListsIf : Bool → List LogEntry → Notebook → Type 0
-ListsIf true past n = Lists past n
-ListsIf false past n = string_bytes n.lines ≡ []
+abbrev pub ListsIf : Form → Bool → List LogEntry → Notebook → Type 0
+ListsIf form true past n = Lists form past n
+ListsIf form false past n = string_bytes n.lines ≡ begun form
 
 -- a book of splits is the record's, where they are asked for
 abbrev pub BookIf : Bool → List LogEntry → SplitBook → Type 0
@@ -46,9 +47,9 @@ pub record KeepsTwo (one other : ℕ) (past : List LogEntry) (n : Notebook) : Ty
 
 -- what is kept beside the counts of a report
 abbrev pub KeepsMore : Wanted → List LogEntry → Notebook → Type 0
-KeepsMore wanted past n = ListsIf wanted.list past n × BookIf (keeps_splits wanted.places wanted.splits) past n.book × ChangesIf (keeps_changes wanted.places wanted.summary) past n.changes
+KeepsMore wanted past n = ListsIf wanted.form wanted.list past n × BookIf (keeps_splits (keeps_changes wanted.places wanted.summary) wanted.splits) past n.book × ChangesIf (keeps_changes wanted.places wanted.summary) past n.changes
 
 -- the notes are those of a record, for what is asked
 abbrev pub AreOf : Query → List LogEntry → Notebook → Type 0
 AreOf (Report wanted) past n = CountsAre (outcomes_of past) n.counts × KeepsMore wanted past n
-AreOf (Events one other) past n = KeepsTwo one other past n
+AreOf (Events one other form) past n = KeepsTwo one other past n

@@ -1,4 +1,4 @@
-//! The text that answers what is asked of a run.
+//! What answers what is asked of a run.
 ghost use Rattle.std.specs.Prelude.{◌≡◌, ◌≤◌, ◌++◌, List, IfOk, OnOk, IfSome, string_bytes, reverse, true, option_and_then};
 ghost use Rattle.hash_laws.specs.Any.{plain_of};
 ghost use Rattle.selection.specs.Picks.{slot_of_flow};
@@ -8,27 +8,28 @@ ghost use Rattle.cluster_core.specs.Explain.{send_of, explained, PickedSend};
 ghost use Rattle.cluster_core.specs.Deployed.{rules_of, cluster_of, IsBalanced};
 ghost use Rattle.event_trace.specs.Counting.{CountsAre};
 ghost use Rattle.simulate_scenario.specs.declared.asking.Query.TheVariants.{Report};
-ghost use Rattle.run_report.specs.Verdicts.{explained_text, left_drained};
+ghost use Rattle.run_report.specs.Verdicts.{left_drained};
 ghost use Rattle.cluster_node.specs.declared.events.LogEntry.{LogEntry};
 ghost use Rattle.run_report.specs.Books.{IsBookOf};
-ghost use Rattle.run_report.specs.Texts.{splits_text};
 ghost use Rattle.connection_changes.specs.Books.{IsChangeBookOf};
-ghost use Rattle.connection_changes.specs.Texts.{places_text, summary_text};
+ghost use Rattle.json_lines.specs.Forms.{splits_as, places_as, summary_as, verdict_as};
 ghost use Rattle.run_report.specs.Causes.{lookups_of};
 ghost use Rattle.event_trace.specs.Trace.{Trace};
-ghost use Rattle.simulate_scenario.specs.Answers.{is_cut, plain_report, splits_if, summary_if, report_of, answer_of};
+ghost use Rattle.simulate_scenario.specs.Answers.{is_cut, plain_report, splits_if, summary_if, report_of, answer_of, counts_if, counts_for};
 ghost use Rattle.simulate_scenario.specs.Asked.{keeps_splits, keeps_changes};
 ghost use Rattle.simulate_scenario.specs.Notebooks.{BookIf, ChangesIf, AreOf};
 
-use crate::asking::{Query, Wanted};
+use crate::asking::{Answer, Query, Wanted};
 use crate::notes::Notebook;
+use change_share::ChangeCounts;
 use cluster_core::{Deployment, Verdict, explain};
 use cluster_node::Outcome;
-use connection_changes::{ChangeBook, push_places, push_summary};
+use connection_changes::ChangeBook;
 use event_trace::{Counts, Task};
 use hash_laws::FlowHash;
+use json_lines::Form;
 use pcap_file::InputEnd;
-use run_report::{SplitBook, explained_text, left_drained, push_splits, report_text};
+use run_report::{SplitBook, left_drained};
 use selection::Scheme;
 use simulation::Played;
 use spreader::Spread;
@@ -46,58 +47,74 @@ pub fn is_cut(ending: InputEnd) -> bool
 
 fn plain_report<P: Spread>(
     alloc: Global,
+    form: Form,
     played: &Played<P>,
     counts: &Counts,
 ) -> Result<String, AllocError>
     requires read { played.now.play.trace.read ≤ played.now.packets }
     requires balance { IsBalanced (reverse played.now.play.trace.past) }
     requires counts { CountsAre (outcomes_of played.now.play.trace.past) counts.now }
-    ensures { IfOk result (λ s. string_bytes s ≡ plain_report played.now.play.trace played.now.packets played.now.ending) }
+    ensures { IfOk result (λ s. string_bytes s ≡ plain_report form played.now.play.trace played.now.packets played.now.ending) }
 {
     let tally = played.play.tally(played.packets);
     let totals = counts.totals();
-    report_text(alloc, tally, &totals, is_cut(played.ending))
+    form.report(alloc, tally, &totals, is_cut(played.ending))
 }
 
 // The lines of the changes, and their counts.
 fn push_places_of<S: Scheme, H: FlowHash>(
+    form: Form,
     text: &mut String,
     deployment: &Deployment<S, H>,
     changes: &ChangeBook,
 ) -> Result<(), AllocError>
     ensures { (past : List LogEntry) → IsChangeBookOf past changes.now →
-        OnOk result (string_bytes text.new ≡ string_bytes text.old ++ places_text (lookups_of (H.plain deployment.now.setup.hash) deployment.now.setup.size deployment.now.catalogue) deployment.now.setup.idle past) }
+        OnOk result (string_bytes text.new ≡ string_bytes text.old ++ places_as form (lookups_of (H.plain deployment.now.setup.hash) deployment.now.setup.size deployment.now.catalogue) deployment.now.setup.idle past) }
 {
     let setup = deployment.setup();
     let catalogue = deployment.catalogue();
-    push_places(text, &setup.hash(), catalogue, setup.idle(), changes)
+    form.push_places(text, &setup.hash(), catalogue, setup.idle(), changes)
 }
 
 // The lines of the splits, and their counts.
 fn push_splits_of<S: Scheme, H: FlowHash>(
+    form: Form,
     text: &mut String,
     deployment: &Deployment<S, H>,
     book: &SplitBook,
 ) -> Result<(), AllocError>
     ensures { (past : List LogEntry) → IsBookOf past book.now →
-        OnOk result (string_bytes text.new ≡ string_bytes text.old ++ splits_text (lookups_of (H.plain deployment.now.setup.hash) deployment.now.setup.size deployment.now.catalogue) past) }
+        OnOk result (string_bytes text.new ≡ string_bytes text.old ++ splits_as form (lookups_of (H.plain deployment.now.setup.hash) deployment.now.setup.size deployment.now.catalogue) past) }
 {
     let hash = deployment.setup().hash();
-    push_splits(text, &hash, deployment.catalogue(), book)
+    form.push_splits(text, &hash, deployment.catalogue(), book)
 }
 
 // How many connections changed their server, and why.
 fn push_summary_of<S: Scheme, H: FlowHash>(
     alloc: Global,
+    form: Form,
     text: &mut String,
     deployment: &Deployment<S, H>,
     changes: &ChangeBook,
 ) -> Result<(), AllocError>
     ensures { (past : List LogEntry) → IsChangeBookOf past changes.now →
-        OnOk result (string_bytes text.new ≡ string_bytes text.old ++ summary_text (lookups_of (H.plain deployment.now.setup.hash) deployment.now.setup.size deployment.now.catalogue) deployment.now.setup.idle past) }
+        OnOk result (string_bytes text.new ≡ string_bytes text.old ++ summary_as form (lookups_of (H.plain deployment.now.setup.hash) deployment.now.setup.size deployment.now.catalogue) deployment.now.setup.idle past) }
 {
     let idle = deployment.setup().idle();
-    push_summary(alloc, text, deployment.catalogue(), idle, changes)
+    form.push_summary(alloc, text, deployment.catalogue(), idle, changes)
+}
+
+// The book of the splits. Where changes are kept it is theirs.
+fn splits_in<'a>(wanted: Wanted, book: &'a SplitBook, changes: &'a ChangeBook) -> &'a SplitBook
+    ensures { (past : List LogEntry) → wanted.splits ≡ true → BookIf (keeps_splits (keeps_changes wanted.places wanted.summary) wanted.splits) past book.now → ChangesIf (keeps_changes wanted.places wanted.summary) past changes.now →
+        IsBookOf past result.now }
+{
+    if wanted.keeps_changes() {
+        changes.splits()
+    } else {
+        book
+    }
 }
 
 // What is reported of the splits, where it is asked for.
@@ -108,13 +125,18 @@ fn push_splits_if<S: Scheme, H: FlowHash>(
     book: &SplitBook,
     changes: &ChangeBook,
 ) -> Result<(), AllocError>
-    ensures { (trace : Trace) → BookIf (keeps_splits wanted.places wanted.splits) trace.past book.now → ChangesIf (keeps_changes wanted.places wanted.summary) trace.past changes.now →
-        OnOk result (string_bytes text.new ≡ string_bytes text.old ++ splits_if wanted.places wanted.splits (lookups_of (H.plain deployment.now.setup.hash) deployment.now.setup.size deployment.now.catalogue) deployment.now.setup.idle trace) }
+    ensures { (trace : Trace) → BookIf (keeps_splits (keeps_changes wanted.places wanted.summary) wanted.splits) trace.past book.now → ChangesIf (keeps_changes wanted.places wanted.summary) trace.past changes.now →
+        OnOk result (string_bytes text.new ≡ string_bytes text.old ++ splits_if wanted.form wanted.places wanted.splits (lookups_of (H.plain deployment.now.setup.hash) deployment.now.setup.size deployment.now.catalogue) deployment.now.setup.idle trace) }
 {
     if wanted.places {
-        push_places_of(text, deployment, changes)
+        push_places_of(wanted.form, text, deployment, changes)
     } else if wanted.splits {
-        push_splits_of(text, deployment, book)
+        push_splits_of(
+            wanted.form,
+            text,
+            deployment,
+            splits_in(wanted, book, changes),
+        )
     } else {
         Ok(())
     }
@@ -129,12 +151,12 @@ fn push_summary_if<S: Scheme, H: FlowHash>(
     changes: &ChangeBook,
 ) -> Result<(), AllocError>
     ensures { (trace : Trace) → ChangesIf (keeps_changes wanted.places wanted.summary) trace.past changes.now →
-        OnOk result (string_bytes text.new ≡ string_bytes text.old ++ summary_if wanted.summary (lookups_of (H.plain deployment.now.setup.hash) deployment.now.setup.size deployment.now.catalogue) deployment.now.setup.idle trace) }
+        OnOk result (string_bytes text.new ≡ string_bytes text.old ++ summary_if wanted.form wanted.summary (lookups_of (H.plain deployment.now.setup.hash) deployment.now.setup.size deployment.now.catalogue) deployment.now.setup.idle trace) }
 {
     if !wanted.summary {
         return Ok(());
     }
-    push_summary_of(alloc, text, deployment, changes)
+    push_summary_of(alloc, wanted.form, text, deployment, changes)
 }
 
 fn report<S: Scheme, H: FlowHash, P: Spread>(
@@ -149,7 +171,7 @@ fn report<S: Scheme, H: FlowHash, P: Spread>(
     requires notes { AreOf (Report wanted) played.now.play.trace.past notes }
     ensures { IfOk result (λ s. string_bytes s ≡ report_of (lookups_of (H.plain deployment.now.setup.hash) deployment.now.setup.size deployment.now.catalogue) deployment.now.setup.idle wanted played.now.play.trace played.now.packets played.now.ending) }
 {
-    let report = plain_report(alloc, played, &notes.counts)?;
+    let report = plain_report(alloc, wanted.form, played, &notes.counts)?;
     let mut text = notes.lines;
     push_splits_if(&mut text, deployment, wanted, &notes.book, &notes.changes)?;
     text.push_str(report.as_str())?;
@@ -178,6 +200,7 @@ fn verdict<S: Scheme, H: FlowHash>(
 
 fn line<S: Scheme, H: FlowHash>(
     alloc: Global,
+    form: Form,
     deployment: &Deployment<S, H>,
     notes: &Notebook,
 ) -> Result<String, AllocError>
@@ -185,31 +208,51 @@ fn line<S: Scheme, H: FlowHash>(
     requires other { S.STEADY ≡ true → IfSome notes.now.other (λ o. PickedSend (rules_of (λ s z. S.pick s z) (λ h. H.plain h) deployment.now) (send_of o)) }
     ensures { let lookups = lookups_of (H.plain deployment.now.setup.hash) deployment.now.setup.size deployment.now.catalogue in
         let one = option_and_then (λ o. send_of o) notes.now.one in let other = option_and_then (λ o. send_of o) notes.now.other in
-        IfOk result (λ s. string_bytes s ≡ explained_text (explained lookups.slot one other) (left_drained lookups notes.now.first notes.now.later)) }
+        IfOk result (λ s. string_bytes s ≡ verdict_as form (explained lookups.slot one other) (left_drained lookups notes.now.first notes.now.later)) }
 {
     let verdict = verdict(deployment, notes.one, notes.other);
     let drained = left_drained(deployment.catalogue(), notes.first, notes.later);
-    explained_text(alloc, &verdict, drained)
+    form.verdict(alloc, &verdict, drained)
 }
 
-/// The text that answers what is asked of a run, of whose events these are the notes.
-pub(crate) fn answer<S: Scheme, H: FlowHash, P: Spread>(
+// How many connections changed their server, where the changes are kept.
+fn counts_if(wanted: Wanted, changes: &ChangeBook) -> Option<ChangeCounts>
+    ensures { (past : List LogEntry) → ChangesIf (keeps_changes wanted.places wanted.summary) past changes.now →
+        result ≡ counts_if (keeps_changes wanted.places wanted.summary) past }
+{
+    if wanted.keeps_changes() {
+        Some(changes.counts())
+    } else {
+        None
+    }
+}
+
+/// What answers what is asked of a run, of whose events these are the notes.
+pub(crate) fn answer_to<S: Scheme, H: FlowHash, P: Spread>(
     alloc: Global,
     task: &Task<S, H, Query>,
     played: &Played<P>,
     notes: Notebook,
-) -> Result<String, AllocError>
+) -> Result<Answer, AllocError>
     requires read { played.now.play.trace.read ≤ played.now.packets }
     requires balance { IsBalanced (reverse played.now.play.trace.past) }
     requires judged { Judged (cluster_of (λ s z. S.pick s z) (λ h. H.plain h) task.now.deployment).judge played.now.play.trace.past }
     requires notes { AreOf task.now.asked played.now.play.trace.past notes }
-    ensures { IfOk result (λ s. string_bytes s ≡ answer_of (lookups_of (H.plain task.now.deployment.setup.hash) task.now.deployment.setup.size task.now.deployment.catalogue) task.now.deployment.setup.idle task.now.asked played.now.play.trace played.now.packets played.now.ending) }
+    ensures text { let setup = task.now.deployment.setup in let lookups = lookups_of (H.plain setup.hash) setup.size task.now.deployment.catalogue in
+        IfOk result (λ a. string_bytes a.text ≡ answer_of lookups setup.idle task.now.asked played.now.play.trace played.now.packets played.now.ending) }
+    ensures counts { IfOk result (λ a. a.counts ≡ counts_for task.now.asked played.now.play.trace.past) }
 {
     match task.asked {
-        Query::Report(wanted) => report(alloc, &task.deployment, played, notes, wanted),
-        Query::Events { one: _, other: _ } => {
+        Query::Report(wanted) => {
+            let counts = counts_if(wanted, &notes.changes);
+            let text = report(alloc, &task.deployment, played, notes, wanted)?;
+            Ok(Answer { text, counts })
+        }
+        Query::Events { form, .. } => {
             task.deployment.send_by_picks();
-            line(alloc, &task.deployment, &notes)
+            let text = line(alloc, form, &task.deployment, &notes)?;
+            let counts = None;
+            Ok(Answer { text, counts })
         }
     }
 }

@@ -1,5 +1,8 @@
-//! What is asked of a scenario's run.
+//! What is asked of a scenario's run, and what answers it.
 ghost use Rattle.std.specs.Prelude.{◌≡◌};
+
+use change_share::ChangeCounts;
+use json_lines::Form;
 
 /// What comes before a report, and after it. With `list` a line for each event comes first. With `splits` there is then a line
 /// for each flow that was split, and how many there were. With `places` each of these lines also tells where its two packets
@@ -11,6 +14,7 @@ pub struct Wanted {
     pub splits: bool,
     pub places: bool,
     pub summary: bool,
+    pub form: Form,
 }
 
 impl Wanted {
@@ -22,6 +26,7 @@ impl Wanted {
         splits: false,
         places: false,
         summary: false,
+        form: Form::Plain,
     };
 
     /// Whether it is the report alone.
@@ -32,12 +37,12 @@ impl Wanted {
         !(self.list || self.splits || self.places || self.summary)
     }
 
-    /// Whether the splits are kept by themselves.
+    /// Whether the splits are kept by themselves: a book of changes has them too.
     #[inline(always)]
     pub(crate) fn keeps_splits(self) -> bool
-        ensures { result ≡ keeps_splits self.places self.splits }
+        ensures { result ≡ keeps_splits (keeps_changes self.places self.summary) self.splits }
     {
-        self.splits && !self.places
+        self.splits && !self.keeps_changes()
     }
 
     /// Whether the changes are kept.
@@ -55,5 +60,27 @@ pub enum Query {
     /// Its report, with what is wanted before it.
     Report(Wanted),
     /// Why the packets of two events, counted from 0, went where they went.
-    Events { one: u64, other: u64 },
+    Events { one: u64, other: u64, form: Form },
+}
+
+impl Query {
+    ghost use Rattle.simulate_scenario.specs.Asked.{form_of};
+
+    /// In which form the answer is.
+    pub(crate) fn form(&self) -> Form
+        ensures { result ≡ form_of self.now }
+    {
+        match *self {
+            Query::Report(wanted) => wanted.form,
+            Query::Events { form, .. } => form,
+        }
+    }
+}
+
+/// The text that answers what is asked of a run. Where its changes were kept there is also how many connections it had, and
+/// how many of them changed their server: where places are wanted, or a summary.
+#[derive(Debug, Drop)]
+pub struct Answer {
+    pub text: String,
+    pub counts: Option<ChangeCounts>,
 }

@@ -8,5 +8,5 @@ mod notes;
 mod playing;
 
 pub use answering::is_cut;
-pub use asking::{Query, Wanted};
+pub use asking::{Answer, Query, Wanted};
 pub use playing::play_scenario;

@@ -13,7 +13,8 @@ use cluster_node::{Event, Outcome, Packet};
 use connection_changes::ChangeBook;
 use connection_table::TableKey;
 use event_trace::{Counts, Notes};
-use run_report::{Sending, SplitBook, push_line, sent_by};
+use json_lines::Form;
+use run_report::{Sending, SplitBook, sent_by};
 use std::alloc::{AllocError, Global};
 
 /// For a report the counts, and the lines, the splits and the changes where it has them; else the outcomes of two events, and what they
@@ -68,13 +69,15 @@ fn kept_send(
 impl Notebook {
     ghost use Rattle.simulate_scenario.specs.Notebooks.{Lists, ListsIf, BookIf, ChangesIf, KeepsMore, KeepsTwo, AreOf};
 
-    /// Nothing was noted. The books of splits and of changes hash by the key.
-    pub(crate) fn new(alloc: Global, key: TableKey) -> Notebook
-        ensures { (asked : Query) → AreOf asked [] result }
+    /// Nothing was noted, for what is asked. The books of splits and of changes hash by the key.
+    pub(crate) fn make(alloc: Global, key: TableKey, asked: &Query) -> Result<Notebook, AllocError>
+        ensures { IfOk result (λ n. AreOf asked.now [] n) }
     {
-        Notebook {
+        let mut lines = String::new(alloc);
+        asked.form().push_head(&mut lines, "simulate")?;
+        Ok(Notebook {
             counts: Counts::new(),
-            lines: String::new(alloc),
+            lines,
             book: SplitBook::new(alloc, key),
             changes: ChangeBook::new(alloc, key),
             number: 0,
@@ -82,31 +85,45 @@ impl Notebook {
             other: None,
             first: None,
             later: None,
-        }
+        })
     }
 
     // The line of an event.
-    fn list(&mut self, event: &Event, outcome: &Outcome) -> Result<(), AllocError>
-        ensures lists { (past : List LogEntry) (packet : Option Packet) → Lists past self.old → OnOk result (Lists (said_by event.now packet outcome.now ∷ past) self.new) }
+    fn list(
+        &mut self,
+        form: Form,
+        event: &Event,
+        packet: Option<&Packet>,
+        outcome: &Outcome,
+    ) -> Result<(), AllocError>
+        ensures lists { (past : List LogEntry) → Lists form past self.old → OnOk result (Lists form (said_by event.now (option_copied packet.entry) outcome.now ∷ past) self.new) }
         ensures counts { self.new.counts ≡ self.old.counts }
         ensures book { self.new.book ≡ self.old.book }
         ensures changes { self.new.changes ≡ self.old.changes }
     {
-        push_line(&mut self.lines, self.number, event, outcome)?;
+        let number = self.number;
+        form.push_event(&mut self.lines, number, event, packet, outcome)?;
         self.number = next(self.number)?;
         Ok(())
     }
 
     // The same, where lines are asked for.
     #[inline(always)]
-    fn list_if(&mut self, list: bool, event: &Event, outcome: &Outcome) -> Result<(), AllocError>
-        ensures lists { (past : List LogEntry) (packet : Option Packet) → ListsIf list past self.old → OnOk result (ListsIf list (said_by event.now packet outcome.now ∷ past) self.new) }
+    fn list_if(
+        &mut self,
+        wanted: Wanted,
+        event: &Event,
+        packet: Option<&Packet>,
+        outcome: &Outcome,
+    ) -> Result<(), AllocError>
+        ensures lists { (past : List LogEntry) → ListsIf wanted.form wanted.list past self.old →
+            OnOk result (ListsIf wanted.form wanted.list (said_by event.now (option_copied packet.entry) outcome.now ∷ past) self.new) }
         ensures counts { self.new.counts ≡ self.old.counts }
         ensures book { self.new.book ≡ self.old.book }
         ensures changes { self.new.changes ≡ self.old.changes }
     {
-        if list {
-            self.list(event, outcome)
+        if wanted.list {
+            self.list(wanted.form, event, packet, outcome)
         } else {
             Ok(())
         }
@@ -158,7 +175,7 @@ impl Notebook {
         ensures more { (past : List LogEntry) → KeepsMore wanted past self.old → OnOk result (KeepsMore wanted (said_by event.now (option_copied packet.entry) outcome.now ∷ past) self.new) }
         ensures counts { self.new.counts ≡ self.old.counts }
     {
-        self.list_if(wanted.list, event, outcome)?;
+        self.list_if(wanted, event, packet, outcome)?;
         self.book_if(wanted.keeps_splits(), event, outcome)?;
         self.change_if(wanted.keeps_changes(), event, packet, outcome)
     }
@@ -218,7 +235,7 @@ impl Notes for Notebook {
     ) -> Result<(), AllocError> {
         match *asked {
             Query::Report(wanted) => self.report(wanted, event, packet, outcome),
-            Query::Events { one, other } => self.keep(one, other, event, outcome),
+            Query::Events { one, other, .. } => self.keep(one, other, event, outcome),
         }
     }
 }

@@ -6,50 +6,50 @@ ghost use Rattle.cluster_core.specs.Deployed.{cluster_of};
 ghost use Rattle.simulation.specs.Plans.{planned};
 ghost use Rattle.simulation.specs.Simulated.{Stopped};
 ghost use Rattle.run_report.specs.Causes.{lookups_of};
-ghost use Rattle.simulate_scenario.specs.Described.{pick_by, StoppedIn};
-ghost use Rattle.named_spread.specs.Choosing.{choice_by};
-ghost use Rattle.simulate_scenario.specs.Answers.{Answers, AnswersIn};
+ghost use Rattle.simulate_scenario.specs.Described.{StoppedIn};
+ghost use Rattle.named_scheme.specs.Picking.{pick_of};
+ghost use Rattle.named_spread.specs.Choosing.{choice_by, choice_of, live_of};
+ghost use Rattle.simulate_scenario.specs.Answers.{CountedAnswers, AnswersIn, CountedIn};
 ghost use Rattle.simulate_scenario.specs.Kept.{KeepsPromises};
 
-use crate::answering::answer;
-use crate::asking::Query;
+use crate::answering::answer_to;
+use crate::asking::{Answer, Query};
 use crate::notes::Notebook;
 use cluster_core::{Deployment, Setup};
 use connection_table::{PlaceTable, TableKey};
 use event_trace::{Balancers, Task};
 use hash_laws::AnyHash;
-use named_spread::spread_of;
+use named_scheme::{NamedScheme, scheme_of};
+use named_spread::{NamedSpread, spread_of};
 use pcap_file::Source;
-use scenario::{Scenario, SchemeKind, SpreadKind};
-use selection::{Maglev, PlainHash, RoundRobin, Scheme};
+use scenario::{Scenario, SpreadKind};
 use simulation::{Outlet, Plan, RunContext, SimulationFault, play_capture};
-use spreader::Spread;
 use std::alloc::Global;
 
 // Plays the steps with this spreader, and answers.
-fn play_with<S: Scheme, P: Spread, I: Source, O: Outlet>(
+fn play_with<I: Source, O: Outlet>(
     alloc: Global,
-    task: &Task<S, AnyHash, Query>,
-    spread: P,
+    task: &Task<NamedScheme, AnyHash, Query>,
+    spread: NamedSpread,
     plan: Plan<'_>,
     input: &mut I,
     output: &mut O,
-) -> Result<String, SimulationFault>
-    requires live { P.live spread ≡ below (length plan.nodes.now) }
+) -> Result<Answer, SimulationFault>
+    requires live { live_of spread ≡ below (length plan.nodes.now) }
     requires nodes { length plan.nodes.now ≤ 64 }
     requires steps { length plan.steps.now ≤ 100000 }
     requires cluster { length task.now.deployment.setup.nodes ≡ length plan.nodes.now }
     requires workers { task.now.deployment.setup.workers ≤ 16 }
-    ensures ok { let d = task.now.deployment in let k = cluster_of (λ s z. S.pick s z) (λ h. plain_of h) d in
+    ensures ok { let d = task.now.deployment in let k = cluster_of (λ s z. pick_of s z) (λ h. plain_of h) d in
         let lookups = lookups_of (plain_of d.setup.hash) d.setup.size d.catalogue in
-        IfOk result (λ s. Answers k (P.choice spread) (planned plan.entry) lookups d.setup.idle task.now.asked
-        (I.tape input.old) (I.tape input.new) (O.tape output.old) (O.tape output.new) (string_bytes s)) }
-    ensures stopped { let d = task.now.deployment in let k = cluster_of (λ s z. S.pick s z) (λ h. plain_of h) d in
-        IfErr result (Stopped k (P.choice spread) (planned plan.entry) (I.tape input.old) (I.tape input.new) (O.tape output.old) (O.tape output.new)) }
+        IfOk result (λ a. CountedAnswers k (choice_of spread) (planned plan.entry) lookups d.setup.idle task.now.asked
+        (I.tape input.old) (I.tape input.new) (O.tape output.old) (O.tape output.new) (string_bytes a.text) a.counts) }
+    ensures stopped { let d = task.now.deployment in let k = cluster_of (λ s z. pick_of s z) (λ h. plain_of h) d in
+        IfErr result (Stopped k (choice_of spread) (planned plan.entry) (I.tape input.old) (I.tape input.new) (O.tape output.old) (O.tape output.new)) }
 {
     let deployment = &task.deployment;
-    let notes = Notebook::new(alloc, deployment.setup().key());
-    let mut balancers = Balancers::<S, AnyHash, PlaceTable, Notebook>::make(
+    let notes = Notebook::make(alloc, deployment.setup().key(), &task.asked)?;
+    let mut balancers = Balancers::<NamedScheme, AnyHash, PlaceTable, Notebook>::make(
         alloc, deployment, notes,
     )?;
     deployment.keep_order();
@@ -62,8 +62,8 @@ fn play_with<S: Scheme, P: Spread, I: Source, O: Outlet>(
         Ok(played) => {
             balancers.keep_balance(deployment);
             let (_, notes) = balancers.into_parts();
-            match answer(alloc, task, &played, notes) {
-                Ok(text) => Ok(text),
+            match answer_to(alloc, task, &played, notes) {
+                Ok(answer) => Ok(answer),
                 Err(_) => Err(SimulationFault::Memory),
             }
         }
@@ -72,23 +72,23 @@ fn play_with<S: Scheme, P: Spread, I: Source, O: Outlet>(
 }
 
 // Plays with the spreader that the scenario names.
-fn play_over<S: Scheme, I: Source, O: Outlet>(
+fn play_over<I: Source, O: Outlet>(
     alloc: Global,
-    task: &Task<S, AnyHash, Query>,
+    task: &Task<NamedScheme, AnyHash, Query>,
     spread: SpreadKind,
     plan: Plan<'_>,
     input: &mut I,
     output: &mut O,
-) -> Result<String, SimulationFault>
+) -> Result<Answer, SimulationFault>
     requires nodes { length plan.nodes.now ≤ 64 }
     requires steps { length plan.steps.now ≤ 100000 }
     requires cluster { length task.now.deployment.setup.nodes ≡ length plan.nodes.now }
     requires workers { task.now.deployment.setup.workers ≤ 16 }
-    ensures ok { let d = task.now.deployment in let k = cluster_of (λ s z. S.pick s z) (λ h. plain_of h) d in
+    ensures ok { let d = task.now.deployment in let k = cluster_of (λ s z. pick_of s z) (λ h. plain_of h) d in
         let lookups = lookups_of (plain_of d.setup.hash) d.setup.size d.catalogue in
-        IfOk result (λ s. Answers k (choice_by spread (plain_of d.setup.hash)) (planned plan.entry) lookups d.setup.idle task.now.asked
-        (I.tape input.old) (I.tape input.new) (O.tape output.old) (O.tape output.new) (string_bytes s)) }
-    ensures stopped { let d = task.now.deployment in let k = cluster_of (λ s z. S.pick s z) (λ h. plain_of h) d in
+        IfOk result (λ a. CountedAnswers k (choice_by spread (plain_of d.setup.hash)) (planned plan.entry) lookups d.setup.idle task.now.asked
+        (I.tape input.old) (I.tape input.new) (O.tape output.old) (O.tape output.new) (string_bytes a.text) a.counts) }
+    ensures stopped { let d = task.now.deployment in let k = cluster_of (λ s z. pick_of s z) (λ h. plain_of h) d in
         IfErr result (Stopped k (choice_by spread (plain_of d.setup.hash)) (planned plan.entry)
         (I.tape input.old) (I.tape input.new) (O.tape output.old) (O.tape output.new)) }
 {
@@ -97,24 +97,22 @@ fn play_over<S: Scheme, I: Source, O: Outlet>(
     play_with(alloc, task, spread, plan, input, output)
 }
 
-// Plays with this scheme.
-fn play_by<S: Scheme, I: Source, O: Outlet>(
+// Plays with the scheme that the scenario names.
+fn play_named<I: Source, O: Outlet>(
     alloc: Global,
     key: TableKey,
-    scheme: S,
     scenario: Scenario,
     asked: Query,
     input: &mut I,
     output: &mut O,
-) -> Result<String, SimulationFault>
-    requires picks { S.pick scheme scenario.size ≡ pick_by scenario.scheme (plain_of scenario.hash) scenario.size }
-    ensures ok { IfOk result (λ s. AnswersIn scenario asked (I.tape input.old) (I.tape input.new) (O.tape output.old) (O.tape output.new) (string_bytes s)) }
+) -> Result<Answer, SimulationFault>
+    ensures ok { IfOk result (λ a. CountedIn scenario asked (I.tape input.old) (I.tape input.new) (O.tape output.old) (O.tape output.new) (string_bytes a.text) a.counts) }
     ensures stopped { IfErr result (StoppedIn scenario (I.tape input.old) (I.tape input.new) (O.tape output.old) (O.tape output.new)) }
 {
     let Scenario {
         size,
         hash,
-        scheme: _,
+        scheme: kind,
         spread,
         workers,
         capacity,
@@ -125,6 +123,7 @@ fn play_by<S: Scheme, I: Source, O: Outlet>(
         catalogue,
         steps,
     } = scenario;
+    let scheme = scheme_of(kind, hash);
     let Ok(setup) = Setup::new(hash, scheme, size, nodes, workers, capacity, idle) else {
         unreachable!()
     };
@@ -138,36 +137,8 @@ fn play_by<S: Scheme, I: Source, O: Outlet>(
         steps: steps.as_slice(),
     };
     match play_over(alloc, &task, spread, plan, input, output) {
-        Ok(text) => Ok(text),
+        Ok(answer) => Ok(answer),
         Err(fault) => Err(fault),
-    }
-}
-
-// Plays with the scheme that the scenario names.
-fn play_named<I: Source, O: Outlet>(
-    alloc: Global,
-    key: TableKey,
-    scenario: Scenario,
-    asked: Query,
-    input: &mut I,
-    output: &mut O,
-) -> Result<String, SimulationFault>
-    ensures ok { IfOk result (λ s. AnswersIn scenario asked (I.tape input.old) (I.tape input.new) (O.tape output.old) (O.tape output.new) (string_bytes s)) }
-    ensures stopped { IfErr result (StoppedIn scenario (I.tape input.old) (I.tape input.new) (O.tape output.old) (O.tape output.new)) }
-{
-    let hash = scenario.hash;
-    match scenario.scheme {
-        SchemeKind::Maglev => play_by(alloc, key, Maglev { hash }, scenario, asked, input, output),
-        SchemeKind::Plain => play_by(
-            alloc,
-            key,
-            PlainHash { hash },
-            scenario,
-            asked,
-            input,
-            output,
-        ),
-        SchemeKind::Round => play_by(alloc, key, RoundRobin, scenario, asked, input, output),
     }
 }
 
@@ -183,6 +154,8 @@ fn play_named<I: Source, O: Outlet>(
 /// backend is up or drains. Every slot of Maglev's tables names an up backend, never one that drains, and backends' slot
 /// counts are in proportion to their weights. The two versions of each split pick its two backends, for such a scheme, and for Maglev name them at the flow's
 /// slot.
+///
+/// By the clause `counts` the counts are those of a run that the text answers for.
 pub fn play_scenario<I: Source, O: Outlet>(
     alloc: Global,
     key: TableKey,
@@ -190,17 +163,18 @@ pub fn play_scenario<I: Source, O: Outlet>(
     asked: Query,
     input: &mut I,
     output: &mut O,
-) -> Result<String, SimulationFault>
-    ensures ok { IfOk result (λ s. AnswersIn scenario asked (I.tape input.old) (I.tape input.new) (O.tape output.old) (O.tape output.new) (string_bytes s)) }
-    ensures kept { IfOk result (λ s.
-        (a : AnswersIn scenario asked (I.tape input.old) (I.tape input.new) (O.tape output.old) (O.tape output.new) (string_bytes s)) →
-        KeepsPromises scenario a.trace) }
+) -> Result<Answer, SimulationFault>
+    ensures ok { IfOk result (λ a. AnswersIn scenario asked (I.tape input.old) (I.tape input.new) (O.tape output.old) (O.tape output.new) (string_bytes a.text)) }
+    ensures counts { IfOk result (λ a. CountedIn scenario asked (I.tape input.old) (I.tape input.new) (O.tape output.old) (O.tape output.new) (string_bytes a.text) a.counts) }
+    ensures kept { IfOk result (λ a.
+        (answers : AnswersIn scenario asked (I.tape input.old) (I.tape input.new) (O.tape output.old) (O.tape output.new) (string_bytes a.text)) →
+        KeepsPromises scenario answers.trace) }
     ensures stopped { IfErr result (StoppedIn scenario (I.tape input.old) (I.tape input.new) (O.tape output.old) (O.tape output.new)) }
 {
     let _slots = scenario.size.slots();
     scenario.catalogue.keeps_doubles_out();
     match play_named(alloc, key, scenario, asked, input, output) {
-        Ok(text) => Ok(text),
+        Ok(answer) => Ok(answer),
         Err(fault) => Err(fault),
     }
 }

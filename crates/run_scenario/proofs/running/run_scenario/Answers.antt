@@ -29,6 +29,10 @@ pub returns-in-Ok-clause-paced : goal.returns-in-Ok-clause-paced
 unfolding returns-in-Ok-clause-ok
 returns-in-Ok-clause-paced g c = λ paced. (returns-in-Ok-clause-ok g c, c.in_ok-done.ensures.paced paced)
 
+pub returns-in-Ok-clause-counts : goal.returns-in-Ok-clause-counts
+unfolding returns-in-Ok-clause-ok
+returns-in-Ok-clause-counts g c = (returns-in-Ok-clause-ok g c, c.in_ok-done.ensures.over.counted)
+
 pub returns-in-Ok-clause-kept : goal.returns-in-Ok-clause-kept
 returns-in-Ok-clause-kept g c = λ ran. keeps c.args.scenario.now.scenario ran.head.link ran.records ran.nodes ran.history c.slots-slots.ensures.listed c.keeps_doubles_out.ensures ran.run.joins
 

@@ -1,44 +1,32 @@
-use Rattle.std.proofs.Common.{◌≡◌, ◌⊎◌, List, ℕ, subst, inl, inr, string_bytes, refl}
-use Rattle.std.proofs.lemmas.Result.{IfOk-weaker, IfErr-weaker}
+use Rattle.std.proofs.Common.{List, ℕ, subst, inl, inr, string_bytes, refl}
 use Rattle.std.specs.Io.KnownBytes.{Appends}
-use Rattle.pcap_file.specs.Device.{Unfailed, PutRefused}
-use Rattle.scenario.specs.declared.playing.Played.TheVariants.{InTurn}
-use Rattle.command_faults.specs.declared.fault.CliFault.TheVariants.{Write}
-use Rattle.scenario_faults.specs.Refusals.{ScenarioFails}
-use Rattle.scenario_commands.specs.Scenarios.{Plays, RunFails, ReportFails}
+use Rattle.pcap_file.specs.Device.{PutRefused}
 use Rattle.scenario_commands.proofs.playing.play.Goals as goal
 
-pub returns-in-Ok-play_scenario-clause-played : goal.returns-in-Ok-play_scenario-clause-played
-returns-in-Ok-play_scenario-clause-played g c =
-    IfOk-weaker c.put_text.result
-    (λ _. Appends (g.R.Sink.tape c.args.report.now).bytes (g.R.Sink.tape c.put_text.new.sink).bytes c.as_str.result.now × Unfailed (g.R.Sink.tape c.args.report.now) (g.R.Sink.tape c.put_text.new.sink))
-    (λ _. Plays c.args.asked c.args.scenario.now (g.I.Source.tape c.args.input.now) (g.I.Source.tape c.play_scenario.new.input) (g.O.Outlet.tape c.args.output.now) (g.O.Outlet.tape c.play_scenario.new.output) (g.R.Sink.tape c.args.report.now) (g.R.Sink.tape c.put_text.new.sink))
-    (λ _ written. record {
-      scenario = c.in-Ok.scenario;
-      means = c.in-Ok.ensures.means;
-      answer = string_bytes c.in-Ok-play_scenario.text;
-      answers = c.in-Ok-play_scenario.ensures.ok;
-      kept = c.in-Ok-play_scenario.ensures.kept c.in-Ok-play_scenario.ensures.ok;
-      written = subst (λ (text : List ℕ). Appends (g.R.Sink.tape c.args.report.now).bytes (g.R.Sink.tape c.put_text.new.sink).bytes text) c.as_str.ensures.value written.0;
-      unfailed = written.1;
-    })
-    c.put_text.ensures.written
+pub returns-in-Ok-put_text-clause-counted : goal.returns-in-Ok-put_text-clause-counted
+returns-in-Ok-put_text-clause-counted g c = record {
+  plays = record {
+    scenario = c.in-Ok.scenario;
+    means = c.in-Ok.ensures.means;
+    answer = string_bytes c.in-Ok-play_scenario.answer.text;
+    answers = c.in-Ok-play_scenario.ensures.counts.0;
+    kept = c.in-Ok-play_scenario.ensures.kept c.in-Ok-play_scenario.ensures.counts.0;
+    written = subst (λ (text : List ℕ). Appends (g.R.Sink.tape c.args.report.now).bytes (g.R.Sink.tape c.put_text.new.sink).bytes text) c.as_str.ensures.value c.in-Ok-put_text.ensures.written.0;
+    unfailed = c.in-Ok-put_text.ensures.written.1;
+  };
+  counted = c.in-Ok-play_scenario.ensures.counts.1;
+}
 
-pub returns-in-Ok-play_scenario-clause-stopped : goal.returns-in-Ok-play_scenario-clause-stopped
-returns-in-Ok-play_scenario-clause-stopped g c =
-    IfErr-weaker c.put_text.result (λ fault. (fault ≡ Write) × PutRefused c.as_str.result.now (g.R.Sink.tape c.args.report.now) (g.R.Sink.tape c.put_text.new.sink))
-    (λ fault. (ScenarioFails InTurn fault c.args.scenario.now × ((c.play_scenario.new.input ≡ c.args.input.now) × (c.play_scenario.new.output ≡ c.args.output.now) × (c.put_text.new.sink ≡ c.args.report.now)))
-    ⊎ ((RunFails fault c.args.scenario.now (g.I.Source.tape c.args.input.now) (g.I.Source.tape c.play_scenario.new.input) (g.O.Outlet.tape c.args.output.now) (g.O.Outlet.tape c.play_scenario.new.output) × (c.put_text.new.sink ≡ c.args.report.now))
-    ⊎ ReportFails fault c.args.asked c.args.scenario.now (g.I.Source.tape c.args.input.now) (g.I.Source.tape c.play_scenario.new.input) (g.O.Outlet.tape c.args.output.now) (g.O.Outlet.tape c.play_scenario.new.output) (g.R.Sink.tape c.args.report.now) (g.R.Sink.tape c.put_text.new.sink)))
-    (λ _ is. inr (inr (record {
+pub returns-clause-stopped : goal.returns-clause-stopped
+returns-clause-stopped g c =
+    inr (inr (record {
       scenario = c.in-Ok.scenario;
       means = c.in-Ok.ensures.means;
-      answer = string_bytes c.in-Ok-play_scenario.text;
+      answer = string_bytes c.in-Ok-play_scenario.answer.text;
       answers = c.in-Ok-play_scenario.ensures.ok;
-      named = is.0;
-      refused = subst (λ (text : List ℕ). PutRefused text (g.R.Sink.tape c.args.report.now) (g.R.Sink.tape c.put_text.new.sink)) c.as_str.ensures.value is.1;
-    })))
-    c.put_text.ensures.refused
+      named = c.in-Err-put_text.ensures.refused.0;
+      refused = subst (λ (text : List ℕ). PutRefused text (g.R.Sink.tape c.args.report.now) (g.R.Sink.tape c.put_text.new.sink)) c.as_str.ensures.value c.in-Err-put_text.ensures.refused.1;
+    }))
 
 pub returns-in-Err-play_scenario-clause-stopped : goal.returns-in-Err-play_scenario-clause-stopped
 returns-in-Err-play_scenario-clause-stopped g c =

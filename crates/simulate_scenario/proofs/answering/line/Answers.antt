@@ -5,7 +5,8 @@ use Rattle.selection.specs.Candidates.{candidates_of}
 use Rattle.cluster_core.specs.declared.explaining.Verdict.{Verdict}
 use Rattle.cluster_core.specs.Explain.{send_of, explained}
 use Rattle.run_report.specs.Causes.{lookups_of}
-use Rattle.run_report.specs.Verdicts.{left_drained, explained_text}
+use Rattle.run_report.specs.Verdicts.{left_drained}
+use Rattle.json_lines.specs.Forms.{verdict_as}
 use Rattle.simulate_scenario.proofs.answering.line.Goals as goal
 
 pub returns : goal.returns
@@ -18,5 +19,5 @@ returns g c =
     let is = sym c.catalogue.ensures.catalogue in
     let drained : c.left_drained-drained.result ≡ left_drained lookups notes.first notes.later =
     c.left_drained-drained.ensures lookups (ap (λ (p : Pools). (λ v x. candidates_of p v x)) is) (ap (λ (p : Pools). p.versions) is) in
-    subst (λ (b : Bool). IfOk c.explained_text.result (λ s. string_bytes s ≡ explained_text (explained lookups.slot one other) b)) drained
-    (subst (λ (v : Verdict). IfOk c.explained_text.result (λ s. string_bytes s ≡ explained_text v c.left_drained-drained.result)) c.verdict-verdict.ensures c.explained_text.ensures)
+    subst (λ (b : Bool). IfOk c.verdict.result (λ s. string_bytes s ≡ verdict_as c.args.form (explained lookups.slot one other) b)) drained
+    (subst (λ (v : Verdict). IfOk c.verdict.result (λ s. string_bytes s ≡ verdict_as c.args.form v c.left_drained-drained.result)) c.verdict-verdict.ensures c.verdict.ensures)

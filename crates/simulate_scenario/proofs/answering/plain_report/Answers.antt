@@ -9,4 +9,4 @@ pub totals-totals-requires : goal.totals-totals-requires
 totals-totals-requires g c = (outcomes_of c.args.played.now.play.trace.past, c.requires.counts, balanced_record c.args.played.now.play.trace.past c.requires.balance)
 
 pub returns : goal.returns
-returns g c = told string_bytes c.report_text.result _ _ _ _ _ _ c.tally-tally.ensures (c.totals-totals.ensures ∙ totals_told c.args.played.now.play.trace.past c.args.counts.now c.requires.counts) c.is_cut.ensures c.report_text.ensures
+returns g c = told c.args.form string_bytes c.report.result _ _ _ _ _ _ c.tally-tally.ensures (c.totals-totals.ensures ∙ totals_told c.args.played.now.play.trace.past c.args.counts.now c.requires.counts) c.is_cut.ensures c.report.ensures

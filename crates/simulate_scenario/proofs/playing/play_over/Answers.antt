@@ -3,19 +3,20 @@ use Rattle.std.specs.Prelude.{IfOk}
 use Rattle.hash_laws.specs.declared.any.AnyHash.{AnyHash}
 use Rattle.hash_laws.specs.Any.{plain_of}
 use Rattle.spreader.specs.Choices.{Choice}
+use Rattle.named_scheme.specs.Picking.{pick_of}
 use Rattle.named_spread.specs.Choosing.{choice_by}
 use Rattle.cluster_core.specs.Deployed.{cluster_of}
 use Rattle.run_report.specs.Causes.{lookups_of}
 use Rattle.simulation.specs.Plans.{planned}
-use Rattle.simulate_scenario.specs.Answers.{Answers}
+use Rattle.simulate_scenario.specs.Answers.{CountedAnswers}
 use Rattle.simulate_scenario.proofs.playing.play_over.Goals as goal
 
 pub returns-clause-ok : goal.returns-clause-ok
 returns-clause-ok g c =
     let d = c.args.task.now.deployment in
-    let k = cluster_of (λ s z. g.S.Scheme.pick s z) (λ h. plain_of h) d in
+    let k = cluster_of (λ s z. pick_of s z) (λ h. plain_of h) d in
     let lookups = lookups_of (plain_of d.setup.hash) d.setup.size d.catalogue in
     let hash : c.hash-hash.result ≡ d.setup.hash = c.hash-hash.ensures ∙ ap (λ s. s.hash) c.setup.ensures.setup in
     let choice = c.in_ok-spread.ensures.choice ∙ ap (λ (h : AnyHash). choice_by c.args.spread (plain_of h)) hash in
-    subst (λ (x : Choice). IfOk c.play_with.result (λ s. Answers k x (planned c.args.plan) lookups d.setup.idle c.args.task.now.asked
-    (g.I.Source.tape c.args.input.now) (g.I.Source.tape c.play_with.new.input) (g.O.Outlet.tape c.args.output.now) (g.O.Outlet.tape c.play_with.new.output) (string_bytes s))) choice c.play_with.ensures.ok
+    subst (λ (x : Choice). IfOk c.play_with.result (λ a. CountedAnswers k x (planned c.args.plan) lookups d.setup.idle c.args.task.now.asked
+    (g.I.Source.tape c.args.input.now) (g.I.Source.tape c.play_with.new.input) (g.O.Outlet.tape c.args.output.now) (g.O.Outlet.tape c.play_with.new.output) (string_bytes a.text) a.counts)) choice c.play_with.ensures.ok

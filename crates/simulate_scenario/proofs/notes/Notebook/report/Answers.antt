@@ -18,4 +18,4 @@ pub returns : goal.returns
 returns c = λ past h.
     then_ok c.more.result _ _
     (λ k. (subst (λ (x : Counts). CountsAre (outcomes_of (said_by c.args.event.now (option_copied c.args.packet) c.args.outcome.now ∷ past)) x) (sym c.more.ensures.counts) (c.in_ok-count.ensures (outcomes_of past) h.0), k))
-    (c.more.ensures.more past (lists_same c.args.wanted.list past c.args.self.now _ refl refl h.1.0, h.1.1, h.1.2))
+    (c.more.ensures.more past (lists_same c.args.wanted.form c.args.wanted.list past c.args.self.now _ refl refl h.1.0, h.1.1, h.1.2))

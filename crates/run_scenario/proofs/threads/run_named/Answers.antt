@@ -1,6 +1,8 @@
-use Rattle.std.proofs.Common.{◌≡◌, ◌↔◌, List, map, [], sym, ◌∙◌, subst}
+use Rattle.std.proofs.Common.{◌≡◌, ◌↔◌, ℕ, List, map, [], ap, sym, ◌∙◌, subst}
 use Rattle.std.specs.Prelude.{All, IfOk, IsTrue}
 use Rattle.hash_laws.specs.Any.{plain_of}
+use Rattle.forwarder.specs.Serving.{Pick}
+use Rattle.named_scheme.specs.Picking.{pick_of}
 use Rattle.cluster_core.specs.Runs.{verdicts}
 use Rattle.cluster_core.specs.Setups.{rules_for}
 use Rattle.cluster_node.specs.Rules.{Rules}
@@ -10,17 +12,17 @@ use Rattle.run_scenario.specs.PrivateHistories.{AreEven}
 use Rattle.run_scenario.proofs.Audited.{all_told}
 use Rattle.run_scenario.proofs.OneByOne.{are_even}
 use Rattle.run_scenario.proofs.Ruled.{same_rules, same_fixed}
-use Rattle.run_scenario.proofs.threads.run_by.Goals as goal
+use Rattle.run_scenario.proofs.threads.run_named.Goals as goal
 
 pub judged-agrees-requires-clause-even : goal.judged-agrees-requires-clause-even
 judged-agrees-requires-clause-even g c κs within =
-    let rules : Rules = rules_for (λ s z. g.S.Scheme.pick s z) (λ h. plain_of h) c.keyed-setup.result c.args.task.now.scenario.now.catalogue in
+    let rules : Rules = rules_for (λ s z. pick_of s z) (λ h. plain_of h) c.keyed-setup.result c.args.task.now.scenario.now.catalogue in
     subst (λ (ns : List NodeRecord). AreEven ns) (sym c.as_slice-3.ensures.value)
     (are_even rules c.args.task.now.packets.now c.args.task.now.scenario.now.ring 0 (map (λ l. l.items) c.args.task.now.commands.now) c.in_ok-run.run'.nodes.items c.in_ok-run.ensures.runs)
 
 pub returns-clause-audit : goal.returns-clause-audit
 returns-clause-audit g c =
-    let rules : Rules = rules_for (λ s z. g.S.Scheme.pick s z) (λ h. plain_of h) c.keyed-setup.result c.args.task.now.scenario.now.catalogue in
+    let rules : Rules = rules_for (λ s z. pick_of s z) (λ h. plain_of h) c.keyed-setup.result c.args.task.now.scenario.now.catalogue in
     let Agrees : NodeRecord → Type 0 = λ r. r.outcomes.items ≡ verdicts rules [] c.args.task.now.packets.now r.events.items in
     let told = all_told rules c.args.task.now.packets.now c.args.task.now.scenario.now.ring 0 (map (λ l. l.items) c.args.task.now.commands.now) c.in_ok-run.run'.nodes.items c.in_ok-run.ensures.runs in
     let judged : IsTrue c.in_ok-agrees.field-0 ↔ All Agrees c.as_slice-3.result.now =
@@ -29,5 +31,6 @@ returns-clause-audit g c =
 
 pub returns-clause-runs : goal.returns-clause-runs
 returns-clause-runs g c =
-    let is = same_rules (λ s z. g.S.Scheme.pick s z) c.args.scheme c.args.task.now.scenario.now c.keyed-setup.result c.requires.picks (c.keyed-setup.ensures ∙ c.in-Ok.ensures.1 ∙ same_fixed c.args.scheme c.args.task.now.scenario.now c.in_ok-nodes.nodes.items (c.in_ok-nodes.ensures.items ∙ c.as_slice.ensures.value)) in
+    let picks = ap (λ (pick : ℕ → Pick). pick c.args.task.now.scenario.now.size) c.scheme_of-scheme.ensures in
+    let is = same_rules (λ s z. pick_of s z) c.scheme_of-scheme.result c.args.task.now.scenario.now c.keyed-setup.result picks (c.keyed-setup.ensures ∙ c.in-Ok.ensures.1 ∙ same_fixed c.scheme_of-scheme.result c.args.task.now.scenario.now c.in_ok-nodes.nodes.items (c.in_ok-nodes.ensures.items ∙ c.as_slice.ensures.value)) in
     subst (λ (rules : Rules). AreRuns rules c.args.task.now.packets.now c.args.task.now.scenario.now.ring 0 (map (λ l. l.items) c.args.task.now.commands.now) c.in_ok-run.run'.nodes.items) is c.in_ok-run.ensures.runs

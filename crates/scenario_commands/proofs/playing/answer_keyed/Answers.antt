@@ -1,6 +1,6 @@
 use Rattle.std.proofs.Common.{inl, inr}
 use Rattle.scenario_commands.proofs.Unkept.{never_written}
-use Rattle.scenario_commands.proofs.playing.explain_keyed.Goals as goal
+use Rattle.scenario_commands.proofs.playing.answer_keyed.Goals as goal
 
 pub returns-in-Err-clause-stopped : goal.returns-in-Err-clause-stopped
 returns-in-Err-clause-stopped g c = elim (c.in-Err.ensures.stopped) [
@@ -10,3 +10,6 @@ returns-in-Err-clause-stopped g c = elim (c.in-Err.ensures.stopped) [
     | inr s ↦ inr s
   ])
 ]
+
+pub returns-in-Ok-clause-played : goal.returns-in-Ok-clause-played
+returns-in-Ok-clause-played g c = c.in-Ok.ensures.counted.plays
