@@ -8,6 +8,7 @@
 mod counts;
 mod greedy;
 mod names;
+mod objects;
 mod order_command;
 mod orders;
 mod rollout;

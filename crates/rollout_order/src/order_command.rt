@@ -7,6 +7,7 @@ ghost use Rattle.rollout_order.specs.OrderPlans.{ShowsOrders, IsOrderPlan};
 use crate::rollout::rollout_of;
 use crate::text::orders_text_of;
 use command_faults::{CliFault, put_text};
+use json_lines::Form;
 use pcap_file::Sink;
 use rollout_plan::{rule_of, version_of};
 use scenario::{Played, Scenario, read};
@@ -14,20 +15,32 @@ use scenario_faults::scenario_fault;
 use std::alloc::Global;
 
 // The text of the orders from one version of a scenario to another.
-fn text_of(alloc: Global, scenario: &Scenario, from: u32, to: u32) -> Result<String, CliFault>
-    ensures text { IfOk result (λ s. ShowsOrders scenario.now from to (string_bytes s)) }
+fn text_of(
+    alloc: Global,
+    form: Form,
+    scenario: &Scenario,
+    from: u32,
+    to: u32,
+) -> Result<String, CliFault>
+    ensures text { IfOk result (λ s. ShowsOrders form scenario.now from to (string_bytes s)) }
     ensures fault { IfErr result (λ fault. AskedFails fault (has_versions scenario.now from (Some to))) }
     ensures unwritten { IfErr result (λ fault. fault ≢ CliFault.Write) }
 {
     let before = version_of(scenario, from)?;
     let after = version_of(scenario, to)?;
     let rollout = rollout_of(alloc, rule_of(scenario), before, after)?;
-    Ok(orders_text_of(alloc, &rollout)?)
+    Ok(orders_text_of(alloc, form, &rollout)?)
 }
 
 // The same of the scenario that a text means.
-fn text_for(alloc: Global, scenario: &[u8], from: u32, to: u32) -> Result<String, CliFault>
-    ensures text { IfOk result (λ s. IsOrderPlan scenario.now from to (string_bytes s)) }
+fn text_for(
+    alloc: Global,
+    form: Form,
+    scenario: &[u8],
+    from: u32,
+    to: u32,
+) -> Result<String, CliFault>
+    ensures text { IfOk result (λ s. IsOrderPlan form scenario.now from to (string_bytes s)) }
     ensures fault { IfErr result (λ fault. PlanFails fault scenario.now from (Some to)) }
     ensures unwritten { IfErr result (λ fault. fault ≢ CliFault.Write) }
 {
@@ -35,13 +48,13 @@ fn text_for(alloc: Global, scenario: &[u8], from: u32, to: u32) -> Result<String
         Ok(scenario) => scenario,
         Err(fault) => return Err(scenario_fault(fault)),
     };
-    match text_of(alloc, &scenario, from, to) {
+    match text_of(alloc, form, &scenario, from, to) {
         Ok(text) => Ok(text),
         Err(fault) => Err(fault),
     }
 }
 
-/// The command `plan --order`: writes in which orders the servers that leave from a scenario's version `from` to its version
+/// The command `plan --order` in a form: writes in which orders the servers that leave from a scenario's version `from` to its version
 /// `to` can be replaced one by one, and how many slots each order moves though their servers stay.
 ///
 /// A step makes the next server that leaves, and the next by name of those that join, what they are after. After the last step
@@ -50,17 +63,18 @@ fn text_for(alloc: Global, scenario: &[u8], from: u32, to: u32) -> Result<String
 /// versions. Faults are those of `plan`; after any but `Write` nothing was written.
 pub fn order<S: Sink>(
     alloc: Global,
+    form: Form,
     scenario: &[u8],
     from: u32,
     to: u32,
     out: &mut S,
 ) -> Result<(), CliFault>
-    ensures written { OnOk result (Prints (IsOrderPlan scenario.now from to) (S.tape out.old) (S.tape out.new)) }
-    ensures broken { IfErr result (λ fault. fault ≡ CliFault.Write → BreaksOff (IsOrderPlan scenario.now from to) (S.tape out.old) (S.tape out.new)) }
+    ensures written { OnOk result (Prints (IsOrderPlan form scenario.now from to) (S.tape out.old) (S.tape out.new)) }
+    ensures broken { IfErr result (λ fault. fault ≡ CliFault.Write → BreaksOff (IsOrderPlan form scenario.now from to) (S.tape out.old) (S.tape out.new)) }
     ensures silent { IfErr result (λ fault. fault ≢ CliFault.Write → out.new ≡ out.old) }
     ensures fault { IfErr result (λ fault. PlanFails fault scenario.now from (Some to)) }
 {
-    let text = match text_for(alloc, scenario, from, to) {
+    let text = match text_for(alloc, form, scenario, from, to) {
         Ok(text) => text,
         Err(fault) => return Err(fault),
     };

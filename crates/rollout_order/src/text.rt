@@ -1,11 +1,13 @@
 //! The text of `plan --order`.
 ghost use Rattle.std.specs.Prelude.{◌≡◌, ◌∷◌, [], ◌++◌, true, IfOk, OnOk, string_bytes};
 ghost use Rattle.std.specs.List.{flat_map};
-ghost use Rattle.rollout_order.specs.Text.{step_text, order_line, head_line, orders_text, IsOrdersText};
+ghost use Rattle.rollout_order.specs.Text.{step_text, order_line, head_line, order_line_as, head_line_as, orders_text_as, IsOrdersText};
 
 use crate::greedy::greedy_order;
+use crate::objects;
 use crate::orders::{Order, ranked_orders};
 use crate::rollout::Rollout;
+use json_lines::{Form, push_json_head};
 use std::alloc::{AllocError, Global};
 use std::fmt;
 
@@ -51,7 +53,7 @@ fn push_steps(text: &mut String, rollout: &Rollout, steps: &[usize]) -> Result<(
 }
 
 #[tactic(auto, unfolding(crate::specs::Text::order_line))]
-fn push_order(text: &mut String, rollout: &Rollout, order: &Order) -> Result<(), AllocError>
+fn push_plain_order(text: &mut String, rollout: &Rollout, order: &Order) -> Result<(), AllocError>
     ensures { OnOk result (string_bytes text.new ≡ string_bytes text.old ++ order_line rollout.now order.now) }
 {
     let moved = order.moved;
@@ -60,17 +62,36 @@ fn push_order(text: &mut String, rollout: &Rollout, order: &Order) -> Result<(),
     text.push_str("\n")
 }
 
-fn push_orders(text: &mut String, rollout: &Rollout, orders: &[Order]) -> Result<(), AllocError>
-    ensures { OnOk result (string_bytes text.new ≡ string_bytes text.old ++ flat_map (order_line rollout.now) orders.now) }
+fn push_order(
+    text: &mut String,
+    form: Form,
+    rollout: &Rollout,
+    order: &Order,
+) -> Result<(), AllocError>
+    ensures { OnOk result (string_bytes text.new ≡ string_bytes text.old ++ order_line_as form rollout.now order.now) }
+{
+    match form {
+        Form::Plain => push_plain_order(text, rollout, order),
+        Form::Json => objects::push_order(text, rollout, order),
+    }
+}
+
+fn push_orders(
+    text: &mut String,
+    form: Form,
+    rollout: &Rollout,
+    orders: &[Order],
+) -> Result<(), AllocError>
+    ensures { OnOk result (string_bytes text.new ≡ string_bytes text.old ++ flat_map (order_line_as form rollout.now) orders.now) }
 {
     for order in orders {
-        push_order(text, rollout, order)?;
+        push_order(text, form, rollout, order)?;
     }
     Ok(())
 }
 
 #[tactic(auto, unfolding(crate::specs::Text::head_line))]
-fn push_head(
+fn push_plain_head(
     text: &mut String,
     rollout: &Rollout,
     count: usize,
@@ -83,36 +104,68 @@ fn push_head(
     write!(text, "servers {servers} orders {count}{greedy}\n")
 }
 
+fn push_json_orders(
+    text: &mut String,
+    rollout: &Rollout,
+    count: usize,
+    greedy: bool,
+) -> Result<(), AllocError>
+    ensures { OnOk result (string_bytes text.new ≡ string_bytes text.old ++ head_line_as Form.Json rollout.now count greedy) }
+{
+    push_json_head(text, "plan")?;
+    objects::push_orders(text, rollout.leavers.len(), count, greedy)
+}
+
+fn push_head(
+    text: &mut String,
+    form: Form,
+    rollout: &Rollout,
+    count: usize,
+    greedy: bool,
+) -> Result<(), AllocError>
+    ensures { OnOk result (string_bytes text.new ≡ string_bytes text.old ++ head_line_as form rollout.now count greedy) }
+{
+    match form {
+        Form::Plain => push_plain_head(text, rollout, count, greedy),
+        Form::Json => push_json_orders(text, rollout, count, greedy),
+    }
+}
+
 fn lines_of(
     alloc: Global,
+    form: Form,
     rollout: &Rollout,
     orders: &[Order],
     greedy: bool,
 ) -> Result<String, AllocError>
-    ensures { IfOk result (λ s. string_bytes s ≡ orders_text rollout.now orders.now greedy) }
+    ensures { IfOk result (λ s. string_bytes s ≡ orders_text_as form rollout.now orders.now greedy) }
 {
     let mut text = String::new(alloc);
-    push_head(&mut text, rollout, orders.len(), greedy)?;
-    push_orders(&mut text, rollout, orders)?;
+    push_head(&mut text, form, rollout, orders.len(), greedy)?;
+    push_orders(&mut text, form, rollout, orders)?;
     Ok(text)
 }
 
-fn line_of(alloc: Global, rollout: &Rollout, order: Order) -> Result<String, AllocError>
-    ensures { IfOk result (λ s. string_bytes s ≡ orders_text rollout.now (order ∷ []) true) }
+fn line_of(alloc: Global, form: Form, rollout: &Rollout, order: Order) -> Result<String, AllocError>
+    ensures { IfOk result (λ s. string_bytes s ≡ orders_text_as form rollout.now (order ∷ []) true) }
 {
     let orders = vec![in alloc; order]?;
-    lines_of(alloc, rollout, orders.as_slice(), true)
+    lines_of(alloc, form, rollout, orders.as_slice(), true)
 }
 
 /// The orders of what is replaced: all of few servers, one of more.
-pub(crate) fn orders_text_of(alloc: Global, rollout: &Rollout) -> Result<String, AllocError>
-    ensures { IfOk result (λ s. IsOrdersText rollout.now (string_bytes s)) }
+pub(crate) fn orders_text_of(
+    alloc: Global,
+    form: Form,
+    rollout: &Rollout,
+) -> Result<String, AllocError>
+    ensures { IfOk result (λ s. IsOrdersText form rollout.now (string_bytes s)) }
 {
     if rollout.leavers.len() <= MOST_TRIED {
         let orders = ranked_orders(alloc, rollout)?;
-        lines_of(alloc, rollout, orders.as_slice(), false)
+        lines_of(alloc, form, rollout, orders.as_slice(), false)
     } else {
         let order = greedy_order(alloc, rollout)?;
-        line_of(alloc, rollout, order)
+        line_of(alloc, form, rollout, order)
     }
 }

@@ -3,3 +3,4 @@ pub mod SlotCounts
 pub mod Least
 pub mod Once
 pub mod Shown
+pub mod Blocks

@@ -10,36 +10,42 @@ use Rattle.scenario_faults.specs.Refusals.{ScenarioFails}
 use Rattle.command_faults.specs.declared.fault.CliFault.{CliFault}
 use Rattle.command_faults.specs.declared.fault.CliFault.TheVariants.{Pool, Write, Memory}
 use Rattle.rollout_plan.specs.Tables.{rule_of}
-use Rattle.rollout_plan.specs.Text.{plan_text, version_text}
+use Rattle.json_lines.specs.declared.forms.Form.{Form}
+use Rattle.json_lines.specs.declared.forms.Form.TheVariants.{Plain}
+use Rattle.rollout_plan.specs.Forms.{plan_text_as, version_text_as}
 
 -- a scenario's version of a number
 abbrev pub version_in : Scenario → ℕ → Option Version
 version_in s n = version_at n s.catalogue.versions
 
 -- the text is what one version of a scenario has
-pub record ShowsVersion (s : Scenario) (number : ℕ) (text : List ℕ) : Type 0 where
+pub record ShowsVersion (form : Form) (s : Scenario) (number : ℕ) (text : List ℕ) : Type 0 where
   pub version : Version
   pub of_number : version_in s number ≡ Some version
-  pub is : text ≡ version_text (rule_of s) version
+  pub is : text ≡ version_text_as form (rule_of s) version
 
 -- the text is what changes from one version of a scenario to another
-pub record ShowsChange (s : Scenario) (from to : ℕ) (text : List ℕ) : Type 0 where
+pub record ShowsChange (form : Form) (s : Scenario) (from to : ℕ) (text : List ℕ) : Type 0 where
   pub before : Version
   pub after : Version
   pub of_from : version_in s from ≡ Some before
   pub of_to : version_in s to ≡ Some after
-  pub is : text ≡ plan_text (rule_of s) before after
+  pub is : text ≡ plan_text_as form (rule_of s) before after
 
--- the text is what was asked of a scenario: of one version, or of two
-abbrev pub Shows : Scenario → ℕ → Option ℕ → List ℕ → Type 0
-Shows s from None text = ShowsVersion s from text
-Shows s from (Some to) text = ShowsChange s from to text
+-- the text is what was asked of a scenario, in a form: of one version, or of two
+abbrev pub ShowsAs : Form → Scenario → ℕ → Option ℕ → List ℕ → Type 0
+ShowsAs form s from None text = ShowsVersion form s from text
+ShowsAs form s from (Some to) text = ShowsChange form s from to text
 
 -- the same of the scenario that a text means
-pub record IsPlan (scenario : List ℕ) (from : ℕ) (to : Option ℕ) (text : List ℕ) : Type 0 where
+pub record IsPlanAs (form : Form) (scenario : List ℕ) (from : ℕ) (to : Option ℕ) (text : List ℕ) : Type 0 where
   pub meant : Scenario
   pub means : Means InTurn scenario meant
-  pub shows : Shows meant from to text
+  pub shows : ShowsAs form meant from to text
+
+-- the same in lines for people
+abbrev pub IsPlan : List ℕ → ℕ → Option ℕ → List ℕ → Type 0
+IsPlan scenario from to text = IsPlanAs Plain scenario from to text
 
 -- a scenario has the versions that are asked for
 abbrev pub has_versions : Scenario → ℕ → Option ℕ → Bool

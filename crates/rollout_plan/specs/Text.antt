@@ -1,4 +1,4 @@
--- The text of the command `plan`, as a list of bytes.
+-- The lines of the command `plan`, as lists of bytes, and whose lines these are.
 use Rattle.std.specs.Prelude.{ℕ, Bool, true, false, not, List, [], ◌∷◌, ◌++◌, map, filter, find, Option, Some, None, codes}
 use Rattle.std.specs.List.{flat_map, list_any}
 use Rattle.std.specs.Fmt.{decimal}
@@ -85,21 +85,6 @@ change_line before after draining m =
     codes " after " ++ (decimal (slots_naming (Some m.backend) after) ++ (
     state_text (is_up after m.backend) (drains draining m.backend) ++ codes "\n")))))))
 
--- what changes for a service, between the members before and after
-unfoldable pub change_text : TableRule → ServiceKey → List Member → List Member → List ℕ
-change_text rule key before after =
-    service_line key ++
-    (counts_line (table_by rule before) (table_by rule after) (draining_backends after) ++
-    flat_map (change_line (table_by rule before) (table_by rule after) (draining_backends after)) (members_of_both before after))
-
--- of a service of the later version
-abbrev pub kept_text : TableRule → Version → Service → List ℕ
-kept_text rule before s = change_text rule (key_of s) (members_under (key_of s) before) s.members.items
-
--- of a service that the later version lacks
-abbrev pub gone_text : TableRule → Service → List ℕ
-gone_text rule s = change_text rule (key_of s) s.members.items []
-
 -- a version has the service of a key
 abbrev pub has_service : ServiceKey → Version → Bool
 has_service key v = list_any (λ s. same_key (key_of s) key) v.services.items
@@ -107,11 +92,6 @@ has_service key v = list_any (λ s. same_key (key_of s) key) v.services.items
 -- the services that another version lacks
 abbrev pub services_gone : List Service → Version → List Service
 services_gone before after = filter (λ s. not (has_service (key_of s) after)) before
-
--- what changes from one version to another: the later one's services, and then those that it lacks
-abbrev pub plan_text : TableRule → Version → Version → List ℕ
-plan_text rule before after =
-    flat_map (kept_text rule before) after.services.items ++ flat_map (gone_text rule) (services_gone before.services.items after)
 
 -- `slots M`
 abbrev pub slots_line : ℕ → List ℕ
@@ -122,13 +102,3 @@ unfoldable pub backend_line : NamedTable → List Backend → Member → List �
 backend_line t draining m =
     backend_text m.backend ++ (codes " weight " ++ (decimal m.weight ++ (codes " slots " ++ (decimal (slots_naming (Some m.backend) t) ++ (
     state_text (is_up t m.backend) (drains draining m.backend) ++ codes "\n")))))
-
--- what a service has
-unfoldable pub service_text : TableRule → Service → List ℕ
-service_text rule s =
-    service_line (key_of s) ++
-    (slots_line rule.size ++ flat_map (backend_line (table_by rule s.members.items) (draining_backends s.members.items)) (in_order s.members.items))
-
--- what one version has
-abbrev pub version_text : TableRule → Version → List ℕ
-version_text rule v = flat_map (service_text rule) v.services.items

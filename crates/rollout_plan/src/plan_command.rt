@@ -2,11 +2,12 @@
 ghost use Rattle.std.specs.Prelude.{◌≡◌, ◌≢◌, Some, None, string_bytes, IfOk, OnOk, IfErr};
 ghost use Rattle.command_faults.specs.Printing.{Prints, BreaksOff};
 ghost use Rattle.rollout_plan.specs.Tables.{rule_of};
-ghost use Rattle.rollout_plan.specs.Plans.{Shows, IsPlan, AskedFails, PlanFails, has_versions, version_in};
+ghost use Rattle.rollout_plan.specs.Plans.{ShowsAs, IsPlanAs, IsPlan, AskedFails, PlanFails, has_versions, version_in};
 
 use crate::slots::TableRule;
 use crate::text::{plan_text_of, version_text_of};
 use command_faults::{CliFault, put_text};
+use json_lines::Form;
 use pcap_file::Sink;
 use pool_versions::{PoolFault, Version};
 use scenario::{Played, Scenario, read};
@@ -38,28 +39,35 @@ pub fn version_of(scenario: &Scenario, number: u32) -> Result<&Version, CliFault
 // The text of what is asked of a scenario: of one version, or of two.
 fn text_of(
     alloc: Global,
+    form: Form,
     scenario: &Scenario,
     from: u32,
     to: Option<u32>,
 ) -> Result<String, CliFault>
-    ensures text { IfOk result (λ s. Shows scenario.now from to (string_bytes s)) }
+    ensures text { IfOk result (λ s. ShowsAs form scenario.now from to (string_bytes s)) }
     ensures fault { IfErr result (λ fault. AskedFails fault (has_versions scenario.now from to)) }
     ensures unwritten { IfErr result (λ fault. fault ≢ CliFault.Write) }
 {
     let rule = rule_of(scenario);
     let before = version_of(scenario, from)?;
     match to {
-        None => Ok(version_text_of(alloc, &rule, before)?),
+        None => Ok(version_text_of(alloc, form, &rule, before)?),
         Some(to) => {
             let after = version_of(scenario, to)?;
-            Ok(plan_text_of(alloc, &rule, before, after)?)
+            Ok(plan_text_of(alloc, form, &rule, before, after)?)
         }
     }
 }
 
 // The same of the scenario that a text means.
-fn text_for(alloc: Global, scenario: &[u8], from: u32, to: Option<u32>) -> Result<String, CliFault>
-    ensures text { IfOk result (λ s. IsPlan scenario.now from to (string_bytes s)) }
+fn text_for(
+    alloc: Global,
+    form: Form,
+    scenario: &[u8],
+    from: u32,
+    to: Option<u32>,
+) -> Result<String, CliFault>
+    ensures text { IfOk result (λ s. IsPlanAs form scenario.now from to (string_bytes s)) }
     ensures fault { IfErr result (λ fault. PlanFails fault scenario.now from to) }
     ensures unwritten { IfErr result (λ fault. fault ≢ CliFault.Write) }
 {
@@ -67,13 +75,13 @@ fn text_for(alloc: Global, scenario: &[u8], from: u32, to: Option<u32>) -> Resul
         Ok(scenario) => scenario,
         Err(fault) => return Err(scenario_fault(fault)),
     };
-    match text_of(alloc, &scenario, from, to) {
+    match text_of(alloc, form, &scenario, from, to) {
         Ok(text) => Ok(text),
         Err(fault) => Err(fault),
     }
 }
 
-/// The command `plan`: writes what changes from a scenario's version `from` to its version `to`, or what the version `from`
+/// The command `plan` in a form: writes what changes from a scenario's version `from` to its version `to`, or what the version `from`
 /// has where `to` is None.
 ///
 /// Of each service of either version it has a block: how many slots name somebody else, and how many of these named a backend
@@ -82,6 +90,30 @@ fn text_for(alloc: Global, scenario: &[u8], from: u32, to: Option<u32>) -> Resul
 /// but drain are counted apart. A version without the service counts as one where it has no members. A scenario is one that is
 /// played in turn. Where it lacks a version the fault is BadNumber. The text is written in one piece once it is whole, so after
 /// any fault but `Write` nothing was written.
+pub fn plan_as<S: Sink>(
+    alloc: Global,
+    form: Form,
+    scenario: &[u8],
+    from: u32,
+    to: Option<u32>,
+    out: &mut S,
+) -> Result<(), CliFault>
+    ensures written { OnOk result (Prints (IsPlanAs form scenario.now from to) (S.tape out.old) (S.tape out.new)) }
+    ensures broken { IfErr result (λ fault. fault ≡ CliFault.Write → BreaksOff (IsPlanAs form scenario.now from to) (S.tape out.old) (S.tape out.new)) }
+    ensures silent { IfErr result (λ fault. fault ≢ CliFault.Write → out.new ≡ out.old) }
+    ensures fault { IfErr result (λ fault. PlanFails fault scenario.now from to) }
+{
+    let text = match text_for(alloc, form, scenario, from, to) {
+        Ok(text) => text,
+        Err(fault) => return Err(fault),
+    };
+    match put_text(out, text.as_str()) {
+        Ok(()) => Ok(()),
+        Err(fault) => Err(fault),
+    }
+}
+
+/// The same in lines for people.
 pub fn plan<S: Sink>(
     alloc: Global,
     scenario: &[u8],
@@ -94,11 +126,7 @@ pub fn plan<S: Sink>(
     ensures silent { IfErr result (λ fault. fault ≢ CliFault.Write → out.new ≡ out.old) }
     ensures fault { IfErr result (λ fault. PlanFails fault scenario.now from to) }
 {
-    let text = match text_for(alloc, scenario, from, to) {
-        Ok(text) => text,
-        Err(fault) => return Err(fault),
-    };
-    match put_text(out, text.as_str()) {
+    match plan_as(alloc, Form::Plain, scenario, from, to, out) {
         Ok(()) => Ok(()),
         Err(fault) => Err(fault),
     }

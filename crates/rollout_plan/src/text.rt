@@ -3,12 +3,15 @@ ghost use Rattle.std.specs.Prelude.{◌≡◌, ◌++◌, [], IfOk, OnOk, string_
 ghost use Rattle.std.specs.List.{flat_map};
 ghost use Rattle.pool_versions.specs.Pool.{draining_backends};
 ghost use Rattle.rollout_plan.specs.Tables.{table_by};
-ghost use Rattle.rollout_plan.specs.Text.{service_line, counts_line, change_line, change_text, kept_text, gone_text, services_gone, has_service, plan_text, slots_line, backend_line, service_text, version_text};
+ghost use Rattle.rollout_plan.specs.Text.{service_line, counts_line, change_line, services_gone, has_service, slots_line, backend_line};
+ghost use Rattle.rollout_plan.specs.Forms.{counts_as, change_line_as, change_text_as, kept_text_as, gone_text_as, plan_text_as, size_as, backend_line_as, block_text_as, service_text_as, version_text_as};
 
 use crate::counting::{Causes, causes_of, least};
 use crate::drains::Draining;
 use crate::members::{in_order, members_of_both, members_under};
+use crate::objects;
 use crate::slots::{SlotTable, TableRule};
+use json_lines::Form;
 use maglev_texts::{AddressText, BackendText};
 use pool_versions::{Member, Service, ServiceKey, Version};
 use std::alloc::{AllocError, Global};
@@ -153,56 +156,122 @@ fn push_change_line(
     )
 }
 
+/// A block of a plan: how it is printed, and which service it is of.
+#[derive(Clone, Copy)]
+struct Block {
+    form: Form,
+    key: ServiceKey,
+}
+
+fn push_plain_counts(
+    alloc: Global,
+    text: &mut String,
+    key: ServiceKey,
+    before: &SlotTable,
+    after: &SlotTable,
+    draining: &Draining,
+) -> Result<(), AllocError>
+    requires { before.now.size ≡ after.now.size }
+    ensures { OnOk result (string_bytes text.new ≡ string_bytes text.old ++ (service_line key ++ counts_line before.now after.now draining.now)) }
+{
+    push_service_line(text, key)?;
+    push_counts_line(alloc, text, before, after, draining)
+}
+
+// The head of a service's block: what changes between its tables.
+fn push_counts(
+    alloc: Global,
+    text: &mut String,
+    block: Block,
+    before: &SlotTable,
+    after: &SlotTable,
+    draining: &Draining,
+) -> Result<(), AllocError>
+    requires { before.now.size ≡ after.now.size }
+    ensures { OnOk result (string_bytes text.new ≡ string_bytes text.old ++ counts_as block.form block.key before.now after.now draining.now) }
+{
+    match block.form {
+        Form::Plain => push_plain_counts(alloc, text, block.key, before, after, draining),
+        Form::Json => objects::push_change(alloc, text, block.key, before, after, draining),
+    }
+}
+
+fn push_change_member(
+    text: &mut String,
+    block: Block,
+    before: &SlotTable,
+    after: &SlotTable,
+    draining: &Draining,
+    member: &Member,
+) -> Result<(), AllocError>
+    ensures { OnOk result (string_bytes text.new ≡ string_bytes text.old ++ change_line_as block.form block.key before.now after.now draining.now member.now) }
+{
+    match block.form {
+        Form::Plain => push_change_line(text, before, after, draining, member),
+        Form::Json => objects::push_change_member(text, block.key, before, after, draining, member),
+    }
+}
+
 fn push_change_lines(
     text: &mut String,
+    block: Block,
     before: &SlotTable,
     after: &SlotTable,
     draining: &Draining,
     members: &[Member],
 ) -> Result<(), AllocError>
-    ensures { OnOk result (string_bytes text.new ≡ string_bytes text.old ++ flat_map (change_line before.now after.now draining.now) members.now) }
+    ensures { OnOk result (string_bytes text.new ≡ string_bytes text.old
+        ++ flat_map (change_line_as block.form block.key before.now after.now draining.now) members.now) }
 {
     for member in members {
-        push_change_line(text, before, after, draining, member)?;
+        push_change_member(text, block, before, after, draining, member)?;
     }
     Ok(())
 }
 
 // What changes for a service, between its members before and after.
-#[tactic(auto, unfolding(crate::specs::Text::change_text))]
+#[tactic(auto, unfolding(crate::specs::Forms::change_text_as))]
 fn push_change(
     alloc: Global,
     text: &mut String,
+    block: Block,
     rule: &TableRule,
-    key: ServiceKey,
     before: &[Member],
     after: &[Member],
 ) -> Result<(), AllocError>
-    ensures { OnOk result (string_bytes text.new ≡ string_bytes text.old ++ change_text rule.now key before.now after.now) }
+    ensures { OnOk result (string_bytes text.new ≡ string_bytes text.old ++ change_text_as block.form rule.now block.key before.now after.now) }
 {
     let old = rule.table(alloc, before)?;
     let new = rule.table(alloc, after)?;
     let draining = Draining::of(alloc, after)?;
     let members = members_of_both(alloc, before, after)?;
-    push_service_line(text, key)?;
-    push_counts_line(alloc, text, &old, &new, &draining)?;
-    push_change_lines(text, &old, &new, &draining, members.as_slice())
+    push_counts(alloc, text, block, &old, &new, &draining)?;
+    push_change_lines(text, block, &old, &new, &draining, members.as_slice())
 }
 
 // What changes for the services of the later version.
 fn push_kept(
     alloc: Global,
     text: &mut String,
+    form: Form,
     rule: &TableRule,
     before: &Version,
     services: &[Service],
 ) -> Result<(), AllocError>
-    ensures { OnOk result (string_bytes text.new ≡ string_bytes text.old ++ flat_map (kept_text rule.now before.now) services.now) }
+    ensures { OnOk result (string_bytes text.new ≡ string_bytes text.old ++ flat_map (kept_text_as form rule.now before.now) services.now) }
 {
     for service in services {
         let key = service.key();
+        let block = Block { form, key };
         let members = members_under(key, before);
-        push_change(alloc, text, rule, key, members, service.members.as_slice())?;
+        push_change(
+            alloc,
+            text,
+            block,
+            rule,
+            members,
+            service.members.as_slice(),
+        )?;
     }
     Ok(())
 }
@@ -218,16 +287,18 @@ pub fn has_service(version: &Version, key: ServiceKey) -> bool
 fn push_gone(
     alloc: Global,
     text: &mut String,
+    form: Form,
     rule: &TableRule,
     services: &[Service],
     after: &Version,
 ) -> Result<(), AllocError>
-    ensures { OnOk result (string_bytes text.new ≡ string_bytes text.old ++ flat_map (gone_text rule.now) (services_gone services.now after.now)) }
+    ensures { OnOk result (string_bytes text.new ≡ string_bytes text.old ++ flat_map (gone_text_as form rule.now) (services_gone services.now after.now)) }
 {
     for service in services {
         let key = service.key();
         if !has_service(after, key) {
-            push_change(alloc, text, rule, key, service.members.as_slice(), &[])?;
+            let block = Block { form, key };
+            push_change(alloc, text, block, rule, service.members.as_slice(), &[])?;
         }
     }
     Ok(())
@@ -236,15 +307,31 @@ fn push_gone(
 /// What changes from one version to another.
 pub(crate) fn plan_text_of(
     alloc: Global,
+    form: Form,
     rule: &TableRule,
     before: &Version,
     after: &Version,
 ) -> Result<String, AllocError>
-    ensures { IfOk result (λ s. string_bytes s ≡ plan_text rule.now before.now after.now) }
+    ensures { IfOk result (λ s. string_bytes s ≡ plan_text_as form rule.now before.now after.now) }
 {
     let mut text = String::new(alloc);
-    push_kept(alloc, &mut text, rule, before, after.services.as_slice())?;
-    push_gone(alloc, &mut text, rule, before.services.as_slice(), after)?;
+    form.push_head(&mut text, "plan")?;
+    push_kept(
+        alloc,
+        &mut text,
+        form,
+        rule,
+        before,
+        after.services.as_slice(),
+    )?;
+    push_gone(
+        alloc,
+        &mut text,
+        form,
+        rule,
+        before.services.as_slice(),
+        after,
+    )?;
     Ok(text)
 }
 
@@ -267,50 +354,87 @@ fn push_backend_line(
     write!(text, "{backend} weight {weight} slots {slots}{state}\n")
 }
 
+fn push_member(
+    text: &mut String,
+    block: Block,
+    table: &SlotTable,
+    draining: &Draining,
+    member: &Member,
+) -> Result<(), AllocError>
+    ensures { OnOk result (string_bytes text.new ≡ string_bytes text.old ++ backend_line_as block.form block.key table.now draining.now member.now) }
+{
+    match block.form {
+        Form::Plain => push_backend_line(text, table, draining, member),
+        Form::Json => objects::push_member(text, block.key, table, draining, member),
+    }
+}
+
 fn push_backend_lines(
     text: &mut String,
+    block: Block,
     table: &SlotTable,
     draining: &Draining,
     members: &[Member],
 ) -> Result<(), AllocError>
-    ensures { OnOk result (string_bytes text.new ≡ string_bytes text.old ++ flat_map (backend_line table.now draining.now) members.now) }
+    ensures { OnOk result (string_bytes text.new ≡ string_bytes text.old
+        ++ flat_map (backend_line_as block.form block.key table.now draining.now) members.now) }
 {
     for member in members {
-        push_backend_line(text, table, draining, member)?;
+        push_member(text, block, table, draining, member)?;
     }
     Ok(())
 }
 
-// What a service has.
-#[tactic(auto, unfolding(crate::specs::Text::service_text))]
-fn push_service(
+fn push_plain_size(text: &mut String, key: ServiceKey, slots: u32) -> Result<(), AllocError>
+    ensures { OnOk result (string_bytes text.new ≡ string_bytes text.old ++ (service_line key ++ slots_line slots)) }
+{
+    push_service_line(text, key)?;
+    write!(text, "slots {slots}\n")
+}
+
+// The head of a service's block: the size of its table.
+fn push_size(text: &mut String, block: Block, slots: u32) -> Result<(), AllocError>
+    ensures { OnOk result (string_bytes text.new ≡ string_bytes text.old ++ size_as block.form block.key slots) }
+{
+    match block.form {
+        Form::Plain => push_plain_size(text, block.key, slots),
+        Form::Json => objects::push_service(text, block.key, slots),
+    }
+}
+
+// What a service has, of some members.
+#[tactic(auto, unfolding(crate::specs::Forms::block_text_as))]
+fn push_block(
     alloc: Global,
     text: &mut String,
+    block: Block,
     rule: &TableRule,
-    service: &Service,
+    members: &[Member],
 ) -> Result<(), AllocError>
-    ensures { OnOk result (string_bytes text.new ≡ string_bytes text.old ++ service_text rule.now service.now) }
+    ensures { OnOk result (string_bytes text.new ≡ string_bytes text.old ++ block_text_as block.form rule.now block.key members.now) }
 {
-    let table = rule.table(alloc, service.members.as_slice())?;
-    let draining = Draining::of(alloc, service.members.as_slice())?;
-    let members = in_order(alloc, service.members.as_slice())?;
-    let slots = rule.size.slots();
-    push_service_line(text, service.key())?;
-    write!(text, "slots {slots}\n")?;
-    push_backend_lines(text, &table, &draining, members.as_slice())
+    let table = rule.table(alloc, members)?;
+    let draining = Draining::of(alloc, members)?;
+    let ordered = in_order(alloc, members)?;
+    push_size(text, block, rule.size.slots())?;
+    push_backend_lines(text, block, &table, &draining, ordered.as_slice())
 }
 
 /// What one version has.
 pub(crate) fn version_text_of(
     alloc: Global,
+    form: Form,
     rule: &TableRule,
     version: &Version,
 ) -> Result<String, AllocError>
-    ensures { IfOk result (λ s. string_bytes s ≡ version_text rule.now version.now) }
+    ensures { IfOk result (λ s. string_bytes s ≡ version_text_as form rule.now version.now) }
 {
     let mut text = String::new(alloc);
+    form.push_head(&mut text, "plan")?;
     for service in &version.services {
-        push_service(alloc, &mut text, rule, service)?;
+        let key = service.key();
+        let block = Block { form, key };
+        push_block(alloc, &mut text, block, rule, service.members.as_slice())?;
     }
     Ok(text)
 }

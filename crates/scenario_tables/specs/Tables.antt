@@ -1,5 +1,5 @@
 -- What `table` and `compare` print of a scenario's service, and when they give up, by which fault.
-use Rattle.std.specs.Prelude.{◌≡◌, ◌⊎◌, ℕ, ◌++◌, List, map, length, Option, Some, None, option_map, option_and_then, codes}
+use Rattle.std.specs.Prelude.{◌≡◌, ◌⊎◌, ℕ, ◌++◌, List, map, length, Option, Some, None, option_map, option_and_then}
 use Rattle.std.specs.List.{flat_map, range_with_len}
 use Rattle.pool_versions.specs.declared.backend.Backend.{Backend}
 use Rattle.pool_versions.specs.declared.catalogue.PoolFault.TheVariants.{BadNumber}
@@ -13,8 +13,9 @@ use Rattle.scenario.specs.Meaning.{Means}
 use Rattle.scenario_faults.specs.Refusals.{ScenarioFails}
 use Rattle.command_faults.specs.declared.fault.CliFault.{CliFault}
 use Rattle.command_faults.specs.declared.fault.CliFault.TheVariants.{Pool, BadService, Write, Memory}
-use Rattle.table_commands.specs.Text.{head_line, slot_line, count_line}
-use Rattle.table_commands.specs.Compare.{compare_text}
+use Rattle.json_lines.specs.declared.forms.Form.{Form}
+use Rattle.table_commands.specs.Text.{head_line_as, slot_line_as, count_line_as}
+use Rattle.table_commands.specs.Compare.{compare_text_as}
 use Rattle.rollout_plan.specs.Counts.{slots_naming}
 use Rattle.rollout_plan.specs.Plans.{version_in}
 use Rattle.rollout_plan.specs.Tables.{rule_of, table_by}
@@ -22,30 +23,30 @@ use Rattle.rollout_plan.specs.Text.{members_under}
 use Rattle.scenario_tables.specs.Services.{asked_key, keys_of_both}
 use Rattle.scenario_tables.specs.declared.comparing.Change.{Change}
 
--- the name that a slot names, or a dash where nobody is up
-abbrev pub owner_name : Option Backend → List ℕ
-owner_name None = codes "-"
-owner_name (Some b) = b.name
+-- the name of the backend that a slot names
+abbrev pub owner_name : Option Backend → Option (List ℕ)
+owner_name None = None
+owner_name (Some b) = Some b.name
 
--- `I NAME`
-unfoldable pub owner_line : NamedTable → ℕ → List ℕ
-owner_line t slot = slot_line slot (owner_name (slot_names t.ups t.owners slot))
+-- the line of a slot, in a form
+unfoldable pub owner_line_as : Form → NamedTable → ℕ → List ℕ
+owner_line_as form t slot = slot_line_as form slot (owner_name (slot_names t.ups t.owners slot))
 
--- `count NAME C`
-unfoldable pub share_line : NamedTable → Backend → List ℕ
-share_line t b = count_line b.name (slots_naming (Some b) t)
+-- the line of a backend, with its slots
+unfoldable pub share_line_as : Form → NamedTable → Backend → List ℕ
+share_line_as form t b = count_line_as form b.name (slots_naming (Some b) t)
 
 -- the text of a table: its size and how many share it, a line for each slot, and for each backend its slots
-unfoldable pub slots_text : NamedTable → List ℕ
-slots_text t = head_line t.size (length t.ups) ++ (flat_map (owner_line t) (range_with_len 0 t.size) ++ flat_map (share_line t) t.ups)
+unfoldable pub slots_text_as : Form → NamedTable → List ℕ
+slots_text_as form t = head_line_as form t.size (length t.ups) ++ (flat_map (owner_line_as form t) (range_with_len 0 t.size) ++ flat_map (share_line_as form t) t.ups)
 
--- the text is that of the service's table under a version
-pub record ShowsTable (s : Scenario) (number : ℕ) (word : Option (List ℕ)) (text : List ℕ) : Type 0 where
+-- the text, in a form, is that of the service's table under a version
+pub record ShowsTable (form : Form) (s : Scenario) (number : ℕ) (word : Option (List ℕ)) (text : List ℕ) : Type 0 where
   pub version : Version
   pub key : ServiceKey
   pub of_number : version_in s number ≡ Some version
   pub of_word : asked_key word (map key_of version.services.items) ≡ Some key
-  pub is : text ≡ slots_text (table_by (rule_of s) (members_under key version))
+  pub is : text ≡ slots_text_as form (table_by (rule_of s) (members_under key version))
 
 -- the versions that are compared, and the word of the service
 pub record Compared : Type 0 where
@@ -56,15 +57,15 @@ pub record Compared : Type 0 where
 abbrev pub compared : Change → Compared
 compared c = record { from = c.from; to = c.to; word = option_map (λ w. w.now) c.service }
 
--- the text is what changes for the service from one version to another; a version without it counts as one where it has no members
-pub record ShowsMoves (s : Scenario) (c : Compared) (text : List ℕ) : Type 0 where
+-- the text, in a form, is what changes for the service from one version to another; a version without it counts as one where it has no members
+pub record ShowsMoves (form : Form) (s : Scenario) (c : Compared) (text : List ℕ) : Type 0 where
   pub before : Version
   pub after : Version
   pub key : ServiceKey
   pub of_from : version_in s c.from ≡ Some before
   pub of_to : version_in s c.to ≡ Some after
   pub of_word : asked_key c.word (keys_of_both before after) ≡ Some key
-  pub is : text ≡ compare_text (table_by (rule_of s) (members_under key before)) (table_by (rule_of s) (members_under key after))
+  pub is : text ≡ compare_text_as form (table_by (rule_of s) (members_under key before)) (table_by (rule_of s) (members_under key after))
 
 -- which services there are to ask for: those of one version, or of two; None where a version is missing
 abbrev pub keys_in : Option Version → Option (List ServiceKey)
@@ -82,15 +83,15 @@ AskedFails Write word keys = (found : List ServiceKey) × (key : ServiceKey) × 
 AskedFails _ word keys = ⊥
 
 -- the same of the scenario that a text means
-pub record IsTable (scenario : List ℕ) (number : ℕ) (word : Option (List ℕ)) (text : List ℕ) : Type 0 where
+pub record IsTable (form : Form) (scenario : List ℕ) (number : ℕ) (word : Option (List ℕ)) (text : List ℕ) : Type 0 where
   pub meant : Scenario
   pub means : Means InTurn scenario meant
-  pub shows : ShowsTable meant number word text
+  pub shows : ShowsTable form meant number word text
 
-pub record AreMoves (scenario : List ℕ) (c : Compared) (text : List ℕ) : Type 0 where
+pub record AreMoves (form : Form) (scenario : List ℕ) (c : Compared) (text : List ℕ) : Type 0 where
   pub meant : Scenario
   pub means : Means InTurn scenario meant
-  pub shows : ShowsMoves meant c text
+  pub shows : ShowsMoves form meant c text
 
 -- a scenario was read, and then the command gave up
 pub record LacksAsked (fault : CliFault) (scenario : List ℕ) (word : Option (List ℕ)) (keys : Scenario → Option (List ServiceKey)) : Type 0 where

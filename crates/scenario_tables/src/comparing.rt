@@ -5,6 +5,7 @@ ghost use Rattle.scenario_tables.specs.Tables.{compared, ShowsMoves, AreMoves, A
 
 use crate::asking::{key_for, keys_of_both};
 use command_faults::{CliFault, put_text};
+use json_lines::Form;
 use pcap_file::Sink;
 use rollout_plan::{members_under, rule_of, version_of};
 use scenario::{Played, Scenario, read};
@@ -21,8 +22,13 @@ pub struct Change<'a> {
 }
 
 // The text of what changes for a scenario's service.
-fn text_of(alloc: Global, scenario: &Scenario, change: Change<'_>) -> Result<String, CliFault>
-    ensures text { IfOk result (λ s. ShowsMoves scenario.now (compared change.entry) (string_bytes s)) }
+fn text_of(
+    alloc: Global,
+    form: Form,
+    scenario: &Scenario,
+    change: Change<'_>,
+) -> Result<String, CliFault>
+    ensures text { IfOk result (λ s. ShowsMoves form scenario.now (compared change.entry) (string_bytes s)) }
     ensures fault { IfErr result (λ fault. AskedFails fault (compared change.entry).word (keys_in_both scenario.now (compared change.entry))) }
     ensures unwritten { IfErr result (λ fault. fault ≢ CliFault.Write) }
 {
@@ -33,12 +39,17 @@ fn text_of(alloc: Global, scenario: &Scenario, change: Change<'_>) -> Result<Str
     let rule = rule_of(scenario);
     let old = rule.table(alloc, members_under(key, before))?;
     let new = rule.table(alloc, members_under(key, after))?;
-    Ok(compare_text_of(alloc, &old, &new)?)
+    Ok(compare_text_of(alloc, form, &old, &new)?)
 }
 
 // The same of the scenario that a text means.
-fn text_for(alloc: Global, scenario: &[u8], change: Change<'_>) -> Result<String, CliFault>
-    ensures text { IfOk result (λ s. AreMoves scenario.now (compared change.entry) (string_bytes s)) }
+fn text_for(
+    alloc: Global,
+    form: Form,
+    scenario: &[u8],
+    change: Change<'_>,
+) -> Result<String, CliFault>
+    ensures text { IfOk result (λ s. AreMoves form scenario.now (compared change.entry) (string_bytes s)) }
     ensures fault { IfErr result (λ fault. MovesFail fault scenario.now (compared change.entry)) }
     ensures unwritten { IfErr result (λ fault. fault ≢ CliFault.Write) }
 {
@@ -46,13 +57,13 @@ fn text_for(alloc: Global, scenario: &[u8], change: Change<'_>) -> Result<String
         Ok(scenario) => scenario,
         Err(fault) => return Err(scenario_fault(fault)),
     };
-    match text_of(alloc, &scenario, change) {
+    match text_of(alloc, form, &scenario, change) {
         Ok(text) => Ok(text),
         Err(fault) => Err(fault),
     }
 }
 
-/// The command `compare` over a scenario: writes the slots of a service's table whose backend changes from one version to
+/// The command `compare` over a scenario, in a form: writes the slots of a service's table whose backend changes from one version to
 /// another.
 ///
 /// The service is that of the word `ADDRESS:PORT/PROTOCOL`, or where there is none the only one of both versions; else the fault
@@ -61,16 +72,17 @@ fn text_for(alloc: Global, scenario: &[u8], change: Change<'_>) -> Result<String
 /// nothing was written.
 pub fn compare_in<S: Sink>(
     alloc: Global,
+    form: Form,
     scenario: &[u8],
     change: Change<'_>,
     out: &mut S,
 ) -> Result<(), CliFault>
-    ensures written { OnOk result (Prints (AreMoves scenario.now (compared change.entry)) (S.tape out.old) (S.tape out.new)) }
-    ensures broken { IfErr result (λ fault. fault ≡ CliFault.Write → BreaksOff (AreMoves scenario.now (compared change.entry)) (S.tape out.old) (S.tape out.new)) }
+    ensures written { OnOk result (Prints (AreMoves form scenario.now (compared change.entry)) (S.tape out.old) (S.tape out.new)) }
+    ensures broken { IfErr result (λ fault. fault ≡ CliFault.Write → BreaksOff (AreMoves form scenario.now (compared change.entry)) (S.tape out.old) (S.tape out.new)) }
     ensures silent { IfErr result (λ fault. fault ≢ CliFault.Write → out.new ≡ out.old) }
     ensures fault { IfErr result (λ fault. MovesFail fault scenario.now (compared change.entry)) }
 {
-    let text = match text_for(alloc, scenario, change) {
+    let text = match text_for(alloc, form, scenario, change) {
         Ok(text) => text,
         Err(fault) => return Err(fault),
     };

@@ -12,4 +12,4 @@ mod picking;
 
 pub use comparing::{Change, compare_in};
 pub use listing::table_in;
-pub use picking::pick_in;
+pub use picking::{PickOptions, pick_in};

@@ -4,104 +4,99 @@ ghost use Rattle.std.specs.List.{flat_map, range_with_len};
 ghost use Rattle.selection.specs.Picks.{slot_names};
 ghost use Rattle.command_faults.specs.Printing.{Prints, BreaksOff};
 ghost use Rattle.rollout_plan.specs.Plans.{version_in};
-ghost use Rattle.scenario_tables.specs.Tables.{owner_name, owner_line, share_line, slots_text, ShowsTable, IsTable, AskedFails, TableFails, keys_in};
+ghost use Rattle.scenario_tables.specs.Tables.{owner_name, owner_line_as, share_line_as, slots_text_as, ShowsTable, IsTable, AskedFails, TableFails, keys_in};
 
 use crate::asking::{key_for, keys_of};
+use backend_names::Name;
 use command_faults::{CliFault, put_text};
+use json_lines::Form;
 use pcap_file::Sink;
 use pool_versions::Backend;
 use rollout_plan::{SlotTable, members_under, rule_of, version_of};
 use scenario::{Played, Scenario, read};
 use scenario_faults::scenario_fault;
 use std::alloc::{AllocError, Global};
-use std::fmt;
+use table_commands::{push_count_line, push_slot_line, table_head};
 
-/// The name that a slot names: that of a backend, or a dash for nobody.
-#[derive(Clone, Copy)]
-struct OwnerText(Option<Backend>);
-
-impl fmt::Display for OwnerText {
-    ghost use Rattle.std.specs.Prelude.{Some};
-
-    ghost output = { λ o. Some (owner_name o.0) };
-
-    fn fmt<W: fmt::Write>(&self, f: &mut fmt::Formatter<W>) -> fmt::Result {
-        match self.0 {
-            None => f.write_str("-"),
-            Some(backend) => {
-                let name = backend.name;
-                write!(f, "{name}")
-            }
-        }
+// The name of the backend that a slot names.
+fn owner_name(owner: Option<Backend>) -> Option<Name>
+    ensures { result ≡ owner_name owner }
+{
+    match owner {
+        None => None,
+        Some(backend) => Some(backend.name),
     }
 }
 
-#[tactic(auto, unfolding(crate::specs::Tables::owner_line))]
-fn push_owner_line(text: &mut String, table: &SlotTable, slot: u32) -> Result<(), AllocError>
+#[tactic(auto, unfolding(crate::specs::Tables::owner_line_as))]
+fn push_owner_line(
+    text: &mut String,
+    form: Form,
+    table: &SlotTable,
+    slot: u32,
+) -> Result<(), AllocError>
     requires { slot < table.now.size }
-    ensures { OnOk result (string_bytes text.new ≡ string_bytes text.old ++ owner_line table.now slot) }
+    ensures { OnOk result (string_bytes text.new ≡ string_bytes text.old ++ owner_line_as form table.now slot) }
 {
-    let owner = OwnerText(table.backend_at(slot));
-    write!(text, "{slot} {owner}\n")
+    push_slot_line(text, form, slot, owner_name(table.backend_at(slot)))
 }
 
-fn push_owner_lines(text: &mut String, table: &SlotTable) -> Result<(), AllocError>
-    ensures { OnOk result (string_bytes text.new ≡ string_bytes text.old ++ flat_map (owner_line table.now) (range_with_len 0 table.now.size)) }
+fn push_owner_lines(text: &mut String, form: Form, table: &SlotTable) -> Result<(), AllocError>
+    ensures { OnOk result (string_bytes text.new ≡ string_bytes text.old ++ flat_map (owner_line_as form table.now) (range_with_len 0 table.now.size)) }
 {
     for slot in 0..table.size() {
-        push_owner_line(text, table, slot)?;
+        push_owner_line(text, form, table, slot)?;
     }
     Ok(())
 }
 
-#[tactic(auto, unfolding(crate::specs::Tables::share_line))]
+#[tactic(auto, unfolding(crate::specs::Tables::share_line_as))]
 fn push_share_line(
     text: &mut String,
+    form: Form,
     table: &SlotTable,
     backend: &Backend,
 ) -> Result<(), AllocError>
-    ensures { OnOk result (string_bytes text.new ≡ string_bytes text.old ++ share_line table.now backend.now) }
+    ensures { OnOk result (string_bytes text.new ≡ string_bytes text.old ++ share_line_as form table.now backend.now) }
 {
-    let name = backend.name;
-    let slots = table.slots_of(backend);
-    write!(text, "count {name} {slots}\n")
+    push_count_line(text, form, backend.name, table.slots_of(backend))
 }
 
 fn push_share_lines(
     text: &mut String,
+    form: Form,
     table: &SlotTable,
     backends: &[Backend],
 ) -> Result<(), AllocError>
-    ensures { OnOk result (string_bytes text.new ≡ string_bytes text.old ++ flat_map (share_line table.now) backends.now) }
+    ensures { OnOk result (string_bytes text.new ≡ string_bytes text.old ++ flat_map (share_line_as form table.now) backends.now) }
 {
     for backend in backends {
-        push_share_line(text, table, backend)?;
+        push_share_line(text, form, table, backend)?;
     }
     Ok(())
 }
 
 // The text of a table.
-#[tactic(auto, unfolding(crate::specs::Tables::slots_text))]
-fn slots_text_of(alloc: Global, table: &SlotTable) -> Result<String, AllocError>
-    ensures { IfOk result (λ s. string_bytes s ≡ slots_text table.now) }
+#[tactic(auto, unfolding(crate::specs::Tables::slots_text_as))]
+fn slots_text_of(alloc: Global, form: Form, table: &SlotTable) -> Result<String, AllocError>
+    ensures { IfOk result (λ s. string_bytes s ≡ slots_text_as form table.now) }
 {
-    let size = table.size();
     let ups = table.ups();
-    let backends = ups.len();
-    let mut text = format!(in alloc; "size {size} backends {backends}\n")?;
-    push_owner_lines(&mut text, table)?;
-    push_share_lines(&mut text, table, ups)?;
+    let mut text = table_head(alloc, form, table.size(), ups.len())?;
+    push_owner_lines(&mut text, form, table)?;
+    push_share_lines(&mut text, form, table, ups)?;
     Ok(text)
 }
 
 // The text of the table of a scenario's service.
 fn text_of(
     alloc: Global,
+    form: Form,
     scenario: &Scenario,
     number: u32,
     word: Option<&str>,
 ) -> Result<String, CliFault>
-    ensures text { IfOk result (λ s. ShowsTable scenario.now number (option_map (λ w. w.now) word.entry) (string_bytes s)) }
+    ensures text { IfOk result (λ s. ShowsTable form scenario.now number (option_map (λ w. w.now) word.entry) (string_bytes s)) }
     ensures fault { IfErr result (λ fault. AskedFails fault (option_map (λ w. w.now) word.entry) (keys_in (version_in scenario.now number))) }
     ensures unwritten { IfErr result (λ fault. fault ≢ CliFault.Write) }
 {
@@ -109,17 +104,18 @@ fn text_of(
     let keys = keys_of(alloc, version)?;
     let key = key_for(alloc, keys.as_slice(), word)?;
     let table = rule_of(scenario).table(alloc, members_under(key, version))?;
-    Ok(slots_text_of(alloc, &table)?)
+    Ok(slots_text_of(alloc, form, &table)?)
 }
 
 // The same of the scenario that a text means.
 fn text_for(
     alloc: Global,
+    form: Form,
     scenario: &[u8],
     number: u32,
     word: Option<&str>,
 ) -> Result<String, CliFault>
-    ensures text { IfOk result (λ s. IsTable scenario.now number (option_map (λ w. w.now) word.entry) (string_bytes s)) }
+    ensures text { IfOk result (λ s. IsTable form scenario.now number (option_map (λ w. w.now) word.entry) (string_bytes s)) }
     ensures fault { IfErr result (λ fault. TableFails fault scenario.now number (option_map (λ w. w.now) word.entry)) }
     ensures unwritten { IfErr result (λ fault. fault ≢ CliFault.Write) }
 {
@@ -127,32 +123,33 @@ fn text_for(
         Ok(scenario) => scenario,
         Err(fault) => return Err(scenario_fault(fault)),
     };
-    match text_of(alloc, &scenario, number, word) {
+    match text_of(alloc, form, &scenario, number, word) {
         Ok(text) => Ok(text),
         Err(fault) => Err(fault),
     }
 }
 
-/// The command `table` over a scenario: writes which backend each slot of a service's table names under a version, and how many
+/// The command `table` over a scenario, in a form: writes which backend each slot of a service's table names under a version, and how many
 /// slots each backend has.
 ///
 /// The service is that of the word `ADDRESS:PORT/PROTOCOL`, or where there is none the version's only one; else the fault is
 /// BadService. A scenario is one that is played in turn. Where it lacks the version the fault is BadNumber. A slot that names
-/// nobody has a dash. The text is written in one piece once it is whole, so after any fault but `Write` nothing was written.
+/// nobody has a dash, or in an object null. The text is written in one piece once it is whole, so after any fault but `Write` nothing was written.
 pub fn table_in<S: Sink>(
     alloc: Global,
+    form: Form,
     scenario: &[u8],
     version: u32,
     service: Option<&str>,
     out: &mut S,
 ) -> Result<(), CliFault>
-    ensures written { OnOk result (Prints (IsTable scenario.now version (option_map (λ w. w.now) service.entry)) (S.tape out.old) (S.tape out.new)) }
+    ensures written { OnOk result (Prints (IsTable form scenario.now version (option_map (λ w. w.now) service.entry)) (S.tape out.old) (S.tape out.new)) }
     ensures broken { IfErr result (λ fault. fault ≡ CliFault.Write →
-        BreaksOff (IsTable scenario.now version (option_map (λ w. w.now) service.entry)) (S.tape out.old) (S.tape out.new)) }
+        BreaksOff (IsTable form scenario.now version (option_map (λ w. w.now) service.entry)) (S.tape out.old) (S.tape out.new)) }
     ensures silent { IfErr result (λ fault. fault ≢ CliFault.Write → out.new ≡ out.old) }
     ensures fault { IfErr result (λ fault. TableFails fault scenario.now version (option_map (λ w. w.now) service.entry)) }
 {
-    let text = match text_for(alloc, scenario, version, service) {
+    let text = match text_for(alloc, form, scenario, version, service) {
         Ok(text) => text,
         Err(fault) => return Err(fault),
     };

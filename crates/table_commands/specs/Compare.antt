@@ -14,6 +14,10 @@ use Rattle.selection.specs.Readied.{same_backend}
 use Rattle.maglev_texts.specs.Parsing.{pieces, weighed_member_of}
 use Rattle.maglev_texts.specs.Printing.{backend_text}
 use Rattle.table_commands.specs.Refusals.{AreListed}
+use Rattle.json_lines.specs.declared.forms.Form.{Form}
+use Rattle.json_lines.specs.declared.forms.Form.TheVariants.{Plain, Json}
+use Rattle.json_lines.specs.Heads.{head_json}
+use Rattle.table_commands.specs.Objects.{compare_json, moved_json}
 use Rattle.command_faults.specs.declared.fault.CliFault.{CliFault}
 use Rattle.command_faults.specs.declared.fault.CliFault.TheVariants.{BadSize, BadHash, BadMember, DoubleName, TooMany, Write, Memory}
 
@@ -47,13 +51,26 @@ compare_head size before after moved =
     decimal moved ++ codes "\n")))))))
 
 -- `I OLD NEW`
-abbrev pub moved_line : NamedTable → NamedTable → ℕ → List ℕ
-moved_line old new slot = decimal slot ++ (codes " " ++ (named_text (named_at old slot) ++ (codes " " ++ (named_text (named_at new slot) ++ codes "\n"))))
+abbrev pub moved_line : ℕ → Option Backend → Option Backend → List ℕ
+moved_line slot before after = decimal slot ++ (codes " " ++ (named_text before ++ (codes " " ++ (named_text after ++ codes "\n"))))
 
--- the text of the command `compare` over two tables
-unfoldable pub compare_text : NamedTable → NamedTable → List ℕ
-compare_text old new =
-    compare_head old.size (length old.ups) (length new.ups) (length (moved_slots old new)) ++ flat_map (moved_line old new) (moved_slots old new)
+-- the lines in each form
+abbrev pub compare_head_as : Form → ℕ → ℕ → ℕ → ℕ → List ℕ
+compare_head_as Plain size before after moved = compare_head size before after moved
+compare_head_as Json size before after moved = head_json (codes "compare") ++ compare_json size before after moved
+
+abbrev pub moved_line_as : Form → ℕ → Option Backend → Option Backend → List ℕ
+moved_line_as Plain slot before after = moved_line slot before after
+moved_line_as Json slot before after = moved_json slot before after
+
+-- the line of a slot of two tables
+abbrev pub slot_moved_as : Form → NamedTable → NamedTable → ℕ → List ℕ
+slot_moved_as form old new slot = moved_line_as form slot (named_at old slot) (named_at new slot)
+
+-- the text of the command `compare` over two tables, in a form
+unfoldable pub compare_text_as : Form → NamedTable → NamedTable → List ℕ
+compare_text_as form old new =
+    compare_head_as form old.size (length old.ups) (length new.ups) (length (moved_slots old new)) ++ flat_map (slot_moved_as form old new) (moved_slots old new)
 
 -- the text's words, split at single spaces, are these members
 abbrev pub AreMembers : List ℕ → List Member → Type 0
@@ -116,15 +133,19 @@ CompareFails Write size hash old new = AreListed size hash × ListsFail Write si
 CompareFails Memory size hash old new = AreListed size hash
 CompareFails _ size hash old new = ⊥
 
--- the text compares the tables of the up members of two good lists
-pub record IsCompareText (plain : List ℕ → ℕ) (size : ℕ) (old new : List ℕ) (text : List ℕ) : Type 0 where
+-- the text compares the tables of the up members of two good lists, in a form
+pub record IsCompareTextAs (form : Form) (plain : List ℕ → ℕ) (size : ℕ) (old new : List ℕ) (text : List ℕ) : Type 0 where
   pub ms : List Member
   pub ns : List Member
   pub lists : AreLists old new ms ns
   pub good : AreGood size ms ns
-  pub is : text ≡ compare_text (table_of_ups plain size (candidates_in ms)) (table_of_ups plain size (candidates_in ns))
+  pub is : text ≡ compare_text_as form (table_of_ups plain size (candidates_in ms)) (table_of_ups plain size (candidates_in ns))
 
 -- the same, for the hash that a word names
+abbrev pub IsCompareTextAsOf : Form → List ℕ → ℕ → List ℕ → List ℕ → List ℕ → Type 0
+IsCompareTextAsOf form word size old new text = (hash : AnyHash) × (hash_of_word word ≡ Some hash) × (is_table_size size ≡ true) ×
+    IsCompareTextAs form (plain_of hash) size old new text
+
+-- the same in lines for people
 abbrev pub IsCompareTextOf : List ℕ → ℕ → List ℕ → List ℕ → List ℕ → Type 0
-IsCompareTextOf word size old new text = (hash : AnyHash) × (hash_of_word word ≡ Some hash) × (is_table_size size ≡ true) ×
-    IsCompareText (plain_of hash) size old new text
+IsCompareTextOf word size old new text = IsCompareTextAsOf Plain word size old new text

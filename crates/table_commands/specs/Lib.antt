@@ -1,3 +1,4 @@
+pub mod Objects
 pub mod Text
 pub mod Refusals
 pub mod Compare

@@ -16,6 +16,10 @@ use Rattle.selection.specs.Picks.{slot_of_flow}
 use Rattle.maglev_texts.specs.Printing.{flow_text}
 use Rattle.table_entrants.specs.Ranking.{names_of, owners_of, IsRanked}
 use Rattle.table_entrants.specs.declared.entrant.Entrant.{Entrant}
+use Rattle.json_lines.specs.declared.forms.Form.{Form}
+use Rattle.json_lines.specs.declared.forms.Form.TheVariants.{Plain, Json}
+use Rattle.json_lines.specs.Heads.{head_json}
+use Rattle.table_commands.specs.Objects.{flow_json, drop_json}
 use Rattle.table_commands.specs.Text.{entrants_of, name_at}
 use Rattle.table_commands.specs.Refusals.{AreListed, AreFew, WordsFail}
 use Rattle.command_faults.specs.declared.fault.CliFault.{CliFault}
@@ -37,15 +41,24 @@ flow_line x slot name = flow_text x ++ (codes " slot " ++ (decimal slot ++ (code
 abbrev pub drop_line : List ℕ → List ℕ
 drop_line cause = codes "drop " ++ (cause ++ codes "\n")
 
--- the line of a flow over some names, which take their turns in their order
-abbrev pub found_line : (List ℕ → ℕ) → ℕ → List Entrant → Flow → List ℕ
-found_line plain size entrants x =
-    flow_line x (slot_of_flow plain size x) (name_at (names_of entrants) (owners_of plain size entrants) (slot_of_flow plain size x))
+-- all that is printed of a flow, or of a drop, in each form
+abbrev pub flow_text_as : Form → Flow → ℕ → List ℕ → List ℕ
+flow_text_as Plain x slot name = flow_line x slot name
+flow_text_as Json x slot name = head_json (codes "pick") ++ flow_json x slot name
 
--- the line of the command `pick`
-abbrev pub pick_line : (List ℕ → ℕ) → ℕ → List Entrant → Packet → List ℕ
-pick_line plain size entrants (Good x _ _) = found_line plain size entrants x
-pick_line plain size entrants (Bad cause) = drop_line (cause_name cause)
+abbrev pub drop_text_as : Form → List ℕ → List ℕ
+drop_text_as Plain cause = drop_line cause
+drop_text_as Json cause = head_json (codes "pick") ++ drop_json cause
+
+-- what is printed of a flow over some names, which take their turns in their order
+abbrev pub found_text_as : Form → (List ℕ → ℕ) → ℕ → List Entrant → Flow → List ℕ
+found_text_as form plain size entrants x =
+    flow_text_as form x (slot_of_flow plain size x) (name_at (names_of entrants) (owners_of plain size entrants) (slot_of_flow plain size x))
+
+-- the text of the command `pick`
+abbrev pub pick_text_as : Form → (List ℕ → ℕ) → ℕ → List Entrant → Packet → List ℕ
+pick_text_as form plain size entrants (Good x _ _) = found_text_as form plain size entrants x
+pick_text_as form plain size entrants (Bad cause) = drop_text_as form (cause_name cause)
 
 -- the text is hexadecimal digits and at most one newline, and they are these bytes
 abbrev pub IsHexOf : List ℕ → List ℕ → Type 0
@@ -59,15 +72,20 @@ IsNoHex text = (e : FromHexError) × (decode_of (without_newline text) ≡ Err e
 abbrev pub longest : ℕ
 longest = 524289
 
--- the line of a datagram, where the input tells it
-abbrev pub IsPickLine : (List ℕ → ℕ) → ℕ → List (List ℕ) → Bool → Option (List ℕ) → List ℕ → Type 0
-IsPickLine plain size words check input line =
+-- the text of a datagram, where the input tells it, in a form
+abbrev pub IsPickTextAs : Form → (List ℕ → ℕ) → ℕ → List (List ℕ) → Bool → Option (List ℕ) → List ℕ → Type 0
+IsPickTextAs form plain size words check input text =
     (entrants : List Entrant) × IsRanked (entrants_of words) entrants × (bytes : List ℕ) × IfSome input (IsHexOf bytes) ×
-    (line ≡ pick_line plain size entrants (packet_of check bytes))
+    (text ≡ pick_text_as form plain size entrants (packet_of check bytes))
 
 -- the same, for the hash that a word names
+abbrev pub IsPickTextAsOf : Form → List ℕ → ℕ → List (List ℕ) → Bool → Option (List ℕ) → List ℕ → Type 0
+IsPickTextAsOf form word size words check input text =
+    (hash : AnyHash) × (hash_of_word word ≡ Some hash) × IsPickTextAs form (plain_of hash) size words check input text
+
+-- the same in a line for people
 abbrev pub IsPickLineOf : List ℕ → ℕ → List (List ℕ) → Bool → Option (List ℕ) → List ℕ → Type 0
-IsPickLineOf word size words check input line = (hash : AnyHash) × (hash_of_word word ≡ Some hash) × IsPickLine (plain_of hash) size words check input line
+IsPickLineOf word size words check input line = IsPickTextAsOf Plain word size words check input line
 
 -- an input that isn't too long
 abbrev pub IsShort : Option (List ℕ) → Type 0

@@ -1,8 +1,11 @@
 ghost use Rattle.std.specs.Prelude.{◌≡◌, ◌<◌, ◌++◌, ◌≤◌, map, length, IfOk, OnOk, string_bytes, All};
 ghost use Rattle.std.specs.List.{flat_map};
 ghost use Rattle.selection.specs.Picks.{NamedTable, slot_names};
-ghost use Rattle.table_commands.specs.Compare.{name_alike, is_moved, moved_slots, moved_line, compare_text, named_text};
+ghost use Rattle.table_commands.specs.Objects.{compare_json, moved_json};
+ghost use Rattle.table_commands.specs.Compare.{name_alike, is_moved, moved_slots, moved_line, moved_line_as, slot_moved_as, compare_head, compare_head_as, compare_text_as, named_text};
 
+use super::objects::BackendObject;
+use json_lines::{Form, push_json_head};
 use maglev_texts::BackendText;
 use pool_versions::Backend;
 use selection::MaglevTable;
@@ -100,49 +103,142 @@ fn moved_slots<T: NamedSlots>(alloc: Global, old: &T, new: &T) -> Result<Vec<u32
     Ok(slots)
 }
 
-fn push_moved_line<T: NamedSlots>(
+fn push_plain_move(
     text: &mut String,
-    old: &T,
-    new: &T,
     slot: u32,
+    before: Option<Backend>,
+    after: Option<Backend>,
 ) -> Result<(), AllocError>
-    requires old { slot < (T.table old.now).size }
-    requires new { slot < (T.table new.now).size }
-    ensures { OnOk result (string_bytes text.new ≡ string_bytes text.old ++ moved_line (T.table old.now) (T.table new.now) slot) }
+    ensures { OnOk result (string_bytes text.new ≡ string_bytes text.old ++ moved_line slot before after) }
 {
-    let before = NamedText(old.named_at(slot));
-    let after = NamedText(new.named_at(slot));
+    let before = NamedText(before);
+    let after = NamedText(after);
     write!(text, "{slot} {before} {after}\n")
+}
+
+fn push_json_move(
+    text: &mut String,
+    slot: u32,
+    before: Option<Backend>,
+    after: Option<Backend>,
+) -> Result<(), AllocError>
+    ensures { OnOk result (string_bytes text.new ≡ string_bytes text.old ++ moved_json slot before after) }
+{
+    let old = BackendObject(before);
+    let new = BackendObject(after);
+    write!(
+        text,
+        "{{\"type\":\"slot\",\"slot\":{slot},\"old\":{old},\"new\":{new}}}\n"
+    )
+}
+
+// The line of a slot that names another backend.
+fn push_move(
+    text: &mut String,
+    form: Form,
+    slot: u32,
+    before: Option<Backend>,
+    after: Option<Backend>,
+) -> Result<(), AllocError>
+    ensures { OnOk result (string_bytes text.new ≡ string_bytes text.old ++ moved_line_as form slot before after) }
+{
+    match form {
+        Form::Plain => push_plain_move(text, slot, before, after),
+        Form::Json => push_json_move(text, slot, before, after),
+    }
 }
 
 fn push_moved_lines<T: NamedSlots>(
     text: &mut String,
+    form: Form,
     old: &T,
     new: &T,
     slots: &[u32],
 ) -> Result<(), AllocError>
     requires same { (T.table old.now).size ≡ (T.table new.now).size }
     requires below { All (λ slot. slot < (T.table old.now).size) slots.now }
-    ensures { OnOk result (string_bytes text.new ≡ string_bytes text.old ++ flat_map (moved_line (T.table old.now) (T.table new.now)) slots.now) }
+    ensures { OnOk result (string_bytes text.new ≡ string_bytes text.old ++ flat_map (slot_moved_as form (T.table old.now) (T.table new.now)) slots.now) }
 {
     for slot in slots {
-        push_moved_line(text, old, new, *slot)?;
+        push_move(text, form, *slot, old.named_at(*slot), new.named_at(*slot))?;
     }
     Ok(())
 }
 
+/// How large two tables are, how many backends each has, and how many slots differ.
+#[derive(Clone, Copy)]
+struct Sizes {
+    slots: u32,
+    before: usize,
+    after: usize,
+    moved: usize,
+}
+
+fn plain_head(alloc: Global, sizes: Sizes) -> Result<String, AllocError>
+    ensures { IfOk result (λ s. string_bytes s ≡ compare_head sizes.slots sizes.before sizes.after sizes.moved) }
+{
+    let Sizes {
+        slots,
+        before,
+        after,
+        moved,
+    } = sizes;
+    format!(in alloc; "size {slots} old {before} new {after} differ {moved}\n")
+}
+
+fn push_json_sizes(text: &mut String, sizes: Sizes) -> Result<(), AllocError>
+    ensures { OnOk result (string_bytes text.new ≡ string_bytes text.old ++ compare_json sizes.slots sizes.before sizes.after sizes.moved) }
+{
+    let Sizes {
+        slots,
+        before,
+        after,
+        moved,
+    } = sizes;
+    write!(
+        text,
+        "{{\"type\":\"compare\",\"size\":{slots},\"old\":{before},\"new\":{after},\"differ\":{moved}}}\n"
+    )
+}
+
+fn json_head(alloc: Global, sizes: Sizes) -> Result<String, AllocError>
+    ensures { IfOk result (λ s. string_bytes s ≡ compare_head_as Form.Json sizes.slots sizes.before sizes.after sizes.moved) }
+{
+    let mut text = String::new(alloc);
+    push_json_head(&mut text, "compare")?;
+    push_json_sizes(&mut text, sizes)?;
+    Ok(text)
+}
+
+// What stands before the lines of the slots.
+fn head(alloc: Global, form: Form, sizes: Sizes) -> Result<String, AllocError>
+    ensures { IfOk result (λ s. string_bytes s ≡ compare_head_as form sizes.slots sizes.before sizes.after sizes.moved) }
+{
+    match form {
+        Form::Plain => plain_head(alloc, sizes),
+        Form::Json => json_head(alloc, sizes),
+    }
+}
+
 /// The text of the command `compare` over two tables of one size.
-#[tactic(auto, unfolding(crate::specs::Compare::compare_text))]
-pub fn compare_text_of<T: NamedSlots>(alloc: Global, old: &T, new: &T) -> Result<String, AllocError>
+#[tactic(auto, unfolding(crate::specs::Compare::compare_text_as))]
+pub fn compare_text_of<T: NamedSlots>(
+    alloc: Global,
+    form: Form,
+    old: &T,
+    new: &T,
+) -> Result<String, AllocError>
     requires { (T.table old.now).size ≡ (T.table new.now).size }
-    ensures { IfOk result (λ s. string_bytes s ≡ compare_text (T.table old.now) (T.table new.now)) }
+    ensures { IfOk result (λ s. string_bytes s ≡ compare_text_as form (T.table old.now) (T.table new.now)) }
 {
     let slots = moved_slots(alloc, old, new)?;
-    let size = old.slots();
-    let before = old.up_count();
-    let after = new.up_count();
-    let moved = slots.len();
-    let mut text = format!(in alloc; "size {size} old {before} new {after} differ {moved}\n")?;
-    push_moved_lines(&mut text, old, new, slots.as_slice())?;
+    let sizes = Sizes {
+        slots: old.slots(),
+        before: old.up_count(),
+        after: new.up_count(),
+        moved: slots.len(),
+    };
+    let mut text = head(alloc, form, sizes)?;
+    push_moved_lines(&mut text, form, old, new, slots.as_slice())?;
     Ok(text)
 }

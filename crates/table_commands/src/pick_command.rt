@@ -3,9 +3,11 @@ ghost use Rattle.hash_laws.specs.Any.{plain_of};
 ghost use Rattle.pcap_file.specs.Device.{Unfailed, ReadRefused};
 ghost use Rattle.command_faults.specs.Printing.{Prints, BreaksOff};
 ghost use Rattle.table_commands.specs.Refusals.{AreFew, IsTableWork};
-ghost use Rattle.table_commands.specs.Pick.{longest, without_newline, IsHexOf, found_line, pick_line, HexFails, InputFails, IsPickLine, IsPickLineOf, IsShort, PickFailsWith, PickFails};
+ghost use Rattle.table_commands.specs.Pick.{longest, without_newline, IsHexOf, found_text_as, pick_text_as, HexFails, InputFails, IsPickTextAs, IsPickTextAsOf, IsPickLineOf, IsShort, PickFailsWith, PickFails};
 
 use super::names::{name_at, names_for};
+use super::options::TableOptions;
+use super::pick_text::{drop_text_of, flow_text_of};
 use backend_names::TableSize;
 use cluster_core::{Packet, read_packet};
 use command_faults::{CliFault, put_text};
@@ -13,9 +15,8 @@ use five_tuple::Flow;
 use hash_laws::{AnyHash, FlowHash};
 use hex::FromHexError;
 use ip_headers::Link;
-use maglev_texts::FlowText;
+use json_lines::Form;
 use pcap_file::{Sink, Source, fill};
-use run_report::CauseText;
 use std::alloc::{AllocError, Global};
 use table_entrants::{Entrant, table_of};
 
@@ -72,47 +73,53 @@ fn bytes_of(alloc: Global, text: &[u8]) -> Result<Vec<u8>, CliFault>
     }
 }
 
-// The name that the flow's slot names in the table of some names, and the slot.
-fn found_line(
-    alloc: Global,
+// What options mean.
+#[derive(Clone, Copy)]
+struct Meant {
+    form: Form,
     size: TableSize,
-    hash: &AnyHash,
+    hash: AnyHash,
+}
+
+// The name that the flow's slot names in the table of some names, and the slot.
+fn found_text(
+    alloc: Global,
+    meant: &Meant,
     entrants: &[Entrant],
     flow: Flow,
 ) -> Result<String, CliFault>
-    ensures line { IfOk result (λ s. string_bytes s ≡ found_line (plain_of hash.now) size entrants.now flow) }
+    ensures text { IfOk result (λ s. string_bytes s ≡ found_text_as meant.now.form (plain_of meant.now.hash) meant.now.size entrants.now flow) }
     ensures fault { IfErr result (λ fault. fault ≡ CliFault.Memory) }
 {
-    let table = match table_of(alloc, size, hash, entrants) {
+    let table = match table_of(alloc, meant.size, &meant.hash, entrants) {
         Ok(table) => table,
         Err(_) => return Err(CliFault::Memory),
     };
-    let slot = (hash.hash(b'f', &flow.bytes()) % u64::from(size.slots())) as u32;
+    let slots = u64::from(meant.size.slots());
+    let slot = (meant.hash.hash(b'f', &flow.bytes()) % slots) as u32;
     let name = name_at(&table, entrants, slot);
-    let text = FlowText(flow);
-    match format!(in alloc; "{text} slot {slot} backend {name}\n") {
-        Ok(line) => Ok(line),
+    match flow_text_of(alloc, meant.form, flow, slot, name) {
+        Ok(text) => Ok(text),
         Err(_) => Err(CliFault::Memory),
     }
 }
 
-// The line of a datagram's flow and backend, or of its drop.
-fn line_of(
+// What is printed of a datagram: its flow and backend, or its drop.
+fn text_of(
     alloc: Global,
-    size: TableSize,
-    hash: &AnyHash,
+    meant: &Meant,
     entrants: &[Entrant],
     packet: Packet,
 ) -> Result<String, CliFault>
-    ensures line { IfOk result (λ s. string_bytes s ≡ pick_line (plain_of hash.now) size entrants.now packet) }
+    ensures text { IfOk result (λ s. string_bytes s ≡ pick_text_as meant.now.form (plain_of meant.now.hash) meant.now.size entrants.now packet) }
     ensures fault { IfErr result (λ fault. fault ≡ CliFault.Memory) }
 {
     let cause = match packet {
-        Packet::Good { flow, .. } => return found_line(alloc, size, hash, entrants, flow),
-        Packet::Bad(cause) => CauseText(cause),
+        Packet::Good { flow, .. } => return found_text(alloc, meant, entrants, flow),
+        Packet::Bad(cause) => cause,
     };
-    match format!(in alloc; "drop {cause}\n") {
-        Ok(line) => Ok(line),
+    match drop_text_of(alloc, meant.form, cause) {
+        Ok(text) => Ok(text),
         Err(_) => Err(CliFault::Memory),
     }
 }
@@ -133,67 +140,103 @@ pub fn datagram_of<R: Source>(alloc: Global, input: &mut R) -> Result<Vec<u8>, C
     }
 }
 
-// The line of the datagram that the input has.
-fn line_for<R: Source>(
+// What is printed of the datagram that the input has.
+fn text_for<R: Source>(
     alloc: Global,
-    size: TableSize,
-    hash: &AnyHash,
+    meant: &Meant,
     check: bool,
     words: &[&str],
     input: &mut R,
 ) -> Result<String, CliFault>
-    ensures line { IfOk result (λ s. IsPickLine (plain_of hash.now) size (map (λ w. w.now) words.now) check (R.tape input.old).bytes (string_bytes s)) }
-    ensures accepted { OnOk result (AreFew size (map (λ w. w.now) words.now) × IsShort (R.tape input.old).bytes) }
+    ensures text { IfOk result (λ s. IsPickTextAs meant.now.form (plain_of meant.now.hash) meant.now.size (map (λ w. w.now) words.now) check
+        (R.tape input.old).bytes (string_bytes s)) }
+    ensures accepted { OnOk result (AreFew meant.now.size (map (λ w. w.now) words.now) × IsShort (R.tape input.old).bytes) }
     ensures unfailed { OnOk result (Unfailed (R.tape input.old) (R.tape input.new)) }
     ensures read { IfErr result (λ fault. fault ≡ CliFault.Read → ReadRefused (longest + 1) (R.tape input.old) (R.tape input.new)) }
-    ensures fault { IfErr result (λ fault. PickFailsWith fault size (map (λ w. w.now) words.now) (R.tape input.old).bytes) }
+    ensures fault { IfErr result (λ fault. PickFailsWith fault meant.now.size (map (λ w. w.now) words.now) (R.tape input.old).bytes) }
     ensures unwritten { IfErr result (λ fault. fault ≢ CliFault.Write) }
 {
-    let entrants = names_for(alloc, size, words)?;
+    let entrants = names_for(alloc, meant.size, words)?;
     let bytes = match datagram_of(alloc, input) {
         Ok(bytes) => bytes,
         Err(fault) => return Err(fault),
     };
     let packet = read_packet(Link::Ipv4, bytes.as_slice(), 0, check);
-    match line_of(alloc, size, hash, entrants.as_slice(), packet) {
-        Ok(line) => Ok(line),
+    match text_of(alloc, meant, entrants.as_slice(), packet) {
+        Ok(text) => Ok(text),
         Err(fault) => Err(fault),
     }
 }
 
-// The same for the size and the hash that a command line names.
-fn line_by<R: Source>(
+// The same for the options of a command line.
+fn text_by<R: Source>(
     alloc: Global,
-    size: u32,
-    hash: &str,
+    options: TableOptions<'_>,
     check: bool,
     words: &[&str],
     input: &mut R,
 ) -> Result<String, CliFault>
-    ensures line { IfOk result (λ s. IsPickLineOf hash.now size (map (λ w. w.now) words.now) check (R.tape input.old).bytes (string_bytes s)) }
-    ensures accepted { OnOk result (IsTableWork size hash.now (map (λ w. w.now) words.now) × IsShort (R.tape input.old).bytes) }
+    ensures text { IfOk result (λ s. IsPickTextAsOf options.entry.form options.entry.hash.now options.entry.size (map (λ w. w.now) words.now) check
+        (R.tape input.old).bytes (string_bytes s)) }
+    ensures accepted { OnOk result (IsTableWork options.entry.size options.entry.hash.now (map (λ w. w.now) words.now) × IsShort (R.tape input.old).bytes) }
     ensures unfailed { OnOk result (Unfailed (R.tape input.old) (R.tape input.new)) }
     ensures read { IfErr result (λ fault. fault ≡ CliFault.Read → ReadRefused (longest + 1) (R.tape input.old) (R.tape input.new)) }
-    ensures fault { IfErr result (λ fault. PickFails fault size hash.now (map (λ w. w.now) words.now) (R.tape input.old).bytes) }
+    ensures fault { IfErr result (λ fault. PickFails fault options.entry.size options.entry.hash.now (map (λ w. w.now) words.now) (R.tape input.old).bytes) }
     ensures unwritten { IfErr result (λ fault. fault ≢ CliFault.Write) }
 {
-    let Some(size) = TableSize::new(size) else {
+    let Some(size) = TableSize::new(options.size) else {
         return Err(CliFault::BadSize);
     };
-    let Some(hash) = AnyHash::of_word(hash) else {
+    let Some(hash) = AnyHash::of_word(options.hash) else {
         return Err(CliFault::BadHash);
     };
-    match line_for(alloc, size, &hash, check, words, input) {
-        Ok(line) => Ok(line),
+    let meant = Meant {
+        form: options.form,
+        size,
+        hash,
+    };
+    match text_for(alloc, &meant, check, words, input) {
+        Ok(text) => Ok(text),
         Err(fault) => Err(fault),
     }
 }
 
-/// The command `pick`: reads one IPv4 datagram as hexadecimal text. It writes its flow, the flow's slot and the backend that
-/// the slot names, or why the datagram is dropped.
+/// The command `pick` in a form: reads one IPv4 datagram as hexadecimal text. It writes its flow, the flow's slot and the
+/// backend that the slot names, or why the datagram is dropped.
 ///
 /// The input is hexadecimal digits of either case, two a byte, and at most one newline after them. The header checksum is
-/// tested where `check` holds. The line is written in one piece, so after any fault but `Write` nothing was written.
+/// tested where `check` holds. The text is written in one piece, so after any fault but `Write` nothing was written.
+pub fn pick_as<R: Source, S: Sink>(
+    alloc: Global,
+    options: TableOptions<'_>,
+    check: bool,
+    words: &[&str],
+    input: &mut R,
+    out: &mut S,
+) -> Result<(), CliFault>
+    requires { 0 < length words.now }
+    ensures written { OnOk result (Prints (IsPickTextAsOf options.entry.form options.entry.hash.now options.entry.size (map (λ w. w.now) words.now) check
+        (R.tape input.old).bytes) (S.tape out.old) (S.tape out.new)) }
+    ensures broken { IfErr result (λ fault. fault ≡ CliFault.Write →
+        BreaksOff (IsPickTextAsOf options.entry.form options.entry.hash.now options.entry.size (map (λ w. w.now) words.now) check (R.tape input.old).bytes)
+        (S.tape out.old) (S.tape out.new)) }
+    ensures accepted { OnOk result (IsTableWork options.entry.size options.entry.hash.now (map (λ w. w.now) words.now) × IsShort (R.tape input.old).bytes) }
+    ensures unfailed { OnOk result (Unfailed (R.tape input.old) (R.tape input.new)) }
+    ensures read { IfErr result (λ fault. fault ≡ CliFault.Read → ReadRefused (longest + 1) (R.tape input.old) (R.tape input.new)) }
+    ensures silent { IfErr result (λ fault. fault ≢ CliFault.Write → out.new ≡ out.old) }
+    ensures fault { IfErr result (λ fault. PickFails fault options.entry.size options.entry.hash.now (map (λ w. w.now) words.now) (R.tape input.old).bytes) }
+{
+    let text = match text_by(alloc, options, check, words, input) {
+        Ok(text) => text,
+        Err(fault) => return Err(fault),
+    };
+    match put_text(out, text.as_str()) {
+        Ok(()) => Ok(()),
+        Err(fault) => Err(fault),
+    }
+}
+
+/// The same in a line for people.
 pub fn pick<R: Source, S: Sink>(
     alloc: Global,
     size: u32,
@@ -214,11 +257,12 @@ pub fn pick<R: Source, S: Sink>(
     ensures silent { IfErr result (λ fault. fault ≢ CliFault.Write → out.new ≡ out.old) }
     ensures fault { IfErr result (λ fault. PickFails fault size hash.now (map (λ w. w.now) words.now) (R.tape input.old).bytes) }
 {
-    let line = match line_by(alloc, size, hash, check, words, input) {
-        Ok(line) => line,
-        Err(fault) => return Err(fault),
+    let options = TableOptions {
+        form: Form::Plain,
+        size,
+        hash,
     };
-    match put_text(out, line.as_str()) {
+    match pick_as(alloc, options, check, words, input, out) {
         Ok(()) => Ok(()),
         Err(fault) => Err(fault),
     }

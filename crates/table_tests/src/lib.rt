@@ -1,7 +1,9 @@
-//! Tests of hashes, names, sizes, permutations and population.
+//! Tests of hashes, names, sizes, permutations and population, and of what is printed of a table as JSON Lines.
 #![tactic(auto)]
 
 #[cfg(test)]
 mod hashes;
+#[cfg(test)]
+mod objects;
 #[cfg(test)]
 mod tests;

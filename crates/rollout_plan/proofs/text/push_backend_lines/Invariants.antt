@@ -1,7 +1,7 @@
 use Rattle.std.proofs.Common.{◌≡◌, ◌++◌, take, string_bytes}
 use Rattle.std.specs.List.{flat_map}
-use Rattle.rollout_plan.specs.Text.{backend_line}
+use Rattle.rollout_plan.specs.Forms.{backend_line_as}
 use Rattle.rollout_plan.proofs.text.push_backend_lines.Given as goal
 
 abbrev pub invariant-loop-member : goal.invariant-loop-member
-invariant-loop-member l = string_bytes l.text ≡ string_bytes l.initial.text ++ flat_map (backend_line l.table l.draining) (take l.member-index l.members)
+invariant-loop-member l = string_bytes l.text ≡ string_bytes l.initial.text ++ flat_map (backend_line_as l.block.form l.block.key l.table l.draining) (take l.member-index l.members)

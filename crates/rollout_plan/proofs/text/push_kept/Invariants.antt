@@ -1,7 +1,7 @@
 use Rattle.std.proofs.Common.{◌≡◌, ◌++◌, take, string_bytes}
 use Rattle.std.specs.List.{flat_map}
-use Rattle.rollout_plan.specs.Text.{kept_text}
+use Rattle.rollout_plan.specs.Forms.{kept_text_as}
 use Rattle.rollout_plan.proofs.text.push_kept.Given as goal
 
 abbrev pub invariant-loop-service : goal.invariant-loop-service
-invariant-loop-service l = string_bytes l.text ≡ string_bytes l.initial.text ++ flat_map (kept_text l.rule l.before) (take l.service-index l.services)
+invariant-loop-service l = string_bytes l.text ≡ string_bytes l.initial.text ++ flat_map (kept_text_as l.form l.rule l.before) (take l.service-index l.services)

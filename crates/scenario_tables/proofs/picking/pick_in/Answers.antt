@@ -5,7 +5,7 @@ use Rattle.scenario_tables.proofs.picking.pick_in.Goals as goal
 
 pub returns-clause-fault : goal.returns-clause-fault
 returns-clause-fault g c =
-    let line = c.in-Ok.ensures.line in
-    let shown = line.shows in
-    subst (λ (fault : CliFault). PickFails fault c.args.scenario.now c.args.version (g.R.Source.tape c.args.input.now).bytes) (sym c.in-Err-put_text.ensures.refused.0)
-    (inr (record { meant = line.meant; means = line.means; why = (shown.of_scheme, ap is_some shown.of_number, shown.short) }))
+    let text = c.in-Ok.ensures.text in
+    let shown = text.shows in
+    subst (λ (fault : CliFault). PickFails fault c.args.scenario.now c.args.options.version (g.R.Source.tape c.args.input.now).bytes) (sym c.in-Err-put_text.ensures.refused.0)
+    (inr (record { meant = text.meant; means = text.means; why = (shown.of_scheme, ap is_some shown.of_number, shown.short) }))

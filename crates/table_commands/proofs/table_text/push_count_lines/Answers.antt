@@ -6,5 +6,5 @@ use Rattle.table_commands.proofs.table_text.push_count_lines.Goals as goal
 
 pub loop-who-preserved : goal.loop-who-preserved
 loop-who-preserved c =
-    counts_more (names_of c.args.entrants.now) c.args.counts.now _ _ _ c.loop-who.who _ _ c.in_ok-push_count_line.ensures c.loop-who.invariant refl
+    counts_more c.args.form (names_of c.args.entrants.now) c.args.counts.now _ _ _ c.loop-who.who _ _ c.in_ok-push_count_line.ensures c.loop-who.invariant refl
     (let low : c.loop-who.who < length c.args.entrants.now = omega arith in read_name c.args.entrants.now c.loop-who.who _ low)

@@ -1,4 +1,4 @@
-use Rattle.std.proofs.Common.{length, ℕ, ap, sym, ◌∙◌, append_assoc}
+use Rattle.std.proofs.Common.{length, ℕ, ap, sym, ◌∙◌, refl}
 use Rattle.std.proofs.lemmas.List.FromFn.{length-map-range_with_len}
 use Rattle.maglev_table.specs.Turns.{slots_of, all_slots_of}
 use Rattle.std.proofs.lemmas.List.{length-map}
@@ -13,6 +13,6 @@ push_count_lines-requires c =
 
 pub returns : goal.returns
 returns c =
-    whole_text (names_of c.args.entrants.now) c.args.table.now.owners c.as_slice.result.now _ _ _ c.args.size c.slots-slots.result (length c.args.entrants.now)
-    (c.in_ok-text.ensures.ok ∙ rw c.slots-slots.ensures.value (simp append_assoc)) c.in_ok-push_slot_lines.ensures c.in_ok-push_count_lines.ensures (sym (length-map c.args.entrants.now (λ (e : Entrant). e.name))) (c.slots-slots.ensures.value ∙ sym c.requires.sized)
+    whole_text c.args.form (names_of c.args.entrants.now) c.args.table.now.owners c.as_slice.result.now _ _ _ c.args.size c.slots-slots.result (length c.args.entrants.now)
+    (c.in_ok-text.ensures ∙ rw c.slots-slots.ensures.value refl) c.in_ok-push_slot_lines.ensures c.in_ok-push_count_lines.ensures (sym (length-map c.args.entrants.now (λ (e : Entrant). e.name))) (c.slots-slots.ensures.value ∙ sym c.requires.sized)
     (c.as_slice.ensures.value ∙ c.in_ok-counts.ensures ∙ ap (λ (k : ℕ). all_slots_of k c.args.table.now.owners) c.requires.named)

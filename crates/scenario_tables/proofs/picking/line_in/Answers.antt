@@ -1,5 +1,0 @@
-use Rattle.std.proofs.Common.{inr}
-use Rattle.scenario_tables.proofs.picking.line_in.Goals as goal
-
-pub returns-clause-fault : goal.returns-clause-fault
-returns-clause-fault g c = inr (record { meant = c.in-Ok.scenario; means = c.in-Ok.ensures.means; why = c.in-Err-line_for.ensures.fault })
