@@ -193,6 +193,7 @@ fn table<'a>(alloc: Global) -> Result<Command<'a>, AllocError> {
         with_names(alloc)?,
         of_version(alloc)?,
         service(alloc)?,
+        json(alloc),
         of_words(alloc),
         names(alloc)?,
     ];
@@ -212,6 +213,7 @@ fn pick<'a>(alloc: Global) -> Result<Command<'a>, AllocError> {
         with_names(alloc)?,
         of_version(alloc)?,
         no_check(alloc),
+        json(alloc),
         of_words(alloc),
         names(alloc)?,
     ];
@@ -258,6 +260,7 @@ fn compare<'a>(alloc: Global) -> Result<Command<'a>, AllocError> {
         )?,
         version_by(alloc, "to", "W", "number of the scenario's version after")?,
         service(alloc)?,
+        json(alloc),
         of_words(alloc),
     ];
     let args = Vec::from_array(alloc, args)?;
@@ -355,6 +358,23 @@ fn pace<'a>(alloc: Global) -> Arg<'a> {
         .action(ArgAction::SetTrue)
 }
 
+fn json<'a>(alloc: Global) -> Arg<'a> {
+    Arg::new(alloc, "json")
+        .long("json")
+        .help("print JSON Lines: an object for each line, with the keys that docs/FORMATS.md lists")
+        .action(ArgAction::SetTrue)
+}
+
+fn fail_above<'a>(alloc: Global) -> Arg<'a> {
+    Arg::new(alloc, "fail-above")
+        .long("fail-above")
+        .value_name("SHARE")
+        .help(
+            "end with status 3 where a greater share of the connections changed their server, as 0.01; it prints the summary",
+        )
+        .action(ArgAction::Set)
+}
+
 fn list<'a>(alloc: Global) -> Arg<'a> {
     Arg::new(alloc, "list")
         .long("list")
@@ -380,6 +400,7 @@ fn in_orders<'a>(alloc: Global) -> Arg<'a> {
 fn plan<'a>(alloc: Global) -> Result<Command<'a>, AllocError> {
     let args = [
         in_orders(alloc),
+        json(alloc),
         of_places(alloc),
         scenario(alloc),
         version(alloc, "from", "FROM", "number of the version before").required(true),
@@ -411,6 +432,8 @@ fn simulate<'a>(alloc: Global) -> Result<Command<'a>, AllocError> {
         splits(alloc),
         places(alloc),
         summary(alloc),
+        fail_above(alloc),
+        json(alloc),
         of_places(alloc),
         scenario(alloc),
         input(alloc),
@@ -427,6 +450,7 @@ fn simulate<'a>(alloc: Global) -> Result<Command<'a>, AllocError> {
 
 fn explain<'a>(alloc: Global) -> Result<Command<'a>, AllocError> {
     let args = [
+        json(alloc),
         of_places(alloc),
         scenario(alloc),
         input(alloc),
@@ -447,7 +471,9 @@ fn run<'a>(alloc: Global) -> Result<Command<'a>, AllocError> {
         splits(alloc),
         places(alloc),
         summary(alloc),
+        fail_above(alloc),
         pace(alloc),
+        json(alloc),
         of_places(alloc),
         scenario(alloc),
         input(alloc),

@@ -1,6 +1,7 @@
 //! Files and standard streams that are opened at the first call, and remember what the system refused them.
 #![tactic(auto)]
 
+ghost use Rattle.std.specs.Prelude.{◌≡◌};
 ghost use Rattle.std.specs.Io.{ReadsAtMost, WritesAtMost};
 
 use std::alloc::Global;
@@ -95,6 +96,17 @@ impl Refusal {
             None => io::Error::from(self.kind),
         }
     }
+}
+
+// What the system answered, of which a refusal is remembered.
+#[inline(always)]
+fn noted<T>(answer: io::Result<T>, refusal: &mut Option<Refusal>) -> io::Result<T>
+    ensures { result ≡ answer }
+{
+    if let Err(error) = &answer {
+        *refusal = Some(Refusal::of(error));
+    }
+    answer
 }
 
 /// The bytes of a capture's file header, as far as they were read.
@@ -254,11 +266,10 @@ impl Read for InputFile<'_> {
             self.opened()?;
         }
         let read = self.read_on(buf);
-        match &read {
-            Ok(length) => self.head.note(buf.get(..*length).unwrap_or(&[])),
-            Err(error) => self.refusal = Some(Refusal::of(error)),
+        if let Ok(length) = &read {
+            self.head.note(buf.get(..*length).unwrap_or(&[]));
         }
-        read
+        noted(read, &mut self.refusal)
     }
 }
 
@@ -369,18 +380,12 @@ impl Write for OutputFile<'_> {
             self.opened()?;
         }
         let written = self.write_on(buf);
-        if let Err(error) = &written {
-            self.refusal = Some(Refusal::of(error));
-        }
-        written
+        noted(written, &mut self.refusal)
     }
 
     fn flush(&mut self) -> io::Result<()> {
         let flushed = self.flush_on();
-        if let Err(error) = &flushed {
-            self.refusal = Some(Refusal::of(error));
-        }
-        flushed
+        noted(flushed, &mut self.refusal)
     }
 }
 
@@ -409,18 +414,12 @@ impl<'a> StandardOutput<'a> {
 impl Write for StandardOutput<'_> {
     fn write(&mut self, buf: &[u8]) -> io::Result<usize> {
         let written = self.writer.write(buf);
-        if let Err(error) = &written {
-            self.refusal = Some(Refusal::of(error));
-        }
-        written
+        noted(written, &mut self.refusal)
     }
 
     fn flush(&mut self) -> io::Result<()> {
         let flushed = self.writer.flush();
-        if let Err(error) = &flushed {
-            self.refusal = Some(Refusal::of(error));
-        }
-        flushed
+        noted(flushed, &mut self.refusal)
     }
 }
 

@@ -1,13 +1,14 @@
 //! The commands about tables where a scenario has the size, the hash and the members.
+use crate::USAGE;
 use crate::files::{Paths, outcome_of, read_scenario};
-use crate::scenarios::ended;
-use crate::{USAGE, says_more};
+use crate::scenarios::{ended, form_of};
+use crate::voice::Voice;
 use clap::ArgMatches;
 use command_faults::CliFault;
 use lazy_files::StandardOutput;
 use pcap_file::{FromRead, ToWrite};
 use scenario::Played;
-use scenario_tables::{Change, compare_in, pick_in, table_in};
+use scenario_tables::{Change, PickOptions, compare_in, pick_in, table_in};
 
 // A command over the text of a scenario's file. `print` prints what is asked of it.
 fn over_text<'x, F>(rt: &'x HostRuntime, matches: &ArgMatches<'_>, scenario: &str, print: F) -> u8
@@ -30,14 +31,8 @@ where
         }
         Err(trouble) => Err(trouble),
     };
-    ended(
-        rt,
-        says_more(rt, matches),
-        paths,
-        Played::InTurn,
-        text,
-        outcome,
-    )
+    let voice = Voice::of(rt, matches);
+    ended(rt, voice, paths, Played::InTurn, text, &outcome)
 }
 
 /// The command `table` over a scenario.
@@ -46,11 +41,12 @@ pub(crate) fn table_described(rt: &HostRuntime, matches: &ArgMatches<'_>, scenar
         return USAGE;
     };
     let service = matches.get_str("service");
+    let form = form_of(matches);
     over_text(
         rt,
         matches,
         scenario,
-        |text, out| table_in(rt.alloc(), text, version, service, out),
+        |text, out| table_in(rt.alloc(), form, text, version, service, out),
     )
 }
 
@@ -59,10 +55,14 @@ pub(crate) fn pick_described(rt: &HostRuntime, matches: &ArgMatches<'_>, scenari
     let Some(version) = matches.get_one::<u32>("version") else {
         return USAGE;
     };
-    let check = !matches.get_flag("no-check");
+    let options = PickOptions {
+        form: form_of(matches),
+        version,
+        check: !matches.get_flag("no-check"),
+    };
     over_text(rt, matches, scenario, |text, out| {
         let mut input = FromRead::new(rt.stdin());
-        pick_in(rt.alloc(), text, version, check, &mut input, out)
+        pick_in(rt.alloc(), text, options, &mut input, out)
     })
 }
 
@@ -74,10 +74,11 @@ pub(crate) fn compare_described(rt: &HostRuntime, matches: &ArgMatches<'_>, scen
     };
     let service = matches.get_str("service");
     let change = Change { from, to, service };
+    let form = form_of(matches);
     over_text(
         rt,
         matches,
         scenario,
-        |text, out| compare_in(rt.alloc(), text, change, out),
+        |text, out| compare_in(rt.alloc(), form, text, change, out),
     )
 }

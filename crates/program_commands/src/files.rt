@@ -3,6 +3,7 @@ ghost use Rattle.std.specs.Prelude.{◌≡◌, IfErr};
 ghost use Rattle.command_faults.specs.declared.fault.CliFault.TheVariants.{NoRandom};
 
 use crate::reasons::Trouble;
+use change_share::ChangeCounts;
 use command_faults::CliFault;
 use connection_table::TableKey;
 use lazy_files::{
@@ -10,8 +11,9 @@ use lazy_files::{
     is_standard_output,
 };
 use pcap_file::{Frame, FromRead, PcapFault, ToWrite, read_record_into, read_start};
-use scenario_commands::explain_keyed;
+use scenario_commands::answer_keyed;
 use scenario_sketch::sketch;
+use simulate_scenario::Query;
 use std::fs::File;
 use std::io;
 use std::io::{BufReader, ErrorKind, Read, Write};
@@ -122,13 +124,20 @@ fn flushed(output: &mut OutputFile<'_>) -> Result<(), CliFault> {
 }
 
 // Prints the report: on standard output, or on standard error where what is sent goes to standard output.
-fn printed(rt: &HostRuntime, text: &[u8], to_error: bool) -> Result<(), Trouble> {
+fn print_report(rt: &HostRuntime, text: &[u8], to_error: bool) -> Result<(), Trouble> {
     let done = if to_error {
         rt.stderr().write_all(text)
     } else {
         io::writer(rt).write_all(text)
     };
     done.map_err(|error| Trouble::of_report(&error))
+}
+
+/// What a command printed, and how many connections there were and changed their server, where that was counted.
+#[derive(Drop)]
+pub(crate) struct Printed {
+    pub(crate) report: KeptText,
+    pub(crate) counts: Option<ChangeCounts>,
 }
 
 // The end of a command: the output is written out, and then the report is printed and answered, or the fault is.
@@ -138,13 +147,13 @@ fn finished(
     input: InputFile<'_>,
     mut output: OutputFile<'_>,
     report: KeptText,
-    outcome: Result<(), CliFault>,
-) -> Result<KeptText, Trouble> {
+    outcome: Result<Option<ChangeCounts>, CliFault>,
+) -> Result<Printed, Trouble> {
     let fault = match (flushed(&mut output), outcome) {
         (Err(fault), _) => fault,
-        (Ok(()), Ok(())) => {
-            printed(rt, report.text(), is_standard_output(rt, files.output))?;
-            return Ok(report);
+        (Ok(()), Ok(counts)) => {
+            print_report(rt, report.text(), is_standard_output(rt, files.output))?;
+            return Ok(Printed { report, counts });
         }
         (Ok(()), Err(fault)) => of_output(of_input(fault, &input), &output, &report),
     };
@@ -158,7 +167,7 @@ pub(crate) fn between_files<'x, F>(
     files: &Paths<'x>,
     text: &[u8],
     play: F,
-) -> Result<KeptText, Trouble>
+) -> Result<Printed, Trouble>
 where
     F: FnOnce(
         TableKey,
@@ -166,7 +175,7 @@ where
         &mut FromRead<InputFile<'x>>,
         &mut ToWrite<OutputFile<'x>>,
         &mut ToWrite<KeptText>,
-    ) -> Result<(), CliFault>,
+    ) -> Result<Option<ChangeCounts>, CliFault>,
     F: Drop,
     requires { F.IsAlwaysCallable play }
 {
@@ -220,13 +229,12 @@ pub(crate) fn explain_files(
     rt: &HostRuntime,
     files: &Paths<'_>,
     text: &[u8],
-    one: u64,
-    other: u64,
+    asked: Query,
 ) -> Result<(), Trouble> {
     let key = table_key(rt)?;
     let mut input = FromRead::new(InputFile::new(rt, files.input));
     let mut report = ToWrite::new(StandardOutput::new(rt));
-    let outcome = explain_keyed(rt.alloc(), key, text, &mut input, one, other, &mut report);
+    let outcome = answer_keyed(rt.alloc(), key, text, asked, &mut input, &mut report);
     outcome_over(outcome, &input.into_inner(), &report.into_inner())
 }
 

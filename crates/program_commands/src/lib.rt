@@ -7,6 +7,7 @@ mod files;
 mod reasons;
 mod scenarios;
 mod tables;
+mod voice;
 mod word_reasons;
 mod words;
 
@@ -14,38 +15,23 @@ use clap::ArgMatches;
 use command_faults::{CliFault, finish};
 use pcap_file::ToWrite;
 pub use scenario::Played;
-pub use scenarios::between_captures;
+pub use scenarios::{asks_summary, between_captures, form_of};
 use scenarios::{run_explain, run_plan, run_simulate, run_sketch};
-use std::io::{IsTerminal, Write};
 use tables::{run_compare, run_pick, run_table};
 pub use words::{matches_of, refused, unread, words_of};
 
 /// The status of a command line that isn't one.
 const USAGE: u8 = 2;
 
+/// The status where a greater share of the connections changed their server than may.
+const ABOVE: u8 = 3;
+
 /// The status where whoever read standard output went away: that of a program which the signal of a broken pipe ends.
 const GONE: u8 = 141;
 
-// Reports what became of a command on standard error, and answers its status.
-fn told_outcome(rt: &HostRuntime, outcome: &Result<(), CliFault>) -> u8 {
-    finish(outcome, &mut ToWrite::new(rt.stderr()))
-}
-
 // Reports a fault on standard error, and answers its status.
 fn told(rt: &HostRuntime, fault: CliFault) -> u8 {
-    told_outcome(rt, &Err(fault))
-}
-
-// Whether more is said than the fixed texts: where that is asked for, or where a person reads it.
-fn says_more(rt: &HostRuntime, matches: &ArgMatches<'_>) -> bool {
-    matches.get_flag("verbose") || rt.stderr().is_terminal()
-}
-
-// Says what more is known of a fault.
-fn say(rt: &HostRuntime, line: Option<String>) {
-    if let Some(line) = line {
-        let _ = writeln!(rt.stderr(), "{line}");
-    }
+    finish(&Err(fault), &mut ToWrite::new(rt.stderr()))
 }
 
 /// The command that the command line names, unless it is `run`.

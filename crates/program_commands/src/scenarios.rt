@@ -1,22 +1,26 @@
 //! The commands that play a scenario on one thread, from what the command line says, and the end of each command over files.
 use crate::files::{
-    Paths, between_files, explain_files, outcome_of, read_scenario, records_before, sketch_file,
+    Paths, Printed, between_files, explain_files, outcome_of, read_scenario, records_before,
+    sketch_file,
 };
 use crate::reasons::{Files, Trouble, reason};
-use crate::{GONE, USAGE, say, says_more, told};
+use crate::voice::Voice;
+use crate::{ABOVE, USAGE};
+use change_share::{ChangeCounts, Share};
 use clap::ArgMatches;
 use command_faults::CliFault;
 use connection_table::TableKey;
+use json_lines::Form;
 use lazy_files::{InputFile, KeptText, OutputFile, StandardOutput};
 use pcap_file::{FromRead, PcapFault, ToWrite};
 use report_advice::advice_of;
 use rollout_order::order;
-use rollout_plan::plan;
+use rollout_plan::plan_as;
 use scenario::{Played, read};
 use scenario_commands::simulate_keyed;
 use scenario_warnings::{warning_text, warnings};
 use shown_text::shown;
-use simulate_scenario::Wanted;
+use simulate_scenario::{Query, Wanted};
 use std::alloc::AllocError;
 use std::io::Write;
 
@@ -33,7 +37,7 @@ pub(crate) fn paths_of<'a>(matches: &'a ArgMatches<'_>, output: &'a str) -> Opti
 const MOST_WARNINGS: usize = 20;
 
 // Tells what a scenario that was played so may not mean as it was meant.
-fn warn(rt: &HostRuntime, played: Played, text: &[u8]) -> Result<(), AllocError> {
+fn warn(rt: &HostRuntime, voice: Voice<'_>, played: Played, text: &[u8]) -> Result<(), AllocError> {
     let Ok(scenario) = read(rt.alloc(), played, text) else {
         return Ok(());
     };
@@ -41,11 +45,12 @@ fn warn(rt: &HostRuntime, played: Played, text: &[u8]) -> Result<(), AllocError>
     for warning in warnings.iter().take(MOST_WARNINGS) {
         let text = warning_text(rt.alloc(), warning)?;
         let line = shown(rt.alloc(), text.as_str())?;
-        let _ = writeln!(rt.stderr(), "warning: {line}");
+        voice.warn(line.as_str());
     }
     let more = warnings.len().saturating_sub(MOST_WARNINGS);
     if more > 0 {
-        let _ = writeln!(rt.stderr(), "warning: {more} more of these");
+        let line = format!(in rt.alloc(); "{more} more of these")?;
+        voice.warn(line.as_str());
     }
     Ok(())
 }
@@ -54,10 +59,7 @@ fn warn(rt: &HostRuntime, played: Played, text: &[u8]) -> Result<(), AllocError>
 const REPORT: usize = 4096;
 
 // Tells what may be amiss in a run, by its report.
-fn advise(rt: &HostRuntime, report: Option<KeptText>) -> Result<(), AllocError> {
-    let Some(report) = report else {
-        return Ok(());
-    };
+fn advise(rt: &HostRuntime, voice: Voice<'_>, report: &KeptText) -> Result<(), AllocError> {
     let text = report.text();
     let start = text.len().saturating_sub(REPORT);
     let Ok(text) = str::from_utf8(&text[start..]) else {
@@ -65,13 +67,13 @@ fn advise(rt: &HostRuntime, report: Option<KeptText>) -> Result<(), AllocError> 
     };
     let advice = advice_of(rt.alloc(), text)?;
     for line in advice.iter() {
-        let _ = writeln!(rt.stderr(), "warning: {line}");
+        voice.warn(line.as_str());
     }
     Ok(())
 }
 
-// Tells where a fault is, and what was expected there.
-fn explain(rt: &HostRuntime, paths: Paths<'_>, text: &[u8], trouble: &Trouble) {
+// Where a fault is, and what was expected there.
+fn explained(rt: &HostRuntime, paths: Paths<'_>, text: &[u8], trouble: &Trouble) -> Option<String> {
     let records = match trouble.fault {
         CliFault::Capture(PcapFault::TooLong | PcapFault::Read) => records_before(rt, paths.input),
         _ => None,
@@ -81,33 +83,72 @@ fn explain(rt: &HostRuntime, paths: Paths<'_>, text: &[u8], trouble: &Trouble) {
         text,
         records,
     };
-    say(rt, reason(rt.alloc(), trouble, &files));
+    reason(rt.alloc(), trouble, &files)
 }
 
 /// The end of a command over files. A fault is reported, and where more is said, where it is and what was expected. Without a
 /// fault a scenario that may not mean what was meant is warned of then. Of a reader that went away nothing is said.
 pub(crate) fn ended(
     rt: &HostRuntime,
-    verbose: bool,
+    voice: Voice<'_>,
     paths: Paths<'_>,
     played: Played,
     text: &[u8],
-    outcome: Result<(), Trouble>,
+    outcome: &Result<(), Trouble>,
 ) -> u8 {
-    let Err(trouble) = outcome else {
-        if verbose {
-            let _ = warn(rt, played, text);
+    if outcome.is_ok() && voice.says_more() {
+        let _ = warn(rt, voice, played, text);
+    }
+    voice.ended(outcome, |trouble| explained(rt, paths, text, trouble))
+}
+
+// The share of the connections above which a command ends with a status of its own, where there is one.
+fn limit_of(matches: &ArgMatches<'_>) -> Result<Option<Share>, ()> {
+    match matches.get_str("fail-above") {
+        Some(word) => Share::of_word(word).map(Some).ok_or(()),
+        None => Ok(None),
+    }
+}
+
+// The status of a run that was printed.
+fn judged(limit: Option<Share>, counts: Option<ChangeCounts>) -> u8 {
+    match (limit, counts) {
+        (Some(share), Some(counts)) if counts.is_above(share) => ABOVE,
+        _ => 0,
+    }
+}
+
+// The end of a command that plays a scenario from one capture to another.
+fn judged_end(
+    rt: &HostRuntime,
+    voice: Voice<'_>,
+    ending: Ending<'_>,
+    done: Result<Printed, Trouble>,
+) -> u8 {
+    let Ending {
+        paths,
+        played,
+        text,
+        limit,
+    } = ending;
+    match done {
+        Ok(printed) => {
+            ended(rt, voice, paths, played, text, &Ok(()));
+            if voice.says_more() {
+                let _ = advise(rt, voice, &printed.report);
+            }
+            judged(limit, printed.counts)
         }
-        return 0;
-    };
-    if trouble.is_of_reader() {
-        return GONE;
+        Err(trouble) => ended(rt, voice, paths, played, text, &Err(trouble)),
     }
-    let status = told(rt, trouble.fault);
-    if verbose {
-        explain(rt, paths, text, &trouble);
-    }
-    status
+}
+
+// What the end of a command goes by.
+struct Ending<'x> {
+    paths: Paths<'x>,
+    played: Played,
+    text: &'x [u8],
+    limit: Option<Share>,
 }
 
 /// A command that plays a scenario from one capture to another, as the command line says. `play` plays it, with the tables'
@@ -125,7 +166,7 @@ where
         &mut FromRead<InputFile<'x>>,
         &mut ToWrite<OutputFile<'x>>,
         &mut ToWrite<KeptText>,
-    ) -> Result<(), CliFault>,
+    ) -> Result<Option<ChangeCounts>, CliFault>,
     F: Drop,
     requires { F.IsAlwaysCallable play }
 {
@@ -135,22 +176,40 @@ where
     let Some(paths) = paths_of(matches, output) else {
         return USAGE;
     };
+    let Ok(limit) = limit_of(matches) else {
+        let _ = writeln!(
+            rt.stderr(),
+            "error: --fail-above wants a share from 0 to 1, as 0.01"
+        );
+        return USAGE;
+    };
     let (text, read) = read_scenario(rt, paths.scenario);
     let text = text.as_slice();
-    let outcome = match read {
+    let done = match read {
         Ok(()) => between_files(rt, &paths, text, play),
         Err(trouble) => Err(trouble),
     };
-    let verbose = says_more(rt, matches);
-    let (outcome, report) = match outcome {
-        Ok(report) => (Ok(()), Some(report)),
-        Err(trouble) => (Err(trouble), None),
+    let ending = Ending {
+        paths,
+        played,
+        text,
+        limit,
     };
-    let status = ended(rt, verbose, paths, played, text, outcome);
-    if verbose {
-        let _ = advise(rt, report);
+    judged_end(rt, Voice::of(rt, matches), ending, done)
+}
+
+/// In which form a command prints.
+pub fn form_of(matches: &ArgMatches<'_>) -> Form {
+    if matches.get_flag("json") {
+        Form::Json
+    } else {
+        Form::Plain
     }
-    status
+}
+
+/// Whether the changes of connections are counted: where that is asked for, or where the command's status goes by it.
+pub fn asks_summary(matches: &ArgMatches<'_>) -> bool {
+    matches.get_flag("summary") || matches.get_str("fail-above").is_some()
 }
 
 /// The command `simulate`.
@@ -159,7 +218,8 @@ pub(crate) fn run_simulate(rt: &HostRuntime, matches: &ArgMatches<'_>) -> u8 {
         list: matches.get_flag("list"),
         splits: matches.get_flag("splits"),
         places: matches.get_flag("where"),
-        summary: matches.get_flag("summary"),
+        summary: asks_summary(matches),
+        form: form_of(matches),
     };
     between_captures(
         rt,
@@ -179,30 +239,44 @@ pub(crate) fn run_explain(rt: &HostRuntime, matches: &ArgMatches<'_>) -> u8 {
     ) else {
         return USAGE;
     };
+    let form = form_of(matches);
+    let asked = Query::Events { one, other, form };
     let Some(paths) = paths_of(matches, "standard output") else {
         return USAGE;
     };
     let (text, read) = read_scenario(rt, paths.scenario);
     let text = text.as_slice();
     let outcome = match read {
-        Ok(()) => explain_files(rt, &paths, text, one, other),
+        Ok(()) => explain_files(rt, &paths, text, asked),
         Err(trouble) => Err(trouble),
     };
-    let verbose = says_more(rt, matches);
-    ended(rt, verbose, paths, Played::InTurn, text, outcome)
+    let voice = Voice::of(rt, matches);
+    ended(rt, voice, paths, Played::InTurn, text, &outcome)
 }
 
 // What a scenario's versions change, printed on standard output.
-fn print_plan(rt: &HostRuntime, text: &[u8], from: u32, to: Option<u32>) -> Result<(), Trouble> {
+fn print_plan(
+    rt: &HostRuntime,
+    form: Form,
+    text: &[u8],
+    from: u32,
+    to: Option<u32>,
+) -> Result<(), Trouble> {
     let mut report = ToWrite::new(StandardOutput::new(rt));
-    let outcome = plan(rt.alloc(), text, from, to, &mut report);
+    let outcome = plan_as(rt.alloc(), form, text, from, to, &mut report);
     outcome_of(outcome, &report.into_inner())
 }
 
 // In which orders a scenario's servers can be replaced, printed on standard output.
-fn print_orders(rt: &HostRuntime, text: &[u8], from: u32, to: u32) -> Result<(), Trouble> {
+fn print_orders(
+    rt: &HostRuntime,
+    form: Form,
+    text: &[u8],
+    from: u32,
+    to: u32,
+) -> Result<(), Trouble> {
     let mut report = ToWrite::new(StandardOutput::new(rt));
-    let outcome = order(rt.alloc(), text, from, to, &mut report);
+    let outcome = order(rt.alloc(), form, text, from, to, &mut report);
     outcome_of(outcome, &report.into_inner())
 }
 
@@ -213,10 +287,11 @@ fn planned(
     text: &[u8],
     from: u32,
 ) -> Result<(), Trouble> {
+    let form = form_of(matches);
     let to = matches.get_one::<u32>("to");
     match to {
-        Some(to) if matches.get_flag("order") => print_orders(rt, text, from, to),
-        _ => print_plan(rt, text, from, to),
+        Some(to) if matches.get_flag("order") => print_orders(rt, form, text, from, to),
+        _ => print_plan(rt, form, text, from, to),
     }
 }
 
@@ -246,8 +321,8 @@ pub(crate) fn run_plan(rt: &HostRuntime, matches: &ArgMatches<'_>) -> u8 {
         Ok(()) => planned(rt, matches, text, from),
         Err(trouble) => Err(trouble),
     };
-    let verbose = says_more(rt, matches);
-    ended(rt, verbose, paths, Played::InTurn, text, outcome)
+    let voice = Voice::of(rt, matches);
+    ended(rt, voice, paths, Played::InTurn, text, &outcome)
 }
 
 /// The command `scenario`.
@@ -261,6 +336,6 @@ pub(crate) fn run_sketch(rt: &HostRuntime, matches: &ArgMatches<'_>) -> u8 {
         output: "standard output",
     };
     let outcome = sketch_file(rt, input);
-    let verbose = says_more(rt, matches);
-    ended(rt, verbose, paths, Played::InTurn, b"", outcome)
+    let voice = Voice::of(rt, matches);
+    ended(rt, voice, paths, Played::InTurn, b"", &outcome)
 }

@@ -1,24 +1,19 @@
 //! The commands about tables, from what the command line says.
+use crate::USAGE;
 use crate::described::{compare_described, pick_described, table_described};
+use crate::files::outcome_of;
+use crate::reasons::Trouble;
+use crate::scenarios::form_of;
+use crate::voice::Voice;
 use crate::word_reasons::{of_members, of_names};
-use crate::{GONE, USAGE, say, says_more, told_outcome};
 use clap::ArgMatches;
 use command_faults::CliFault;
 use lazy_files::StandardOutput;
 use pcap_file::{FromRead, ToWrite};
-use table_commands::{compare, pick, table};
+use table_commands::{TableOptions, compare_as, pick_as, table_as};
 
-// Whether whoever read what is printed went away.
-fn is_gone(outcome: &Result<(), CliFault>, output: &StandardOutput<'_>) -> bool {
-    let broken = output
-        .refusal()
-        .is_some_and(|refusal| refusal.is_of_reader());
-    broken && *outcome == Err(CliFault::Write)
-}
-
-// The end of a command. A fault is reported, and where more is said, what `reason` knows of it. Of a reader that went away
-// nothing is said.
-fn ended<F: FnOnce(CliFault) -> Option<String> + Drop>(
+// The end of a command that printed on standard output.
+fn ended<F: FnOnce(&Trouble) -> Option<String> + Drop>(
     rt: &HostRuntime,
     matches: &ArgMatches<'_>,
     outcome: Result<(), CliFault>,
@@ -27,15 +22,14 @@ fn ended<F: FnOnce(CliFault) -> Option<String> + Drop>(
 ) -> u8
     requires { F.IsAlwaysCallable reason }
 {
-    if is_gone(&outcome, &output.into_inner()) {
-        return GONE;
-    }
-    let status = told_outcome(rt, &outcome);
-    match outcome {
-        Err(fault) if says_more(rt, matches) => say(rt, reason(fault)),
-        _ => {}
-    }
-    status
+    let outcome = outcome_of(outcome, &output.into_inner());
+    Voice::of(rt, matches).ended(&outcome, reason)
+}
+
+// What is asked of a table alike.
+fn options_of<'a>(matches: &ArgMatches<'_>, size: u32, hash: &'a str) -> TableOptions<'a> {
+    let form = form_of(matches);
+    TableOptions { form, size, hash }
 }
 
 /// The command `table`.
@@ -54,13 +48,14 @@ pub(crate) fn run_table(rt: &HostRuntime, matches: &ArgMatches<'_>) -> u8 {
         return USAGE;
     }
     let mut out = ToWrite::new(StandardOutput::new(rt));
-    let outcome = table(rt.alloc(), size, hash, names, &mut out);
+    let options = options_of(matches, size, hash);
+    let outcome = table_as(rt.alloc(), options, names, &mut out);
     ended(
         rt,
         matches,
         outcome,
         out,
-        |fault| of_names(rt.alloc(), fault, size, hash, names),
+        |trouble| of_names(rt.alloc(), trouble.fault, size, hash, names),
     )
 }
 
@@ -82,13 +77,14 @@ pub(crate) fn run_pick(rt: &HostRuntime, matches: &ArgMatches<'_>) -> u8 {
     let check = !matches.get_flag("no-check");
     let mut input = FromRead::new(rt.stdin());
     let mut out = ToWrite::new(StandardOutput::new(rt));
-    let outcome = pick(rt.alloc(), size, hash, check, names, &mut input, &mut out);
+    let options = options_of(matches, size, hash);
+    let outcome = pick_as(rt.alloc(), options, check, names, &mut input, &mut out);
     ended(
         rt,
         matches,
         outcome,
         out,
-        |fault| of_names(rt.alloc(), fault, size, hash, names),
+        |trouble| of_names(rt.alloc(), trouble.fault, size, hash, names),
     )
 }
 
@@ -106,12 +102,13 @@ pub(crate) fn run_compare(rt: &HostRuntime, matches: &ArgMatches<'_>) -> u8 {
         return USAGE;
     };
     let mut out = ToWrite::new(StandardOutput::new(rt));
-    let outcome = compare(rt.alloc(), size, hash, old, new, &mut out);
+    let options = options_of(matches, size, hash);
+    let outcome = compare_as(rt.alloc(), options, old, new, &mut out);
     ended(
         rt,
         matches,
         outcome,
         out,
-        |fault| of_members(rt.alloc(), fault, size, hash, old, new),
+        |trouble| of_members(rt.alloc(), trouble.fault, size, hash, old, new),
     )
 }

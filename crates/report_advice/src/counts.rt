@@ -79,11 +79,28 @@ impl<'a> Counts<'a> {
         }
     }
 
-    /// Those of the report that a text ends with.
+    // Whether fewer than one packet in ten was sent.
+    fn are_few_sent(&self) -> bool {
+        self.forwarded <= self.received / 10
+    }
+
+    /// The drops that are told: those for the most frequent cause where few packets were sent, and else those at full rings.
+    pub(crate) fn drops_to_tell(&self) -> Drops<'a> {
+        if self.are_few_sent() {
+            return self.most;
+        }
+        Drops {
+            cause: "RingsFull",
+            count: self.rings_full,
+        }
+    }
+
+    /// Those of the report that a text ends with, in lines or as an object.
     pub(crate) fn of_report(text: &'a str) -> Counts<'a> {
         let mut counts = Counts::none();
         let mut before = "";
-        for word in text.split_whitespace() {
+        let words = text.split(|letter: char| !letter.is_ascii_alphanumeric());
+        for word in words.filter(|word| !word.is_empty()) {
             if let Ok(count) = word.parse::<u64>() {
                 counts.note(before, count);
             }

@@ -1,5 +1,5 @@
 //! What is said of a report's counts.
-use crate::counts::Counts;
+use crate::counts::{Counts, Drops};
 use std::alloc::{AllocError, Global};
 
 // Why packets are dropped for a cause, and what helps.
@@ -34,19 +34,14 @@ fn tell(advice: &mut Vec<String>, line: String) -> Result<(), AllocError> {
     Ok(())
 }
 
-// Of packets that were nearly all dropped: fewer than one in ten were sent.
-fn advise_drops(
+// Of packets that were dropped for a cause.
+fn advise_dropped(
     alloc: Global,
-    counts: &Counts<'_>,
+    received: u64,
+    drops: Drops<'_>,
     advice: &mut Vec<String>,
 ) -> Result<(), AllocError> {
-    let most = counts.most;
-    if most.count == 0 || counts.forwarded > counts.received / 10 {
-        return Ok(());
-    }
-    let received = counts.received;
-    let count = most.count;
-    let cause = most.cause;
+    let Drops { cause, count } = drops;
     let help = help_for(cause);
     tell(
         advice,
@@ -54,22 +49,17 @@ fn advise_drops(
     )
 }
 
-// Of rings that were full, where not all packets were dropped.
-fn advise_rings(
+// Of packets that were nearly all dropped, or else of rings that were full.
+fn advise_drops(
     alloc: Global,
     counts: &Counts<'_>,
     advice: &mut Vec<String>,
 ) -> Result<(), AllocError> {
-    if counts.rings_full == 0 || counts.forwarded <= counts.received / 10 {
+    let drops = counts.drops_to_tell();
+    if drops.count == 0 {
         return Ok(());
     }
-    let received = counts.received;
-    let count = counts.rings_full;
-    let help = help_for("RingsFull");
-    tell(
-        advice,
-        format!(in alloc; "of {received} packets {count} were dropped as RingsFull: {help}")?,
-    )
+    advise_dropped(alloc, counts.received, drops, advice)
 }
 
 // Of records that no step reads.
@@ -130,7 +120,6 @@ pub fn advice_of(alloc: Global, report: &str) -> Result<Vec<String>, AllocError>
     let counts = Counts::of_report(report);
     let mut advice = Vec::new(alloc);
     advise_drops(alloc, &counts, &mut advice)?;
-    advise_rings(alloc, &counts, &mut advice)?;
     advise_unrouted(alloc, &counts, &mut advice)?;
     advise_left(alloc, &counts, &mut advice)?;
     advise_refused(alloc, &counts, &mut advice)?;
