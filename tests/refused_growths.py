@@ -17,6 +17,7 @@ import tempfile
 
 import soak_run
 import model
+import objects
 from harness import TOP, told
 
 sys.path.append(str(TOP / "bin"))
@@ -95,6 +96,10 @@ def all_came(text):
 # What the model says of two packets of one flow at two nodes, simulated and on threads.
 TOLD = model.Run(APART.decode(), SPLIT["in.pcap"])
 PLACES, SUMMARY, RUN_PLACES = TOLD.splits(True), TOLD.summary(), TOLD.on_threads().splits(True)
+# The same as objects, and its fault: where memory for the object is refused nothing is said.
+ASKED = ["--list", "--where", "--summary"]
+IN_OBJECTS = [(1, b"", b'{"type":"fault","fault":"Memory","detail":null}\n'), (1, b"", b"")]
+LOST_OBJECT = (1, b"", b'{"type":"fault","fault":"ThreadLost","detail":"a thread couldn\'t be started: allow more threads, or take fewer balancers and workers"}\n')
 DOWN = model.compared(APART.decode(), 1, 2, "192.0.2.1:80/tcp")
 
 
@@ -126,6 +131,10 @@ CASES = [
     Case(["pick", "--scenario", "s.toml", "--version", "1"], "tcp 10.0.0.1:1000>192.0.2.1:80 slot 6 backend A\n", TCP, files=FILES),
     Case(["simulate", "--where", "--summary", "s.toml", "in.pcap", "out.pcap"], PLACES + TWO + SUMMARY, files=SPLIT),
     Case(["run", "--where", "--summary", "--pace", "s.toml", "in.pcap", "out.pcap"], RUN_PLACES + TWO + "audit agrees\n" + SUMMARY, files=SPLIT, faults=[LOST]),
+    Case(["simulate", "--json", *ASKED, "s.toml", "in.pcap", "out.pcap"], objects.text_of(objects.simulated(TOLD, *ASKED)), files=SPLIT, faults=IN_OBJECTS),
+    Case(["run", "--json", *ASKED[1:], "s.toml", "in.pcap", "out.pcap"], objects.text_of(objects.ran(TOLD, *ASKED[1:])), files=SPLIT, faults=[*IN_OBJECTS, LOST_OBJECT]),
+    Case(["explain", "--json", "s.toml", "in.pcap", "3", "5"], objects.text_of(objects.explained(TOLD, 3, 5)), files=SPLIT, faults=IN_OBJECTS),
+    Case(["plan", "--json", "s.toml", "1", "2"], objects.text_of(objects.planned(model.plan(APART.decode(), 1, 2))), files=SPLIT, faults=IN_OBJECTS),
     Case(["plan", "s.toml", "1"], SHOWN, files=FILES),
     Case(["scenario", "in.pcap"], SKETCHED, files={"in.pcap": CAPTURE + 5 * CAPTURE[24:]}),
     Case(["plan", "s.toml", "1", "2"], CHANGED, files=SPLIT),

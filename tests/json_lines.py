@@ -1,0 +1,189 @@
+#!/usr/bin/env python3
+"""json_lines.py [FIRST COUNT]: what `--json` prints.
+
+Each command's objects, of so many random scenarios, 300 in the gate, are those of tests/objects.py, to the byte. They are read
+back by Python's `json`, and their facts are those of the plain text. Some rows are worked out by hand. The last line is
+'N passed, N failed'.
+"""
+import json
+import random
+import sys
+
+import end_to_end as rows
+import format_three
+import model
+import objects
+from end_to_end import ALL, B_DOWN, HEAD, TCP, capture, run, scenario, simulates, with_files
+from harness import check, run_tests
+
+FIRST, COUNT = (int(word) for word in sys.argv[1:3]) if len(sys.argv) > 2 else (0, 300)
+
+
+def read_back(text):
+    """The objects of a text, each line by Python's reader."""
+    return [json.loads(line) for line in text.splitlines()]
+
+
+def prints(name, words, expected, text=None, stdin=b""):
+    """A command prints these objects, and each line is read back."""
+    answer = with_files(text, None, lambda folder: run(words, stdin=stdin, cwd=folder))
+    check(name, answer == (0, objects.text_of(expected).encode(), b""), f"{answer} {objects.text_of(expected)!r}")
+    if answer[0] == 0:
+        check(f"{name}: read back", [one["type"] for one in read_back(answer[1].decode())] == [one["type"] for one in expected], answer)
+
+
+def test_by_hand():
+    """One run's objects, each written out."""
+    text = scenario(["install 0 1", "install 1 2", "take 2"])
+    expected = (
+        '{"type":"maglev","version":1,"command":"simulate"}\n'
+        '{"type":"event","event":0,"kind":"install","node":0,"version":1,"outcome":"installed"}\n'
+        '{"type":"event","event":1,"kind":"install","node":1,"version":2,"outcome":"installed"}\n'
+        '{"type":"event","event":2,"kind":"arrive","node":0,"record":0,"time":1.999999,"bytes":40,'
+        '"flow":"tcp 10.0.0.1:1006>192.0.2.1:80","outcome":"placed","worker":0}\n'
+        '{"type":"event","event":3,"kind":"serve","node":0,"worker":0,"version":1,"outcome":"forward","record":0,'
+        '"flow":"tcp 10.0.0.1:1006>192.0.2.1:80","backend":"A","address":"10.8.0.1","chosen":1}\n'
+        '{"type":"event","event":4,"kind":"arrive","node":1,"record":1,"time":1.999999,"bytes":40,'
+        '"flow":"tcp 10.0.0.1:1006>192.0.2.1:80","outcome":"placed","worker":0}\n'
+        '{"type":"event","event":5,"kind":"serve","node":1,"worker":0,"version":2,"outcome":"forward","record":1,'
+        '"flow":"tcp 10.0.0.1:1006>192.0.2.1:80","backend":"C","address":"10.8.0.3","chosen":2}\n'
+        '{"type":"split","flow":"tcp 10.0.0.1:1006>192.0.2.1:80","client":"10.0.0.1","slot":5,"cause":"moved","why":"node",'
+        '"first":{"event":3,"version":1,"backend":"A","address":"10.8.0.1","record":0,"time":1.999999,"node":0,"worker":0},'
+        '"later":{"event":5,"version":2,"backend":"C","address":"10.8.0.3","record":1,"time":1.999999,"node":1,"worker":0}}\n'
+        '{"type":"splits","flows":1,"split":1,"down":0,"moved":1,"drained":0}\n'
+        '{"type":"report","packets":2,"lost":0,"unrouted":0,"skipped":0,"left":0,"cut":false,"received":2,"forwarded":2,'
+        '"dropped":{"NotIpv4":0,"Truncated":0,"BadHeader":0,"BadChecksum":0,"Fragment":0,"NotTcpUdp":0,"BadTransport":0,'
+        '"TooLarge":0,"NoService":0,"NoBackend":0,"NoVersion":0,"RingsFull":0,"LostAtRestart":0},"waiting":0,"refused":0}\n'
+        '{"type":"summary","connections":1,"changed":1,"changes":1,'
+        '"why":{"down":0,"drained":0,"node":1,"restart":0,"worker":0,"idle":0,"evicted":0}}\n'
+    )
+    simulates("one run, by hand", text, capture("xx"), expected, words=["--json", "--list", "--where", "--summary"])
+    found = model.Run(text, capture("xx"))
+    check("the model says so", objects.text_of(objects.simulated(found, "--list", "--where", "--summary")) == expected)
+
+
+def test_against_the_model():
+    """What random scenarios print is what the plain model says, and adds up."""
+    for seed in range(FIRST, FIRST + COUNT):
+        if seed % 2:
+            source, text, data = format_three.random_case(40_000 + seed)
+        else:
+            text, data, _ = rows.idle_case(40_000 + seed)
+            source = random.Random(seed)
+        expected = model.Run(text, data)
+        options = source.sample(["--list", "--splits", "--where", "--summary"], source.randrange(5))
+        printed = objects.text_of(objects.simulated(expected, *options))
+        simulates(f"scenario {seed} {options}", text, data, printed, expected.output(), ["--json", *options])
+
+
+def test_explained():
+    """`explain` says the same of two events."""
+    for seed in range(60):
+        source, text, data = format_three.random_case(50_000 + seed)
+        expected = model.Run(text, data)
+        sends = [place for place, (_, outcome, _) in enumerate(expected.events) if outcome.startswith("forward")]
+        pairs = [(first[0], later[0]) for first, later in expected.pairs()][:3]
+        pairs += [(source.choice(sends), source.choice(sends))] if sends else [(0, 1)]
+        for one, other in pairs:
+            words = ["explain", "--json", "s.toml", "in.pcap", str(one), str(other)]
+            answer = with_files(text, data, lambda folder, words=words: run(words, cwd=folder))
+            told = objects.text_of(objects.explained(expected, one, other))
+            check(f"explain {seed} {one} {other}", answer == (0, told.encode(), b""), f"{answer} {told!r}")
+
+
+def test_on_threads():
+    """`run` says it in the order of its history."""
+    for seed in range(40):
+        source = random.Random(60_000 + seed)
+        text, data = rows.random_scenario(source, ("", "*2"), rows.steps_by_lives, 20), rows.random_capture(source)
+        options = source.sample(["--splits", "--where", "--summary"], source.randrange(4))
+        told = objects.text_of(objects.ran(model.Run(text, data), *options)).encode()
+        answer = rows.ran(text, data, ["--json", *options])
+        check(f"run {seed} {options}", answer[:3] == (0, told, b""), f"{answer} {told!r}")
+
+
+def test_tables():
+    """`table`, `pick`, `compare` and `plan`, by names and over scenarios."""
+    of_names = ["--size", "7", "--hash", "sum", "A", "B", "C"]
+    _, plain, _ = run(["table", *of_names])
+    prints("table", ["table", "--json", *of_names], objects.tabled(plain.decode()))
+    _, plain, _ = run(["pick", *of_names], stdin=TCP.encode())
+    prints("pick", ["pick", "--json", *of_names], objects.picked(plain.decode()), stdin=TCP.encode())
+    prints("pick: a drop", ["pick", "--json", *of_names], [objects.head("pick"), {"type": "drop", "cause": "Truncated"}], stdin=TCP.encode()[:50])
+    moved = ["--size", "7", "--hash", "sum", "--old", " ".join(ALL), "--new", " ".join(B_DOWN)]
+    _, plain, _ = run(["compare", *moved])
+    prints("compare", ["compare", "--json", *moved], objects.compared(plain.decode()))
+    for seed in range(60):
+        source, text, _ = format_three.random_case(70_000 + seed)
+        expected = model.Run(text, HEAD)
+        first, second = (source.choice(sorted(expected.versions)) for _ in range(2))
+        over = ["--json", "--scenario", "s.toml"]
+        for service in expected.versions[first]:
+            words = ["table", *over, "--version", str(first), "--service", service]
+            prints(f"table {seed} {service}", words, objects.tabled(model.table_of(text, first, service)), text)
+            words = ["compare", *over, "--from", str(first), "--to", str(second), "--service", service]
+            prints(f"compare {seed} {service}", words, objects.compared(model.compared(text, first, second, service)), text)
+        if expected.scenario["scheme"] == "maglev":
+            data = format_three.random_packet(source)
+            words = ["pick", *over, "--version", str(first)]
+            prints(f"pick {seed}", words, objects.picked(model.picked(text, first, data)), text, data.hex().encode())
+        words = ["plan", "--json", "s.toml", str(first)]
+        prints(f"plan {seed}", words, objects.planned(model.planned(text, first)), text)
+        prints(f"plan {seed} both", [*words, str(second)], objects.planned(model.plan(text, first, second)), text)
+        words = ["plan", "--json", "--order", "s.toml", str(first), str(second)]
+        prints(f"orders {seed}", words, objects.ordered(model.ordered(text, first, second)), text)
+
+
+def test_faults():
+    """A fault is an object with its name and with what `-v` says of it; so is a warning. The status is the same."""
+    good = scenario(["install 0 1", "take 1"])
+    play = ["s.toml", "in.pcap", "out.pcap"]
+    for name, text, words in [
+        ("no TOML", "format = ", ["simulate", *play]),
+        ("a key", good.replace("size = 7", "size = 8"), ["simulate", *play]),
+        ("a key of run", good.replace("size = 7", "size = \"\\u00e9\\\\\""), ["run", *play]),
+        ("a member", good.replace("A@", "A/"), ["explain", "s.toml", "in.pcap", "0", "1"]),
+        ("a double name", good.replace("B@", "A@"), ["plan", "s.toml", "1"]),
+        ("a step", scenario(["install 0 1", "take x"]), ["simulate", *play]),
+        ("no input", good, ["simulate", "s.toml", "none.pcap", "out.pcap"]),
+        ("a name", good, ["table", "--size", "7", "--hash", "sum", "A", "B!"]),
+        ("a size", good, ["pick", "--size", "8", "--hash", "sum", "A"]),
+        ("members", good, ["compare", "--size", "7", "--hash", "sum", "--old", "A@10.8.0.1", "--new", "A"]),
+        ("no version", good, ["table", "--scenario", "s.toml", "--version", "9"]),
+    ]:
+        plain = with_files(text, capture("x"), lambda folder, words=words: run([words[0], "-v", *words[1:]], cwd=folder))
+        told = plain[2].decode().splitlines()
+        answer = with_files(text, capture("x"), lambda folder, words=words: run([words[0], "--json", *words[1:]], cwd=folder))
+        check(f"{name}: the fault is told in lines", plain[0] == 1 and told[0].startswith("fault: ") and len(told) == 2, plain)
+        found = read_back(answer[2].decode())
+        expected = [{"type": "fault", "fault": told[0].removeprefix("fault: "), "detail": told[1]}]
+        check(f"{name}: and as an object", (answer[0], answer[1], found) == (1, b"", expected), f"{answer} {expected}")
+    short = scenario(["take 1"])
+    plain = with_files(short, capture("xx"), lambda folder: run(["simulate", "-v", *play], cwd=folder))
+    answer = with_files(short, capture("xx"), lambda folder: run(["simulate", "--json", "-v", *play], cwd=folder))
+    expected = [{"type": "warning", "detail": line.removeprefix("warning: ")} for line in plain[2].decode().splitlines()]
+    check("warnings are objects", len(expected) > 1 and (answer[0], read_back(answer[2].decode())) == (0, expected), f"{answer} {expected}")
+
+
+def test_shares():
+    """`--fail-above` ends with 3 where a greater share of the connections changed their server, and prints the summary."""
+    apart = scenario(["install 0 1", "install 1 2", "take 4"])
+    found = model.Run(apart, capture("xxyz"))
+    changed, connections = (int(dict(objects.lines_of(found.summary()))[word]) for word in ("changed", "connections"))
+    check("one of three changed", (changed, connections) == (1, 3), found.summary())
+    lines = found.report() + found.summary()
+    for share, status in [("0", 3), ("0.333333", 3), ("0.3", 3), ("0.333334", 0), ("0.5", 0), ("1", 0), ("1.0", 0)]:
+        answer = rows.simulated(apart, capture("xxyz"), ["--fail-above", share])
+        check(f"above {share}", answer[:3] == (status, lines.encode(), b""), answer)
+    none = rows.simulated(scenario(["take 1"]), capture("x"), ["--fail-above", "0"])
+    check("no connection is no share", none[0] == 0, none)
+    told = objects.text_of([*objects.ran(found, "--summary")])
+    answer = rows.ran(apart, capture("xxyz"), ["--json", "--fail-above", "0"])
+    check("above on threads", answer[:3] == (3, told.encode(), b""), f"{answer} {told}")
+    for word in ("", "2", "1.1", "-0.1", ".5", "0.1234567", "0,5", "a", "1e-1"):
+        answer = rows.simulated(apart, capture("x"), [f"--fail-above={word}"])
+        check(f"no share: {word!r}", answer[0] == 2 and answer[1] == b"" and answer[2].startswith(b"error: "), answer)
+
+
+if __name__ == "__main__":
+    sys.exit(run_tests(globals()))

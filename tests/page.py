@@ -1,0 +1,172 @@
+#!/usr/bin/env python3
+"""page.py: the page that share/maglev/report.py makes of what `--json` prints.
+
+Its numbers are those of tests/model.py. Names with signs of HTML, other scripts and a million splits are drawn too. Where Chromium is
+installed it draws the page, without a network, light and dark, and the texts and shapes are looked for in what it made. The last line
+is 'N passed, N failed'.
+"""
+import html.parser
+import json
+import resource
+import shutil
+import subprocess
+import sys
+import tempfile
+import time
+from pathlib import Path
+
+import end_to_end as rows
+import model
+import objects
+from end_to_end import run
+from harness import TOP, check, run_tests
+
+TOOL = TOP / "share" / "maglev" / "report.py"
+BROWSERS = ("chromium", "chromium-browser", "google-chrome")
+
+
+class Shape(html.parser.HTMLParser):
+    """The texts of a page, how often each tag stands in it, and whether each that is opened is closed."""
+
+    ALONE = {"meta", "rect"}
+
+    def __init__(self, page):
+        super().__init__()
+        self.tags, self.open, self.texts, self.links, self.torn = {}, [], [], [], []
+        self.feed(page)
+
+    def handle_starttag(self, tag, attrs):
+        self.tags[tag] = self.tags.get(tag, 0) + 1
+        self.links += [value for name, value in attrs if name in ("src", "href")]
+        if tag not in self.ALONE or tag == "rect":
+            self.open.append(tag)
+
+    def handle_endtag(self, tag):
+        if not self.open or self.open.pop() != tag:
+            self.torn.append(tag)
+
+    def handle_data(self, data):
+        self.texts.append(data)
+
+
+def drawn(lines, folder):
+    """The page of these lines, and what the tool said."""
+    (folder / "in.jsonl").write_text(lines)
+    done = subprocess.run([sys.executable, TOOL, "in.jsonl", "out.html"], cwd=folder, capture_output=True, text=True, timeout=600, check=False)
+    return (folder / "out.html").read_text() if done.returncode == 0 else "", done
+
+
+def page_of(name, lines):
+    """The same, with its shape. It is whole, and asks for nothing."""
+    with tempfile.TemporaryDirectory() as folder:
+        page, done = drawn(lines, Path(folder))
+    check(f"{name}: it is drawn", done.returncode == 0 and not done.stderr, done)
+    shape = Shape(page)
+    check(f"{name}: it is whole", not shape.torn and not shape.open, f"{shape.torn} {shape.open}")
+    check(f"{name}: it asks for nothing", not shape.links and "http" not in page and "url(" not in page and "<script" not in page, shape.links)
+    return page, shape
+
+
+def rolling():
+    """The example of a rollout, as the model plays it."""
+    text, data, _ = rows.example("rolling", "rolling")
+    return text, data, model.Run(text, data)
+
+
+def lines_of_rolling():
+    text, _, found = rolling()
+    told = objects.simulated(found, "--list", "--where", "--summary")
+    return objects.text_of(told + objects.planned(model.plan(text, 1, 2)) + objects.ordered(model.ordered(text, 1, 4)))
+
+
+def test_numbers():
+    """What a rollout's page shows is what the model counts."""
+    _, _, found = rolling()
+    page, shape = page_of("a rollout", lines_of_rolling())
+    said = dict(objects.lines_of(found.summary()))
+    for name, count in [("connections", said["connections"]), ("changed their server", said["changed"]), ("packets", len(found.records))]:
+        check(f"a rollout: {name}", f"<b>{int(count):,}</b><span>{name}</span>" in page, count)
+    for cause in model.CHANGES:
+        count = int(said[f"changes {cause}"])
+        check(f"a rollout: {cause}", (f"<td>{cause}</td>" in page) == (count > 0) and (not count or f'<td class="count">{count:,}</td>' in page), count)
+    sends = found.sends()
+    servers = {"@".join(sent[3]) for sent in sends}
+    check("a rollout: each server has a line", all(server in page for server in servers), servers)
+    for part in ("Over time", "Each server's share", "Each balancer's share", "What the plan moves", "Orders of replacement"):
+        check(f"a rollout: {part}", any(part in one for one in shape.texts), part)
+    check("a rollout: two time lines", shape.tags.get("svg") == 2 and shape.tags["rect"] > 20, shape.tags)
+
+
+def test_what_the_program_prints():
+    """The page of what the program prints is that of the model's objects."""
+    text, data, found = rolling()
+    answer = rows.with_files(text, data, lambda folder: run(["simulate", "--json", "--list", "--where", "--summary", "s.toml", "in.pcap", "out.pcap"], cwd=folder))
+    told = objects.text_of(objects.simulated(found, "--list", "--where", "--summary"))
+    check("the program prints it", answer == (0, told.encode(), b""), answer[2])
+
+
+def test_awkward_names():
+    """Signs of HTML and other scripts are shown as they are."""
+    name = "<q>\"&'</q> \u05d0\u4e2d"
+    send = {"event": 1, "version": 1, "backend": name, "address": "10.8.0.1", "record": 0, "time": 1.5, "node": 0, "worker": 0}
+    told = [{"type": "maglev", "version": 1, "command": name}]
+    told += [{"type": "split", "flow": name, "client": name, "slot": 1, "cause": "moved", "why": name, "first": send, "later": send}]
+    told += [{"type": "service", "service": name, "slots": 7}, {"type": "member", "service": name, "backend": name, "address": "", "weight": 1, "slots": 7, "state": name}]
+    _, shape = page_of("awkward names", "".join(json.dumps(one) + "\n" for one in told))
+    check("awkward names: no tag is made", "q" not in shape.tags and any(name in text for text in "".join(shape.texts).split("\n")), shape.tags)
+
+
+def test_what_is_unknown():
+    """Later types and keys are left out; a line that is no object ends it with a word on standard error."""
+    page_of("nothing", "")
+    page_of("a later type", '{"type":"later"}\n{"type":"report"' + "".join(f',"{word}":0' for word in ("packets", "received", "forwarded", "waiting", "refused", "more")) + ',"dropped":{}}\n')
+    for line in ("fault: BadKey\n", "[1]\n", '{"type":"split"}\n', "\n"):
+        with tempfile.TemporaryDirectory() as folder:
+            page, done = drawn('{"type":"maglev","version":1,"command":"run"}\n' + line, Path(folder))
+        check(f"no object: {line!r}", done.returncode == 1 and not page and "line 2" in done.stderr and "Traceback" not in done.stderr, done)
+
+
+def test_a_million_splits():
+    """A million splits take seconds and little memory, and the page stays small."""
+    send = '"version":1,"backend":"A","address":"10.8.0.1","record":%d,"time":%d.%06d,"node":0,"worker":0}'
+    with tempfile.TemporaryDirectory() as folder:
+        with open(f"{folder}/in.jsonl", "w", encoding="utf-8") as lines:
+            lines.write('{"type":"maglev","version":1,"command":"simulate"}\n')
+            for number in range(1_000_000):
+                place = f'{{"event":{number},' + send % (number, number // 1000, number % 1000 * 1000)
+                lines.write(f'{{"type":"split","flow":"tcp {number}","client":"c","slot":1,"cause":"moved","why":"node","first":{place},"later":{place}}}\n')
+        start = time.monotonic()
+        before = resource.getrusage(resource.RUSAGE_CHILDREN).ru_maxrss
+        done = subprocess.run([sys.executable, TOOL, "in.jsonl", "out.html"], cwd=folder, capture_output=True, timeout=600, check=False)
+        size = (Path(folder) / "out.html").stat().st_size if done.returncode == 0 else 0
+    most = resource.getrusage(resource.RUSAGE_CHILDREN).ru_maxrss
+    check("a million splits: drawn", done.returncode == 0 and 0 < size < 500_000, f"{done} {size}")
+    check("a million splits: little memory", most <= max(before, 100_000), f"{most} KB")
+    print(f"a million splits: {time.monotonic() - start:.1f} s, {size} bytes")
+
+
+def test_in_a_browser():
+    """Chromium draws it, in both colours."""
+    browser = next((found for found in map(shutil.which, BROWSERS) if found), None)
+    if not browser:
+        print("no Chromium is installed: the page isn't drawn")
+        return
+    with tempfile.TemporaryDirectory() as folder:
+        drawn(lines_of_rolling(), Path(folder))
+        quiet = [browser, "--headless", "--no-sandbox", "--disable-gpu", "--hide-scrollbars", f"--user-data-dir={folder}/profile"]
+        found = subprocess.run([*quiet, "--dump-dom", f"file://{folder}/out.html"], capture_output=True, text=True, timeout=300, check=False).stdout
+        shape = Shape(found)
+        check("a browser: texts", "changed their server" in found and "its server left" in found, found[:300])
+        check("a browser: shapes", shape.tags.get("svg") == 2 and shape.tags.get("rect", 0) > 20, shape.tags)
+        sizes = []
+        for dark in (False, True):
+            words = ["--window-size=1080,1400", f"--screenshot={folder}/page.png", *(["--blink-settings=preferredColorScheme=0"] if dark else [])]
+            subprocess.run([*quiet, *words, f"file://{folder}/out.html"], capture_output=True, timeout=300, check=False)
+            picture = (Path(folder) / "page.png").read_bytes()
+            sizes.append(len(picture))
+            check(f"a browser: a picture, dark {dark}", picture[:4] == b"\x89PNG" and len(picture) > 20_000, len(picture))
+        check("a browser: dark isn't light", sizes[0] != sizes[1], sizes)
+
+
+if __name__ == "__main__":
+    sys.exit(run_tests(globals()))
