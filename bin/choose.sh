@@ -45,5 +45,5 @@ elif build_program; then
     program=$out/maglev
 else
     echo "maglev: the program can't be built" >&2
-    exit 3
+    exit 126
 fi

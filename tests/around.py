@@ -244,7 +244,7 @@ def test_first_run():
         (sources / "wrong").write_text("")
         status, out, err = call()
         lines = b"src/lib.rt: not proved\nlow is not proved\nmaglev: the program can't be built\n"
-        check("a crate that isn't proved", (status, out) == (3, b"") and err.endswith(lines), repr(err))
+        check("a crate that isn't proved", (status, out) == (126, b"") and err.endswith(lines), repr(err))
 
 
 def ship(top):

@@ -195,7 +195,7 @@ def picked(text):
 def member(service, words):
     """A member's line of a plan."""
     name, _, address = words[0].partition("@")
-    state = words.pop() if len(words) % 2 == 0 else "up"
+    state = words[-1] if len(words) % 2 == 0 else "up"
     counts = {word: int(count) for word, count in zip(words[1::2], words[2::2])}
     return {"type": "member", "service": service, "backend": name, "address": address} | counts | {"state": state}
 

@@ -119,11 +119,42 @@ def test_awkward_names():
 def test_what_is_unknown():
     """Later types and keys are left out; a line that is no object ends it with a word on standard error."""
     page_of("nothing", "")
-    page_of("a later type", '{"type":"later"}\n{"type":"report"' + "".join(f',"{word}":0' for word in ("packets", "received", "forwarded", "waiting", "refused", "more")) + ',"dropped":{}}\n')
-    for line in ("fault: BadKey\n", "[1]\n", '{"type":"split"}\n', "\n"):
+    page_of("a later type", '{"type":"later"}\n{"type":"report"' + "".join(f',"{word}":0' for word in ("packets", "received", "forwarded", "waiting", "refused", "lost", "unrouted", "skipped", "left", "more")) + ',"cut":true,"dropped":{}}\n')
+    late = '{"type":"event","event":0,"kind":"arrive","node":0,"record":0,"time":1e400,"bytes":1,"flow":"","outcome":"drop","cause":""}\n'
+    for line in ("fault: BadKey\n", "[1]\n", '{"type":"split"}\n', "\n", late, '{"type":"maglev","version":2,"command":"run"}\n'):
         with tempfile.TemporaryDirectory() as folder:
             page, done = drawn('{"type":"maglev","version":1,"command":"run"}\n' + line, Path(folder))
         check(f"no object: {line!r}", done.returncode == 1 and not page and "line 2" in done.stderr and "Traceback" not in done.stderr, done)
+
+
+def test_what_lacks_keys():
+    """Objects without their keys, and bytes that are no text, end it with a word too."""
+    for name, data in [("a summary", b'{"type":"summary"}\n'), ("a report", b'{"type":"report","version":1}\n'), ("no text", b"\xd4\xc3\xb2\xa1\xff\n")]:
+        with tempfile.TemporaryDirectory() as folder:
+            (Path(folder) / "in.jsonl").write_bytes(data)
+            done = subprocess.run([sys.executable, TOOL, "in.jsonl", "out.html"], cwd=folder, capture_output=True, text=True, timeout=60, check=False)
+        check(f"no keys: {name}", done.returncode == 1 and "maglev --json" in done.stderr and "Traceback" not in done.stderr, done)
+
+
+def test_commands_apart():
+    """What two commands print isn't added up: each has a part of its own."""
+    page, shape = page_of("two runs", 2 * lines_of_rolling())
+    once, _ = page_of("one run", lines_of_rolling())
+    body = once[once.index("<h2>") : once.index("</body>")]
+    check("two runs: each has its part", page.count("<h2>") == 2 * once.count("<h2>") and page.count(body) == 2, page.count("<h2>"))
+    check("two runs: a time line each", shape.tags.get("svg") == 4, shape.tags)
+    fault = '{"type":"fault","fault":"BadKey","detail":"size, line 2"}\n'
+    page, _ = page_of("a fault", fault)
+    check("a fault is told", "fault: BadKey. size, line 2" in page, page[-300:])
+
+
+def test_bins():
+    """Bins are whole bins of a millisecond, so that an even stream is drawn even: 1,500 packets, ten each millisecond."""
+    event = '{"type":"event","event":%d,"kind":"arrive","node":0,"record":%d,"time":%d.%06d,"bytes":40,"flow":"f","outcome":"placed","worker":0}\n'
+    lines = "".join(event % (number, number, 1_700_000_000, 100 * number) for number in range(1500))
+    page, _ = page_of("an even stream", '{"type":"maglev","version":1,"command":"simulate"}\n' + lines)
+    check("an even stream: at most", "1,500, at most 20 in 0.002 s" in page, page[-600:])
+    check("an even stream: its bars", page.count("<title>20</title>") == 75 and page.count("<rect") == 75, page.count("<rect"))
 
 
 def test_a_million_splits():

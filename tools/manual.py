@@ -115,6 +115,8 @@ def man_page(whole, commands):
     page += section("STEPS", "Steps", "Each step is a text. N is a node and W a worker, counted from 0; V is the number of a version.")
     page += [".SH EXIT STATUS", ".TP", "0", "Done.", ".TP", "1", "A fault, which a line on standard error names."]
     page += [".TP", "2", "A bad command line."]
+    page += [".TP", "3", "Done, and a greater share of the connections changed their server than \\-\\-fail\\-above allows."]
+    page += [".TP", "141", "Whoever read standard output went away."]
     page += section("FAULTS", "Exit status", "Memory comes where memory was refused, Write where standard output can't be written. The others by command, the first that holds:")
     page += section("FAULTS OF A SCENARIO", "Faults", "The first that holds in this order:")
     return "\n".join(page) + "\n"

@@ -1,17 +1,18 @@
 #!/usr/bin/env python3
 """report.py IN.jsonl OUT.html: a page for people, of what `maglev .. --json` printed.
 
-IN has the lines of one command or of several, one after another: `simulate --json --list --where --summary` gives all that the
-page can show of a run, `plan --json` what a change of versions moves. The page is one file, which asks nothing of the network.
-IN is read once, line by line, so that a run of any length fits into memory. `-` is standard input or standard output.
+IN has the lines of one command or of several, one after another, and each has a part of the page. `simulate --json --list --where
+--summary` gives all that the page can show of a run, `plan --json` what a change of versions moves. The page is one file, which
+asks nothing of the network. IN is read once, line by line, so that a run of any length fits into memory. `-` is standard input or
+standard output.
 """
 import collections
 import html
 import json
 import sys
 
-# The most splits that are listed, and the most servers that have a bar of their own in each version.
-MOST_SPLITS, MOST_SERVERS = 500, 40
+# The version of the objects, and the most splits, and else the most rows, that a table has.
+VERSION, MOST_SPLITS, MOST_ROWS = 1, 500, 40
 # The most places of a time line, and the width and height of a drawing.
 MOST_BINS, WIDTH, HEIGHT = 120, 960, 150
 WHY = {
@@ -33,7 +34,8 @@ STYLE = """
 * { box-sizing: border-box }
 body { margin: 0 auto; max-width: 1040px; padding: 24px 20px 60px; background: var(--paper); color: var(--ink);
   font: 15px/1.5 system-ui, sans-serif }
-h1 { font-size: 24px; margin: 0 0 4px } h2 { font-size: 17px; margin: 34px 0 8px } h3 { font-size: 14px; margin: 16px 0 4px }
+h1 { font-size: 24px; margin: 0 0 4px } h2 { font-size: 20px; margin: 30px 0 6px }
+h3 { font-size: 17px; margin: 30px 0 8px } h4 { font-size: 14px; margin: 16px 0 4px }
 p { margin: 4px 0 10px; color: var(--faint) }
 .facts { display: flex; flex-wrap: wrap; gap: 10px; margin: 14px 0 }
 .fact { background: var(--card); border: 1px solid var(--rule); border-radius: 8px; padding: 8px 14px; min-width: 116px }
@@ -70,32 +72,37 @@ class Bins:
         return (min(self.counts) * self.width, (max(self.counts) + 1) * self.width) if self.counts else (0, 0)
 
     def over(self, first, last):
-        """The counts of up to MOST_BINS bins of one width between two times."""
-        span = max(last - first, 1)
-        number = min(MOST_BINS, max(1, span // self.width))
-        found = [0] * number
+        """The counts of up to MOST_BINS bins between two times, and their width: so many whole bins of those here."""
+        wide = self.width * max(1, -(-(last - first) // (self.width * MOST_BINS)))
+        found = [0] * max(1, -(-(last - first) // wide))
         for place, count in self.counts.items():
-            found[min(number - 1, (place * self.width - first) * number // span)] += count
-        return found
+            found[(place * self.width - first) // wide] += count
+        return found, wide
 
 
-def micros(time):
+def micros_of(time):
     """A time in seconds, as `json` gives it, in whole microseconds."""
     return round(time * 1_000_000)
 
 
-class Told:
-    """What the lines tell."""
+def seconds(micros):
+    """So many microseconds, in seconds."""
+    return f"{micros / 1_000_000:,.6f}".rstrip("0").rstrip(".") + " s"
 
-    def __init__(self):
-        self.commands, self.report, self.summary, self.counts, self.agrees = [], None, None, None, None
+
+class Told:
+    """What the lines of one command tell."""
+
+    def __init__(self, command):
+        self.command, self.report, self.summary, self.flows, self.agrees = command, None, None, None, None
         self.packets, self.changes = Bins(), Bins()
-        # of each record that waits somewhere its bytes, and at how many places
-        self.waiting = {}
+        # of each balancer the records that wait there, each with its bytes, and how often
+        self.waiting = collections.defaultdict(dict)
         # packets and bytes by version and server, and by version and balancer
         self.servers, self.nodes = collections.defaultdict(lambda: [0, 0]), collections.defaultdict(lambda: [0, 0])
         self.splits, self.split_count, self.why = [], 0, collections.Counter()
-        self.services, self.orders = [], []
+        self.services, self.orders, self.ways = [], None, []
+        self.slots, self.rows, self.fault = None, [], None
 
     def note(self, one):
         """Takes one object. What it doesn't know it leaves out, since later versions may tell more."""
@@ -103,30 +110,28 @@ class Told:
         if known:
             known(one)
 
-    def note_maglev(self, one):
-        self.commands.append(one["command"])
-
     def note_event(self, one):
         if one["kind"] == "arrive" and "time" in one:
-            self.packets.note(micros(one["time"]))
+            self.packets.note(micros_of(one["time"]))
             if one["outcome"] == "placed":
-                _, places = self.waiting.get(one["record"], (0, 0))
-                self.waiting[one["record"]] = one["bytes"], places + 1
+                _, times = self.waiting[one["node"]].get(one["record"], (0, 0))
+                self.waiting[one["node"]][one["record"]] = one["bytes"], times + 1
         elif one["kind"] == "serve" and "record" in one:
-            size = self.served(one["record"])
+            size = self.served(one["node"], one["record"])
             if one["outcome"] == "forward":
                 self.sent(one, size)
+        elif one["outcome"] == "restarted":
+            self.waiting[one["node"]].clear()
 
-    def served(self, record):
-        """A record's bytes. It waits at one place fewer."""
-        size, places = self.waiting.pop(record, (0, 1))
-        if places > 1:
-            self.waiting[record] = size, places - 1
+    def served(self, node, record):
+        """A record's bytes. It waits once fewer at this balancer."""
+        size, times = self.waiting[node].pop(record, (0, 1))
+        if times > 1:
+            self.waiting[node][record] = size, times - 1
         return size
 
     def sent(self, one, size):
-        server = f"{one['backend']}@{one['address']}"
-        for counts in (self.servers[one["version"], server], self.nodes[one["version"], one["node"]]):
+        for counts in (self.servers[one["version"], server_of(one)], self.nodes[one["version"], one["node"]]):
             counts[0] += 1
             counts[1] += size
 
@@ -134,12 +139,12 @@ class Told:
         self.split_count += 1
         self.why[one.get("why", one["cause"])] += 1
         if "time" in one["later"]:
-            self.changes.note(micros(one["later"]["time"]))
+            self.changes.note(micros_of(one["later"]["time"]))
         if len(self.splits) < MOST_SPLITS:
             self.splits.append(one)
 
     def note_splits(self, one):
-        self.counts = one
+        self.flows = one
 
     def note_report(self, one):
         self.report = one
@@ -157,8 +162,42 @@ class Told:
         if self.services:
             self.services[-1][1].append(one)
 
+    def note_orders(self, one):
+        self.orders = one
+
     def note_order(self, one):
-        self.orders.append(one)
+        if len(self.ways) < MOST_ROWS:
+            self.ways.append(one)
+
+    def note_table(self, one):
+        self.slots = one
+
+    def note_compare(self, one):
+        self.slots = one
+
+    def note_count(self, one):
+        self.rows.append([one["backend"], one["slots"]])
+
+    def note_slot(self, one):
+        if "old" in one and len(self.rows) < MOST_SPLITS:
+            self.rows.append([one["slot"], *(server_of(one[word]) if one[word] else "nobody" for word in ("old", "new"))])
+
+    def note_pick(self, one):
+        self.rows.append([one["flow"], one["backend"]])
+
+    def note_drop(self, one):
+        self.rows.append(["dropped", one["cause"]])
+
+    def note_explain(self, one):
+        self.rows.append(["verdict", one["verdict"]])
+        self.rows += [[word, f"version {one[word]['version']}, {server_of(one[word])}"] for word in ("first", "later") if word in one]
+
+    def note_fault(self, one):
+        self.fault = one
+
+
+def server_of(one):
+    return f"{one['backend']}@{one['address']}"
 
 
 def text(value):
@@ -206,7 +245,7 @@ def count_head(name):
 
 def time_line(name, kind, bins, first, last):
     """How often something came, over time."""
-    counts = bins.over(first, last)
+    counts, wide = bins.over(first, last)
     most, step = max(counts) or 1, WIDTH / len(counts)
     tall = HEIGHT - 36
     marks = [
@@ -215,40 +254,49 @@ def time_line(name, kind, bins, first, last):
         for place, count in enumerate(counts)
         if count
     ]
-    said = f'{name}: {sum(counts):,}, at most {max(counts):,} in {(last - first) / len(counts) / 1_000_000:.3g} s'
+    said = f"{name}: {sum(counts):,}, at most {max(counts):,} in {seconds(wide)}"
     return (
         f'<svg viewBox="0 0 {WIDTH} {HEIGHT}" role="img" aria-label="{text(said)}"><text x="6" y="13">{text(said)}</text>{"".join(marks)}'
-        f'<text x="6" y="{HEIGHT - 5}">0 s</text><text x="{WIDTH - 6}" y="{HEIGHT - 5}" text-anchor="end">'
-        f'{(last - first) / 1_000_000:g} s</text></svg>'
+        f'<text x="6" y="{HEIGHT - 5}">0 s</text><text x="{WIDTH - 6}" y="{HEIGHT - 5}" text-anchor="end">{seconds(last - first)}</text></svg>'
     )
 
 
 def over_time(told):
-    if not told.packets.counts:
+    drawn = [("datagrams that came to a balancer", "one", told.packets), ("changes of a connection's server", "two", told.changes)]
+    drawn = [each for each in drawn if each[2].counts]
+    if not drawn:
         return ""
-    first, last = told.packets.ends()
-    drawn = time_line("packets", "one", told.packets, first, last)
-    if told.changes.counts:
-        drawn += "<p></p>" + time_line("changes of a connection's server", "two", told.changes, first, last)
-    return f"<h2>Over time</h2><p>From the first packet on.</p>{drawn}"
+    ends = [each[2].ends() for each in drawn]
+    first, last = min(end[0] for end in ends), max(end[1] for end in ends)
+    lines = "<p></p>".join(time_line(*each, first, last) for each in drawn)
+    return f"<h3>Over time</h3><p>From the earliest of them on.</p>{lines}"
+
+
+def more_of(shown, count):
+    return f"<p>and {count - shown:,} more</p>" if count > shown else ""
 
 
 def shares_of(name, counts, words):
     """Each version's shares, one version after another."""
-    if not counts:
-        return ""
     parts = []
     for version in sorted({version for version, _ in counts}):
         found = sorted(((key, *counts[one, key]) for one, key in counts if one == version), key=lambda each: (-each[1], each[0]))
         packets, size = (sum(each[place] for each in found) for place in (1, 2))
         rows = [
-            row([words(key), bar(some, found[0][1]), ("count", share(some, packets)), some, length, ("count", share(length, size))])
-            for key, some, length in found[:MOST_SERVERS]
+            row([words(key), bar(sent, found[0][1]), ("count", share(sent, packets)), sent, length, ("count", share(length, size))])
+            for key, sent, length in found[:MOST_ROWS]
         ]
         heads = [name, ("bar", ""), count_head("packets, share"), count_head("packets"), count_head("bytes"), count_head("bytes, share")]
-        more = f"<p>and {len(found) - MOST_SERVERS:,} more</p>" if len(found) > MOST_SERVERS else ""
-        parts.append(f"<h3>version {text(version)}</h3>{table(heads, rows)}{more}")
+        parts.append(f"<h4>version {version}</h4>{table(heads, rows)}{more_of(MOST_ROWS, len(found))}")
     return "".join(parts)
+
+
+def shares(told):
+    if not told.servers:
+        return ""
+    servers, nodes = shares_of("server", told.servers, str), shares_of("balancer", told.nodes, lambda node: f"balancer {node}")
+    said = "<p>Of all services together, by the version under which packets were served.</p>"
+    return f"<h3>Each server's share</h3>{said}{servers}<h3>Each balancer's share</h3>{nodes}"
 
 
 def reasons(told):
@@ -257,23 +305,26 @@ def reasons(told):
     most = max(told.why.values())
     rows = [row([why, WHY.get(why, ""), bar(count, most, "two"), count]) for why, count in told.why.most_common()]
     heads = ["reason", "what happened", ("bar", ""), count_head("changes")]
-    return f"<h2>Why connections changed their server</h2>{table(heads, rows)}"
+    return f"<h3>Why connections changed their server</h3>{table(heads, rows)}"
 
 
-def split_row(one):
+def split_row(one, placed):
     first, later = one["first"], one["later"]
-    servers = [f"{send['backend']}@{send['address']}" for send in (first, later)]
-    places = [f"{send['node']}/{send['worker']}" if "node" in send else "" for send in (first, later)]
-    times = [f"{later['time']:.6f}" if "time" in later else "", f"{first.get('record', '')}", f"{later.get('record', '')}"]
-    return row([one["flow"], servers[0], servers[1], one.get("why", one["cause"]), places[0], places[1], *times])
+    found = [one["flow"], server_of(first), server_of(later), one.get("why", one["cause"])]
+    if placed:
+        found += [f"{send['node']}/{send['worker']}" for send in (first, later)]
+        found += [f"{later['time']:.6f}", f"{first['record']}", f"{later['record']}"]
+    return row(found)
 
 
 def splits(told):
     if not told.splits:
         return ""
-    heads = ["connection", "from", "to", "reason", "balancer/worker", "later", "time", "record", "later"]
-    more = f"<p>The first {len(told.splits):,} of {told.split_count:,}.</p>" if told.split_count > len(told.splits) else ""
-    return f"<h2>Connections that changed their server</h2>{more}{table(heads, [split_row(one) for one in told.splits])}"
+    placed = all("time" in one["later"] for one in told.splits)
+    heads = ["connection", "from", "to", "reason"]
+    heads += ["first at balancer/worker", "later at", "later time, s", "first record", "later record"] if placed else []
+    rows = [split_row(one, placed) for one in told.splits]
+    return f"<h3>Connections that changed their server</h3>{table(heads, rows)}{more_of(len(rows), told.split_count)}"
 
 
 def planned_of(service, members):
@@ -283,67 +334,85 @@ def planned_of(service, members):
     rows = []
     for member in members:
         before = [bar(member["before"], most, "two"), member["before"]] if "before" in member else []
-        name = f"{member['backend']}@{member['address']}"
-        rows.append(row([name, member["weight"], *before, bar(member[after], most), member[after], member["state"]]))
+        rows.append(row([server_of(member), member["weight"], *before, bar(member[after], most), member[after], member["state"]]))
     heads = ["server", count_head("weight")]
     heads += [("bar", "before"), count_head("slots")] if "least" in service else []
     heads += [("bar", "after" if "least" in service else ""), count_head("slots"), "state"]
-    return f"<h3>{text(service['service'])}</h3>{facts(counts)}{table(heads, rows)}"
+    return f"<h4>{text(service['service'])}</h4>{facts(counts)}{table(heads, rows)}"
 
 
 def plans(told):
     if not told.services:
         return ""
-    return f"<h2>What the plan moves</h2>{''.join(planned_of(*each) for each in told.services)}"
+    moves = any("least" in service for service, _ in told.services)
+    return f"<h3>What the plan {'moves' if moves else 'shows'}</h3>{''.join(planned_of(*each) for each in told.services)}"
 
 
 def orders(told):
     if not told.orders:
         return ""
-    rows = [row([one["moved"], " ".join(one["servers"])]) for one in told.orders[:MOST_SERVERS]]
-    return f"<h2>Orders of replacement</h2>{table([count_head('slots moved'), 'servers'], rows)}"
+    rows = [row([one["moved"], " ".join(one["servers"])]) for one in told.ways]
+    said = "<p>One of many: each step moves the fewest.</p>" if told.orders["greedy"] else ""
+    shown = table([count_head("slots moved"), "servers"], rows)
+    return f"<h3>Orders of replacement</h3>{said}{shown}{more_of(len(rows), told.orders['orders'])}"
+
+
+def answers(told):
+    """What is said of a table, a comparison, a datagram or two packets."""
+    counts = [(word, count) for word, count in (told.slots or {}).items() if word != "type"]
+    rows = [row([cell if isinstance(cell, (int, str)) else str(cell) for cell in cells]) for cells in told.rows]
+    shown = f'<div class="scroll"><table>{"".join(rows)}</table></div>' if rows else ""
+    return (facts(counts) if counts else "") + shown
 
 
 def totals(told):
-    """The report and the summary, in a few numbers."""
+    """The report and the summary, in a few numbers. What isn't as it mostly is has a number where there is some of it."""
     found = []
     if told.report:
         report = told.report
         found += [(name, report[name]) for name in ("packets", "received", "forwarded", "waiting", "refused")]
+        found += [(name, report[name]) for name in ("lost", "unrouted", "skipped", "left") if report[name]]
+        found += [("capture", "cut off in a record")] if report["cut"] else []
         found += [(f"dropped: {cause}", count) for cause, count in report["dropped"].items() if count]
     if told.summary:
         summary = told.summary
         found += [("connections", summary["connections"]), ("changed their server", summary["changed"])]
         found += [("of all connections", share(summary["changed"], summary["connections"]))]
-    elif told.counts:
-        found += [("flows", told.counts["flows"]), ("splits", told.counts["split"])]
+    elif told.flows:
+        found += [("flows", told.flows["flows"]), ("splits", told.flows["split"])]
     if told.agrees is not None:
         found.append(("audit", "agrees" if told.agrees else "differs"))
     return facts(found) if found else ""
 
 
-def page(told):
+def part(told):
+    """What one command told."""
+    fault = f"<p>fault: {text(told.fault['fault'])}. {text(told.fault['detail'] or '')}</p>" if told.fault else ""
+    drawn = [totals(told), over_time(told), reasons(told), shares(told), splits(told), plans(told), orders(told), answers(told)]
+    return f"<h2>{text(told.command)}</h2>{fault}{''.join(drawn)}"
+
+
+def page(commands):
     """The page's markup."""
-    servers = shares_of("server", told.servers, str)
-    nodes = shares_of("balancer", told.nodes, lambda node: f"balancer {node}")
-    parts = [totals(told), over_time(told), reasons(told)]
-    parts += [f"<h2>Each server's share</h2><p>By the version under which packets were served.</p>{servers}"] if servers else []
-    parts += [f"<h2>Each balancer's share</h2>{nodes}"] if nodes else []
-    parts += [splits(told), plans(told), orders(told)]
-    title = "maglev " + ", ".join(dict.fromkeys(told.commands))
-    head = f'<meta charset="utf-8"><meta name="viewport" content="width=device-width"><title>{text(title)}</title><style>{STYLE}</style>'
-    return f'<!doctype html><html lang="en"><head>{head}</head><body><h1>{text(title)}</h1>{"".join(parts)}</body></html>\n'
+    head = f'<meta charset="utf-8"><meta name="viewport" content="width=device-width"><title>maglev</title><style>{STYLE}</style>'
+    parts = "".join(part(told) for told in commands) or "<p>Nothing was told.</p>"
+    return f'<!doctype html><html lang="en"><head>{head}</head><body><h1>maglev</h1>{parts}</body></html>\n'
 
 
 def told_by(lines):
-    """What these lines tell. A line that is no object is a fault."""
-    told = Told()
+    """What these lines tell, command by command. Each begins with an object that names it."""
+    commands = []
     for number, line in enumerate(lines, 1):
         try:
-            told.note(json.loads(line))
-        except (ValueError, KeyError, TypeError, AttributeError) as fault:
+            one = json.loads(line)
+            if one["type"] == "maglev" and one["version"] != VERSION:
+                sys.exit(f"report.py: line {number}: this reads version {VERSION} of the objects, and this is version {one['version']}")
+            if one["type"] == "maglev" or not commands:
+                commands.append(Told(one.get("command", "")))
+            commands[-1].note(one)
+        except (ValueError, KeyError, TypeError, AttributeError, OverflowError) as fault:
             sys.exit(f"report.py: line {number} isn't of maglev --json: {fault}")
-    return told
+    return commands
 
 
 def opened(path, mode, stream):
@@ -361,6 +430,8 @@ def main(words):
             out.write(drawn)
     except OSError as fault:
         sys.exit(f"report.py: {fault}")
+    except (ValueError, KeyError, TypeError, AttributeError, OverflowError) as fault:
+        sys.exit(f"report.py: {words[0]} isn't of maglev --json: {fault!r}")
     return 0
 
 
