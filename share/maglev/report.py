@@ -13,6 +13,8 @@ import sys
 
 # The version of the objects, and the most splits, and else the most rows, that a table has.
 VERSION, MOST_SPLITS, MOST_ROWS = 1, 500, 40
+# The types of which a command prints one object.
+WHOLE = ("report", "summary", "splits", "audit", "orders", "table", "compare", "fault")
 # The most places of a time line, and the width and height of a drawing.
 MOST_BINS, WIDTH, HEIGHT = 120, 960, 150
 WHY = {
@@ -94,19 +96,22 @@ class Told:
     """What the lines of one command tell."""
 
     def __init__(self, command):
-        self.command, self.report, self.summary, self.flows, self.agrees = command, None, None, None, None
+        self.command = command
+        # the objects that come once, by their type
+        self.whole = {}
         self.packets, self.changes = Bins(), Bins()
         # of each balancer the records that wait there, each with its bytes, and how often
         self.waiting = collections.defaultdict(dict)
         # packets and bytes by version and server, and by version and balancer
         self.servers, self.nodes = collections.defaultdict(lambda: [0, 0]), collections.defaultdict(lambda: [0, 0])
         self.splits, self.split_count, self.why = [], 0, collections.Counter()
-        self.services, self.orders, self.ways = [], None, []
-        self.slots, self.rows, self.fault = None, [], None
+        self.services, self.ways, self.rows = [], [], []
 
     def note(self, one):
         """Takes one object. What it doesn't know it leaves out, since later versions may tell more."""
-        known = getattr(self, f"note_{one.get('type')}", None)
+        if one["type"] in WHOLE:
+            self.whole[one["type"]] = one
+        known = getattr(self, f"note_{one['type']}", None)
         if known:
             known(one)
 
@@ -143,18 +148,6 @@ class Told:
         if len(self.splits) < MOST_SPLITS:
             self.splits.append(one)
 
-    def note_splits(self, one):
-        self.flows = one
-
-    def note_report(self, one):
-        self.report = one
-
-    def note_audit(self, one):
-        self.agrees = one["agrees"]
-
-    def note_summary(self, one):
-        self.summary = one
-
     def note_service(self, one):
         self.services.append((one, []))
 
@@ -162,18 +155,9 @@ class Told:
         if self.services:
             self.services[-1][1].append(one)
 
-    def note_orders(self, one):
-        self.orders = one
-
     def note_order(self, one):
         if len(self.ways) < MOST_ROWS:
             self.ways.append(one)
-
-    def note_table(self, one):
-        self.slots = one
-
-    def note_compare(self, one):
-        self.slots = one
 
     def note_count(self, one):
         self.rows.append([one["backend"], one["slots"]])
@@ -191,9 +175,6 @@ class Told:
     def note_explain(self, one):
         self.rows.append(["verdict", one["verdict"]])
         self.rows += [[word, f"version {one[word]['version']}, {server_of(one[word])}"] for word in ("first", "later") if word in one]
-
-    def note_fault(self, one):
-        self.fault = one
 
 
 def server_of(one):
@@ -349,45 +330,46 @@ def plans(told):
 
 
 def orders(told):
-    if not told.orders:
+    found = told.whole.get("orders")
+    if not found:
         return ""
     rows = [row([one["moved"], " ".join(one["servers"])]) for one in told.ways]
-    said = "<p>One of many: each step moves the fewest.</p>" if told.orders["greedy"] else ""
+    said = "<p>One of many: each step moves the fewest.</p>" if found["greedy"] else ""
     shown = table([count_head("slots moved"), "servers"], rows)
-    return f"<h3>Orders of replacement</h3>{said}{shown}{more_of(len(rows), told.orders['orders'])}"
+    return f"<h3>Orders of replacement</h3>{said}{shown}{more_of(len(rows), found['orders'])}"
 
 
 def answers(told):
     """What is said of a table, a comparison, a datagram or two packets."""
-    counts = [(word, count) for word, count in (told.slots or {}).items() if word != "type"]
-    rows = [row([cell if isinstance(cell, (int, str)) else str(cell) for cell in cells]) for cells in told.rows]
-    shown = f'<div class="scroll"><table>{"".join(rows)}</table></div>' if rows else ""
+    found = told.whole.get("table") or told.whole.get("compare") or {}
+    counts = [(word, count) for word, count in found.items() if word != "type"]
+    shown = f'<div class="scroll"><table>{"".join(map(row, told.rows))}</table></div>' if told.rows else ""
     return (facts(counts) if counts else "") + shown
 
 
 def totals(told):
     """The report and the summary, in a few numbers. What isn't as it mostly is has a number where there is some of it."""
     found = []
-    if told.report:
-        report = told.report
+    report, summary, flows, audit = (told.whole.get(name) for name in ("report", "summary", "splits", "audit"))
+    if report:
         found += [(name, report[name]) for name in ("packets", "received", "forwarded", "waiting", "refused")]
         found += [(name, report[name]) for name in ("lost", "unrouted", "skipped", "left") if report[name]]
         found += [("capture", "cut off in a record")] if report["cut"] else []
         found += [(f"dropped: {cause}", count) for cause, count in report["dropped"].items() if count]
-    if told.summary:
-        summary = told.summary
+    if summary:
         found += [("connections", summary["connections"]), ("changed their server", summary["changed"])]
         found += [("of all connections", share(summary["changed"], summary["connections"]))]
-    elif told.flows:
-        found += [("flows", told.flows["flows"]), ("splits", told.flows["split"])]
-    if told.agrees is not None:
-        found.append(("audit", "agrees" if told.agrees else "differs"))
+    elif flows:
+        found += [("flows", flows["flows"]), ("splits", flows["split"])]
+    if audit:
+        found.append(("audit", "agrees" if audit["agrees"] else "differs"))
     return facts(found) if found else ""
 
 
 def part(told):
     """What one command told."""
-    fault = f"<p>fault: {text(told.fault['fault'])}. {text(told.fault['detail'] or '')}</p>" if told.fault else ""
+    found = told.whole.get("fault")
+    fault = f"<p>fault: {text(found['fault'])}. {text(found['detail'] or '')}</p>" if found else ""
     drawn = [totals(told), over_time(told), reasons(told), shares(told), splits(told), plans(told), orders(told), answers(told)]
     return f"<h2>{text(told.command)}</h2>{fault}{''.join(drawn)}"
 
