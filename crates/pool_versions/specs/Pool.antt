@@ -12,6 +12,7 @@ use Rattle.pool_versions.specs.declared.service.Version.{Version}
 use Rattle.pool_versions.specs.declared.key.ServiceKey.{ServiceKey}
 use Rattle.pool_versions.specs.declared.catalogue.PoolFault.{PoolFault}
 use Rattle.pool_versions.specs.declared.catalogue.PoolFault.TheVariants as fault
+use Rattle.pool_versions.specs.declared.catalogue.RefusedVersion.{RefusedVersion}
 
 -- the size of the tables, and the versions in the order in which they were added
 pub record Pools : Type 0 where
@@ -82,6 +83,11 @@ fault_of c v =
 abbrev pub RefusedAs : {E : Type 0} → Result E PoolFault → Option PoolFault → Type 0
 RefusedAs (Ok _) f = f ≡ None
 RefusedAs (Err e) f = (f ≡ Some e) ⊎ ((e ≡ fault.Memory) × (f ≡ None))
+
+-- The same of an offer, whose fault comes with the version.
+abbrev pub GivenBackAs : {E : Type 0} → Version → Result E RefusedVersion → Option PoolFault → Type 0
+GivenBackAs v (Ok _) f = f ≡ None
+GivenBackAs v (Err r) f = (r.version ≡ v) × ((f ≡ Some r.fault) ⊎ ((r.fault ≡ fault.Memory) × (f ≡ None)))
 
 -- a service has no more members than it may have, and no more than there are slots
 pub record HasFewMembers (size : ℕ) (s : Service) : Type 0 where

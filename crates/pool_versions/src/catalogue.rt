@@ -1,7 +1,7 @@
 //! The catalogue of versions.
 ghost use Rattle.std.specs.Prelude.{◌≡◌, ◌++◌, ◌∷◌, [], OnOk, OnErr, IfOk, IfSome, option_map, option_copied};
 ghost use Rattle.std.specs.List.{list_any};
-ghost use Rattle.pool_versions.specs.Pool.{Pools, services_fault, fault_of, RefusedAs, version_at, up_of, weights_of, is_over, has_too_many, has_double_name, HasUps, HasWeights, IsWithinLimits, AreSound};
+ghost use Rattle.pool_versions.specs.Pool.{Pools, services_fault, fault_of, RefusedAs, GivenBackAs, version_at, up_of, weights_of, is_over, has_too_many, has_double_name, HasUps, HasWeights, IsWithinLimits, AreSound};
 
 use crate::backend::Backend;
 use crate::doubles::{has_double_name, has_double_service};
@@ -39,6 +39,13 @@ pub enum PoolFault {
     /// Memory was refused.
     #[error("out of memory")]
     Memory,
+}
+
+/// A version that a catalogue didn't take: the first fault in the order of `PoolFault`, and the version.
+#[derive(Debug, Drop)]
+pub struct RefusedVersion {
+    pub fault: PoolFault,
+    pub version: Version,
 }
 
 /// The versions that a cluster may run, each under its number.
@@ -160,19 +167,35 @@ impl Catalogue {
         self.services_fault(version.services.as_slice())
     }
 
-    /// Takes a version in, unless it has a fault. The first fault in the order of `PoolFault` is the answer.
+    /// Takes a version in, unless it has a fault. One that is refused is given back.
+    pub fn offer(&mut self, version: Version) -> Result<(), RefusedVersion>
+        ensures judged { GivenBackAs version result (fault_of self.old version) }
+        ensures ok { OnOk result (self.new ≡ record self.old { versions = self.old.versions ++ version ∷ [] }) }
+        ensures err { OnErr result (self.new ≡ self.old) }
+    {
+        if let Some(fault) = self.fault_of(&version) {
+            return Err(RefusedVersion { fault, version });
+        }
+        weigh_all(version.services.as_slice());
+        match self.versions.push(version) {
+            Ok(()) => Ok(()),
+            Err(failed) => Err(RefusedVersion {
+                fault: PoolFault::Memory,
+                version: failed.value,
+            }),
+        }
+    }
+
+    /// The same, where a version that is refused isn't wanted any more. The first fault in the order of `PoolFault` is the
+    /// answer.
     pub fn add(&mut self, version: Version) -> Result<(), PoolFault>
         ensures judged { RefusedAs result (fault_of self.old version) }
         ensures ok { OnOk result (self.new ≡ record self.old { versions = self.old.versions ++ version ∷ [] }) }
         ensures err { OnErr result (self.new ≡ self.old) }
     {
-        if let Some(fault) = self.fault_of(&version) {
-            return Err(fault);
-        }
-        weigh_all(version.services.as_slice());
-        match self.versions.push(version) {
+        match self.offer(version) {
             Ok(()) => Ok(()),
-            Err(_) => Err(PoolFault::Memory),
+            Err(refused) => Err(refused.fault),
         }
     }
 

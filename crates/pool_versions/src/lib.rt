@@ -12,7 +12,7 @@ mod same;
 mod service;
 
 pub use backend::{Backend, Member};
-pub use catalogue::{Catalogue, MOST_SERVICES, MOST_VERSIONS, PoolFault};
+pub use catalogue::{Catalogue, MOST_SERVICES, MOST_VERSIONS, PoolFault, RefusedVersion};
 pub use doubles::has_double_name;
 pub use key::ServiceKey;
 pub use service::{MOST_MEMBERS, Service, Version, backends_of, weights_of};

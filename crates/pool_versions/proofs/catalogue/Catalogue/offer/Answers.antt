@@ -3,7 +3,7 @@ use Rattle.std.specs.List.{All}
 use Rattle.std.specs.Result.{is_ok}
 use Rattle.pool_versions.specs.Pool.{fault_of, AreWeighed}
 use Rattle.pool_versions.proofs.Limits.{taken_keeps}
-use Rattle.pool_versions.proofs.catalogue.Catalogue.add.Goals as goal
+use Rattle.pool_versions.proofs.catalogue.Catalogue.offer.Goals as goal
 
 pub invariant_of-self : goal.invariant_of-self
 invariant_of-self c =
