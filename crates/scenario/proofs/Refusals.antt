@@ -175,9 +175,9 @@ at_pools ms d vs pool.TooMany (Some p) is h = pools_at d.choices.size (versions_
 pub catalogue_refused : (f : Format) (played : Played) (d : PlainDraft) (vs : List (PlainVersion Member)) (r : Result Scenario Refused) (e : Refused)
     → versions_of d.versions ≡ Ok vs → IsErrAnd r (λ x. x ≡ e) → AreRefusedAt d.choices.size vs e → IfErr r (λ x. IsDraftRefused f played d x.fault)
 catalogue_refused f played d vs r e same is h =
-    passed_on r e (λ x. IsDraftRefused f played d x.fault) is (rw h.1.0 (of_pools f played d vs h.0 same h.1.1.0))
+    passed_on r e (λ x. IsDraftRefused f played d x.fault) is (rw h.1 (of_pools f played d vs h.0 same h.2))
 
 pub catalogue_placed : (ms : Members) (d : PlainDraft) (vs : List (PlainVersion Member)) (r : Result Scenario Refused) (e : Refused)
     → versions_of d.versions ≡ Ok vs → IsErrAnd r (λ x. x ≡ e) → AreRefusedAt d.choices.size vs e → IfErr r (λ x. IsDraftAt ms d x.fault x.place)
 catalogue_placed ms d vs r e same is h =
-    passed_on r e (λ x. IsDraftAt ms d x.fault x.place) is (rw h.1.0 (at_pools ms d vs h.0 e.place same h.1.1.1))
+    passed_on r e (λ x. IsDraftAt ms d x.fault x.place) is (rw h.1 (at_pools ms d vs h.0 e.place same h.3))

@@ -122,13 +122,13 @@ pub told_now : (size : ℕ) (c : Pools) (v : Version) (rest popped : List Versio
     pool_from size (map plain_version c.versions) (length c.versions) (map plain_version (reverse popped)) ≡ pool_place_of size vs →
     IsPlaced c v f told o → IsPoolRefused size vs told × IsPoolAt size vs told o
 told_now size c v rest popped vs f told o is judged sized before places (inl memory) = rw (memory.0, memory.1) (tt, refl)
-told_now size c v rest popped vs f told o is (inr memory) sized before places (inr known) = absurd (known.1.0 memory.0)
+told_now size c v rest popped vs f told o is (inr memory) sized before places (inr known) = absurd (known.1 memory.0)
 told_now size c v rest popped vs f told o is (inl found) sized before places (inr known) =
     let earlier = map plain_version c.versions in
     let n = length c.versions in
     let some : version_refused size earlier (plain_version v) ≡ Some f = rw (← sized) (sym (faults_agree c v) ∙ found) in
     let here = version_place size earlier n (plain_version v) in
-    let same : o ≡ here = rw (← sized) known.1.1 in
+    let same : o ≡ here = rw (← sized) known.2 in
     let there : is_some here ≡ true = version_law size earlier n (plain_version v) (sym (length-map c.versions plain_version)) ∙ ap is_some some in
     let told_at : pool_place_of size vs ≡ here =
     sym places ∙ (ap (pool_from size earlier n) (last_first v rest popped is)
@@ -136,5 +136,5 @@ told_now size c v rest popped vs f told o is (inl found) sized before places (in
     rw (known.0, same) (
       refusal size vs f (sym before ∙ (ap (first_refused size earlier) (last_first v rest popped is)
           ∙ refused_here size earlier (plain_version v) (map plain_version (reverse rest)) f some)),
-      at_place size vs f here known.1.0 there told_at,
+      at_place size vs f here known.1 there told_at,
     )

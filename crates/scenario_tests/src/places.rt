@@ -172,7 +172,13 @@ fn finds_keys(rt: &impl Abort, alloc: Global, row: &Row, at: usize) {
 }
 
 // Why and where a scenario is refused that is played so.
-fn refused(rt: &impl Abort, alloc: Global, played: Played, text: &str, at: usize) -> Option<Refused> {
+fn refused(
+    rt: &impl Abort,
+    alloc: Global,
+    played: Played,
+    text: &str,
+    at: usize,
+) -> Option<Refused> {
     let refused = read_placed(alloc, played, text.as_bytes()).err();
     let fault = scenario::read(alloc, played, text.as_bytes()).err();
     assert_eq!(rt; refused.map(|refused| refused.fault), fault, "row {at}");
