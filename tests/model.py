@@ -164,6 +164,27 @@ def read_capture(data):
     return link, records, at < len(data)
 
 
+def padded(data):
+    """The capture with each record that was cut as long as its frame was, with zeros where bytes are missing: one that captured
+    fewer bytes than its frame had, where the frame had no more than a record may have. All else is as it is, and what is no
+    capture too. A header whose input ends behind it is mended as well."""
+    magics = {"d4c3b2a1": "<", "4d3cb2a1": "<", "a1b2c3d4": ">", "a1b23c4d": ">"}
+    order = magics.get(data[:4].hex())
+    if order is None or len(data) < 24:
+        return data
+    out, at = data[:24], 24
+    while at + 16 <= len(data):
+        captured, original = struct.unpack(order + "2I", data[at + 8 : at + 16])
+        was_cut = captured < original <= 262144
+        out += data[at : at + 8] + (data[at + 12 : at + 16] if was_cut else data[at + 8 : at + 12]) + data[at + 12 : at + 16]
+        at += 16
+        if at + captured > len(data):
+            break
+        out += data[at : at + captured] + bytes(original - captured if was_cut else 0)
+        at += captured
+    return out + data[at:]
+
+
 def wrapped(datagram, node, backend):
     """The datagram in GRE."""
     head = struct.pack(">BBHHHBBH", 0x45, 0, 24 + len(datagram), 0, 0x4000, 64, 47, 0) + node + backend

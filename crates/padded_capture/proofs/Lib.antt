@@ -1,0 +1,4 @@
+pub mod Records
+pub mod Coming
+pub mod Known
+pub mod Fields
