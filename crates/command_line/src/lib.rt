@@ -67,7 +67,7 @@ SCENARIO may be -, which is standard input. Faults of the scenario are those of 
 /// The end of the help of `scenario`.
 const SCENARIO_HELP: &str = "Example: maglev scenario examples/rolling.pcap > scenario.toml
 
-INPUT may be -, which is standard input. The scenario has a service for each address, protocol and port to which more than 5 packets went, the most frequent first. Fill in the members of each, and play it with simulate. Faults are those of simulate for INPUT, NoRandom, Write and Memory.";
+INPUT may be -, which is standard input. The scenario has a service for each address, protocol and port to which more than 5 packets went, the most frequent first. The clients of a service that stands before them are left out. Fill in the members of each, and play it with simulate. Faults are those of simulate for INPUT, NoRandom, Write and Memory.";
 
 /// The end of the help of `table`.
 const TABLE_HELP: &str = "Example: maglev table --size 7 --hash sum A B C
@@ -351,6 +351,34 @@ fn summary<'a>(alloc: Global) -> Arg<'a> {
         .action(ArgAction::SetTrue)
 }
 
+fn backends<'a>(alloc: Global) -> Arg<'a> {
+    Arg::new(alloc, "per-backend")
+        .long("per-backend")
+        .help(
+            "print behind the report how many packets, bytes and flows each backend got under each version",
+        )
+        .action(ArgAction::SetTrue)
+}
+
+fn nodes<'a>(alloc: Global) -> Arg<'a> {
+    Arg::new(alloc, "per-node")
+        .long("per-node")
+        .help("print behind the report what each balancer sent under each version")
+        .action(ArgAction::SetTrue)
+}
+
+/// What may be done with records that a snap length cut.
+const WAYS_WITH_CUT: [&str; 1] = ["pad"];
+
+fn cut<'a>(alloc: Global) -> Arg<'a> {
+    Arg::new(alloc, "cut")
+        .long("cut")
+        .value_name("WAY")
+        .help("play a record that a snap length cut as it was, with zeros where bytes are missing")
+        .action(ArgAction::Set)
+        .value_parser(WAYS_WITH_CUT.as_slice())
+}
+
 fn pace<'a>(alloc: Global) -> Arg<'a> {
     Arg::new(alloc, "pace")
         .long("pace")
@@ -361,7 +389,9 @@ fn pace<'a>(alloc: Global) -> Arg<'a> {
 fn json<'a>(alloc: Global) -> Arg<'a> {
     Arg::new(alloc, "json")
         .long("json")
-        .help("print JSON Lines: an object for each line, with the keys that docs/FORMATS.md lists")
+        .help(
+            "print JSON Lines: objects in place of lines, with the keys that docs/FORMATS.md lists",
+        )
         .action(ArgAction::SetTrue)
 }
 
@@ -431,8 +461,11 @@ fn simulate<'a>(alloc: Global) -> Result<Command<'a>, AllocError> {
         list(alloc),
         splits(alloc),
         places(alloc),
+        backends(alloc),
+        nodes(alloc),
         summary(alloc),
         fail_above(alloc),
+        cut(alloc),
         json(alloc),
         of_places(alloc),
         scenario(alloc),
@@ -450,6 +483,7 @@ fn simulate<'a>(alloc: Global) -> Result<Command<'a>, AllocError> {
 
 fn explain<'a>(alloc: Global) -> Result<Command<'a>, AllocError> {
     let args = [
+        cut(alloc),
         json(alloc),
         of_places(alloc),
         scenario(alloc),
@@ -470,8 +504,11 @@ fn run<'a>(alloc: Global) -> Result<Command<'a>, AllocError> {
     let args = [
         splits(alloc),
         places(alloc),
+        backends(alloc),
+        nodes(alloc),
         summary(alloc),
         fail_above(alloc),
+        cut(alloc),
         pace(alloc),
         json(alloc),
         of_places(alloc),
