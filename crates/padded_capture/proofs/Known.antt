@@ -6,7 +6,7 @@ use borrow.Rule.Slice.PartMut.{put_mid, post_of}
 use Rattle.padded_capture.specs.declared.stage.Form.{Form}
 use Rattle.padded_capture.specs.declared.stage.Form.TheVariants.{Unknown, Ordered, Plain}
 use Rattle.padded_capture.specs.declared.stage.Turn.TheVariants.{Gather, Pass, Zero}
-use Rattle.padded_capture.specs.Stages.{State, fresh, plain, coming, coming_of, padded_of, ComesSame, Gave, Took, Passed, FitsIn, left_of, IsTurn, IsOver}
+use Rattle.padded_capture.specs.Stages.{State, fresh, untouched, coming, coming_of, padded_of, ComesSame, Gave, Took, Passed, FitsIn, left_of, IsTurn, IsOver}
 use Rattle.padded_capture.proofs.Coming.{gave_waiting, gave_zeros, took_bytes, passed_bytes, passed_end, waits_last, header_ends}
 
 pub passed_known : (a b : Option (List ℕ)) (s s' : State) (bytes : List ℕ) → Consumes a b bytes → Passed s s' bytes → Consumes (coming_of s a) (coming_of s' b) bytes
@@ -134,7 +134,7 @@ unfolding coming
 fresh_padded None = refl
 fresh_padded (Some x) = refl
 
-pub plain_same : (a : Option (List ℕ)) → coming_of plain a ≡ a
+pub plain_same : (a : Option (List ℕ)) → coming_of untouched a ≡ a
 unfolding coming
 plain_same None = refl
 plain_same (Some x) = refl

@@ -23,8 +23,8 @@ abbrev pub fresh : State
 fresh = record { form = Unknown; is_gathering = true; waiting = []; plain = 0; zeros = 0 }
 
 -- nothing is to be padded
-abbrev pub plain : State
-plain = record { form = Plain; is_gathering = false; waiting = []; plain = 0; zeros = 0 }
+abbrev pub untouched : State
+untouched = record { form = Plain; is_gathering = false; waiting = []; plain = 0; zeros = 0 }
 
 -- how many bytes the header has that is gathered
 abbrev pub header_len : Form → ℕ

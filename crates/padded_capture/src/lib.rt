@@ -5,7 +5,9 @@
 //! bytes. All else comes as it is, and so does what is no capture. Nothing is kept but the bytes of one header.
 #![tactic(auto)]
 
+mod laws;
 mod padded;
 mod stage;
 
+pub use laws::padded_is_whole;
 pub use padded::Padded;

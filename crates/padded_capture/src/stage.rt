@@ -2,7 +2,7 @@
 ghost use Rattle.std.specs.Prelude.{◌≡◌, ◌≤◌, ◌<◌, ◌+◌, ◌-◌, ◌++◌, true, false, min, length, take, drop, [], IsTrue, ◌↔◌, replicate, slice_range, nat_lt, ◌&&◌, not};
 ghost use Rattle.pcap_file.specs.Format.{number_in, magic_of, max_captured};
 ghost use Rattle.padded_capture.specs.Padding.{mended, missing};
-ghost use Rattle.padded_capture.specs.Stages.{fresh, plain, header_len, form_of, ComesSame, IsTurn, FitsIn, left_of};
+ghost use Rattle.padded_capture.specs.Stages.{fresh, untouched, header_len, form_of, ComesSame, IsTurn, FitsIn, left_of};
 
 use byteorder::{BigEndian, ByteOrder, LittleEndian};
 use pcap_file::Order;
@@ -99,7 +99,7 @@ impl Stage {
 
     /// All comes as it is.
     pub(crate) fn plain() -> Stage
-        ensures { result ≡ plain }
+        ensures { result ≡ untouched }
     {
         Stage {
             form: Form::Plain,
