@@ -30,7 +30,7 @@ impl<I> fmt::Debug for Padded<I> {
 
 impl<I: Source> Padded<I> {
     ghost use Rattle.pcap_file.specs.Host.{uncalled};
-    ghost use Rattle.padded_capture.specs.Stages.{padded_of};
+    ghost use Rattle.padded_capture.specs.Stages.{padded_of, State};
 
     /// The source, of which nothing was read yet, with nothing counted.
     pub fn new(source: I) -> Padded<I>
@@ -55,7 +55,9 @@ impl<I: Source> Padded<I> {
     }
 
     /// The source back, as far as it was read.
-    pub fn into_inner(self) -> I {
+    pub fn into_inner(self) -> I
+        ensures { (s : State) × ((⟦<Padded<I> as Source>⟧.tape self).bytes ≡ coming_of s (I.tape result).bytes) }
+    {
         self.source
     }
 }
