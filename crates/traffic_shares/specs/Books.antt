@@ -7,9 +7,12 @@ use Rattle.five_tuple.specs.declared.Flow.{Flow}
 use Rattle.connection_table.specs.Touches.{same_flow}
 use Rattle.cluster_node.specs.declared.events.LogEntry.{LogEntry}
 use Rattle.traffic_shares.specs.declared.book.ShareBook.{ShareBook}
+use Rattle.traffic_shares.specs.declared.books.AskedShares.{AskedShares}
+use Rattle.traffic_shares.specs.declared.books.ShareBooks.{ShareBooks}
 use Rattle.traffic_shares.specs.declared.flows.FlowSet.{FlowSet}
 use Rattle.traffic_shares.specs.declared.holders.ShareKey.{ShareKey}
 use Rattle.traffic_shares.specs.declared.holders.ShareKind.{ShareKind}
+use Rattle.traffic_shares.specs.declared.holders.ShareKind.TheVariants.{Backends, Nodes}
 use Rattle.traffic_shares.specs.declared.lengths.Lengths.{Lengths}
 use Rattle.traffic_shares.specs.declared.shares.Share.{Share}
 use Rattle.traffic_shares.specs.declared.shares.Shares.{Shares}
@@ -48,3 +51,13 @@ pub record IsShareBookOf (kind : ShareKind) (past : List LogEntry) (b : ShareBoo
   pub of_kind : b.kind ≡ kind
   pub lengths : AreLengthsOf past b.lengths
   pub shares : AreShares (keys_of kind past) (λ k. portion_of kind past k) b.shares
+
+-- the book of a record, where it is asked for
+abbrev pub BookIf : Bool → ShareKind → List LogEntry → ShareBook → Type 0
+BookIf true kind past b = IsShareBookOf kind past b
+BookIf false kind past b = Unit {0}
+
+pub record AreShareBooksOf (asked : AskedShares) (past : List LogEntry) (b : ShareBooks) : Type 0 where
+  pub these : b.asked ≡ asked
+  pub backends : BookIf asked.backends Backends past b.backends
+  pub nodes : BookIf asked.nodes Nodes past b.nodes
