@@ -63,8 +63,9 @@ fn moved_cause(idle: Option<u64>, first: &Site, later: &Site) -> ChangeCause
     }
 }
 
-/// Why a connection changed its server, by the cause of its split.
-pub(crate) fn cause_between(cause: SplitCause, idle: Option<u64>, change: &Change) -> ChangeCause
+/// Why a connection changed its server, by the cause of its split. `idle` is the limit in microseconds after which an entry of
+/// a connection table no longer counts.
+pub fn cause_between(cause: SplitCause, idle: Option<u64>, change: &Change) -> ChangeCause
     ensures { result ≡ cause_between cause idle change.now.first change.now.later }
 {
     match cause {
@@ -85,14 +86,6 @@ pub(crate) fn cause_with(
     ensures { (lookups : Lookups) → lookups.ups ≡ (λ v x. candidates_of catalogue.now v x) → lookups.versions ≡ catalogue.now.versions → result ≡ cause_in lookups idle change.now }
 {
     cause_between(cause_where(catalogue, drains, &change.split), idle, change)
-}
-
-/// Why a connection changed its server, where the cluster's versions are those of a catalogue. `idle` is the limit in
-/// microseconds after which an entry of a connection table no longer counts.
-pub fn cause_in(catalogue: &Catalogue, idle: Option<u64>, change: &Change) -> ChangeCause
-    ensures { (lookups : Lookups) → lookups.ups ≡ (λ v x. candidates_of catalogue.now v x) → lookups.versions ≡ catalogue.now.versions → result ≡ cause_in lookups idle change.now }
-{
-    cause_with(catalogue, does_anybody_drain(catalogue), idle, change)
 }
 
 fn cause_place(cause: ChangeCause) -> u8

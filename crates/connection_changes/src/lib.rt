@@ -16,7 +16,7 @@ mod sites;
 mod summary;
 
 pub use book::ChangeBook;
-pub use causes::{Change, ChangeCause, cause_in};
+pub use causes::{Change, ChangeCause, cause_between};
 pub use laws::{causes_add_up, moves_of_one_worker_are_evictions};
 pub use lines::{ChangeCauseText, TimeText, push_places};
 pub use sites::Site;

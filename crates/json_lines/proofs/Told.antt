@@ -12,7 +12,7 @@ use Rattle.run_report.specs.Splits.{splits_of, flows_of}
 use Rattle.run_report.proofs.SplitWalks.{lines_more, causes_add_up}
 use Rattle.connection_changes.specs.declared.causes.Change.{Change}
 use Rattle.connection_changes.specs.declared.causes.ChangeCause.{ChangeCause}
-use Rattle.connection_changes.specs.Changes.{cause_in, changed_of, changes_of}
+use Rattle.connection_changes.specs.Changes.{cause_between, cause_in, changed_of, changes_of}
 use Rattle.json_lines.specs.Splits.{split_line, split_json, counts_line, counts_json, splits_json}
 use Rattle.json_lines.specs.Places.{change_line, change_json, places_json}
 use Rattle.json_lines.specs.Reports.{drop_member, drop_members}
@@ -26,10 +26,10 @@ split_told lookups p slot cause old new s c is =
 
 -- the line of a change
 pub change_told : (lookups : Lookups) (idle : Option ℕ) (c : Change) (slot : ℕ) (cause : SplitCause) (why : ChangeCause) (old new : List ℕ) → slot ≡ lookups.slot c.split.later.flow
-    → cause ≡ cause_of lookups c.split → why ≡ cause_in lookups idle c → new ≡ old ++ change_line c slot cause why → new ≡ old ++ change_json lookups idle c
+    → cause ≡ cause_of lookups c.split → why ≡ cause_between cause idle c.first c.later → new ≡ old ++ change_line c slot cause why → new ≡ old ++ change_json lookups idle c
 change_told lookups idle c slot cause why old new s k w is =
-    is ∙ ap (λ (n : ℕ). old ++ change_line c n cause why) s ∙ ap (λ (d : SplitCause). old ++ change_line c (lookups.slot c.split.later.flow) d why) k
-    ∙ ap (λ (d : ChangeCause). old ++ change_line c (lookups.slot c.split.later.flow) (cause_of lookups c.split) d) w
+    is ∙ ap (λ (n : ℕ). old ++ change_line c n cause why) s ∙ ap (λ (d : ChangeCause). old ++ change_line c (lookups.slot c.split.later.flow) cause d) w
+    ∙ ap (λ (d : SplitCause). old ++ change_line c (lookups.slot c.split.later.flow) d (cause_between d idle c.first c.later)) k
 
 -- the counts, by those of the splits and of the causes
 pub counts_told : {E : Type 0} (r : Result (Unit {0}) E) (lookups : Lookups) (past : List LogEntry) (ps : List Split) (flows split down drained : ℕ) (old new : List ℕ) → ps ≡ splits_of past

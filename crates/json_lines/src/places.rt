@@ -8,7 +8,7 @@ ghost use Rattle.json_lines.specs.Places.{change_line, change_json, places_json}
 
 use crate::splits::{SendMembers, SplitMembers, push_split_counts};
 use connection_changes::{
-    Change, ChangeBook, ChangeCause, ChangeCauseText, Site, TimeText, cause_in,
+    Change, ChangeBook, ChangeCause, ChangeCauseText, Site, TimeText, cause_between,
 };
 use hash_laws::FlowHash;
 use pool_versions::Catalogue;
@@ -90,7 +90,7 @@ fn push_changes<H: FlowHash>(
     for change in changes {
         let cause = cause_where(catalogue, drains, &change.split);
         let slot = slot_of(hash, catalogue, &change.split.later.flow);
-        let why = cause_in(catalogue, idle, change);
+        let why = cause_between(cause, idle, change);
         push_change(text, change, slot, cause, why)?;
     }
     Ok(())

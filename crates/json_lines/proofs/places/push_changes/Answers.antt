@@ -9,6 +9,6 @@ pub loop-change-preserved : goal.loop-change-preserved
 loop-change-preserved g c =
     let lookups : Lookups = lookups_of (g.H.FlowHash.plain c.args.hash.now) c.args.catalogue.now.size c.args.catalogue.now in
     lines_more (change_json lookups c.args.idle) c.args.changes.now c.loop-change.change-index c.change-item.result (string_bytes c.loop-change.text) (string_bytes c.push_change.new.text) _ c.loop-change-test.true c.change-item.is
-    (change_told lookups c.args.idle c.change-item.result c.slot_of-slot.result c.cause_where-cause.result c.cause_in-why.result (string_bytes c.loop-change.text) (string_bytes c.push_change.new.text)
-    c.slot_of-slot.ensures (c.cause_where-cause.ensures lookups refl refl) (c.cause_in-why.ensures lookups refl refl) c.in_ok-push_change.ensures)
+    (change_told lookups c.args.idle c.change-item.result c.slot_of-slot.result c.cause_where-cause.result c.cause_between-why.result (string_bytes c.loop-change.text) (string_bytes c.push_change.new.text)
+    c.slot_of-slot.ensures (c.cause_where-cause.ensures lookups refl refl) c.cause_between-why.ensures c.in_ok-push_change.ensures)
     c.loop-change.invariant
