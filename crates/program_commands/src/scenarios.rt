@@ -218,6 +218,8 @@ pub(crate) fn run_simulate(rt: &HostRuntime, matches: &ArgMatches<'_>) -> u8 {
         list: matches.get_flag("list"),
         splits: matches.get_flag("splits"),
         places: matches.get_flag("where"),
+        backends: matches.get_flag("per-backend"),
+        nodes: matches.get_flag("per-node"),
         summary: asks_summary(matches),
         form: form_of(matches),
     };
