@@ -167,8 +167,8 @@ def test_on_threads():
 
 def test_pages():
     """What USING.md shows of these answers is what is printed, and what the model says."""
-    shown = [one for one in rows.commands_of((TOP / "docs" / "USING.md").read_text()) if {"--summary", "--where"} & set(one[0])]
-    check("USING.md shows both", len(shown) == 2, shown)
+    shown = [one for one in rows.commands_of((TOP / "docs" / "USING.md").read_text()) if {"--summary", "--where", "--per-backend"} & set(one[0])]
+    check("USING.md shows each", len(shown) == 3, shown)
     for words, lines in shown:
         with tempfile.TemporaryDirectory() as folder:
             command = " ".join([PROGRAM, *words[1:]]).replace("sent.pcap", f"{folder}/sent.pcap")
