@@ -5,3 +5,4 @@ pub mod Same
 pub mod Kept
 pub mod Told
 pub mod Noted
+pub mod Sums

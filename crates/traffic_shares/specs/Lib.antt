@@ -4,3 +4,4 @@ pub mod Equals
 pub mod Shares
 pub mod Books
 pub mod Texts
+pub mod Laws
