@@ -1,5 +1,7 @@
 //! The command that runs a scenario's cluster on threads.
 ghost use Rattle.std.specs.Prelude.{◌≡◌, true, IfOk, IfErr, OnOk};
+ghost use Rattle.scenario.specs.declared.playing.Played.TheVariants.{OnThreads};
+ghost use Rattle.scenario_faults.specs.Refusals.{IsPlaced};
 ghost use Rattle.maglev_cli.specs.Runs.{Runs, CountedRuns, PacedRuns, RunCommandFails, failure_fault, only_splits, threads_fault};
 
 use change_share::ChangeCounts;
@@ -9,9 +11,8 @@ use json_lines::Form;
 use node_threads::RunFault;
 use pcap_file::{Sink, Source};
 use run_scenario::{RunFailure, RunOptions, run_scenario};
-use scenario::read_for_threads;
 use scenario_commands::run_fault;
-use scenario_faults::scenario_fault;
+use scenario_faults::{PlacedFault, thread_scenario_in};
 use std::alloc::Global;
 use std::sync::Wait;
 use std::thread::Threads;
@@ -71,7 +72,7 @@ pub fn run<T: Threads + Wait + Sync, I: Source, O: Sink, R: Sink>(
     };
     match run_keyed(rt, alloc, key, scenario, options, input, output, report) {
         Ok(_) => Ok(()),
-        Err(fault) => Err(fault),
+        Err(stopped) => Err(stopped.fault),
     }
 }
 
@@ -86,27 +87,31 @@ pub fn run_keyed<T: Threads + Wait + Sync, I: Source, O: Sink, R: Sink>(
     input: &mut I,
     output: &mut O,
     report: &mut R,
-) -> Result<Option<ChangeCounts>, CliFault>
+) -> Result<Option<ChangeCounts>, PlacedFault>
     ensures ran { OnOk result (Runs options scenario.now (I.tape input.old) (I.tape input.new)
         (O.tape output.old) (O.tape output.new) (R.tape report.old) (R.tape report.new)) }
     ensures counted { IfOk result (CountedRuns options scenario.now (I.tape input.old) (I.tape input.new)
         (O.tape output.old) (O.tape output.new) (R.tape report.old) (R.tape report.new)) }
     ensures paced { options.paced ≡ true → OnOk result (PacedRuns options scenario.now
         (I.tape input.old) (I.tape input.new) (O.tape output.old) (O.tape output.new) (R.tape report.old) (R.tape report.new)) }
-    ensures stopped { IfErr result (λ fault. RunCommandFails fault options scenario.now
+    ensures stopped { IfErr result (λ r. RunCommandFails r.fault options scenario.now
         (I.tape input.old) (I.tape input.new) (O.tape output.old) (O.tape output.new) (R.tape report.old) (R.tape report.new)
         ((input.new ≡ input.old) × (output.new ≡ output.old) × (report.new ≡ report.old)) (report.new ≡ report.old)) }
+    ensures place { IfErr result (IsPlaced OnThreads scenario.now) }
 {
-    let scenario = match read_for_threads(alloc, scenario) {
+    let scenario = match thread_scenario_in(alloc, scenario) {
         Ok(scenario) => scenario,
-        Err(fault) => return Err(scenario_fault(fault)),
+        Err(stopped) => return Err(stopped),
     };
     let answer = match run_scenario(rt, alloc, key, &scenario, options, input, output) {
         Ok(answer) => answer,
-        Err(stop) => return Err(failure_fault(stop)),
+        Err(stop) => {
+            let fault = failure_fault(stop);
+            return Err(PlacedFault { fault, place: None });
+        }
     };
     match put_text(report, answer.text.as_str()) {
         Ok(()) => Ok(answer.counts),
-        Err(fault) => Err(fault),
+        Err(fault) => Err(PlacedFault { fault, place: None }),
     }
 }

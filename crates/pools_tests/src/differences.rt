@@ -133,7 +133,8 @@ fn read(
 ) -> Option<Result<Vec<Version>, PoolsFault>> {
     let table = toml::table_from_str(alloc, text).expect(rt, "a document");
     let drafts = drafts_in(alloc, format, &table).expect(rt, "memory").ok()?;
-    Some(versions_of(alloc, drafts.as_slice()))
+    let versions = versions_of(alloc, drafts.as_slice());
+    Some(versions.map_err(|unwritten| unwritten.fault))
 }
 
 fn versions(rt: &impl Abort, alloc: Global, text: &str) -> Vec<Version> {

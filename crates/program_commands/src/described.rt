@@ -4,16 +4,16 @@ use crate::files::{Paths, outcome_of, read_scenario};
 use crate::scenarios::{ended, form_of};
 use crate::voice::Voice;
 use clap::ArgMatches;
-use command_faults::CliFault;
 use lazy_files::StandardOutput;
 use pcap_file::{FromRead, ToWrite};
 use scenario::Played;
+use scenario_faults::PlacedFault;
 use scenario_tables::{Change, PickOptions, compare_in, pick_in, table_in};
 
 // A command over the text of a scenario's file. `print` prints what is asked of it.
 fn over_text<'x, F>(rt: &'x HostRuntime, matches: &ArgMatches<'_>, scenario: &str, print: F) -> u8
 where
-    F: FnOnce(&[u8], &mut ToWrite<StandardOutput<'x>>) -> Result<(), CliFault> + Drop,
+    F: FnOnce(&[u8], &mut ToWrite<StandardOutput<'x>>) -> Result<(), PlacedFault> + Drop,
     requires { F.IsAlwaysCallable print }
 {
     let paths = Paths {

@@ -12,6 +12,7 @@ use lazy_files::{
 };
 use pcap_file::{Frame, FromRead, PcapFault, ToWrite, read_record_into, read_start};
 use scenario_commands::answer_keyed;
+use scenario_faults::PlacedFault;
 use scenario_sketch::sketch;
 use simulate_scenario::Query;
 use std::fs::File;
@@ -102,16 +103,15 @@ fn of_output(fault: CliFault, output: &OutputFile<'_>, report: &KeptText) -> Cli
 }
 
 // What became of a fault, with what the system answered and the first bytes of the input.
-fn trouble_of(fault: CliFault, input: &InputFile<'_>, output: Option<Refusal>) -> Trouble {
-    let system = match fault {
+fn trouble_of(stopped: PlacedFault, input: &InputFile<'_>, output: Option<Refusal>) -> Trouble {
+    let system = match stopped.fault {
         CliFault::Write | CliFault::OpenOutput => output,
         _ => input.refusal(),
     };
     Trouble {
-        fault,
         system,
         head: input.head(),
-        of_report: false,
+        ..Trouble::from(stopped)
     }
 }
 
@@ -147,17 +147,20 @@ fn finished(
     input: InputFile<'_>,
     mut output: OutputFile<'_>,
     report: KeptText,
-    outcome: Result<Option<ChangeCounts>, CliFault>,
+    outcome: Result<Option<ChangeCounts>, PlacedFault>,
 ) -> Result<Printed, Trouble> {
-    let fault = match (flushed(&mut output), outcome) {
-        (Err(fault), _) => fault,
+    let stopped = match (flushed(&mut output), outcome) {
+        (Err(fault), _) => PlacedFault { fault, place: None },
         (Ok(()), Ok(counts)) => {
             print_report(rt, report.text(), is_standard_output(rt, files.output))?;
             return Ok(Printed { report, counts });
         }
-        (Ok(()), Err(fault)) => of_output(of_input(fault, &input), &output, &report),
+        (Ok(()), Err(stopped)) => PlacedFault {
+            fault: of_output(of_input(stopped.fault, &input), &output, &report),
+            place: stopped.place,
+        },
     };
-    Err(trouble_of(fault, &input, output.refusal()))
+    Err(trouble_of(stopped, &input, output.refusal()))
 }
 
 /// A command that reads a capture and writes another: `play` gets the tables' key, the scenario's text, and the devices, each
@@ -175,7 +178,7 @@ where
         &mut FromRead<InputFile<'x>>,
         &mut ToWrite<OutputFile<'x>>,
         &mut ToWrite<KeptText>,
-    ) -> Result<Option<ChangeCounts>, CliFault>,
+    ) -> Result<Option<ChangeCounts>, PlacedFault>,
     F: Drop,
     requires { F.IsAlwaysCallable play }
 {
@@ -196,29 +199,30 @@ where
 
 /// What became of a command that printed on standard output.
 pub(crate) fn outcome_of(
-    outcome: Result<(), CliFault>,
+    outcome: Result<(), PlacedFault>,
     output: &StandardOutput<'_>,
 ) -> Result<(), Trouble> {
     match outcome {
         Ok(()) => Ok(()),
-        Err(CliFault::Write) => Err(Trouble {
+        Err(stopped) if stopped.fault == CliFault::Write => Err(Trouble {
             system: output.refusal(),
             of_report: true,
-            ..Trouble::from(CliFault::Write)
+            ..Trouble::from(stopped)
         }),
-        Err(fault) => Err(fault.into()),
+        Err(stopped) => Err(stopped.into()),
     }
 }
 
 // The same of a command that reads a capture.
 fn outcome_over(
-    outcome: Result<(), CliFault>,
+    outcome: Result<(), PlacedFault>,
     input: &InputFile<'_>,
     output: &StandardOutput<'_>,
 ) -> Result<(), Trouble> {
     match outcome {
-        Err(fault) if fault != CliFault::Write => {
-            Err(trouble_of(of_input(fault, input), input, None))
+        Err(PlacedFault { fault, place }) if fault != CliFault::Write => {
+            let fault = of_input(fault, input);
+            Err(trouble_of(PlacedFault { fault, place }, input, None))
         }
         outcome => outcome_of(outcome, output),
     }
@@ -244,6 +248,7 @@ pub(crate) fn sketch_file(rt: &HostRuntime, path: &str) -> Result<(), Trouble> {
     let mut input = FromRead::new(InputFile::new(rt, path));
     let mut out = ToWrite::new(StandardOutput::new(rt));
     let outcome = sketch(rt.alloc(), key, &mut input, &mut out);
+    let outcome = outcome.map_err(|fault| PlacedFault { fault, place: None });
     outcome_over(outcome, &input.into_inner(), &out.into_inner())
 }
 

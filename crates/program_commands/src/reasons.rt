@@ -4,16 +4,19 @@ use command_faults::CliFault;
 use lazy_files::{FirstBytes, Refusal};
 use pcap_file::{MAX_RECORDS, PcapFault};
 use pool_versions::PoolFault;
-use scenario::ScenarioFault;
+use scenario::{Place, ScenarioFault};
 use scenario_diagnostics::words_of;
+use scenario_faults::PlacedFault;
 use shown_text::shown;
 use std::alloc::Global;
 use std::io;
 
-/// A fault of a command, what the system said where it refused a file, and the first bytes of INPUT.
+/// A fault of a command, where in its scenario it is, what the system said where it refused a file, and the first bytes of
+/// INPUT.
 #[derive(Clone, Copy)]
 pub(crate) struct Trouble {
     pub(crate) fault: CliFault,
+    pub(crate) place: Option<Place>,
     pub(crate) system: Option<Refusal>,
     pub(crate) head: FirstBytes,
     /// Whether it is the report that couldn't be written.
@@ -25,6 +28,7 @@ impl Trouble {
     pub(crate) fn of_system(fault: CliFault, error: &io::Error) -> Trouble {
         Trouble {
             fault,
+            place: None,
             system: Some(Refusal::of(error)),
             head: FirstBytes::empty(),
             of_report: false,
@@ -46,14 +50,21 @@ impl Trouble {
     }
 }
 
-impl From<CliFault> for Trouble {
-    fn from(fault: CliFault) -> Trouble {
+impl From<PlacedFault> for Trouble {
+    fn from(stopped: PlacedFault) -> Trouble {
         Trouble {
-            fault,
+            fault: stopped.fault,
+            place: stopped.place,
             system: None,
             head: FirstBytes::empty(),
             of_report: false,
         }
+    }
+}
+
+impl From<CliFault> for Trouble {
+    fn from(fault: CliFault) -> Trouble {
+        Trouble::from(PlacedFault { fault, place: None })
     }
 }
 
@@ -132,14 +143,15 @@ fn reason_by(alloc: Global, trouble: &Trouble, files: &Files<'_, '_>) -> Option<
             "scheme: expected \"maglev\", since the others have no table",
         ),
         CliFault::Capture(fault) => capture(alloc, fault, trouble, files),
-        CliFault::Pool(PoolFault::BadNumber) => bad_number(alloc, files.text),
-        fault => words_of(alloc, files.text, scenario_fault(fault)?),
+        CliFault::Pool(PoolFault::BadNumber) => bad_number(alloc, files.text, trouble.place),
+        fault => words_of(alloc, files.text, scenario_fault(fault)?, trouble.place),
     }
 }
 
 // Where a version's number is 0, or else that a version which was asked for isn't there.
-fn bad_number(alloc: Global, text: &[u8]) -> Option<String> {
-    match words_of(alloc, text, ScenarioFault::Pool(PoolFault::BadNumber)) {
+fn bad_number(alloc: Global, text: &[u8], place: Option<Place>) -> Option<String> {
+    let fault = ScenarioFault::Pool(PoolFault::BadNumber);
+    match words_of(alloc, text, fault, place) {
         Some(words) => Some(words),
         None => plain(
             alloc,

@@ -18,6 +18,7 @@ use rollout_order::order;
 use rollout_plan::plan_as;
 use scenario::{Played, read};
 use scenario_commands::simulate_keyed;
+use scenario_faults::PlacedFault;
 use scenario_warnings::{warning_text, warnings};
 use shown_text::shown;
 use simulate_scenario::{Query, Wanted};
@@ -166,7 +167,7 @@ where
         &mut FromRead<InputFile<'x>>,
         &mut ToWrite<OutputFile<'x>>,
         &mut ToWrite<KeptText>,
-    ) -> Result<Option<ChangeCounts>, CliFault>,
+    ) -> Result<Option<ChangeCounts>, PlacedFault>,
     F: Drop,
     requires { F.IsAlwaysCallable play }
 {

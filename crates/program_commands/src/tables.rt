@@ -10,6 +10,7 @@ use clap::ArgMatches;
 use command_faults::CliFault;
 use lazy_files::StandardOutput;
 use pcap_file::{FromRead, ToWrite};
+use scenario_faults::PlacedFault;
 use table_commands::{TableOptions, compare_as, pick_as, table_as};
 
 // The end of a command that printed on standard output.
@@ -22,6 +23,7 @@ fn ended<F: FnOnce(&Trouble) -> Option<String> + Drop>(
 ) -> u8
     requires { F.IsAlwaysCallable reason }
 {
+    let outcome = outcome.map_err(|fault| PlacedFault { fault, place: None });
     let outcome = outcome_of(outcome, &output.into_inner());
     Voice::of(rt, matches).ended(&outcome, reason)
 }

@@ -1,5 +1,7 @@
 //! The command `plan --order`.
 ghost use Rattle.std.specs.Prelude.{◌≡◌, ◌≢◌, Some, string_bytes, IfOk, OnOk, IfErr};
+ghost use Rattle.scenario.specs.declared.playing.Played.TheVariants.{InTurn};
+ghost use Rattle.scenario_faults.specs.Refusals.{IsPlaced};
 ghost use Rattle.command_faults.specs.Printing.{Prints, BreaksOff};
 ghost use Rattle.rollout_plan.specs.Plans.{AskedFails, PlanFails, has_versions};
 ghost use Rattle.rollout_order.specs.OrderPlans.{ShowsOrders, IsOrderPlan};
@@ -10,8 +12,8 @@ use command_faults::{CliFault, put_text};
 use json_lines::Form;
 use pcap_file::Sink;
 use rollout_plan::{rule_of, version_of};
-use scenario::{Played, Scenario, read};
-use scenario_faults::scenario_fault;
+use scenario::Scenario;
+use scenario_faults::{PlacedFault, scenario_in};
 use std::alloc::Global;
 
 // The text of the orders from one version of a scenario to another.
@@ -39,18 +41,19 @@ fn text_for(
     scenario: &[u8],
     from: u32,
     to: u32,
-) -> Result<String, CliFault>
+) -> Result<String, PlacedFault>
     ensures text { IfOk result (λ s. IsOrderPlan form scenario.now from to (string_bytes s)) }
-    ensures fault { IfErr result (λ fault. PlanFails fault scenario.now from (Some to)) }
-    ensures unwritten { IfErr result (λ fault. fault ≢ CliFault.Write) }
+    ensures fault { IfErr result (λ r. PlanFails r.fault scenario.now from (Some to)) }
+    ensures place { IfErr result (IsPlaced InTurn scenario.now) }
+    ensures unwritten { IfErr result (λ r. r.fault ≢ CliFault.Write) }
 {
-    let scenario = match read(alloc, Played::InTurn, scenario) {
+    let scenario = match scenario_in(alloc, scenario) {
         Ok(scenario) => scenario,
-        Err(fault) => return Err(scenario_fault(fault)),
+        Err(stopped) => return Err(stopped),
     };
     match text_of(alloc, form, &scenario, from, to) {
         Ok(text) => Ok(text),
-        Err(fault) => Err(fault),
+        Err(fault) => Err(PlacedFault { fault, place: None }),
     }
 }
 
@@ -68,18 +71,19 @@ pub fn order<S: Sink>(
     from: u32,
     to: u32,
     out: &mut S,
-) -> Result<(), CliFault>
+) -> Result<(), PlacedFault>
     ensures written { OnOk result (Prints (IsOrderPlan form scenario.now from to) (S.tape out.old) (S.tape out.new)) }
-    ensures broken { IfErr result (λ fault. fault ≡ CliFault.Write → BreaksOff (IsOrderPlan form scenario.now from to) (S.tape out.old) (S.tape out.new)) }
-    ensures silent { IfErr result (λ fault. fault ≢ CliFault.Write → out.new ≡ out.old) }
-    ensures fault { IfErr result (λ fault. PlanFails fault scenario.now from (Some to)) }
+    ensures broken { IfErr result (λ r. r.fault ≡ CliFault.Write → BreaksOff (IsOrderPlan form scenario.now from to) (S.tape out.old) (S.tape out.new)) }
+    ensures silent { IfErr result (λ r. r.fault ≢ CliFault.Write → out.new ≡ out.old) }
+    ensures fault { IfErr result (λ r. PlanFails r.fault scenario.now from (Some to)) }
+    ensures place { IfErr result (IsPlaced InTurn scenario.now) }
 {
     let text = match text_for(alloc, form, scenario, from, to) {
         Ok(text) => text,
-        Err(fault) => return Err(fault),
+        Err(stopped) => return Err(stopped),
     };
     match put_text(out, text.as_str()) {
         Ok(()) => Ok(()),
-        Err(fault) => Err(fault),
+        Err(fault) => Err(PlacedFault { fault, place: None }),
     }
 }

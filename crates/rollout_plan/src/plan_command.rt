@@ -1,5 +1,7 @@
 //! The command `plan`.
 ghost use Rattle.std.specs.Prelude.{◌≡◌, ◌≢◌, Some, None, string_bytes, IfOk, OnOk, IfErr};
+ghost use Rattle.scenario.specs.declared.playing.Played.TheVariants.{InTurn};
+ghost use Rattle.scenario_faults.specs.Refusals.{IsPlaced};
 ghost use Rattle.command_faults.specs.Printing.{Prints, BreaksOff};
 ghost use Rattle.rollout_plan.specs.Tables.{rule_of};
 ghost use Rattle.rollout_plan.specs.Plans.{ShowsAs, IsPlanAs, IsPlan, AskedFails, PlanFails, has_versions, version_in};
@@ -10,8 +12,8 @@ use command_faults::{CliFault, put_text};
 use json_lines::Form;
 use pcap_file::Sink;
 use pool_versions::{PoolFault, Version};
-use scenario::{Played, Scenario, read};
-use scenario_faults::scenario_fault;
+use scenario::Scenario;
+use scenario_faults::{PlacedFault, scenario_in};
 use std::alloc::Global;
 
 /// How the tables of a scenario are made.
@@ -66,18 +68,19 @@ fn text_for(
     scenario: &[u8],
     from: u32,
     to: Option<u32>,
-) -> Result<String, CliFault>
+) -> Result<String, PlacedFault>
     ensures text { IfOk result (λ s. IsPlanAs form scenario.now from to (string_bytes s)) }
-    ensures fault { IfErr result (λ fault. PlanFails fault scenario.now from to) }
-    ensures unwritten { IfErr result (λ fault. fault ≢ CliFault.Write) }
+    ensures fault { IfErr result (λ r. PlanFails r.fault scenario.now from to) }
+    ensures place { IfErr result (IsPlaced InTurn scenario.now) }
+    ensures unwritten { IfErr result (λ r. r.fault ≢ CliFault.Write) }
 {
-    let scenario = match read(alloc, Played::InTurn, scenario) {
+    let scenario = match scenario_in(alloc, scenario) {
         Ok(scenario) => scenario,
-        Err(fault) => return Err(scenario_fault(fault)),
+        Err(stopped) => return Err(stopped),
     };
     match text_of(alloc, form, &scenario, from, to) {
         Ok(text) => Ok(text),
-        Err(fault) => Err(fault),
+        Err(fault) => Err(PlacedFault { fault, place: None }),
     }
 }
 
@@ -97,19 +100,20 @@ pub fn plan_as<S: Sink>(
     from: u32,
     to: Option<u32>,
     out: &mut S,
-) -> Result<(), CliFault>
+) -> Result<(), PlacedFault>
     ensures written { OnOk result (Prints (IsPlanAs form scenario.now from to) (S.tape out.old) (S.tape out.new)) }
-    ensures broken { IfErr result (λ fault. fault ≡ CliFault.Write → BreaksOff (IsPlanAs form scenario.now from to) (S.tape out.old) (S.tape out.new)) }
-    ensures silent { IfErr result (λ fault. fault ≢ CliFault.Write → out.new ≡ out.old) }
-    ensures fault { IfErr result (λ fault. PlanFails fault scenario.now from to) }
+    ensures broken { IfErr result (λ r. r.fault ≡ CliFault.Write → BreaksOff (IsPlanAs form scenario.now from to) (S.tape out.old) (S.tape out.new)) }
+    ensures silent { IfErr result (λ r. r.fault ≢ CliFault.Write → out.new ≡ out.old) }
+    ensures fault { IfErr result (λ r. PlanFails r.fault scenario.now from to) }
+    ensures place { IfErr result (IsPlaced InTurn scenario.now) }
 {
     let text = match text_for(alloc, form, scenario, from, to) {
         Ok(text) => text,
-        Err(fault) => return Err(fault),
+        Err(stopped) => return Err(stopped),
     };
     match put_text(out, text.as_str()) {
         Ok(()) => Ok(()),
-        Err(fault) => Err(fault),
+        Err(fault) => Err(PlacedFault { fault, place: None }),
     }
 }
 
@@ -128,6 +132,6 @@ pub fn plan<S: Sink>(
 {
     match plan_as(alloc, Form::Plain, scenario, from, to, out) {
         Ok(()) => Ok(()),
-        Err(fault) => Err(fault),
+        Err(stopped) => Err(stopped.fault),
     }
 }

@@ -19,7 +19,7 @@ use Rattle.scenario_pools.specs.Writing.{versions_of}
 use Rattle.scenario_pools.specs.declared.fault.PoolsFault.{PoolsFault}
 use Rattle.scenario_pools.proofs.Alike.{versions_mean_the_same}
 use Rattle.scenario.specs.Setup.{choices_of, limits_of}
-use Rattle.scenario.specs.Plain.{first_refused}
+use Rattle.scenario_places.specs.Adding.{first_refused}
 use Rattle.scenario.specs.Steps.{PlainStep, kind_of, step_of}
 use Rattle.scenario.specs.Told.{PlainTold, once, steps_said, count_said, newer_in, told_by, told_by_words, allows_told, told_of, after, said_before, steps_of}
 use Rattle.scenario.specs.Meaning.{PlainDraft, PlainScenario, nodes_of, steps_in, draft_of, draft_in, rules_of, with_steps, with_pools, with_versions, with_draft, with_format, plan_of_draft, plan_of}

@@ -1,4 +1,3 @@
-pub mod Adding
 pub mod Telling
 pub mod Refusals
 pub mod Alike

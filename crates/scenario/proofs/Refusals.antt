@@ -5,14 +5,19 @@ use Rattle.version_drafts.specs.Drafts.{PlainVersionDraft}
 use Rattle.scenario_pools.specs.declared.fault.PoolsFault.{PoolsFault}
 use Rattle.scenario_pools.specs.declared.fault.PoolsFault.TheVariants as written
 use Rattle.scenario.specs.Steps.{PlainStep}
-use Rattle.scenario.specs.Meaning.{PlainDraft, PlainScenario, with_steps, with_pools, with_versions, with_draft, with_format, plan_of_draft, plan_of, draft_in, IsDocument, IsRefused, IsDraftRefused, AreVersionsRefused}
+use Rattle.scenario.specs.Meaning.{PlainDraft, PlainScenario, with_steps, with_pools, with_versions, with_draft, with_format, plan_of_draft, plan_of, draft_in, pool_refused, IsDocument, IsRefused, IsDraftRefused, AreVersionsRefused}
 use Rattle.scenario_keys.specs.Formats.{format_of}
 use Rattle.scenario.specs.declared.playing.Played.{Played}
 use Rattle.scenario_keys.specs.declared.formats.Format.{Format}
 use Rattle.scenario.specs.declared.fault.ScenarioFault.{ScenarioFault}
 use Rattle.scenario.specs.declared.fault.ScenarioFault.TheVariants as fault
 use Rattle.scenario.specs.declared.plan.Scenario.{Scenario}
-use Rattle.scenario.specs.Places.{IsAt}
+use Rattle.scenario.specs.Places.{IsAt, IsDraftAt, AreVersionsAt, ArePoolsAt, AreRefusedAt}
+use Rattle.scenario.specs.declared.refused.Refused.{Refused}
+use Rattle.scenario_pools.specs.Writing.{versions_of}
+use Rattle.scenario_places.specs.PoolPlaces.{pool_place_of}
+use Rattle.scenario_places.specs.Catalogues.{IsPoolRefused, IsPoolAt}
+use Rattle.version_drafts.specs.declared.place.Place.{Place}
 use Rattle.pool_versions.specs.declared.backend.Member.{Member}
 use Rattle.pool_versions.specs.declared.catalogue.PoolFault.{PoolFault}
 use Rattle.pool_versions.specs.declared.catalogue.PoolFault.TheVariants as pool
@@ -73,26 +78,22 @@ one_refused f played text ms d fault.BadMember document same refused = late_refu
 one_refused f played text ms d (fault.Pool e) document same refused = late_refused played text ms (fault.Pool e) document (late_draft f played d (fault.Pool e) refused) (same ∙ refused)
 one_refused f played text ms d (fault.BadStep n) document same refused = late_refused played text ms (fault.BadStep n) document (late_draft f played d (fault.BadStep n) refused) (same ∙ refused)
 
--- a fault of a draft has no place
-pub draft_nowhere : (f : Format) (played : Played) (text : List ℕ) (d : PlainDraft) (e : ScenarioFault) → IsDraftRefused f played d e → IsAt text e None
-draft_nowhere f played text d fault.TooLong h = refl
-draft_nowhere f played text d fault.BadToml h = refl
-draft_nowhere f played text d fault.BadFormat h = refl
-draft_nowhere f played text d fault.BadKey h = absurd (late_draft f played d fault.BadKey h)
-draft_nowhere f played text d fault.BadMember h = refl
-draft_nowhere f played text d (fault.Pool e) h = refl
-draft_nowhere f played text d (fault.BadStep n) h = refl
-draft_nowhere f played text d fault.Memory h = refl
+-- where a draft is refused its text is
+pub draft_at : (f : Format) (played : Played) (text : List ℕ) (ms : Members) (d : PlainDraft) (e : ScenarioFault) (o : Option Place) → IsDocument text ms → format_of ms ≡ Some f → draft_in f ms ≡ Some d →
+    IsDraftRefused f played d e → IsDraftAt ms d e o → IsAt text e o
+draft_at f played text ms d fault.TooLong o document same is refused h = h
+draft_at f played text ms d fault.BadToml o document same is refused h = h
+draft_at f played text ms d fault.BadFormat o document same is refused h = h
+draft_at f played text ms d fault.BadKey o document same is refused h = absurd (late_draft f played d fault.BadKey refused)
+draft_at f played text ms d fault.BadMember o document same is refused h = (ms, f, d, document, same, is, h)
+draft_at f played text ms d (fault.Pool e) o document same is refused h = (ms, f, d, document, same, is, h)
+draft_at f played text ms d (fault.BadStep n) o document same is refused h = h
+draft_at f played text ms d fault.Memory o document same is refused h = h
 
 -- a fault that is passed on
-pub passed_on : (r : Result Scenario ScenarioFault) (e : ScenarioFault) (P : ScenarioFault → Type 0) → IsErrAnd r (λ f. f ≡ e) → P e → IfErr r P
+pub passed_on : {E : Type 0} (r : Result Scenario E) (e : E) (P : E → Type 0) → IsErrAnd r (λ f. f ≡ e) → P e → IfErr r P
 passed_on (Ok s) e P is h = tt
 passed_on (Err f) e P is h = subst P (sym is) h
-
-pub refused_above : (played : Played) (text : List ℕ) (ms : Members) (f : Format) (d : PlainDraft) (r : Result Scenario ScenarioFault) → IsDocument text ms → format_of ms ≡ Some f → draft_in f ms ≡ Some d →
-    IfErr r (IsDraftRefused f played d) → IfErr r (IsRefused played text)
-refused_above played text ms f d (Ok s) document same is refused = tt
-refused_above played text ms f d (Err e) document same is refused = one_refused f played text ms d e document (document_says played ms f d same is) refused
 
 -- the fault of a draft's versions is the draft's
 draft_refused : (f : Format) (played : Played) (d : PlainDraft) (e : ScenarioFault) → AreVersionsRefused d.versions e → IsDraftRefused f played d e
@@ -111,8 +112,72 @@ draft_refused f played d fault.BadFormat h = absurd h
 draft_refused f played d fault.BadKey h = absurd h
 draft_refused f played d (fault.BadStep n) h = absurd h
 
-pub versions_refused : (f : Format) (played : Played) (d : PlainDraft) (ds : List PlainVersionDraft) (r : Result Scenario ScenarioFault) (e : ScenarioFault)
-    → ds ≡ d.versions → IsErrAnd r (λ f. f ≡ e) → AreVersionsRefused ds e → IfErr r (IsDraftRefused f played d)
+pub versions_refused : (f : Format) (played : Played) (d : PlainDraft) (ds : List PlainVersionDraft) (r : Result Scenario Refused) (e : Refused)
+    → ds ≡ d.versions → IsErrAnd r (λ x. x ≡ e) → AreVersionsRefused ds e.fault → IfErr r (λ x. IsDraftRefused f played d x.fault)
 versions_refused f played d ds r e same is h =
-    let P : List PlainVersionDraft → Type 0 = λ ds. AreVersionsRefused ds e in
-    passed_on r e (IsDraftRefused f played d) is (draft_refused f played d e (subst P same h))
+    let P : List PlainVersionDraft → Type 0 = λ ds. AreVersionsRefused ds e.fault in
+    passed_on r e (λ x. IsDraftRefused f played d x.fault) is (draft_refused f played d e.fault (subst P same h))
+
+-- and so is its place
+too_large : (size : ℕ) (r : Result (List (PlainVersion Member)) PoolsFault) (o : Option Place) → r ≡ Err written.TooMany → o ≡ None → ArePoolsAt size r o
+too_large size r o is none = let P : Result (List (PlainVersion Member)) PoolsFault → Type 0 = λ x. ArePoolsAt size x o in subst P (sym is) none
+
+draft_placed : (ms : Members) (d : PlainDraft) (e : ScenarioFault) (o : Option Place) → AreVersionsRefused d.versions e → AreVersionsAt ms d.versions e o → IsDraftAt ms d e o
+draft_placed ms d fault.Memory o refused h = h
+draft_placed ms d fault.BadMember o refused h = h
+draft_placed ms d (fault.Pool pool.TooMany) o refused h = too_large d.choices.size (versions_of d.versions) o refused h
+draft_placed ms d (fault.Pool pool.BadNumber) o refused h = absurd refused
+draft_placed ms d (fault.Pool pool.NumberTaken) o refused h = absurd refused
+draft_placed ms d (fault.Pool pool.DoubleService) o refused h = absurd refused
+draft_placed ms d (fault.Pool pool.DoubleName) o refused h = absurd refused
+draft_placed ms d (fault.Pool pool.Memory) o refused h = absurd refused
+draft_placed ms d fault.TooLong o refused h = h
+draft_placed ms d fault.BadToml o refused h = h
+draft_placed ms d fault.BadFormat o refused h = h
+draft_placed ms d fault.BadKey o refused h = h
+draft_placed ms d (fault.BadStep n) o refused h = h
+
+pub versions_placed : (ms : Members) (d : PlainDraft) (ds : List PlainVersionDraft) (r : Result Scenario Refused) (e : Refused)
+    → ds ≡ d.versions → IsErrAnd r (λ x. x ≡ e) → AreVersionsRefused ds e.fault → AreVersionsAt ms ds e.fault e.place → IfErr r (λ x. IsDraftAt ms d x.fault x.place)
+versions_placed ms d ds r e same is h at_place =
+    let P : List PlainVersionDraft → Type 0 = λ ds. AreVersionsRefused ds e.fault in
+    let Q : List PlainVersionDraft → Type 0 = λ ds. AreVersionsAt ms ds e.fault e.place in
+    passed_on r e (λ x. IsDraftAt ms d x.fault x.place) is (draft_placed ms d e.fault e.place (subst P same h) (subst Q same at_place))
+
+-- the fault of a catalogue, and its place, are the draft's
+of_pools : (f : Format) (played : Played) (d : PlainDraft) (vs : List (PlainVersion Member)) (g : PoolFault) → versions_of d.versions ≡ Ok vs → IsPoolRefused d.choices.size vs g →
+    IsDraftRefused f played d (pool_refused g)
+unfolding plan_of_draft
+of_pools f played d vs pool.Memory is h = tt
+of_pools f played d vs pool.BadNumber is h = ap (with_versions f played d) is ∙ ap (with_pools f played d vs) h
+of_pools f played d vs pool.NumberTaken is h = ap (with_versions f played d) is ∙ ap (with_pools f played d vs) h
+of_pools f played d vs pool.DoubleService is h = ap (with_versions f played d) is ∙ ap (with_pools f played d vs) h
+of_pools f played d vs pool.DoubleName is h = ap (with_versions f played d) is ∙ ap (with_pools f played d vs) h
+of_pools f played d vs pool.TooMany is h = ap (with_versions f played d) is ∙ ap (with_pools f played d vs) h
+
+pools_at : (size : ℕ) (r : Result (List (PlainVersion Member)) PoolsFault) (vs : List (PlainVersion Member)) (p : Place) → r ≡ Ok vs → pool_place_of size vs ≡ Some p → ArePoolsAt size r (Some p)
+pools_at size r vs p is h = let P : Result (List (PlainVersion Member)) PoolsFault → Type 0 = λ x. ArePoolsAt size x (Some p) in subst P (sym is) h
+
+at_pools : (ms : Members) (d : PlainDraft) (vs : List (PlainVersion Member)) (g : PoolFault) (o : Option Place) → versions_of d.versions ≡ Ok vs → IsPoolAt d.choices.size vs g o →
+    IsDraftAt ms d (pool_refused g) o
+at_pools ms d vs pool.Memory o is h = h
+at_pools ms d vs pool.BadNumber None is h = absurd h
+at_pools ms d vs pool.BadNumber (Some p) is h = pools_at d.choices.size (versions_of d.versions) vs p is h
+at_pools ms d vs pool.NumberTaken None is h = absurd h
+at_pools ms d vs pool.NumberTaken (Some p) is h = pools_at d.choices.size (versions_of d.versions) vs p is h
+at_pools ms d vs pool.DoubleService None is h = absurd h
+at_pools ms d vs pool.DoubleService (Some p) is h = pools_at d.choices.size (versions_of d.versions) vs p is h
+at_pools ms d vs pool.DoubleName None is h = absurd h
+at_pools ms d vs pool.DoubleName (Some p) is h = pools_at d.choices.size (versions_of d.versions) vs p is h
+at_pools ms d vs pool.TooMany None is h = absurd h
+at_pools ms d vs pool.TooMany (Some p) is h = pools_at d.choices.size (versions_of d.versions) vs p is h
+
+pub catalogue_refused : (f : Format) (played : Played) (d : PlainDraft) (vs : List (PlainVersion Member)) (r : Result Scenario Refused) (e : Refused)
+    → versions_of d.versions ≡ Ok vs → IsErrAnd r (λ x. x ≡ e) → AreRefusedAt d.choices.size vs e → IfErr r (λ x. IsDraftRefused f played d x.fault)
+catalogue_refused f played d vs r e same is h =
+    passed_on r e (λ x. IsDraftRefused f played d x.fault) is (rw h.1 (of_pools f played d vs h.0 same h.2))
+
+pub catalogue_placed : (ms : Members) (d : PlainDraft) (vs : List (PlainVersion Member)) (r : Result Scenario Refused) (e : Refused)
+    → versions_of d.versions ≡ Ok vs → IsErrAnd r (λ x. x ≡ e) → AreRefusedAt d.choices.size vs e → IfErr r (λ x. IsDraftAt ms d x.fault x.place)
+catalogue_placed ms d vs r e same is h =
+    passed_on r e (λ x. IsDraftAt ms d x.fault x.place) is (rw h.1 (at_pools ms d vs h.0 e.place same h.3))

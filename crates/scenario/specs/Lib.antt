@@ -3,7 +3,6 @@ pub mod Setup
 pub mod Times
 pub mod Steps
 pub mod Told
-pub mod Plain
 pub mod Meaning
 pub mod Alike
 pub mod Places

@@ -7,7 +7,6 @@ use Rattle.maglev_texts.specs.Parsing.{address_of}
 use Rattle.pool_versions.specs.declared.backend.Member.{Member}
 use Rattle.pool_versions.specs.declared.catalogue.PoolFault.{PoolFault}
 use Rattle.pool_versions.specs.declared.catalogue.PoolFault.TheVariants as pool
-use Rattle.pool_versions.specs.Pool.{Pools}
 use Rattle.scenario_keys.specs.Lookups.{items_at, all_items, has_only}
 use Rattle.scenario_keys.specs.Keys.{key_name, root_keys}
 use Rattle.scenario_keys.specs.Formats.{format_of}
@@ -20,7 +19,7 @@ use Rattle.scenario_pools.specs.Writing.{versions_of}
 use Rattle.scenario_pools.specs.declared.fault.PoolsFault.{PoolsFault}
 use Rattle.scenario_pools.specs.declared.fault.PoolsFault.TheVariants as written
 use Rattle.scenario.specs.Limits.{AreLimits}
-use Rattle.scenario.specs.Plain.{first_refused}
+use Rattle.scenario_places.specs.Adding.{first_refused}
 use Rattle.scenario.specs.Steps.{PlainStep, plain_timed, allows}
 use Rattle.scenario.specs.Told.{steps_of}
 use Rattle.scenario.specs.declared.playing.Played.{Played}
@@ -114,16 +113,6 @@ with_versions f played d (Ok versions) = with_pools f played d versions (first_r
 unfoldable pub plan_of_draft : Format → Played → PlainDraft → Result PlainScenario ScenarioFault
 plan_of_draft f played d = with_versions f played d (versions_of d.versions)
 
--- the versions that drafts mean, where they mean some
-abbrev pub if_written : Result (List (PlainVersion Member)) PoolsFault → Option (List (PlainVersion Member))
-if_written (Ok versions) = Some versions
-if_written (Err e) = None
-
--- What a document says of the pools, where its keys are as they should be and its versions mean some. It is the size of the
--- tables, and the versions.
-abbrev pub pools_of : Members → Option (ℕ × List (PlainVersion Member))
-pools_of ms = option_and_then (λ f. option_and_then (λ d. option_map (λ versions. (d.choices.size, versions)) (if_written (versions_of d.versions))) (draft_in f ms)) (format_of ms)
-
 abbrev pub with_draft : Format → Played → Option PlainDraft → Result PlainScenario ScenarioFault
 with_draft f played None = Err fault.BadKey
 with_draft f played (Some d) = plan_of_draft f played d
@@ -165,11 +154,6 @@ abbrev pub IsDraftRefused : Format → Played → PlainDraft → ScenarioFault �
 IsDraftRefused f played d fault.Memory = ⊤
 IsDraftRefused f played d e = plan_of_draft f played d ≡ Err e
 
--- why versions are refused
-abbrev pub IsPoolRefused : ℕ → List (PlainVersion Member) → PoolFault → Type 0
-IsPoolRefused size vs pool.Memory = ⊤
-IsPoolRefused size vs f = first_refused size [] vs ≡ Some f
-
 -- why the versions of drafts are refused
 abbrev pub AreVersionsRefused : List PlainVersionDraft → ScenarioFault → Type 0
 AreVersionsRefused ds fault.Memory = ⊤
@@ -182,12 +166,6 @@ abbrev pub AreStepsRefused : StepRules → List (List ℕ) → ScenarioFault →
 AreStepsRefused rules texts fault.Memory = ⊤
 AreStepsRefused rules texts (fault.BadStep n) = steps_of rules 100000 texts ≡ Err n
 AreStepsRefused rules texts e = ⊥
-
--- the catalogue of some versions that were added in order
-pub record IsCatalogueOf (size : ℕ) (vs : List (PlainVersion Member)) (c : Pools) : Type 0 where
-  pub sized : c.size ≡ size
-  pub holds : map plain_version c.versions ≡ vs
-  pub good : first_refused size [] vs ≡ None
 
 -- a draft keeps the limits of a scenario
 abbrev pub IsLimited : Draft → Type 0

@@ -1,5 +1,5 @@
--- The first place at which a document isn't a scenario's, in the words of what a scenario is.
-use Rattle.std.specs.Prelude.{◌≡◌, ℕ, Bool, if◌then◌else◌, List, Option, Some, None, is_some, option_and_then, option_map}
+-- The first place at which a document isn't a scenario's, in the words of what a scenario is, and that of each fault.
+use Rattle.std.specs.Prelude.{◌≡◌, ℕ, Bool, if◌then◌else◌, List, Option, Some, None, is_some, option_and_then, option_map, Result, Ok, Err}
 use Rattle.std.specs.Option.{option_or}
 use Rattle.toml.specs.Data.{Data, Items, Members, as_str}
 use Rattle.scenario_keys.specs.Lookups.{items_at, all_items, given_or, has_only}
@@ -13,8 +13,18 @@ use Rattle.version_drafts.specs.declared.place.Flaw.{Flaw}
 use Rattle.version_drafts.specs.declared.place.Flaw.TheVariants as flaw
 use Rattle.version_drafts.specs.declared.place.Place.{Place}
 use Rattle.version_drafts.specs.declared.place.Place.TheVariants as place
+use Rattle.version_drafts.specs.Plain.{PlainVersion}
+use Rattle.version_drafts.specs.Drafts.{PlainVersionDraft}
+use Rattle.scenario_pools.specs.Writing.{versions_of}
+use Rattle.scenario_pools.specs.declared.fault.PoolsFault.{PoolsFault}
+use Rattle.scenario_places.specs.MemberPlaces.{member_place_of}
+use Rattle.scenario_places.specs.PoolPlaces.{pool_place_of}
+use Rattle.scenario_places.specs.Catalogues.{IsPoolRefused, IsPoolAt}
+use Rattle.pool_versions.specs.declared.catalogue.PoolFault.{PoolFault}
+use Rattle.pool_versions.specs.declared.backend.Member.{Member}
 use Rattle.scenario.specs.Setup.{bad_choice, bad_limit}
-use Rattle.scenario.specs.Meaning.{address_in, few_nodes, few_steps, IsDocument}
+use Rattle.scenario.specs.Meaning.{PlainDraft, address_in, few_nodes, few_steps, draft_in, pool_refused, IsDocument}
+use Rattle.scenario.specs.declared.refused.Refused.{Refused}
 use Rattle.scenario.specs.declared.fault.ScenarioFault.{ScenarioFault}
 use Rattle.scenario.specs.declared.fault.ScenarioFault.TheVariants as fault
 
@@ -50,8 +60,42 @@ draft_flaw f ms =
 abbrev pub place_of : Format → Members → Option Place
 place_of f ms = if has_only (root_keys f) ms then draft_flaw f ms else Some (place.Root flaw.Unknown)
 
--- A text that is refused as BadKey is refused at the first place of its document. Another fault has no place.
+-- the word for which drafts of a document are refused is at this place
+abbrev pub IsMemberAt : Members → List PlainVersionDraft → Option Place → Type 0
+IsMemberAt ms ds None = ⊥
+IsMemberAt ms ds (Some p) = member_place_of ms ds ≡ Some p
+
+-- The versions that drafts mean can't be those of a catalogue at this place. Those that are too large written out have none.
+abbrev pub ArePoolsAt : ℕ → Result (List (PlainVersion Member)) PoolsFault → Option Place → Type 0
+ArePoolsAt size (Ok vs) None = ⊥
+ArePoolsAt size (Ok vs) (Some p) = pool_place_of size vs ≡ Some p
+ArePoolsAt size (Err e) o = o ≡ None
+
+-- where the versions of a document's drafts are refused by a fault
+abbrev pub AreVersionsAt : Members → List PlainVersionDraft → ScenarioFault → Option Place → Type 0
+AreVersionsAt ms ds fault.BadMember o = IsMemberAt ms ds o
+AreVersionsAt ms ds e o = o ≡ None
+
+-- versions are refused as a catalogue's, at the place where a catalogue refuses them
+abbrev pub AreRefusedAt : ℕ → List (PlainVersion Member) → Refused → Type 0
+AreRefusedAt size vs r = (f : PoolFault) × (r.fault ≡ pool_refused f) × IsPoolRefused size vs f × IsPoolAt size vs f r.place
+
+-- where a draft of a document is refused by a fault, which is no key's
+abbrev pub IsDraftAt : Members → PlainDraft → ScenarioFault → Option Place → Type 0
+IsDraftAt ms d fault.BadMember o = IsMemberAt ms d.versions o
+IsDraftAt ms d (fault.Pool e) o = ArePoolsAt d.choices.size (versions_of d.versions) o
+IsDraftAt ms d e o = o ≡ None
+
+-- a text's draft is refused by a fault at this place
+abbrev pub IsAtDraft : List ℕ → ScenarioFault → Option Place → Type 0
+IsAtDraft text e o =
+    (ms : Members) × (f : Format) × (d : PlainDraft) × IsDocument text ms × (format_of ms ≡ Some f) × (draft_in f ms ≡ Some d) × IsDraftAt ms d e o
+
+-- The place of a text's fault. As BadKey it is refused at the first place of its document, as BadMember at the first word that
+-- is none, and as Pool at the first that a catalogue refuses. Another fault has no place.
 abbrev pub IsAt : List ℕ → ScenarioFault → Option Place → Type 0
 IsAt text fault.BadKey None = ⊥
 IsAt text fault.BadKey (Some p) = (ms : Members) × (f : Format) × IsDocument text ms × (format_of ms ≡ Some f) × (place_of f ms ≡ Some p)
+IsAt text fault.BadMember o = IsAtDraft text fault.BadMember o
+IsAt text (fault.Pool e) o = IsAtDraft text (fault.Pool e) o
 IsAt text e o = o ≡ None

@@ -1,17 +1,18 @@
 //! Reads a scenario.
-ghost use Rattle.std.specs.Prelude.{◌≡◌, ◌≤◌, length, map, string_bytes, option_map, IfOk, IfErr, Ok, Some, None};
+ghost use Rattle.std.specs.Prelude.{◌≡◌, ◌≤◌, length, map, string_bytes, option_map, IfOk, IfErr, Ok, None};
 ghost use Rattle.toml.specs.View.{table_view};
-ghost use Rattle.scenario.specs.Steps.{plain_timed};
-ghost use Rattle.scenario.specs.Told.{steps_of};
 ghost use Rattle.version_drafts.specs.Plain.{plain_version};
 ghost use Rattle.version_drafts.specs.Drafts.{plain_version_draft};
 ghost use Rattle.scenario_pools.specs.Writing.{versions_of};
+ghost use Rattle.scenario_places.specs.MemberPlaces.{word_place};
+ghost use Rattle.scenario_places.specs.Catalogues.{IsCatalogueOf};
+ghost use Rattle.scenario.specs.Steps.{plain_timed};
+ghost use Rattle.scenario.specs.Told.{steps_of};
 ghost use Rattle.scenario.specs.declared.playing.Played.{Played};
 ghost use Rattle.scenario.specs.declared.playing.Played.TheVariants.{OnThreads};
-ghost use Rattle.scenario.specs.Meaning.{pools_of, IsDocument, IsRefused, IsDraftRefused, IsLimited, IsSupported, AreVersionsRefused, AreStepsRefused, if_written, Means, plan_of, plan_of_draft, plan_view, plain_draft, pool_refused};
-ghost use Rattle.scenario.specs.Places.{IsAt};
+ghost use Rattle.scenario.specs.Meaning.{IsDocument, IsRefused, IsDraftRefused, IsLimited, IsSupported, AreVersionsRefused, AreStepsRefused, Means, plan_of, plan_of_draft, plan_view, plain_draft, pool_refused, pools_refused};
+ghost use Rattle.scenario.specs.Places.{IsAt, IsDraftAt, AreVersionsAt, AreRefusedAt};
 
-use crate::building::catalogue_of;
 use crate::draft::{Draft, draft_in};
 use crate::fault::ScenarioFault;
 use crate::plan::Scenario;
@@ -20,13 +21,14 @@ use crate::refused::Refused;
 use crate::threads::ThreadScenario;
 use crate::told::{StepRules, add_told, told_of};
 use backend_names::TableSize;
-use pool_versions::{PoolFault, Version};
+use pool_versions::{Catalogue, PoolFault, Version};
 use scenario_keys::{Format, MOST_STEPS, format_of};
-use scenario_pools::{PoolsFault, versions_of};
-use std::alloc::{AllocError, Global};
+use scenario_places::{catalogue_of, word_place};
+use scenario_pools::{BadWord, PoolsFault, versions_of};
+use std::alloc::Global;
 use timed_steps::TimedStep;
 use toml::Table;
-use version_drafts::VersionDraft;
+use version_drafts::{Place, VersionDraft};
 
 // The most bytes of a scenario's text.
 const LONGEST: usize = 1_048_576;
@@ -71,28 +73,38 @@ fn steps_of(
     Ok(steps)
 }
 
-// The versions that some drafts mean.
-fn written(alloc: Global, drafts: &[VersionDraft]) -> Result<Vec<Version>, ScenarioFault>
-    ensures ok { IfOk result (λ v. versions_of (map plain_version_draft drafts.now) ≡ Ok (map plain_version v.items)) }
-    ensures refused { IfErr result (AreVersionsRefused (map plain_version_draft drafts.now)) }
+fn pools_refused(fault: PoolsFault) -> ScenarioFault
+    ensures { result ≡ pools_refused fault }
 {
-    match versions_of(alloc, drafts) {
-        Ok(versions) => Ok(versions),
-        Err(PoolsFault::BadMember) => Err(ScenarioFault::BadMember),
-        Err(PoolsFault::TooMany) => Err(ScenarioFault::Pool(PoolFault::TooMany)),
-        Err(PoolsFault::Memory) => Err(ScenarioFault::Memory),
+    match fault {
+        PoolsFault::BadMember => ScenarioFault::BadMember,
+        PoolsFault::TooMany => ScenarioFault::Pool(PoolFault::TooMany),
+        PoolsFault::Memory => ScenarioFault::Memory,
     }
 }
 
-// The versions that some drafts mean, where they mean some.
-fn if_written(alloc: Global, drafts: &[VersionDraft]) -> Result<Option<Vec<Version>>, AllocError>
-    ensures { IfOk result (λ o. option_map (λ v. map plain_version v.items) o ≡ if_written (versions_of (map plain_version_draft drafts.now))) }
+// The place of a word of a document, by the number of its version.
+fn place_of_word(table: &Table, word: Option<(usize, BadWord)>) -> Option<Place>
+    ensures { result ≡ option_map (λ w. word_place (table_view table.now) w.0 w.1) word }
+{
+    match word {
+        Some((version, word)) => Some(word_place(table, version, word)),
+        None => None,
+    }
+}
+
+// The versions that some drafts of a document mean.
+fn written(alloc: Global, table: &Table, drafts: &[VersionDraft]) -> Result<Vec<Version>, Refused>
+    ensures ok { IfOk result (λ v. versions_of (map plain_version_draft drafts.now) ≡ Ok (map plain_version v.items)) }
+    ensures refused { IfErr result (λ r. AreVersionsRefused (map plain_version_draft drafts.now) r.fault) }
+    ensures place { IfErr result (λ r. AreVersionsAt (table_view table.now) (map plain_version_draft drafts.now) r.fault r.place) }
 {
     match versions_of(alloc, drafts) {
-        Ok(versions) => Ok(Some(versions)),
-        Err(PoolsFault::BadMember) => Ok(None),
-        Err(PoolsFault::TooMany) => Ok(None),
-        Err(PoolsFault::Memory) => Err(AllocError),
+        Ok(versions) => Ok(versions),
+        Err(unwritten) => Err(Refused {
+            fault: pools_refused(unwritten.fault),
+            place: place_of_word(table, unwritten.word),
+        }),
     }
 }
 
@@ -105,17 +117,37 @@ fn pool_refused(fault: PoolFault) -> ScenarioFault
     }
 }
 
+// The catalogue of some versions.
+fn catalogue_for(
+    alloc: Global,
+    size: TableSize,
+    versions: Vec<Version>,
+) -> Result<Catalogue, Refused>
+    ensures ok { IfOk result (IsCatalogueOf size (map plain_version versions.items)) }
+    ensures refused { IfErr result (AreRefusedAt size (map plain_version versions.items)) }
+{
+    match catalogue_of(alloc, size, versions) {
+        Ok(catalogue) => Ok(catalogue),
+        Err(refused) => Err(Refused {
+            fault: pool_refused(refused.fault),
+            place: refused.place,
+        }),
+    }
+}
+
 // The scenario of a draft of a format, which is played so.
 #[tactic(auto, unfolding(crate::specs::Meaning::plan_of_draft))]
 fn scenario_of(
     alloc: Global,
     format: Format,
     played: Played,
+    table: &Table,
     draft: Draft,
-) -> Result<Scenario, ScenarioFault>
+) -> Result<Scenario, Refused>
     requires { IsLimited draft }
     ensures ok { IfOk result (λ s. plan_of_draft format played (plain_draft draft) ≡ Ok (plan_view s)) }
-    ensures refused { IfErr result (IsDraftRefused format played (plain_draft draft)) }
+    ensures refused { IfErr result (λ r. IsDraftRefused format played (plain_draft draft) r.fault) }
+    ensures place { IfErr result (λ r. IsDraftAt (table_view table.now) (plain_draft draft) r.fault r.place) }
 {
     let Draft {
         choices,
@@ -124,18 +156,18 @@ fn scenario_of(
         versions,
         steps,
     } = draft;
-    let versions = written(alloc, versions.as_slice())?;
-    let catalogue = match catalogue_of(alloc, choices.size, versions) {
-        Ok(catalogue) => catalogue,
-        Err(fault) => return Err(pool_refused(fault)),
-    };
+    let versions = written(alloc, table, versions.as_slice())?;
+    let catalogue = catalogue_for(alloc, choices.size, versions)?;
     let rules = StepRules {
         format,
         played,
         nodes: nodes.len() as u16,
         workers: limits.workers,
     };
-    let steps = steps_of(alloc, rules, steps.as_slice())?;
+    let steps = match steps_of(alloc, rules, steps.as_slice()) {
+        Ok(steps) => steps,
+        Err(fault) => return Err(Refused { fault, place: None }),
+    };
     Ok(Scenario {
         size: choices.size,
         hash: choices.hash,
@@ -152,27 +184,7 @@ fn scenario_of(
     })
 }
 
-/// What a document says of the pools: the size of the tables, and the versions in order. None where its format isn't one, a
-/// key isn't as it should be, or its versions have a fault of their own.
-pub fn pools_in(
-    alloc: Global,
-    table: &Table,
-) -> Result<Option<(TableSize, Vec<Version>)>, AllocError>
-    ensures { IfOk result (λ o. option_map (λ p. (p.0, map plain_version p.1.items)) o ≡ pools_of (table_view table.now)) }
-{
-    let Some(format) = format_of(table) else {
-        return Ok(None);
-    };
-    let Ok(draft) = draft_in(alloc, format, table)? else {
-        return Ok(None);
-    };
-    let Some(versions) = if_written(alloc, draft.versions.as_slice())? else {
-        return Ok(None);
-    };
-    Ok(Some((draft.choices.size, versions)))
-}
-
-/// Reads a scenario that is played so. Where it is refused because of a key, it says at which place.
+/// Reads a scenario that is played so. Where it is refused because of a key, of a word or of a version, it says at which place.
 #[tactic(auto, unfolding(crate::specs::Meaning::plan_of))]
 pub fn read_placed(alloc: Global, played: Played, text: &[u8]) -> Result<Scenario, Refused>
     ensures means { IfOk result (Means played text.now) }
@@ -202,9 +214,9 @@ pub fn read_placed(alloc: Global, played: Played, text: &[u8]) -> Result<Scenari
             return Err(Refused { fault, place: None });
         }
     };
-    match scenario_of(alloc, format, played, draft) {
+    match scenario_of(alloc, format, played, &table, draft) {
         Ok(scenario) => Ok(scenario),
-        Err(fault) => Err(Refused { fault, place: None }),
+        Err(refused) => Err(refused),
     }
 }
 
@@ -222,12 +234,13 @@ pub fn read(alloc: Global, played: Played, text: &[u8]) -> Result<Scenario, Scen
 
 /// Reads a scenario that is played on threads. A step that a cluster on threads doesn't know is refused as BadStep, as a text is
 /// that is no step.
-pub fn read_for_threads(alloc: Global, text: &[u8]) -> Result<ThreadScenario, ScenarioFault>
+pub fn read_for_threads(alloc: Global, text: &[u8]) -> Result<ThreadScenario, Refused>
     ensures means { IfOk result (λ t. Means OnThreads text.now t.scenario) }
-    ensures refused { IfErr result (IsRefused OnThreads text.now) }
+    ensures refused { IfErr result (λ r. IsRefused OnThreads text.now r.fault) }
+    ensures place { IfErr result (λ r. IsAt text.now r.fault r.place) }
 {
-    match read(alloc, Played::OnThreads, text) {
+    match read_placed(alloc, Played::OnThreads, text) {
         Ok(scenario) => Ok(ThreadScenario { scenario }),
-        Err(fault) => Err(fault),
+        Err(refused) => Err(refused),
     }
 }

@@ -8,6 +8,7 @@ use version_drafts::Place;
 pub struct Refused {
     /// Why it was refused.
     pub fault: ScenarioFault,
-    /// Where a key isn't as it should be. None where the fault is another than BadKey.
+    /// Where a key, a word or a version isn't as it should be. None where the fault is of the whole text, of a step or of memory,
+    /// or where the versions are too many only once they are written out.
     pub place: Option<Place>,
 }

@@ -2,6 +2,8 @@
 ghost use Rattle.std.specs.Prelude.{◌≡◌, IfOk, IfErr, OnOk};
 ghost use Rattle.simulation.specs.Wires.{unkept};
 ghost use Rattle.json_lines.specs.declared.forms.Form.TheVariants.{Plain};
+ghost use Rattle.scenario.specs.declared.playing.Played.TheVariants.{InTurn};
+ghost use Rattle.scenario_faults.specs.Refusals.{IsPlaced};
 ghost use Rattle.scenario_commands.specs.Scenarios.{Plays, CountedPlays, PlayFails, ExplainFails, run_fault};
 
 use change_share::ChangeCounts;
@@ -9,8 +11,7 @@ use command_faults::{CliFault, capture_fault, put_text};
 use connection_table::TableKey;
 use json_lines::Form;
 use pcap_file::{Sink, Source};
-use scenario::{Played, read};
-use scenario_faults::scenario_fault;
+use scenario_faults::{PlacedFault, scenario_in};
 use simulate_scenario::{Query, Wanted, play_scenario};
 use simulation::{Nowhere, Outlet, SimulationFault};
 use std::alloc::Global;
@@ -35,24 +36,28 @@ fn play<I: Source, O: Outlet, R: Sink>(
     input: &mut I,
     output: &mut O,
     report: &mut R,
-) -> Result<Option<ChangeCounts>, CliFault>
+) -> Result<Option<ChangeCounts>, PlacedFault>
     ensures counted { IfOk result (CountedPlays asked scenario.now
         (I.tape input.old) (I.tape input.new) (O.tape output.old) (O.tape output.new) (R.tape report.old) (R.tape report.new)) }
-    ensures stopped { IfErr result (λ fault. PlayFails fault asked scenario.now
+    ensures stopped { IfErr result (λ r. PlayFails r.fault asked scenario.now
         (I.tape input.old) (I.tape input.new) (O.tape output.old) (O.tape output.new) (R.tape report.old) (R.tape report.new)
         ((input.new ≡ input.old) × (output.new ≡ output.old) × (report.new ≡ report.old)) (report.new ≡ report.old)) }
+    ensures place { IfErr result (IsPlaced InTurn scenario.now) }
 {
-    let scenario = match read(alloc, Played::InTurn, scenario) {
+    let scenario = match scenario_in(alloc, scenario) {
         Ok(scenario) => scenario,
-        Err(fault) => return Err(scenario_fault(fault)),
+        Err(stopped) => return Err(stopped),
     };
     let answer = match play_scenario(alloc, key, scenario, asked, input, output) {
         Ok(answer) => answer,
-        Err(fault) => return Err(run_fault(fault)),
+        Err(fault) => {
+            let fault = run_fault(fault);
+            return Err(PlacedFault { fault, place: None });
+        }
     };
     match put_text(report, answer.text.as_str()) {
         Ok(()) => Ok(answer.counts),
-        Err(fault) => Err(fault),
+        Err(fault) => Err(PlacedFault { fault, place: None }),
     }
 }
 
@@ -79,7 +84,7 @@ pub fn simulate<I: Source, O: Sink, R: Sink>(
     let key = TableKey::fixed();
     match simulate_keyed(alloc, key, scenario, input, output, report, wanted) {
         Ok(_) => Ok(()),
-        Err(fault) => Err(fault),
+        Err(stopped) => Err(stopped.fault),
     }
 }
 
@@ -93,19 +98,20 @@ pub fn simulate_keyed<I: Source, O: Sink, R: Sink>(
     output: &mut O,
     report: &mut R,
     wanted: Wanted,
-) -> Result<Option<ChangeCounts>, CliFault>
+) -> Result<Option<ChangeCounts>, PlacedFault>
     ensures played { OnOk result (Plays (Query.Report wanted) scenario.now
         (I.tape input.old) (I.tape input.new) (O.tape output.old) (O.tape output.new) (R.tape report.old) (R.tape report.new)) }
     ensures counted { IfOk result (CountedPlays (Query.Report wanted) scenario.now
         (I.tape input.old) (I.tape input.new) (O.tape output.old) (O.tape output.new) (R.tape report.old) (R.tape report.new)) }
-    ensures stopped { IfErr result (λ fault. PlayFails fault (Query.Report wanted) scenario.now
+    ensures stopped { IfErr result (λ r. PlayFails r.fault (Query.Report wanted) scenario.now
         (I.tape input.old) (I.tape input.new) (O.tape output.old) (O.tape output.new) (R.tape report.old) (R.tape report.new)
         ((input.new ≡ input.old) × (output.new ≡ output.old) × (report.new ≡ report.old)) (report.new ≡ report.old)) }
+    ensures place { IfErr result (IsPlaced InTurn scenario.now) }
 {
     let asked = Query::Report(wanted);
     match play(alloc, key, scenario, asked, input, output, report) {
         Ok(counts) => Ok(counts),
-        Err(fault) => Err(fault),
+        Err(stopped) => Err(stopped),
     }
 }
 
@@ -129,7 +135,7 @@ pub fn explain_run<I: Source, R: Sink>(
     let asked = Query::Events { one, other, form };
     match answer_keyed(alloc, TableKey::fixed(), scenario, asked, input, report) {
         Ok(()) => Ok(()),
-        Err(fault) => Err(fault),
+        Err(stopped) => Err(stopped.fault),
     }
 }
 
@@ -141,16 +147,17 @@ pub fn answer_keyed<I: Source, R: Sink>(
     asked: Query,
     input: &mut I,
     report: &mut R,
-) -> Result<(), CliFault>
+) -> Result<(), PlacedFault>
     ensures played { OnOk result (Plays asked scenario.now
         (I.tape input.old) (I.tape input.new) unkept unkept (R.tape report.old) (R.tape report.new)) }
-    ensures stopped { IfErr result (λ fault. ExplainFails fault asked scenario.now
+    ensures stopped { IfErr result (λ r. ExplainFails r.fault asked scenario.now
         (I.tape input.old) (I.tape input.new) (R.tape report.old) (R.tape report.new)
         ((input.new ≡ input.old) × (report.new ≡ report.old)) (report.new ≡ report.old)) }
+    ensures place { IfErr result (IsPlaced InTurn scenario.now) }
 {
     let mut output = Nowhere;
     match play(alloc, key, scenario, asked, input, &mut output, report) {
         Ok(_) => Ok(()),
-        Err(fault) => Err(fault),
+        Err(stopped) => Err(stopped),
     }
 }

@@ -3,17 +3,21 @@ use crate::spots::{below, line_of, spot_of};
 use backend_names::Name;
 use maglev_texts::address;
 use pool_versions::PoolFault;
-use scenario::{Flaw, Place, Played, ScenarioFault, pools_in, read_placed};
+use scenario::{Flaw, Place, ScenarioFault};
 use scenario_keys::{Form, Format, Key, Owner, format_of, value_at};
-use scenario_places::{member_place, pool_place};
 use shown_text::shown;
 use std::alloc::Global;
 use toml::{Table, Value};
 
 /// One line on a scenario's fault: the path of the key, as `versions[0].services[1].port`, with its line, what was found and
 /// what was expected. For BadToml it has line and column, both from 1. A terminal can show it, whatever the scenario says. None
-/// where nothing more is known or memory was refused.
-pub fn words_of(alloc: Global, text: &[u8], fault: ScenarioFault) -> Option<String> {
+/// where nothing more is known or memory was refused. The place is the one that reading told.
+pub fn words_of(
+    alloc: Global,
+    text: &[u8],
+    fault: ScenarioFault,
+    place: Option<Place>,
+) -> Option<String> {
     let table = match toml::table_from_slice(alloc, text) {
         Ok(table) => table,
         Err(error) => return bad_toml(alloc, text, &error),
@@ -21,9 +25,12 @@ pub fn words_of(alloc: Global, text: &[u8], fault: ScenarioFault) -> Option<Stri
     let text = std::str::from_utf8(text).ok()?;
     match fault {
         ScenarioFault::BadFormat => at(alloc, text, "format", "the number 1, 2 or 3"),
-        ScenarioFault::BadKey => bad_key(alloc, text, &table),
-        ScenarioFault::BadMember => bad_member(alloc, text, &table),
-        ScenarioFault::Pool(fault) => bad_pool(alloc, text, &table, fault),
+        ScenarioFault::BadKey => bad_key(alloc, text, &table, place?),
+        ScenarioFault::BadMember => bad_member(alloc, text, &table, place?),
+        ScenarioFault::Pool(PoolFault::TooMany) if place.is_none() => {
+            at(alloc, text, Key::Versions.name(), WRITTEN_OUT)
+        }
+        ScenarioFault::Pool(fault) => bad_pool(alloc, text, &table, fault, place?),
         ScenarioFault::BadStep(step) => bad_step(alloc, text, &table, step),
         _ => None,
     }
@@ -96,10 +103,7 @@ fn path_of(alloc: Global, table: String, flaw: Flaw) -> Option<String> {
     }
 }
 
-// However a scenario is played, a key refuses it at the same place.
-fn bad_key(alloc: Global, text: &str, document: &Table) -> Option<String> {
-    let refused = read_placed(alloc, Played::InTurn, text.as_bytes()).err()?;
-    let place = refused.place?;
+fn bad_key(alloc: Global, text: &str, document: &Table, place: Place) -> Option<String> {
     let (table, flaw) = table_of(alloc, place)?;
     let path = path_of(alloc, table, flaw)?;
     let path = path.as_str();
@@ -226,9 +230,8 @@ fn expected_item(key: Key) -> &'static str {
     }
 }
 
-fn bad_member(alloc: Global, text: &str, table: &Table) -> Option<String> {
+fn bad_member(alloc: Global, text: &str, table: &Table, place: Place) -> Option<String> {
     let format = format_of(table)?;
-    let place = member_place(alloc, format, table).ok()??;
     let (path, flaw) = table_of(alloc, place)?;
     let path = path_of(alloc, path, flaw)?;
     let expected = expected_word(alloc, format, table, place, flaw)?;
@@ -323,11 +326,13 @@ fn written_path(alloc: Global, document: &Table, place: Place) -> Option<String>
     }
 }
 
-fn bad_pool(alloc: Global, text: &str, table: &Table, fault: PoolFault) -> Option<String> {
-    let Some((size, versions)) = pools_in(alloc, table).ok()? else {
-        return at(alloc, text, Key::Versions.name(), WRITTEN_OUT);
-    };
-    let place = pool_place(alloc, size, versions.as_slice()).ok()??;
+fn bad_pool(
+    alloc: Global,
+    text: &str,
+    table: &Table,
+    fault: PoolFault,
+    place: Place,
+) -> Option<String> {
     let (_, flaw) = table_of(alloc, place)?;
     let path = written_path(alloc, table, place)?;
     let expected = match (fault, flaw) {

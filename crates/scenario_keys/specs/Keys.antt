@@ -1,10 +1,7 @@
 -- The keys of a scenario: the tables and formats that may have each, and what its value may be.
-use Rattle.std.specs.Prelude.{ℕ, Bool, true, false, ◌&&◌, if◌then◌else◌, List, [], ◌∷◌, codes, Option, Some, None, is_some, option_and_then}
-use Rattle.maglev_texts.specs.Parsing.{address_of}
+use Rattle.std.specs.Prelude.{ℕ, Bool, true, false, ◌&&◌, if◌then◌else◌, List, [], ◌∷◌, codes, Option, Some, None}
 use Rattle.toml.specs.Data.{Members}
-use Rattle.scenario_keys.specs.Lookups.{number_at, number_by, number_if, flag_or, text_at}
-use Rattle.scenario_keys.specs.Words.{size_of, is_listed}
-use Rattle.scenario_keys.specs.declared.words.WordList.{WordList}
+use Rattle.scenario_keys.specs.Lookups.{number_by, number_if, flag_or}
 use Rattle.scenario_keys.specs.declared.words.WordList.TheVariants as words
 use Rattle.scenario_keys.specs.declared.formats.Format.{Format}
 use Rattle.scenario_keys.specs.declared.formats.Format.TheVariants.{One, Two, Three}
@@ -160,26 +157,3 @@ lowest k = low_of (form_of k)
 
 abbrev pub highest : Key → ℕ
 highest k = high_of (form_of k)
-
-abbrev pub listed_or_false : WordList → Option (List ℕ) → Bool
-listed_or_false list None = false
-listed_or_false list (Some word) = is_listed list word
-
--- a word of the list stands at a key
-abbrev pub has_word : WordList → List ℕ → Members → Bool
-has_word list name ms = listed_or_false list (text_at name ms)
-
--- the value at a key is of the form, or is missing where it may be
-abbrev pub holds_at : Form → List ℕ → Members → Bool
-holds_at (form.Number low high missing) name ms = is_some (number_by low high missing name ms)
-holds_at (form.NumberIf low high) name ms = is_some (number_if low high name ms)
-holds_at form.Slots name ms = is_some (option_and_then size_of (number_at 0 65537 name ms))
-holds_at (form.Flag missing) name ms = is_some (flag_or missing name ms)
-holds_at (form.Word list) name ms = has_word list name ms
-holds_at form.Address name ms = is_some (option_and_then address_of (text_at name ms))
-holds_at (form.Items of low high) name ms = true
-holds_at form.Servers name ms = true
-
--- a scenario takes the value at the key; those of arrays and tables are judged by what is in them
-abbrev pub holds : Key → Members → Bool
-holds k ms = holds_at (form_of k) (key_name k) ms

@@ -1,14 +1,11 @@
 -- The words of a scenario's setup.
-use Rattle.std.specs.Prelude.{ℕ, Bool, if◌then◌else◌, List, codes, Option, Some, None, is_some}
+use Rattle.std.specs.Prelude.{ℕ, if◌then◌else◌, List, codes, Option, Some, None}
 use Rattle.std.specs.Str.{bytes_eq}
-use Rattle.hash_laws.specs.Any.{hash_of_word}
 use Rattle.backend_names.specs.Sizes.{is_table_size}
 use Rattle.scenario_keys.specs.declared.words.SchemeKind.{SchemeKind}
 use Rattle.scenario_keys.specs.declared.words.SchemeKind.TheVariants.{Maglev, Plain, Round}
 use Rattle.scenario_keys.specs.declared.words.SpreadKind.{SpreadKind}
 use Rattle.scenario_keys.specs.declared.words.SpreadKind.TheVariants.{Hash, Turn}
-use Rattle.scenario_keys.specs.declared.words.WordList.{WordList}
-use Rattle.scenario_keys.specs.declared.words.WordList.TheVariants as words
 
 abbrev pub scheme_of_word : List ℕ → Option SchemeKind
 scheme_of_word word =
@@ -26,13 +23,6 @@ abbrev pub protocol_of_word : List ℕ → Option ℕ
 protocol_of_word word =
     if bytes_eq word (codes "tcp") then Some 6
     else (if bytes_eq word (codes "udp") then Some 17 else None)
-
--- a word of a list
-abbrev pub is_listed : WordList → List ℕ → Bool
-is_listed words.Hash word = is_some (hash_of_word word)
-is_listed words.Scheme word = is_some (scheme_of_word word)
-is_listed words.Spread word = is_some (spread_of_word word)
-is_listed words.Protocol word = is_some (protocol_of_word word)
 
 -- a listed size
 abbrev pub size_of : ℕ → Option ℕ

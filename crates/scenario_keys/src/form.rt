@@ -1,13 +1,6 @@
 //! What the value of a key may be.
-ghost use Rattle.std.specs.Prelude.{◌≡◌, IfOk};
-ghost use Rattle.toml.specs.View.{table_view};
-ghost use Rattle.scenario_keys.specs.Keys.{has_word};
-
-use crate::lookup::{flag_or, number_by, number_if, text_at};
-use crate::values::{address_in, size_in};
 use crate::words::WordList;
 use std::alloc::{AllocError, Global};
-use toml::Table;
 
 /// What an item of an array may be.
 #[derive(Clone, Copy, Debug, PartialEq, Eq)]
@@ -54,41 +47,7 @@ pub enum Form {
     Servers,
 }
 
-fn has_word(table: &Table, key: &str, list: WordList) -> bool
-    ensures { result ≡ has_word list key.now (table_view table.now) }
-{
-    match text_at(table, key) {
-        Some(word) => list.is_listed(word),
-        None => false,
-    }
-}
-
 impl Form {
-    ghost use Rattle.scenario_keys.specs.Keys.{holds_at};
-
-    /// Whether the value at a key is of this form, or is missing where it may be. Arrays and tables hold always: they are
-    /// judged by what is in them.
-    pub fn holds_at(self, alloc: Global, table: &Table, key: &str) -> Result<bool, AllocError>
-        ensures { IfOk result (λ b. b ≡ holds_at self key.now (table_view table.now)) }
-    {
-        match self {
-            Form::Number { low, high, missing } => {
-                Ok(number_by(table, key, low, high, missing).is_some())
-            }
-            Form::NumberIf { low, high } => Ok(number_if(table, key, low, high).is_some()),
-            Form::Slots => Ok(size_in(table, key).is_some()),
-            Form::Flag { missing } => Ok(flag_or(table, key, missing).is_some()),
-            Form::Word(list) => Ok(has_word(table, key, list)),
-            Form::Address => Ok(address_in(alloc, table, key)?.is_some()),
-            Form::Items {
-                of: _,
-                low: _,
-                high: _,
-            }
-            | Form::Servers => Ok(true),
-        }
-    }
-
     /// What is expected at a key of this form, for people.
     pub fn words(self, alloc: Global) -> Result<String, AllocError> {
         match self {

@@ -1,6 +1,5 @@
 //! The keys of a scenario, and the table of their rules.
-ghost use Rattle.std.specs.Prelude.{◌≡◌, IfOk, None, Some};
-ghost use Rattle.toml.specs.View.{table_view};
+ghost use Rattle.std.specs.Prelude.{◌≡◌, None, Some};
 ghost use Rattle.scenario_keys.specs.declared.form.Form.TheVariants as form;
 ghost use Rattle.scenario_keys.specs.Keys.{plain_rule, entry};
 
@@ -9,8 +8,6 @@ use crate::formats::Format;
 use crate::words::WordList;
 use Format::{One, Three, Two};
 use Home::{Document, Pool, Service, Version};
-use std::alloc::{AllocError, Global};
-use toml::Table;
 
 /// The most nodes of a scenario.
 pub const MOST_NODES: usize = 64;
@@ -185,7 +182,7 @@ fn any(of: ItemForm) -> Form
 }
 
 impl Key {
-    ghost use Rattle.scenario_keys.specs.Keys.{all_keys, rule_of, key_name, form_of, holds, stands_in};
+    ghost use Rattle.scenario_keys.specs.Keys.{all_keys, rule_of, key_name, form_of, stands_in};
 
     /// The keys, each table's in the order in which a fault's words name them.
     pub const ALL: [Key; 27] = [
@@ -278,13 +275,5 @@ impl Key {
     {
         let rule = self.rule();
         rule.home.is_home(owner) && format.has(rule.since)
-    }
-
-    /// Whether the value of a key is one that a scenario may have, or is missing where it may be. Keys of arrays and tables
-    /// hold always: they are judged by what is in them.
-    pub fn holds(self, alloc: Global, table: &Table) -> Result<bool, AllocError>
-        ensures { IfOk result (λ b. b ≡ holds self (table_view table.now)) }
-    {
-        self.form().holds_at(alloc, table, self.name())
     }
 }

@@ -1,7 +1,7 @@
 //! The keys of a scenario: one table of them, [`Key::rule`], by which a scenario is read and by which its faults are told.
 //!
 //! A rule has a key's name, the tables and formats that may have it, and what its value may be. The readers of this crate read a
-//! key by its rule, [`Key::holds`] judges a value by it, and [`Form::words`] says of it what was expected.
+//! key by its rule, and [`Form::words`] says of it what was expected.
 #![tactic(auto)]
 
 mod form;

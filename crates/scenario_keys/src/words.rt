@@ -2,8 +2,6 @@
 ghost use Rattle.std.specs.Prelude.{◌≡◌};
 ghost use Rattle.scenario_keys.specs.Words.{protocol_of_word};
 
-use hash_laws::AnyHash;
-
 /// Which scheme a scenario asks for.
 #[derive(Clone, Copy, Debug, PartialEq, Eq)]
 pub enum SchemeKind {
@@ -80,20 +78,6 @@ pub enum WordList {
 }
 
 impl WordList {
-    ghost use Rattle.scenario_keys.specs.Words.{is_listed};
-
-    /// Whether a word is one of the list.
-    pub fn is_listed(self, word: &str) -> bool
-        ensures { result ≡ is_listed self word.now }
-    {
-        match self {
-            WordList::Hash => AnyHash::of_word(word).is_some(),
-            WordList::Scheme => SchemeKind::of_word(word).is_some(),
-            WordList::Spread => SpreadKind::of_word(word).is_some(),
-            WordList::Protocol => protocol_of_word(word).is_some(),
-        }
-    }
-
     /// The words of the list, for people.
     pub fn words(self) -> &'static str {
         match self {

@@ -1,3 +1,3 @@
 mod Items
-mod MemberLaws
 pub mod PoolLaws
+pub mod Adding

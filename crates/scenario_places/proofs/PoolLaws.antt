@@ -8,7 +8,7 @@ use Rattle.pool_versions.specs.declared.backend.Member.{Member}
 use Rattle.pool_versions.specs.declared.catalogue.PoolFault.{PoolFault}
 use Rattle.pool_versions.specs.declared.catalogue.PoolFault.TheVariants as fault
 use Rattle.version_drafts.specs.Plain.{PlainService, PlainVersion}
-use Rattle.scenario.specs.Plain.{same_flows, names_double, is_long, passes_limit, services_refused, version_refused, first_refused}
+use Rattle.scenario_places.specs.Adding.{same_flows, names_double, is_long, passes_limit, services_refused, version_refused, first_refused}
 use Rattle.scenario_keys.specs.declared.key.Key.TheVariants as key
 use Rattle.version_drafts.specs.declared.place.Flaw.TheVariants as flaw
 use Rattle.version_drafts.specs.declared.place.Place.{Place}
@@ -115,7 +115,7 @@ numbered true b o = refl
 numbered false true o = refl
 numbered false false o = refl
 
-version_law : (size : ℕ) (earlier : List (PlainVersion Member)) (v : ℕ) (x : PlainVersion Member) → v ≡ length earlier → is_some (version_place size earlier v x) ≡ is_some (version_refused size earlier x)
+pub version_law : (size : ℕ) (earlier : List (PlainVersion Member)) (v : ℕ) (x : PlainVersion Member) → v ≡ length earlier → is_some (version_place size earlier v x) ≡ is_some (version_refused size earlier x)
 unfolding version_refused
 version_law size earlier v x e =
     let zero = x.number == 0 in
@@ -124,7 +124,7 @@ version_law size earlier v x e =
     ∙ ap (λ b. (zero || taken) || b) (services_law size earlier v x.services e)
     ∙ sym (numbered zero taken (services_refused size earlier x.services))
 
-one_longer : {X : Type 0} (xs : List X) (x : X) → length (xs ++ x ∷ []) ≡ length xs + 1
+pub one_longer : {X : Type 0} (xs : List X) (x : X) → length (xs ++ x ∷ []) ≡ length xs + 1
 one_longer [] x = refl
 one_longer (y ∷ ys) x = let r = one_longer ys x in omega (arith, r)
 

@@ -1,2 +1,5 @@
+pub mod Adding
 pub mod MemberPlaces
 pub mod PoolPlaces
+pub mod Catalogues
+pub mod PrivatePlacing

@@ -1,18 +1,15 @@
 -- Where a word of a document's versions is no member or change, or names what isn't there.
-use Rattle.std.specs.Prelude.{◌≡◌, ℕ, suc, ◌+◌, ◌-◌, ◌==◌, nat_lt, if◌then◌else◌, List, [], ◌∷◌, Option, Some, None, is_some, option_and_then, option_map, IfSome}
+use Rattle.std.specs.Prelude.{ℕ, suc, ◌+◌, ◌-◌, ◌==◌, nat_lt, if◌then◌else◌, List, [], ◌∷◌, Option, Some, None, option_and_then, option_map}
 use Rattle.toml.specs.Data.{Data, Items, no_items, item, Members, as_table}
 use Rattle.scenario_keys.specs.Lookups.{items_at}
 use Rattle.scenario_keys.specs.Keys.{key_name}
 use Rattle.scenario_keys.specs.declared.key.Key.{Key}
 use Rattle.scenario_keys.specs.declared.key.Key.TheVariants as key
-use Rattle.scenario_keys.specs.declared.formats.Format.{Format}
 use Rattle.version_drafts.specs.Words.{change_keys}
-use Rattle.version_drafts.specs.Reading.{versions_in}
-use Rattle.scenario_pools.specs.Writing.{versions_of}
-use Rattle.scenario_pools.specs.BadWords.{bad_word_of, is_bad_member}
+use Rattle.version_drafts.specs.Drafts.{PlainVersionDraft}
+use Rattle.scenario_pools.specs.BadWords.{bad_word_of}
 use Rattle.scenario_pools.specs.declared.bad_words.BadWord.{BadWord}
 use Rattle.scenario_pools.specs.declared.bad_words.BadWord.TheVariants as bad
-use Rattle.scenario.specs.Meaning.{draft_in}
 use Rattle.version_drafts.specs.declared.place.Flaw.{Flaw}
 use Rattle.version_drafts.specs.declared.place.Flaw.TheVariants as flaw
 use Rattle.version_drafts.specs.declared.place.Place.{Place}
@@ -55,10 +52,6 @@ word_place ms v (bad.Service m) = place.Service v m (flaw.Value key.Members)
 word_place ms v (bad.Member m n) = place.Service v m (flaw.Item key.Members n)
 word_place ms v (bad.ServiceChange m n) = place.Service v m (change_flaw n (option_and_then (table_number key.Services m) (table_number key.Versions v ms)))
 
--- the first place in a document of a format
-abbrev pub member_place_in : Format → Members → Option Place
-member_place_in format ms = option_and_then (λ ds. option_map (λ p. word_place ms p.0 p.1) (bad_word_of ds)) (versions_in format ms)
-
--- a document of a format whose keys are as they should be has such a place exactly where it is refused as BadMember
-abbrev pub OneWordOrAllMembers : Type 0
-OneWordOrAllMembers = (format : Format) (ms : Members) → IfSome (draft_in format ms) (λ d. is_some (member_place_in format ms) ≡ is_bad_member (versions_of d.versions))
+-- the place of the first word for which a document's drafts are refused
+abbrev pub member_place_of : Members → List PlainVersionDraft → Option Place
+member_place_of ms ds = option_map (λ w. word_place ms w.0 w.1) (bad_word_of ds)

@@ -5,7 +5,7 @@ use Rattle.std.specs.Option.{option_or}
 use Rattle.std.specs.Cmp.Lexicographic.{pointwise}
 use Rattle.pool_versions.specs.declared.backend.Member.{Member}
 use Rattle.version_drafts.specs.Plain.{PlainService, PlainVersion}
-use Rattle.scenario.specs.Plain.{is_long, first_refused}
+use Rattle.scenario_places.specs.Adding.{is_long, first_refused}
 use Rattle.scenario_places.specs.declared.doubles.ServiceKey.{ServiceKey}
 use Rattle.scenario_keys.specs.declared.key.Key.TheVariants as key
 use Rattle.version_drafts.specs.declared.place.Flaw.TheVariants as flaw

@@ -1,17 +1,16 @@
 //! Where a word of a scenario's versions is no member or change, or names what isn't there.
-ghost use Rattle.std.specs.Prelude.{◌≡◌, option_map, option_and_then, IfOk};
+ghost use Rattle.std.specs.Prelude.{◌≡◌, option_map, option_and_then};
 ghost use Rattle.toml.specs.Data.{as_table};
 ghost use Rattle.toml.specs.View.{table_view, view, items_view};
 ghost use Rattle.scenario_keys.specs.Lookups.{items_at};
 ghost use Rattle.scenario_keys.specs.Keys.{key_name};
 ghost use Rattle.scenario_keys.specs.declared.key.Key.TheVariants as key;
-ghost use Rattle.scenario_places.specs.MemberPlaces.{item_number, table_number, count, count_if, item_among, change_flaw, word_place, member_place_in, OneWordOrAllMembers};
+ghost use Rattle.scenario_places.specs.MemberPlaces.{item_number, table_number, count, count_if, item_among, change_flaw, word_place};
 
-use scenario_keys::{Format, Key, items_at};
-use scenario_pools::{BadWord, bad_word};
-use std::alloc::{AllocError, Global};
+use scenario_keys::{Key, items_at};
+use scenario_pools::BadWord;
 use toml::{Table, Value};
-use version_drafts::{CHANGE_KEYS, Flaw, Place, drafts_in};
+use version_drafts::{CHANGE_KEYS, Flaw, Place};
 
 // The item of a number.
 #[tactic(auto, using(scenario_keys::proofs::Views::items_from))]
@@ -85,8 +84,9 @@ fn service_table<'a>(table: &'a Table, version: usize, service: usize) -> Option
     )
 }
 
-// The place of a bad word in a version.
-fn word_place(table: &Table, version: usize, word: BadWord) -> Place
+/// The place of a bad word in a version of a document. A service that the base has no service for is told by its missing
+/// [`Key::Members`].
+pub fn word_place(table: &Table, version: usize, word: BadWord) -> Place
     ensures { result ≡ word_place (table_view table.now) version word }
 {
     match word {
@@ -105,28 +105,3 @@ fn word_place(table: &Table, version: usize, word: BadWord) -> Place
         }
     }
 }
-
-/// The first word of a document's versions that is no member or change, or that names what isn't there. A service that the
-/// base has no service for is told by its missing [`Key::Members`]. Where the document's keys aren't as they should be there
-/// is none.
-pub fn member_place(
-    alloc: Global,
-    format: Format,
-    table: &Table,
-) -> Result<Option<Place>, AllocError>
-    ensures { IfOk result (λ o. o ≡ member_place_in format (table_view table.now)) }
-{
-    let Ok(drafts) = drafts_in(alloc, format, table)? else {
-        return Ok(None);
-    };
-    match bad_word(alloc, drafts.as_slice())? {
-        Some((version, word)) => Ok(Some(word_place(table, version, word))),
-        None => Ok(None),
-    }
-}
-
-/// A law about a document of a format whose keys are as they should be. It has such a place exactly where it is refused as
-/// BadMember.
-pub fn one_word_or_all_members()
-    ensures { OneWordOrAllMembers }
-{}

@@ -1,9 +1,9 @@
-//! Where a scenario's versions can't be those of a catalogue.
+//! Where a version can't be one of a catalogue.
 ghost use Rattle.std.specs.Prelude.{◌≡◌, ◌==◌, ◌||◌, map, length, IfOk};
 ghost use Rattle.std.specs.List.{list_any};
 ghost use Rattle.version_drafts.specs.Plain.{plain_service, plain_version};
-ghost use Rattle.scenario.specs.Plain.{is_long};
-ghost use Rattle.scenario_places.specs.PoolPlaces.{double_service, double_name_from, most_members, long_from, over_place, services_place, version_place, pool_place_of, OnePlaceOrACatalogue};
+ghost use Rattle.scenario_places.specs.Adding.{is_long};
+ghost use Rattle.scenario_places.specs.PoolPlaces.{double_service, double_name_from, most_members, long_from, over_place, services_place, version_place, OnePlaceOrACatalogue};
 
 use crate::doubles::{double_name, double_service};
 use backend_names::TableSize;
@@ -114,8 +114,9 @@ fn is_refused(versions: &[Version], number: u32) -> bool
     number == 0 || has_number(versions, number)
 }
 
-// Where a version can't follow the earlier ones.
-fn version_place(
+/// Where a version can't follow the earlier ones: at a number, a service or a member that an earlier one has, or at the first
+/// past a limit.
+pub(crate) fn version_place(
     alloc: Global,
     size: TableSize,
     earlier: &[Version],
@@ -128,23 +129,6 @@ fn version_place(
         return Ok(Some(Place::Version(at, Flaw::Value(Key::Number))));
     }
     services_place(alloc, size, at, version.services.as_slice())
-}
-
-/// The first place at which versions are refused that are added in order to an empty catalogue of this table size. It is a
-/// number, a service or a member that an earlier one has, or the first past a limit.
-pub fn pool_place(
-    alloc: Global,
-    size: TableSize,
-    versions: &[Version],
-) -> Result<Option<Place>, AllocError>
-    ensures { IfOk result (λ o. o ≡ pool_place_of size (map plain_version versions.now)) }
-{
-    for at in 0..versions.len() {
-        if let Some(place) = version_place(alloc, size, &versions[..at], &versions[at])? {
-            return Ok(Some(place));
-        }
-    }
-    Ok(None)
 }
 
 /// A law: versions either have a place, and are refused, or a catalogue takes them one after another.

@@ -92,3 +92,9 @@ is_bad_member (Err fault.Memory) = false
 -- drafts have such a word exactly where they are refused as BadMember
 abbrev pub BadWordsAreBadMembers : Type 0
 BadWordsAreBadMembers = (ds : List PlainVersionDraft) → is_some (bad_word_of ds) ≡ is_bad_member (versions_of ds)
+
+-- drafts that are refused by a fault are so for this word, where the fault is of one
+abbrev pub IsOfWord : List PlainVersionDraft → PoolsFault → Option (ℕ × BadWord) → Type 0
+IsOfWord ds fault.BadMember None = ⊥
+IsOfWord ds fault.BadMember (Some w) = bad_word_of ds ≡ Some w
+IsOfWord ds e o = o ≡ None

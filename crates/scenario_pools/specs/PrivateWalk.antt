@@ -9,6 +9,7 @@ use Rattle.scenario_pools.specs.declared.bad_words.BadWord.{BadWord}
 use Rattle.scenario_pools.specs.declared.bad_words.Unmade.{Unmade}
 use Rattle.scenario_pools.specs.declared.bad_words.Unmade.TheVariants as stop
 use Rattle.scenario_pools.specs.declared.fault.PoolsFault.{PoolsFault}
+use Rattle.scenario_pools.specs.declared.fault.Unwritten.{Unwritten}
 use Rattle.scenario_pools.specs.declared.fault.PoolsFault.TheVariants as fault
 
 -- why a version isn't made, which has this word where it is refused as BadMember
@@ -22,3 +23,9 @@ abbrev pub IsUnwritten : List PlainVersionDraft → ℕ → Unmade → Type 0
 IsUnwritten ds n (stop.Bad w) = (versions_of ds ≡ Err fault.BadMember) × (bad_word_of ds ≡ Some (n, w))
 IsUnwritten ds n stop.TooMany = (versions_of ds ≡ Err fault.TooMany) × (bad_word_of ds ≡ None)
 IsUnwritten ds n stop.Memory = ⊤
+
+-- the same, as it is answered
+abbrev pub unwritten : ℕ → Unmade → Unwritten
+unwritten v (stop.Bad w) = record { fault = fault.BadMember; word = Some (v, w) }
+unwritten v stop.TooMany = record { fault = fault.TooMany; word = None }
+unwritten v stop.Memory = record { fault = fault.Memory; word = None }

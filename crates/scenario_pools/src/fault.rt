@@ -2,10 +2,11 @@
 ghost use Rattle.std.specs.Prelude.{◌≡◌};
 ghost use Rattle.scenario_pools.specs.declared.fault.PoolsFault.TheVariants.{Memory};
 
+use crate::bad_words::BadWord;
 use std::alloc::AllocError;
 use thiserror::Error;
 
-/// Why drafts of versions were refused: the fault of the first that has one.
+/// The fault of drafts of versions: that of the first that has one.
 #[derive(Clone, Copy, Debug, PartialEq, Eq, Drop, Error)]
 pub enum PoolsFault {
     /// A word is no member, name or weight, or names a server that isn't there.
@@ -25,4 +26,13 @@ impl From<AllocError> for PoolsFault {
     fn from(_: AllocError) -> PoolsFault {
         PoolsFault::Memory
     }
+}
+
+/// Why drafts of versions were refused.
+#[derive(Clone, Copy, Debug, PartialEq, Eq)]
+pub struct Unwritten {
+    /// The fault of the first draft that has one.
+    pub fault: PoolsFault,
+    /// The word for which it is refused, and the number of its version, from 0. None where the fault is another than BadMember.
+    pub word: Option<(usize, BadWord)>,
 }

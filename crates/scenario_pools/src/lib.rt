@@ -9,6 +9,6 @@ mod laws;
 mod writing;
 
 pub use bad_words::{BadWord, bad_words_are_bad_members};
-pub use fault::PoolsFault;
+pub use fault::{PoolsFault, Unwritten};
 pub use laws::{differences_are_written_out, older_formats_state_versions};
-pub use writing::{MOST_PLACES, bad_word, versions_of};
+pub use writing::{MOST_PLACES, versions_of};

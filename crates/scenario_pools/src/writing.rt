@@ -6,13 +6,13 @@ ghost use Rattle.scenario_keys.specs.Lookups.{all_of};
 ghost use Rattle.version_drafts.specs.Plain.{plain_service, plain_version};
 ghost use Rattle.version_drafts.specs.Drafts.{plain_service_draft, plain_version_draft};
 ghost use Rattle.scenario_pools.specs.Writing.{stated, stated_version, version_from, left, left_by_services, left_by_drafts, left_by_version, additions, is_addition, brought, has_room, based, written_out, versions_of, IsRefused};
-ghost use Rattle.scenario_pools.specs.BadWords.{bad_in_service, bad_in_stated, bad_in_based, bad_in_version, bad_word_of};
-ghost use Rattle.scenario_pools.specs.PrivateWalk.{IsUnmade, IsUnwritten};
+ghost use Rattle.scenario_pools.specs.BadWords.{bad_in_service, bad_in_stated, bad_in_based, bad_in_version, bad_word_of, IsOfWord};
+ghost use Rattle.scenario_pools.specs.PrivateWalk.{IsUnmade, IsUnwritten, unwritten};
 
 use crate::bad_words::{BadWord, Unmade};
 use crate::basing::{stated_with, with_drafts};
 use crate::changing::all_changed;
-use crate::fault::PoolsFault;
+use crate::fault::{PoolsFault, Unwritten};
 use pool_versions::{Service, Version};
 use std::alloc::{AllocError, Global};
 use version_drafts::{Change, ServiceDraft, VersionDraft};
@@ -257,30 +257,35 @@ fn all_written(alloc: Global, drafts: &[VersionDraft]) -> Result<Vec<Version>, (
     Ok(versions)
 }
 
-/// The versions that drafts mean, written out, or the fault of the first draft that has one.
-pub fn versions_of(alloc: Global, drafts: &[VersionDraft]) -> Result<Vec<Version>, PoolsFault>
-    ensures ok { IfOk result (λ v. versions_of (map plain_version_draft drafts.now) ≡ Ok (map plain_version v.items)) }
-    ensures refused { IfErr result (IsRefused (versions_of (map plain_version_draft drafts.now))) }
+// Why drafts aren't written out, by the version of a number.
+fn unwritten(version: usize, why: Unmade) -> Unwritten
+    ensures { result ≡ unwritten version why }
 {
-    match all_written(alloc, drafts) {
-        Ok(versions) => Ok(versions),
-        Err((_, Unmade::Bad(_))) => Err(PoolsFault::BadMember),
-        Err((_, Unmade::TooMany)) => Err(PoolsFault::TooMany),
-        Err((_, Unmade::Memory)) => Err(PoolsFault::Memory),
+    match why {
+        Unmade::Bad(word) => Unwritten {
+            fault: PoolsFault::BadMember,
+            word: Some((version, word)),
+        },
+        Unmade::TooMany => Unwritten {
+            fault: PoolsFault::TooMany,
+            word: None,
+        },
+        Unmade::Memory => Unwritten {
+            fault: PoolsFault::Memory,
+            word: None,
+        },
     }
 }
 
-/// The first word for which drafts are refused as BadMember, with the number of its version, from 0.
-pub fn bad_word(
-    alloc: Global,
-    drafts: &[VersionDraft],
-) -> Result<Option<(usize, BadWord)>, AllocError>
-    ensures { IfOk result (λ o. o ≡ bad_word_of (map plain_version_draft drafts.now)) }
+/// The versions that drafts mean, written out. Else the fault of the first draft that has one, and the word for which it is
+/// refused.
+pub fn versions_of(alloc: Global, drafts: &[VersionDraft]) -> Result<Vec<Version>, Unwritten>
+    ensures ok { IfOk result (λ v. versions_of (map plain_version_draft drafts.now) ≡ Ok (map plain_version v.items)) }
+    ensures refused { IfErr result (λ r. IsRefused (versions_of (map plain_version_draft drafts.now)) r.fault) }
+    ensures word { IfErr result (λ r. IsOfWord (map plain_version_draft drafts.now) r.fault r.word) }
 {
     match all_written(alloc, drafts) {
-        Ok(_) => Ok(None),
-        Err((number, Unmade::Bad(word))) => Ok(Some((number, word))),
-        Err((_, Unmade::TooMany)) => Ok(None),
-        Err((_, Unmade::Memory)) => Err(AllocError),
+        Ok(versions) => Ok(versions),
+        Err((version, why)) => Err(unwritten(version, why)),
     }
 }

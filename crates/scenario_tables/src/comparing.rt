@@ -1,5 +1,7 @@
 //! The command `compare` of a scenario's service.
 ghost use Rattle.std.specs.Prelude.{◌≡◌, ◌≢◌, IfOk, IfErr, OnOk, string_bytes};
+ghost use Rattle.scenario.specs.declared.playing.Played.TheVariants.{InTurn};
+ghost use Rattle.scenario_faults.specs.Refusals.{IsPlaced};
 ghost use Rattle.command_faults.specs.Printing.{Prints, BreaksOff};
 ghost use Rattle.scenario_tables.specs.Tables.{compared, ShowsMoves, AreMoves, AskedFails, MovesFail, keys_in_both};
 
@@ -8,8 +10,8 @@ use command_faults::{CliFault, put_text};
 use json_lines::Form;
 use pcap_file::Sink;
 use rollout_plan::{members_under, rule_of, version_of};
-use scenario::{Played, Scenario, read};
-use scenario_faults::scenario_fault;
+use scenario::Scenario;
+use scenario_faults::{PlacedFault, scenario_in};
 use std::alloc::Global;
 use table_commands::compare_text_of;
 
@@ -48,18 +50,19 @@ fn text_for(
     form: Form,
     scenario: &[u8],
     change: Change<'_>,
-) -> Result<String, CliFault>
+) -> Result<String, PlacedFault>
     ensures text { IfOk result (λ s. AreMoves form scenario.now (compared change.entry) (string_bytes s)) }
-    ensures fault { IfErr result (λ fault. MovesFail fault scenario.now (compared change.entry)) }
-    ensures unwritten { IfErr result (λ fault. fault ≢ CliFault.Write) }
+    ensures fault { IfErr result (λ r. MovesFail r.fault scenario.now (compared change.entry)) }
+    ensures place { IfErr result (IsPlaced InTurn scenario.now) }
+    ensures unwritten { IfErr result (λ r. r.fault ≢ CliFault.Write) }
 {
-    let scenario = match read(alloc, Played::InTurn, scenario) {
+    let scenario = match scenario_in(alloc, scenario) {
         Ok(scenario) => scenario,
-        Err(fault) => return Err(scenario_fault(fault)),
+        Err(stopped) => return Err(stopped),
     };
     match text_of(alloc, form, &scenario, change) {
         Ok(text) => Ok(text),
-        Err(fault) => Err(fault),
+        Err(fault) => Err(PlacedFault { fault, place: None }),
     }
 }
 
@@ -76,18 +79,19 @@ pub fn compare_in<S: Sink>(
     scenario: &[u8],
     change: Change<'_>,
     out: &mut S,
-) -> Result<(), CliFault>
+) -> Result<(), PlacedFault>
     ensures written { OnOk result (Prints (AreMoves form scenario.now (compared change.entry)) (S.tape out.old) (S.tape out.new)) }
-    ensures broken { IfErr result (λ fault. fault ≡ CliFault.Write → BreaksOff (AreMoves form scenario.now (compared change.entry)) (S.tape out.old) (S.tape out.new)) }
-    ensures silent { IfErr result (λ fault. fault ≢ CliFault.Write → out.new ≡ out.old) }
-    ensures fault { IfErr result (λ fault. MovesFail fault scenario.now (compared change.entry)) }
+    ensures broken { IfErr result (λ r. r.fault ≡ CliFault.Write → BreaksOff (AreMoves form scenario.now (compared change.entry)) (S.tape out.old) (S.tape out.new)) }
+    ensures silent { IfErr result (λ r. r.fault ≢ CliFault.Write → out.new ≡ out.old) }
+    ensures fault { IfErr result (λ r. MovesFail r.fault scenario.now (compared change.entry)) }
+    ensures place { IfErr result (IsPlaced InTurn scenario.now) }
 {
     let text = match text_for(alloc, form, scenario, change) {
         Ok(text) => text,
-        Err(fault) => return Err(fault),
+        Err(stopped) => return Err(stopped),
     };
     match put_text(out, text.as_str()) {
         Ok(()) => Ok(()),
-        Err(fault) => Err(fault),
+        Err(fault) => Err(PlacedFault { fault, place: None }),
     }
 }

@@ -2,6 +2,8 @@
 ghost use Rattle.std.specs.Prelude.{◌≡◌, ◌≢◌, ◌++◌, ◌<◌, map, option_map, IfOk, IfErr, OnOk, string_bytes};
 ghost use Rattle.std.specs.List.{flat_map, range_with_len};
 ghost use Rattle.selection.specs.Picks.{slot_names};
+ghost use Rattle.scenario.specs.declared.playing.Played.TheVariants.{InTurn};
+ghost use Rattle.scenario_faults.specs.Refusals.{IsPlaced};
 ghost use Rattle.command_faults.specs.Printing.{Prints, BreaksOff};
 ghost use Rattle.rollout_plan.specs.Plans.{version_in};
 ghost use Rattle.scenario_tables.specs.Tables.{owner_name, owner_line_as, share_line_as, slots_text_as, ShowsTable, IsTable, AskedFails, TableFails, keys_in};
@@ -13,8 +15,8 @@ use json_lines::Form;
 use pcap_file::Sink;
 use pool_versions::Backend;
 use rollout_plan::{SlotTable, members_under, rule_of, version_of};
-use scenario::{Played, Scenario, read};
-use scenario_faults::scenario_fault;
+use scenario::Scenario;
+use scenario_faults::{PlacedFault, scenario_in};
 use std::alloc::{AllocError, Global};
 use table_commands::{push_count_line, push_slot_line, table_head};
 
@@ -114,18 +116,19 @@ fn text_for(
     scenario: &[u8],
     number: u32,
     word: Option<&str>,
-) -> Result<String, CliFault>
+) -> Result<String, PlacedFault>
     ensures text { IfOk result (λ s. IsTable form scenario.now number (option_map (λ w. w.now) word.entry) (string_bytes s)) }
-    ensures fault { IfErr result (λ fault. TableFails fault scenario.now number (option_map (λ w. w.now) word.entry)) }
-    ensures unwritten { IfErr result (λ fault. fault ≢ CliFault.Write) }
+    ensures fault { IfErr result (λ r. TableFails r.fault scenario.now number (option_map (λ w. w.now) word.entry)) }
+    ensures place { IfErr result (IsPlaced InTurn scenario.now) }
+    ensures unwritten { IfErr result (λ r. r.fault ≢ CliFault.Write) }
 {
-    let scenario = match read(alloc, Played::InTurn, scenario) {
+    let scenario = match scenario_in(alloc, scenario) {
         Ok(scenario) => scenario,
-        Err(fault) => return Err(scenario_fault(fault)),
+        Err(stopped) => return Err(stopped),
     };
     match text_of(alloc, form, &scenario, number, word) {
         Ok(text) => Ok(text),
-        Err(fault) => Err(fault),
+        Err(fault) => Err(PlacedFault { fault, place: None }),
     }
 }
 
@@ -142,19 +145,20 @@ pub fn table_in<S: Sink>(
     version: u32,
     service: Option<&str>,
     out: &mut S,
-) -> Result<(), CliFault>
+) -> Result<(), PlacedFault>
     ensures written { OnOk result (Prints (IsTable form scenario.now version (option_map (λ w. w.now) service.entry)) (S.tape out.old) (S.tape out.new)) }
-    ensures broken { IfErr result (λ fault. fault ≡ CliFault.Write →
+    ensures broken { IfErr result (λ r. r.fault ≡ CliFault.Write →
         BreaksOff (IsTable form scenario.now version (option_map (λ w. w.now) service.entry)) (S.tape out.old) (S.tape out.new)) }
-    ensures silent { IfErr result (λ fault. fault ≢ CliFault.Write → out.new ≡ out.old) }
-    ensures fault { IfErr result (λ fault. TableFails fault scenario.now version (option_map (λ w. w.now) service.entry)) }
+    ensures silent { IfErr result (λ r. r.fault ≢ CliFault.Write → out.new ≡ out.old) }
+    ensures fault { IfErr result (λ r. TableFails r.fault scenario.now version (option_map (λ w. w.now) service.entry)) }
+    ensures place { IfErr result (IsPlaced InTurn scenario.now) }
 {
     let text = match text_for(alloc, form, scenario, version, service) {
         Ok(text) => text,
-        Err(fault) => return Err(fault),
+        Err(stopped) => return Err(stopped),
     };
     match put_text(out, text.as_str()) {
         Ok(()) => Ok(()),
-        Err(fault) => Err(fault),
+        Err(fault) => Err(PlacedFault { fault, place: None }),
     }
 }

@@ -5,6 +5,8 @@ ghost use Rattle.pool_versions.specs.Pool.{find_service};
 ghost use Rattle.rollout_plan.specs.Tables.{rule_of};
 ghost use Rattle.selection.specs.Picks.{slot_of_flow};
 ghost use Rattle.pcap_file.specs.Device.{Unfailed, ReadRefused};
+ghost use Rattle.scenario.specs.declared.playing.Played.TheVariants.{InTurn};
+ghost use Rattle.scenario_faults.specs.Refusals.{IsPlaced};
 ghost use Rattle.command_faults.specs.Printing.{Prints, BreaksOff};
 ghost use Rattle.table_commands.specs.Pick.{longest};
 ghost use Rattle.scenario_tables.specs.Picking.{table_text_as, service_text_as, packet_text_as, ShowsPick, IsPick, AskedFails, PickFails};
@@ -19,8 +21,8 @@ use json_lines::Form;
 use pcap_file::{Sink, Source};
 use pool_versions::Version;
 use rollout_plan::{SlotTable, rule_of, version_of};
-use scenario::{Played, Scenario, SchemeKind, read};
-use scenario_faults::scenario_fault;
+use scenario::{Scenario, SchemeKind};
+use scenario_faults::{PlacedFault, scenario_in};
 use std::alloc::{AllocError, Global};
 use table_commands::{datagram_of, drop_text_of, flow_text_of};
 
@@ -132,20 +134,21 @@ fn text_in<R: Source>(
     scenario: &[u8],
     options: PickOptions,
     input: &mut R,
-) -> Result<String, CliFault>
+) -> Result<String, PlacedFault>
     ensures text { IfOk result (λ s. IsPick options.form scenario.now options.version options.check (R.tape input.old).bytes (string_bytes s)) }
     ensures unfailed { OnOk result (Unfailed (R.tape input.old) (R.tape input.new)) }
-    ensures read { IfErr result (λ fault. fault ≡ CliFault.Read → ReadRefused (longest + 1) (R.tape input.old) (R.tape input.new)) }
-    ensures fault { IfErr result (λ fault. PickFails fault scenario.now options.version (R.tape input.old).bytes) }
-    ensures unwritten { IfErr result (λ fault. fault ≢ CliFault.Write) }
+    ensures read { IfErr result (λ r. r.fault ≡ CliFault.Read → ReadRefused (longest + 1) (R.tape input.old) (R.tape input.new)) }
+    ensures fault { IfErr result (λ r. PickFails r.fault scenario.now options.version (R.tape input.old).bytes) }
+    ensures place { IfErr result (IsPlaced InTurn scenario.now) }
+    ensures unwritten { IfErr result (λ r. r.fault ≢ CliFault.Write) }
 {
-    let scenario = match read(alloc, Played::InTurn, scenario) {
+    let scenario = match scenario_in(alloc, scenario) {
         Ok(scenario) => scenario,
-        Err(fault) => return Err(scenario_fault(fault)),
+        Err(stopped) => return Err(stopped),
     };
     match text_for(alloc, &scenario, options, input) {
         Ok(text) => Ok(text),
-        Err(fault) => Err(fault),
+        Err(fault) => Err(PlacedFault { fault, place: None }),
     }
 }
 
@@ -161,21 +164,22 @@ pub fn pick_in<R: Source, S: Sink>(
     options: PickOptions,
     input: &mut R,
     out: &mut S,
-) -> Result<(), CliFault>
+) -> Result<(), PlacedFault>
     ensures written { OnOk result (Prints (IsPick options.form scenario.now options.version options.check (R.tape input.old).bytes) (S.tape out.old) (S.tape out.new)) }
-    ensures broken { IfErr result (λ fault. fault ≡ CliFault.Write →
+    ensures broken { IfErr result (λ r. r.fault ≡ CliFault.Write →
         BreaksOff (IsPick options.form scenario.now options.version options.check (R.tape input.old).bytes) (S.tape out.old) (S.tape out.new)) }
     ensures unfailed { OnOk result (Unfailed (R.tape input.old) (R.tape input.new)) }
-    ensures read { IfErr result (λ fault. fault ≡ CliFault.Read → ReadRefused (longest + 1) (R.tape input.old) (R.tape input.new)) }
-    ensures silent { IfErr result (λ fault. fault ≢ CliFault.Write → out.new ≡ out.old) }
-    ensures fault { IfErr result (λ fault. PickFails fault scenario.now options.version (R.tape input.old).bytes) }
+    ensures read { IfErr result (λ r. r.fault ≡ CliFault.Read → ReadRefused (longest + 1) (R.tape input.old) (R.tape input.new)) }
+    ensures silent { IfErr result (λ r. r.fault ≢ CliFault.Write → out.new ≡ out.old) }
+    ensures fault { IfErr result (λ r. PickFails r.fault scenario.now options.version (R.tape input.old).bytes) }
+    ensures place { IfErr result (IsPlaced InTurn scenario.now) }
 {
     let text = match text_in(alloc, scenario, options, input) {
         Ok(text) => text,
-        Err(fault) => return Err(fault),
+        Err(stopped) => return Err(stopped),
     };
     match put_text(out, text.as_str()) {
         Ok(()) => Ok(()),
-        Err(fault) => Err(fault),
+        Err(fault) => Err(PlacedFault { fault, place: None }),
     }
 }

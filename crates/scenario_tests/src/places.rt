@@ -1,7 +1,7 @@
 //! The places at which a scenario is refused, and that reading refuses it there.
 
-use scenario::{Played, Refused, ScenarioFault, format_of, pools_in, read_placed};
-use scenario_diagnostics::{Flaw, Key, Place, member_place, pool_place, words_of};
+use scenario::{Played, Refused, ScenarioFault, read_placed};
+use scenario_diagnostics::{Flaw, Key, Place, words_of};
 use std::alloc::Global;
 use std::process::Abort;
 
@@ -171,23 +171,32 @@ fn finds_keys(rt: &impl Abort, alloc: Global, row: &Row, at: usize) {
     finds_key_in(rt, alloc, text.as_str(), row, at);
 }
 
+// Why and where a scenario is refused that is played so.
+fn refused(
+    rt: &impl Abort,
+    alloc: Global,
+    played: Played,
+    text: &str,
+    at: usize,
+) -> Option<Refused> {
+    let refused = read_placed(alloc, played, text.as_bytes()).err();
+    let fault = scenario::read(alloc, played, text.as_bytes()).err();
+    assert_eq!(rt; refused.map(|refused| refused.fault), fault, "row {at}");
+    refused
+}
+
+// The place of a refusal, where it is one of those that are sought.
+fn place_if(refused: Option<Refused>, is_sought: bool) -> Option<Place> {
+    if is_sought { refused?.place } else { None }
+}
+
 // The place is there where the fault is BadKey, however the scenario is played.
 fn finds_key_in(rt: &impl Abort, alloc: Global, text: &str, row: &Row, at: usize) {
     for played in [Played::InTurn, Played::OnThreads] {
-        let refused = read_placed(alloc, played, text.as_bytes()).err();
-        let fault = scenario::read(alloc, played, text.as_bytes()).err();
-        assert_eq!(rt; refused.map(fault_of), fault, "row {at}");
-        let place = refused.and_then(place_of);
-        is_at(rt, place, row, fault == Some(ScenarioFault::BadKey), at);
+        let refused = refused(rt, alloc, played, text, at);
+        let is_key = refused.is_some_and(|refused| refused.fault == ScenarioFault::BadKey);
+        is_at(rt, place_if(refused, is_key), row, is_key, at);
     }
-}
-
-fn fault_of(refused: Refused) -> ScenarioFault {
-    refused.fault
-}
-
-fn place_of(refused: Refused) -> Option<Place> {
-    refused.place
 }
 
 #[test]
@@ -234,11 +243,9 @@ fn finds_members(rt: &impl Abort, alloc: Global, row: &Row, at: usize) {
 }
 
 fn finds_member_in(rt: &impl Abort, alloc: Global, text: &str, row: &Row, at: usize) {
-    let table = toml::table_from_str(alloc, text).expect(rt, "a document");
-    let format = format_of(&table).expect(rt, "a format");
-    let place = member_place(alloc, format, &table).expect(rt, "memory");
-    let fault = scenario::read(alloc, Played::InTurn, text.as_bytes()).err();
-    is_at(rt, place, row, fault == Some(ScenarioFault::BadMember), at);
+    let refused = refused(rt, alloc, Played::InTurn, text, at);
+    let is_member = refused.is_some_and(|refused| refused.fault == ScenarioFault::BadMember);
+    is_at(rt, place_if(refused, is_member), row, is_member, at);
 }
 
 #[test]
@@ -471,9 +478,9 @@ fn says(rt: &impl Abort, alloc: Global, row: &Said) {
     let text = DIFFERENCES
         .replacen(alloc, row.0, row.1, 1)
         .expect(rt, "memory");
-    let read = scenario::read(alloc, Played::InTurn, text.as_bytes());
-    let fault = read.err().expect(rt, "a fault");
-    let words = words_of(alloc, text.as_bytes(), fault).expect(rt, "words");
+    let read = read_placed(alloc, Played::InTurn, text.as_bytes());
+    let Refused { fault, place } = read.err().expect(rt, "a fault");
+    let words = words_of(alloc, text.as_bytes(), fault, place).expect(rt, "words");
     assert_eq!(rt; words.as_str(), row.2);
 }
 
@@ -522,13 +529,9 @@ static POOLS: [Row; 6] = [
 
 fn finds_in_pools(rt: &impl Abort, alloc: Global, row: &Row, at: usize) {
     let text = changed(rt, alloc, row);
-    let table = toml::table_from_str(alloc, text.as_str()).expect(rt, "a document");
-    let pools = pools_in(alloc, &table).expect(rt, "memory");
-    let (size, versions) = pools.expect(rt, "versions");
-    let place = pool_place(alloc, size, versions.as_slice()).expect(rt, "memory");
-    let fault = scenario::read(alloc, Played::InTurn, text.as_bytes()).err();
-    let refused = matches!(fault, Some(ScenarioFault::Pool(_)));
-    is_at(rt, place, row, refused, at);
+    let refused = refused(rt, alloc, Played::InTurn, text.as_str(), at);
+    let is_pool = refused.is_some_and(|refused| matches!(refused.fault, ScenarioFault::Pool(_)));
+    is_at(rt, place_if(refused, is_pool), row, is_pool, at);
 }
 
 #[test]

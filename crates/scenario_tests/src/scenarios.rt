@@ -743,8 +743,10 @@ fn steps_for_threads(rt: &impl Abort, alloc: Global, steps: &str) -> Result<usiz
     let line = format!(in alloc; "steps = [{steps}]\n").expect(rt, "memory");
     let whole = text(rt, alloc, line.as_str());
     let whole = changed(rt, alloc, whole.as_str(), ("format = 1", "format = 3"));
-    let read = read_for_threads(alloc, whole.as_bytes())?;
-    Ok(read.scenario.steps.len())
+    match read_for_threads(alloc, whole.as_bytes()) {
+        Ok(read) => Ok(read.scenario.steps.len()),
+        Err(refused) => Err(refused.fault),
+    }
 }
 
 // Workers that refuse, that are held and that are drained can't be ordered; all else can.

@@ -71,3 +71,9 @@ returns-in-Err-run_scenario-clause-stopped g c =
       },
       refl,
     ))
+
+pub returns-in-Err-run_scenario-clause-place : goal.returns-in-Err-run_scenario-clause-place
+returns-in-Err-run_scenario-clause-place g c = inr ((c.in-Ok.scenario.scenario, c.in-Ok.ensures.means), refl)
+
+pub returns-clause-place : goal.returns-clause-place
+returns-clause-place g c = inr ((c.in-Ok.scenario.scenario, c.in-Ok.ensures.means), refl)

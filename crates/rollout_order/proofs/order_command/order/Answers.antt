@@ -1,4 +1,4 @@
-use Rattle.std.proofs.Common.{rules, Some, ◌≡◌, ℕ, List, sym, subst, inr, string_bytes}
+use Rattle.std.proofs.Common.{rules, Some, ◌≡◌, ℕ, List, sym, subst, inr, string_bytes, refl}
 use Rattle.command_faults.specs.declared.fault.CliFault.{CliFault}
 use Rattle.rollout_plan.specs.Plans.{PlanFails}
 use Rattle.rollout_order.specs.OrderPlans.{IsOrderPlan}
@@ -20,3 +20,6 @@ returns-clause-fault g c =
     let text = c.in-Ok.ensures.text in
     subst (λ (fault : CliFault). PlanFails fault c.args.scenario.now c.args.from (Some c.args.to)) (sym c.in-Err-put_text.ensures.refused.0)
     (inr (record { meant = text.meant; means = text.means; why = has_both c.args.form text.meant c.args.from c.args.to (string_bytes c.in-Ok.text) text.shows }))
+
+pub returns-clause-place : goal.returns-clause-place
+returns-clause-place g c = inr ((c.in-Ok.ensures.text.meant, c.in-Ok.ensures.text.means), refl)

@@ -6,7 +6,7 @@ pub returns-in-Err-clause-stopped : goal.returns-in-Err-clause-stopped
 returns-in-Err-clause-stopped g c = elim (c.in-Err.ensures.stopped) [
   | inl s ↦ inl (s.0, (s.1.0, s.1.2))
   | inr rest ↦ inr (elim rest [
-    | inl s ↦ inl (s.0, never_written c.in-Err.fault c.args.scenario.now _ _ s.0, s.1)
+    | inl s ↦ inl (s.0, never_written c.in-Err.stopped.fault c.args.scenario.now _ _ s.0, s.1)
     | inr s ↦ inr s
   ])
 ]

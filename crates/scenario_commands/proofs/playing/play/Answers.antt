@@ -40,3 +40,9 @@ returns-in-Err-play_scenario-clause-stopped g c =
       },
       refl,
     ))
+
+pub returns-in-Err-play_scenario-clause-place : goal.returns-in-Err-play_scenario-clause-place
+returns-in-Err-play_scenario-clause-place g c = inr ((c.in-Ok.scenario, c.in-Ok.ensures.means), refl)
+
+pub returns-clause-place : goal.returns-clause-place
+returns-clause-place g c = inr ((c.in-Ok.scenario, c.in-Ok.ensures.means), refl)

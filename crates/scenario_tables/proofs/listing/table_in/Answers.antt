@@ -1,4 +1,4 @@
-use Rattle.std.proofs.Common.{◌≡◌, ℕ, List, Option, option_map, map, ap, sym, subst, inr, Bor}
+use Rattle.std.proofs.Common.{◌≡◌, ℕ, List, Option, option_map, map, ap, sym, subst, inr, Bor, refl}
 use Rattle.pool_versions.specs.declared.service.Version.{Version}
 use Rattle.pool_versions.specs.Pool.{key_of}
 use Rattle.command_faults.specs.declared.fault.CliFault.{CliFault}
@@ -15,3 +15,6 @@ returns-clause-fault g c =
       means = text.means;
       why = (map key_of shown.version.services.items, shown.key, ap (λ (v : Option Version). keys_in v) shown.of_number, shown.of_word);
     }))
+
+pub returns-clause-place : goal.returns-clause-place
+returns-clause-place g c = inr ((c.in-Ok.ensures.text.meant, c.in-Ok.ensures.text.means), refl)
