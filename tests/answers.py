@@ -5,6 +5,7 @@ Rows of `--where`, `--per-backend`, `--per-node`, `--summary` and of `table`, `p
 scenarios, 400 in the gate, print what tests/model.py says; some run on threads. The last line is 'N passed, N failed'.
 """
 import collections
+import json
 import random
 import subprocess
 import sys
@@ -104,12 +105,10 @@ def share(who, version, packets, size, flows):
 
 
 def shares(name, text, data, rest, backends, nodes, told_of):
-    """`simulate` and `run` print the shares behind the report, and before the summary; each alone too."""
+    """`simulate` prints the shares behind the report, and before the summary; each alone too."""
     simulates(f"{name}: backends", text, data, rest + backends, words=["--per-backend"])
     simulates(f"{name}: nodes", text, data, rest + nodes, words=["--per-node"])
     simulates(f"{name}: both", text, data, rest + backends + nodes + told_of, words=["--summary", "--per-node", "--per-backend"])
-    answer = rows.ran(text, data, ["--per-backend", "--per-node"])
-    check(f"{name}: on threads", answer[:3] == (0, (rest + "audit agrees\n" + backends + nodes).encode(), b""), answer)
 
 
 def test_shares():
@@ -118,11 +117,20 @@ def test_shares():
     apart = scenario(["install 0 1", "install 1 2", "take 2"])
     nodes = share("node 0", 1, 1, 40, 1) + share("node 1", 2, 1, 40, 1)
     shares("one flow at two nodes", apart, capture("xx"), report(2, 2), a_one + c_two, nodes, summary(1, 1, node=1))
+    answer = rows.ran(apart, capture("xx"), ["--per-backend", "--per-node"])
+    whole = report(2, 2) + "audit agrees\n" + a_one + c_two + nodes
+    check("one flow at two nodes, on threads", answer[:3] == (0, whole.encode(), b""), answer)
     shares("nothing is sent", scenario(["take 1"]), capture("y"), report(1, 0, drops="drop NoVersion 1\n"), "", "", summary(0))
     kept = scenario(["live 0", "install 0 1", "take 2", "install 0 2", "take 2"])
     a_two = share("backend A@10.8.0.1", 1, 2, 80, 1) + share("backend A@10.8.0.1", 2, 2, 80, 1)
     nodes = share("node 0", 1, 2, 80, 1) + share("node 0", 2, 2, 80, 1)
     shares("an entry of an older version", kept, capture("xxxx"), report(4, 4), a_two, nodes, summary(1))
+    few = scenario(["take 3", "install 0 1", "take 1"]).replace("A@", "received@")
+    plain = rows.simulated(few, capture("xyyx"), ["-v"])
+    for options in (["--per-backend", "--per-node"], ["--per-backend", "--summary"], ["--json", "--per-backend", "--per-node", "--summary"]):
+        answer = rows.simulated(few, capture("xyyx"), ["-v", *options])
+        told_of = "".join(f"warning: {json.loads(line)['detail']}\n" for line in answer[2].decode().splitlines()) if "--json" in options else answer[2].decode()
+        check(f"what may be amiss is told with {options}", plain[2] != b"" and told_of == plain[2].decode(), f"{answer} {plain}")
     for seed in range(COUNT // 4):
         if seed % 2:
             _, text, data = format_three.random_case(80_000 + seed)

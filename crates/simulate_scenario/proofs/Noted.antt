@@ -1,5 +1,5 @@
 -- What is kept of a record that has one event more.
-use Rattle.std.proofs.Common.{◌≡◌, ℕ, zero, suc, ◌+◌, Bool, true, false, List, [], ◌∷◌, ◌++◌, length, reverse, string_bytes, Option, Some, None, Result, Ok, Err, refl, sym, ap, ◌∙◌, append_assoc, subst, arith, not}
+use Rattle.std.proofs.Common.{◌≡◌, ℕ, zero, suc, ◌+◌, Bool, true, false, List, [], ◌∷◌, ◌++◌, length, reverse, string_bytes, Option, Some, None, Result, refl, sym, ap, ◌∙◌, append_assoc, subst, arith, not}
 use Rattle.std.specs.Prelude.{◌==◌, ◌||◌, if◌then◌else◌, slice_get, OnOk}
 use Rattle.std.proofs.lemmas.List.{append-nil, reverse-append, length-reverse}
 use Rattle.std.proofs.lemmas.Bool.{eqb-true, eq-eqb, true≢false}
@@ -26,7 +26,6 @@ use Rattle.json_lines.proofs.Listed.{listing_push}
 use Rattle.simulate_scenario.specs.Asked.{form_of, begun, is_plain, asked_shares, shares_in, keeps_splits, keeps_changes}
 use Rattle.connection_changes.specs.declared.book.ChangeBook.{ChangeBook}
 use Rattle.connection_changes.specs.Books.{IsChangeBookOf}
-use Rattle.traffic_shares.specs.declared.books.AskedShares.{AskedShares}
 use Rattle.traffic_shares.specs.declared.books.ShareBooks.{ShareBooks}
 use Rattle.traffic_shares.specs.Books.{AreShareBooksOf}
 use Rattle.simulate_scenario.specs.Answers.{totals_in}
