@@ -1,10 +1,11 @@
 #!/usr/bin/env python3
 """answers.py [FIRST COUNT]: who changed the server, when, where and why, and the tables of a scenario's services.
 
-Rows of `--where`, `--summary` and of `table`, `pick` and `compare` over a scenario are worked out by hand. So many random
+Rows of `--where`, `--per-backend`, `--per-node`, `--summary` and of `table`, `pick` and `compare` over a scenario are worked out by hand. So many random
 scenarios, 400 in the gate, print what tests/model.py says; some run on threads. The last line is 'N passed, N failed'.
 """
 import collections
+import json
 import random
 import subprocess
 import sys
@@ -98,6 +99,50 @@ def test_down_and_drained():
     answers("after it had drained", text, capture("yyy"), found.splits(True), found.report(), found.summary())
 
 
+def share(who, version, packets, size, flows):
+    """A line of `--per-backend` or of `--per-node`."""
+    return f"{who} version {version} packets {packets} bytes {size} flows {flows}\n"
+
+
+def shares(name, text, data, rest, backends, nodes, told_of):
+    """`simulate` prints the shares behind the report, and before the summary; each alone too."""
+    simulates(f"{name}: backends", text, data, rest + backends, words=["--per-backend"])
+    simulates(f"{name}: nodes", text, data, rest + nodes, words=["--per-node"])
+    simulates(f"{name}: both", text, data, rest + backends + nodes + told_of, words=["--summary", "--per-node", "--per-backend"])
+
+
+def test_shares():
+    """Each backend's share, and each node's, under each version under which packets were served."""
+    a_one, c_two = share("backend A@10.8.0.1", 1, 1, 40, 1), share("backend C@10.8.0.3", 2, 1, 40, 1)
+    apart = scenario(["install 0 1", "install 1 2", "take 2"])
+    nodes = share("node 0", 1, 1, 40, 1) + share("node 1", 2, 1, 40, 1)
+    shares("one flow at two nodes", apart, capture("xx"), report(2, 2), a_one + c_two, nodes, summary(1, 1, node=1))
+    answer = rows.ran(apart, capture("xx"), ["--per-backend", "--per-node"])
+    whole = report(2, 2) + "audit agrees\n" + a_one + c_two + nodes
+    check("one flow at two nodes, on threads", answer[:3] == (0, whole.encode(), b""), answer)
+    shares("nothing is sent", scenario(["take 1"]), capture("y"), report(1, 0, drops="drop NoVersion 1\n"), "", "", summary(0))
+    kept = scenario(["live 0", "install 0 1", "take 2", "install 0 2", "take 2"])
+    a_two = share("backend A@10.8.0.1", 1, 2, 80, 1) + share("backend A@10.8.0.1", 2, 2, 80, 1)
+    nodes = share("node 0", 1, 2, 80, 1) + share("node 0", 2, 2, 80, 1)
+    shares("an entry of an older version", kept, capture("xxxx"), report(4, 4), a_two, nodes, summary(1))
+    few = scenario(["take 3", "install 0 1", "take 1"]).replace("A@", "received@")
+    plain = rows.simulated(few, capture("xyyx"), ["-v"])
+    for options in (["--per-backend", "--per-node"], ["--per-backend", "--summary"], ["--json", "--per-backend", "--per-node", "--summary"]):
+        answer = rows.simulated(few, capture("xyyx"), ["-v", *options])
+        told_of = "".join(f"warning: {json.loads(line)['detail']}\n" for line in answer[2].decode().splitlines()) if "--json" in options else answer[2].decode()
+        check(f"what may be amiss is told with {options}", plain[2] != b"" and told_of == plain[2].decode(), f"{answer} {plain}")
+    for seed in range(COUNT // 4):
+        if seed % 2:
+            _, text, data = format_three.random_case(80_000 + seed)
+        else:
+            text, data, _ = rows.idle_case(80_000 + seed)
+        expected = model.Run(text, data)
+        whole = expected.report() + expected.taken() + expected.taken(True) + expected.summary()
+        simulates(f"shares {seed}", text, data, whole, expected.output(), ["--per-backend", "--per-node", "--summary"])
+        sums = [[sum(column) for column in list(zip(*expected.shares(by_node)))[2:4]] or [0, 0] for by_node in (False, True)]
+        check(f"shares {seed} add up", sums[0] == sums[1] and sums[0][0] == len(expected.sends()), sums)
+
+
 def test_against_the_model():
     """What random scenarios print is what the plain model says. All causes come."""
     causes = collections.Counter()
@@ -120,18 +165,18 @@ def test_on_threads():
         source = random.Random(9000 + seed)
         text, data = rows.random_scenario(source, ("", "*2"), rows.steps_by_lives, 20), rows.random_capture(source)
         told_of = model.Run(text, data).on_threads()
-        lines = told_of.splits(True) + told_of.report() + "audit agrees\n" + told_of.summary()
-        answer = rows.ran(text, data, ["--where", "--summary"])
+        lines = told_of.splits(True) + told_of.report() + "audit agrees\n" + told_of.taken() + told_of.taken(True) + told_of.summary()
+        answer = rows.ran(text, data, ["--where", "--per-backend", "--per-node", "--summary"])
         check(f"run {seed}", answer[:3] == (0, lines.encode(), b""), f"{answer} {lines}")
-        answer = rows.ran(text, data, ["--summary", "--pace"])
-        lines = told_of.report() + "audit agrees\n" + told_of.summary()
+        answer = rows.ran(text, data, ["--per-node", "--summary", "--pace"])
+        lines = told_of.report() + "audit agrees\n" + told_of.taken(True) + told_of.summary()
         check(f"run {seed}, paced", answer[:3] == (0, lines.encode(), b""), f"{answer} {lines}")
 
 
 def test_pages():
     """What USING.md shows of these answers is what is printed, and what the model says."""
-    shown = [one for one in rows.commands_of((TOP / "docs" / "USING.md").read_text()) if {"--summary", "--where"} & set(one[0])]
-    check("USING.md shows both", len(shown) == 2, shown)
+    shown = [one for one in rows.commands_of((TOP / "docs" / "USING.md").read_text()) if {"--summary", "--where", "--per-backend"} & set(one[0])]
+    check("USING.md shows each", len(shown) == 3, shown)
     for words, lines in shown:
         with tempfile.TemporaryDirectory() as folder:
             command = " ".join([PROGRAM, *words[1:]]).replace("sent.pcap", f"{folder}/sent.pcap")

@@ -54,12 +54,16 @@ def test_by_hand():
         '{"type":"report","packets":2,"lost":0,"unrouted":0,"skipped":0,"left":0,"cut":false,"received":2,"forwarded":2,'
         '"dropped":{"NotIpv4":0,"Truncated":0,"BadHeader":0,"BadChecksum":0,"Fragment":0,"NotTcpUdp":0,"BadTransport":0,'
         '"TooLarge":0,"NoService":0,"NoBackend":0,"NoVersion":0,"RingsFull":0,"LostAtRestart":0},"waiting":0,"refused":0}\n'
+        '{"type":"backend","version":1,"backend":"A","address":"10.8.0.1","packets":1,"bytes":40,"flows":1}\n'
+        '{"type":"backend","version":2,"backend":"C","address":"10.8.0.3","packets":1,"bytes":40,"flows":1}\n'
+        '{"type":"node","version":1,"node":0,"packets":1,"bytes":40,"flows":1}\n'
+        '{"type":"node","version":2,"node":1,"packets":1,"bytes":40,"flows":1}\n'
         '{"type":"summary","connections":1,"changed":1,"changes":1,'
         '"why":{"down":0,"drained":0,"node":1,"restart":0,"worker":0,"idle":0,"evicted":0}}\n'
     )
-    simulates("one run, by hand", text, capture("xx"), expected, words=["--json", "--list", "--where", "--summary"])
+    simulates("one run, by hand", text, capture("xx"), expected, words=["--json", "--list", "--where", "--per-backend", "--per-node", "--summary"])
     found = model.Run(text, capture("xx"))
-    check("the model says so", objects.text_of(objects.simulated(found, "--list", "--where", "--summary")) == expected)
+    check("the model says so", objects.text_of(objects.simulated(found, "--list", "--where", "--per-backend", "--per-node", "--summary")) == expected)
 
 
 def test_against_the_model():
@@ -71,7 +75,7 @@ def test_against_the_model():
             text, data, _ = rows.idle_case(40_000 + seed)
             source = random.Random(seed)
         expected = model.Run(text, data)
-        options = source.sample(["--list", "--splits", "--where", "--summary"], source.randrange(5))
+        options = source.sample(["--list", "--splits", "--where", "--per-backend", "--per-node", "--summary"], source.randrange(7))
         printed = objects.text_of(objects.simulated(expected, *options))
         simulates(f"scenario {seed} {options}", text, data, printed, expected.output(), ["--json", *options])
 
@@ -96,7 +100,7 @@ def test_on_threads():
     for seed in range(40):
         source = random.Random(60_000 + seed)
         text, data = rows.random_scenario(source, ("", "*2"), rows.steps_by_lives, 20), rows.random_capture(source)
-        options = source.sample(["--splits", "--where", "--summary"], source.randrange(4))
+        options = source.sample(["--splits", "--where", "--per-backend", "--per-node", "--summary"], source.randrange(6))
         told = objects.text_of(objects.ran(model.Run(text, data), *options)).encode()
         answer = rows.ran(text, data, ["--json", *options])
         check(f"run {seed} {options}", answer[:3] == (0, told, b""), f"{answer} {told!r}")

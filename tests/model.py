@@ -528,6 +528,29 @@ class Run:
         lines += [f"changes {cause} {causes.count(cause)}" for cause in CHANGES]
         return "".join(line + "\n" for line in lines)
 
+    def shares(self, by_node=False):
+        """What each backend, or each node, took under each version: as the version under which packets were served, the backend
+        or the node, and how many packets, bytes and flows."""
+        served = {}
+        for event, outcome, sent in self.events:
+            if outcome.startswith("forward"):
+                node, place, flow, backend, _ = sent
+                served.setdefault((int(event.split(" ")[3]), node if by_node else backend), []).append((place, flow))
+        order = (lambda key: key) if by_node else (lambda key: (key[0], key[1][0].encode(), address(key[1][1])))
+        for version, holder in sorted(served, key=order):
+            packets = served[version, holder]
+            frames = [self.records[place][2] for place, _ in packets]
+            size = sum(len(read_packet(self.link, frame, self.scenario.get("check", True))[1]) for frame in frames)
+            yield version, holder, len(packets), size, len({flow for _, flow in packets})
+
+    def taken(self, by_node=False):
+        """A line for each of these shares."""
+        lines = []
+        for version, holder, packets, size, flows in self.shares(by_node):
+            name = f"node {holder}" if by_node else f"backend {'@'.join(holder)}"
+            lines.append(f"{name} version {version} packets {packets} bytes {size} flows {flows}\n")
+        return "".join(lines)
+
     def explained(self, one, other):
         sent = [self.events[place][2] if place < len(self.events) else None for place in (one, other)]
         if not all(isinstance(part, tuple) for part in sent):

@@ -122,6 +122,23 @@ def summary(run):
     return {"type": "summary"} | counts | {"why": {cause: int(told[f"changes {cause}"]) for cause in CHANGES}}
 
 
+def shares(run, by_node):
+    """An object for each backend's share, or for each node's, under each version."""
+    found = []
+    for version, holder, packets, size, flows in run.shares(by_node):
+        named = {"node": holder} if by_node else server(holder)
+        counts = {"packets": packets, "bytes": size, "flows": flows}
+        found.append({"type": "node" if by_node else "backend", "version": version} | named | counts)
+    return found
+
+
+def behind(run, words):
+    """What comes behind a report with these options."""
+    found = shares(run, False) if "--per-backend" in words else []
+    found += shares(run, True) if "--per-node" in words else []
+    return found + ([summary(run)] if "--summary" in words else [])
+
+
 def explained(run, one, other):
     text = run.explained(one, other).rstrip("\n")
     if not text.startswith("split"):
@@ -138,7 +155,7 @@ def simulated(run, *words):
     found += events(run) if "--list" in words else []
     if "--where" in words or "--splits" in words:
         found += splits(run, "--where" in words)
-    return [*found, report(run)] + ([summary(run)] if "--summary" in words else [])
+    return [*found, report(run), *behind(run, words)]
 
 
 def ran(run, *words):
@@ -147,8 +164,7 @@ def ran(run, *words):
     found = [head("run")]
     if "--where" in words or "--splits" in words:
         found += splits(told, "--where" in words)
-    found += [report(run), {"type": "audit", "agrees": True}]
-    return found + ([summary(told)] if "--summary" in words else [])
+    return [*found, report(run), {"type": "audit", "agrees": True}, *behind(told, words)]
 
 
 # tables

@@ -98,9 +98,9 @@ def all_came(text):
 
 # What the model says of two packets of one flow at two nodes, simulated and on threads.
 TOLD = model.Run(APART.decode(), SPLIT["in.pcap"])
-PLACES, SUMMARY, RUN_PLACES = TOLD.splits(True), TOLD.summary(), TOLD.on_threads().splits(True)
+PLACES, SUMMARY, RUN_PLACES, SHARES = TOLD.splits(True), TOLD.summary(), TOLD.on_threads().splits(True), TOLD.taken() + TOLD.taken(True)
 # The same as objects, and its fault: where memory for the object is refused nothing is said.
-ASKED = ["--list", "--where", "--summary"]
+ASKED = ["--list", "--where", "--per-backend", "--per-node", "--summary"]
 IN_OBJECTS = [(1, b"", b'{"type":"fault","fault":"Memory","detail":null}\n'), (1, b"", b"")]
 LOST_OBJECT = (1, b"", b'{"type":"fault","fault":"ThreadLost","detail":"a thread couldn\'t be started: allow more threads, or take fewer balancers and workers"}\n')
 DOWN = model.compared(APART.decode(), 1, 2, "192.0.2.1:80/tcp")
@@ -136,6 +136,8 @@ CASES = [
     Case(["run", "--where", "--summary", "--pace", "s.toml", "in.pcap", "out.pcap"], RUN_PLACES + TWO + "audit agrees\n" + SUMMARY, files=SPLIT, faults=[LOST]),
     Case(["simulate", "--json", *ASKED, "s.toml", "in.pcap", "out.pcap"], objects.text_of(objects.simulated(TOLD, *ASKED)), files=SPLIT, faults=IN_OBJECTS),
     Case(["run", "--json", *ASKED[1:], "s.toml", "in.pcap", "out.pcap"], objects.text_of(objects.ran(TOLD, *ASKED[1:])), files=SPLIT, faults=[*IN_OBJECTS, LOST_OBJECT]),
+    Case(["simulate", "--per-backend", "--per-node", "s.toml", "in.pcap", "out.pcap"], TWO + SHARES, files=SPLIT),
+    Case(["run", "--per-backend", "--per-node", "s.toml", "in.pcap", "out.pcap"], TWO + "audit agrees\n" + SHARES, files=SPLIT, faults=[LOST]),
     Case(["explain", "--json", "s.toml", "in.pcap", "3", "5"], objects.text_of(objects.explained(TOLD, 3, 5)), files=SPLIT, faults=IN_OBJECTS),
     Case(["plan", "--json", "s.toml", "1", "2"], objects.text_of(objects.planned(model.plan(APART.decode(), 1, 2))), files=SPLIT, faults=IN_OBJECTS),
     Case(["plan", "s.toml", "1"], SHOWN, files=FILES),

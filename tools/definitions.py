@@ -73,6 +73,11 @@ PROMISES = [
         ],
     ),
     (
+        "What each backend got and each node sent, under each version",
+        "`push_shares` of `traffic_shares`, which `--per-backend` and `--per-node` print, and the law of its packets.",
+        [("traffic_shares", "lines", "push_shares"), ("traffic_shares", "laws", "packets_add_up")],
+    ),
+    (
         "A node and a cluster on threads",
         "`run_node` and `run_cluster` of `node_threads`.",
         [("node_threads", "node", "run_node"), ("node_threads", "cluster", "run_cluster")],

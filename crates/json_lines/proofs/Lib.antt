@@ -1,3 +1,4 @@
 pub mod Told
 pub mod Listed
 pub mod Pieces
+pub mod Rows

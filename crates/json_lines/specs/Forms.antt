@@ -10,6 +10,10 @@ use Rattle.run_report.specs.Report.{report_text}
 use Rattle.run_report.specs.Texts.{splits_text}
 use Rattle.run_report.specs.Verdicts.{explained_text}
 use Rattle.connection_changes.specs.Texts.{places_text, summary_text}
+use Rattle.traffic_shares.specs.declared.books.AskedShares.{AskedShares}
+use Rattle.traffic_shares.specs.declared.holders.ShareKind.{ShareKind}
+use Rattle.traffic_shares.specs.declared.holders.ShareKind.TheVariants.{Backends, Nodes}
+use Rattle.traffic_shares.specs.Texts.{shares_text}
 use Rattle.json_lines.specs.declared.forms.Form.{Form}
 use Rattle.json_lines.specs.declared.forms.Form.TheVariants.{Plain, Json}
 use Rattle.json_lines.specs.Heads.{head_json, audit_json}
@@ -17,6 +21,7 @@ use Rattle.json_lines.specs.Events.{event_json, listing_json}
 use Rattle.json_lines.specs.Splits.{splits_json}
 use Rattle.json_lines.specs.Places.{places_json}
 use Rattle.json_lines.specs.Reports.{report_json}
+use Rattle.json_lines.specs.Shares.{shares_json}
 use Rattle.json_lines.specs.Summaries.{summary_json}
 use Rattle.json_lines.specs.Verdicts.{verdict_json}
 
@@ -55,6 +60,20 @@ audit_line false = codes "audit differs\n"
 abbrev pub audit_as : Form → Bool → List ℕ
 audit_as Plain agrees = audit_line agrees
 audit_as Json agrees = audit_json agrees
+
+-- what each backend, or each node, took under each version
+abbrev pub share_lines : Form → ShareKind → List LogEntry → List ℕ
+share_lines Plain kind past = shares_text kind past
+share_lines Json kind past = shares_json kind past
+
+-- the same, where it is asked for
+abbrev pub share_lines_if : Form → Bool → ShareKind → List LogEntry → List ℕ
+share_lines_if form true kind past = share_lines form kind past
+share_lines_if form false kind past = []
+
+-- of backends, and then of nodes
+abbrev pub shares_as : Form → AskedShares → List LogEntry → List ℕ
+shares_as form asked past = share_lines_if form asked.backends Backends past ++ share_lines_if form asked.nodes Nodes past
 
 abbrev pub summary_as : Form → Lookups → Option ℕ → List LogEntry → List ℕ
 summary_as Plain lookups idle past = summary_text lookups idle past

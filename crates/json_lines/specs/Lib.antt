@@ -1,6 +1,7 @@
 pub mod Members
 pub mod Heads
 pub mod Events
+pub mod Shares
 pub mod Splits
 pub mod Places
 pub mod Reports

@@ -6,12 +6,15 @@ ghost use Rattle.event_trace.specs.Noting.{said_by};
 ghost use Rattle.run_report.specs.Books.{IsBookOf};
 ghost use Rattle.run_report.specs.Causes.{Lookups, lookups_of};
 ghost use Rattle.connection_changes.specs.Books.{IsChangeBookOf};
-ghost use Rattle.json_lines.specs.Forms.{head_as, event_as, splits_as, places_as, report_as, audit_as, summary_as, verdict_as};
+ghost use Rattle.traffic_shares.specs.declared.holders.ShareKind.{ShareKind};
+ghost use Rattle.traffic_shares.specs.Books.{BookIf};
+ghost use Rattle.json_lines.specs.Forms.{head_as, event_as, splits_as, places_as, report_as, audit_as, share_lines_if, shares_as, summary_as, verdict_as};
 
 use crate::events::push_json_event;
 use crate::heads::{push_json_audit, push_json_head};
 use crate::places::push_json_places;
 use crate::reports::push_json_report;
+use crate::shares::push_json_shares;
 use crate::splits::push_json_splits;
 use crate::summaries::push_json_summary;
 use crate::verdicts::push_json_verdict;
@@ -23,6 +26,7 @@ use hash_laws::FlowHash;
 use pool_versions::Catalogue;
 use run_report::{SplitBook, explained_text, push_line, push_splits, report_text};
 use std::alloc::{AllocError, Global};
+use traffic_shares::{AskedShares, ShareBook, ShareBooks, push_shares};
 
 /// How a command prints what it says.
 #[derive(Clone, Copy, Debug, PartialEq, Eq)]
@@ -34,6 +38,9 @@ pub enum Form {
 }
 
 impl Form {
+    ghost use Rattle.traffic_shares.specs.declared.books.AskedShares.{AskedShares};
+    ghost use Rattle.traffic_shares.specs.Books.{AreShareBooksOf};
+
     /// Puts after a text what a command's output begins with: of JSON Lines the first object, with the command's name.
     pub fn push_head(self, text: &mut String, command: &str) -> Result<(), AllocError>
         ensures { OnOk result (string_bytes text.new ≡ string_bytes text.old ++ head_as self command.now) }
@@ -130,6 +137,40 @@ impl Form {
             Form::Plain => text.push_str("audit differs\n"),
             Form::Json => push_json_audit(text, agrees),
         }
+    }
+
+    // The lines of the shares of a book, where it is asked for.
+    fn push_book_if(
+        self,
+        alloc: Global,
+        text: &mut String,
+        asked: bool,
+        book: &ShareBook,
+    ) -> Result<(), AllocError>
+        ensures { (kind : ShareKind) (past : List LogEntry) → BookIf asked kind past book.now →
+            OnOk result (string_bytes text.new ≡ string_bytes text.old ++ share_lines_if self asked kind past) }
+    {
+        match self {
+            _ if !asked => Ok(()),
+            Form::Plain => push_shares(alloc, text, book),
+            Form::Json => push_json_shares(alloc, text, book),
+        }
+    }
+
+    /// Puts a line after a text for each backend's share, and then for each node's, where they are asked for: by version, then
+    /// by the backend's name and address, or by node.
+    pub fn push_shares(
+        self,
+        alloc: Global,
+        text: &mut String,
+        books: &ShareBooks,
+    ) -> Result<(), AllocError>
+        ensures { (asked : AskedShares) (past : List LogEntry) → AreShareBooksOf asked past books.now →
+            OnOk result (string_bytes text.new ≡ string_bytes text.old ++ shares_as self asked past) }
+    {
+        let AskedShares { backends, nodes } = books.asked();
+        self.push_book_if(alloc, text, backends, books.backends())?;
+        self.push_book_if(alloc, text, nodes, books.nodes())
     }
 
     /// Puts after a text how many connections there were, how many of them changed their server, how often they did, and why.

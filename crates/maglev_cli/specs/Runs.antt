@@ -35,7 +35,7 @@ failure_fault (Threads fault) = threads_fault fault
 
 -- nothing is asked for but the splits, where they are
 abbrev pub only_splits : Bool → RunOptions
-only_splits splits = record { splits = splits; places = false; summary = false; paced = false; form = Plain }
+only_splits splits = record { splits = splits; places = false; backends = false; nodes = false; summary = false; paced = false; form = Plain }
 
 -- the cluster of the scenario that the text means ran on threads over the input, the output got what the nodes sent, and the
 -- report the run's, with what is asked for before and behind it; and the run keeps the promises

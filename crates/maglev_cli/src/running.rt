@@ -64,6 +64,8 @@ pub fn run<T: Threads + Wait + Sync, I: Source, O: Sink, R: Sink>(
     let options = RunOptions {
         splits,
         places: false,
+        backends: false,
+        nodes: false,
         summary: false,
         paced: false,
         form: Form::Plain,

@@ -13,7 +13,7 @@ use connection_table::TableKey;
 use json_lines::Form;
 use lazy_files::{KeptText, OutputFile, StandardOutput};
 use pcap_file::{PcapFault, ToWrite};
-use report_advice::advice_of;
+use report_advice::{advice_of, up_to_report};
 use rollout_order::order;
 use rollout_plan::plan_as;
 use scenario::{Played, read};
@@ -61,12 +61,15 @@ fn warn(rt: &HostRuntime, voice: Voice<'_>, played: Played, text: &[u8]) -> Resu
     Ok(())
 }
 
-/// More bytes than a report has, with what stands behind it.
+/// More bytes than a report has.
 const REPORT: usize = 4096;
 
 // Tells what may be amiss in a run, by its report.
 fn advise(rt: &HostRuntime, voice: Voice<'_>, report: &KeptText) -> Result<(), AllocError> {
-    let text = report.text();
+    let Ok(text) = str::from_utf8(report.text()) else {
+        return Ok(());
+    };
+    let text = up_to_report(text).as_bytes();
     let start = text.len().saturating_sub(REPORT);
     let Ok(text) = str::from_utf8(&text[start..]) else {
         return Ok(());
@@ -224,6 +227,8 @@ pub(crate) fn run_simulate(rt: &HostRuntime, matches: &ArgMatches<'_>) -> u8 {
         list: matches.get_flag("list"),
         splits: matches.get_flag("splits"),
         places: matches.get_flag("where"),
+        backends: matches.get_flag("per-backend"),
+        nodes: matches.get_flag("per-node"),
         summary: asks_summary(matches),
         form: form_of(matches),
     };

@@ -6,6 +6,8 @@
 #![tactic(auto)]
 
 mod counts;
+mod ends;
 mod words;
 
+pub use ends::up_to_report;
 pub use words::advice_of;

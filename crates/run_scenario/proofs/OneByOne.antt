@@ -21,9 +21,11 @@ use Rattle.thread_records.specs.Runs.{AreRuns, JoinsRuns}
 use Rattle.thread_records.proofs.Joins.{events_more, outcomes_more, whole, own, runs_told}
 use Rattle.node_threads.specs.declared.cluster.NodesRun.{NodesRun}
 use Rattle.scenario.specs.declared.plan.Scenario.{Scenario}
+use Rattle.traffic_shares.specs.declared.books.AskedShares.{AskedShares}
 use Rattle.json_lines.specs.declared.forms.Form.{Form}
-use Rattle.run_scenario.specs.Runs.{packets_in, splits_if, summary_if, counts_in}
-use Rattle.run_scenario.specs.PrivateHistories.{AreEven, said_by, splits_over, summary_over, counts_over}
+use Rattle.json_lines.specs.Forms.{shares_as}
+use Rattle.run_scenario.specs.Runs.{packets_in, record_with, splits_if, summary_if, counts_in}
+use Rattle.run_scenario.specs.PrivateHistories.{AreEven, said_by, said_whole, splits_over, summary_over, counts_over}
 use Rattle.run_scenario.specs.declared.running.RunOptions.{RunOptions}
 
 -- there is an outcome for each event
@@ -126,6 +128,11 @@ pub same_summary : (form : Form) (b : Bool) (s : Scenario) (packets : List Packe
 unfolding history_of
 same_summary form true s packets run even few = refl
 same_summary form false s packets run even few = refl
+
+pub same_shares : (form : Form) (asked : AskedShares) (packets : List Packet) (run : NodesRun) (even : AreEven run.nodes.items) (few : length (all_outcomes run.nodes.items) < 2 ^ 63)
+    → shares_as form asked (said_whole packets run.nodes.items) ≡ shares_as form asked (record_with packets (history_of run even few))
+unfolding history_of
+same_shares form asked packets run even few = refl
 
 pub same_counts : (options : RunOptions) (s : Scenario) (link : Link) (records : List Record) (run : NodesRun) (even : AreEven run.nodes.items) (few : length (all_outcomes run.nodes.items) < 2 ^ 63)
     → counts_over options (packets_in s link records) run.nodes.items ≡ counts_in s options link records (history_of run even few)

@@ -8,7 +8,7 @@ use Rattle.cluster_node.specs.declared.packets.Packet.{Packet}
 use Rattle.cluster_node.specs.declared.events.LogEntry.{LogEntry}
 use Rattle.run_report.specs.Splits.{said_of}
 use Rattle.json_lines.specs.declared.forms.Form.{Form}
-use Rattle.json_lines.specs.Forms.{splits_as, places_as, summary_as}
+use Rattle.json_lines.specs.Forms.{splits_as, places_as, shares_as, summary_as}
 use Rattle.thread_records.specs.declared.nodes.NodeRecord.{NodeRecord}
 use Rattle.thread_records.specs.declared.nodes.History.{History}
 use Rattle.thread_records.specs.Joins.{all_events, all_outcomes}
@@ -19,7 +19,7 @@ use Rattle.simulate_scenario.specs.Asked.{keeps_changes}
 use Rattle.simulate_scenario.specs.Described.{lookups_in}
 use Rattle.run_scenario.specs.declared.histories.Told.{Told}
 use Rattle.run_scenario.specs.declared.running.RunOptions.{RunOptions}
-use Rattle.run_scenario.specs.Runs.{AreOfRun, said_with, report_in, counts_in}
+use Rattle.run_scenario.specs.Runs.{AreOfRun, said_with, asked_shares, report_in, counts_in}
 
 -- each node has as many outcomes as events
 abbrev pub AreEven : List NodeRecord → Type 0
@@ -51,6 +51,7 @@ counts_over options packets nodes = counts_if (keeps_changes options.places opti
 -- what is told of them beside the report
 pub record TellsOf (options : RunOptions) (s : Scenario) (packets : List Packet) (nodes : List NodeRecord) (told : Told) : Type 0 where
   pub before : string_bytes told.before ≡ splits_over options.form options.places options.splits s packets nodes
+  pub shares : string_bytes told.shares ≡ shares_as options.form (asked_shares options) (said_whole packets nodes)
   pub behind : string_bytes told.behind ≡ summary_over options.form options.summary s packets nodes
   pub counts : told.counts ≡ counts_over options packets nodes
 

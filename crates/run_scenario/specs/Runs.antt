@@ -12,8 +12,9 @@ use Rattle.cluster_node.specs.declared.events.LogEntry.{LogEntry}
 use Rattle.cluster_node.specs.declared.outcomes.Outcome.{Outcome}
 use Rattle.cluster_core.specs.Runs.{packet_of}
 use Rattle.run_report.specs.Splits.{said_of}
+use Rattle.traffic_shares.specs.declared.books.AskedShares.{AskedShares}
 use Rattle.json_lines.specs.declared.forms.Form.{Form}
-use Rattle.json_lines.specs.Forms.{head_as, splits_as, places_as, report_as, audit_as, summary_as}
+use Rattle.json_lines.specs.Forms.{head_as, splits_as, places_as, report_as, audit_as, shares_as, summary_as}
 use Rattle.cluster_core.specs.declared.counts.Totals.{Totals}
 use Rattle.event_trace.specs.declared.play.Tally.{Tally}
 use Rattle.event_trace.specs.Tally.{tally_of}
@@ -88,6 +89,10 @@ summary_if form false s packets h = []
 abbrev pub counts_in : Scenario → RunOptions → Link → List Record → History → Option ChangeCounts
 counts_in s options link records h = counts_if (keeps_changes options.places options.summary) (record_with (packets_in s link records) h)
 
+-- whose shares are asked for
+abbrev pub asked_shares : RunOptions → AskedShares
+asked_shares o = record { backends = o.backends; nodes = o.nodes }
+
 -- the report, and whether a replay of the history's events gives the outcomes that it has
 abbrev pub audited_report : Form → Tally → Totals → Bool → Bool → List ℕ
 audited_report form tally totals cut agrees = report_as form tally totals cut ++ audit_as form agrees
@@ -99,8 +104,9 @@ begun form = head_as form (codes "run")
 -- the report of a run by its history, with what is asked for before it and behind it
 abbrev pub report_in : Scenario → RunOptions → Link → List Record → InputEnd → History → List ℕ
 report_in s options link records ending h =
-    ((begun options.form ++ splits_if options.form options.places options.splits s (packets_in s link records) h)
+    (((begun options.form ++ splits_if options.form options.places options.splits s (packets_in s link records) h)
     ++ audited_report options.form (tally_in s link records) (totals_in h.outcomes.items) (is_cut ending) true)
+    ++ shares_as options.form (asked_shares options) (record_with (packets_in s link records) h))
     ++ summary_if options.form options.summary s (packets_in s link records) h
 
 -- A cluster on threads knows each step, and it ran over the whole input. The output got the capture of what the nodes sent,

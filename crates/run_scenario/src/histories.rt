@@ -6,17 +6,18 @@ ghost use Rattle.cluster_core.specs.OutcomeCounts.{is_refused, how_many};
 ghost use Rattle.cluster_core.specs.Totals.{came_all, went_all};
 ghost use Rattle.run_report.specs.Books.{IsBookOf};
 ghost use Rattle.connection_changes.specs.Books.{IsChangeBookOf};
-ghost use Rattle.json_lines.specs.Forms.{splits_as, places_as};
+ghost use Rattle.json_lines.specs.Forms.{splits_as, places_as, shares_as};
 ghost use Rattle.simulate_scenario.specs.Asked.{keeps_changes};
 ghost use Rattle.thread_records.specs.declared.nodes.NodeRecord.{NodeRecord};
 ghost use Rattle.thread_records.specs.Joins.{all_outcomes};
 ghost use Rattle.thread_roles.specs.Counts.{AreTotals};
 ghost use Rattle.simulate_scenario.specs.Answers.{totals_in};
 ghost use Rattle.simulate_scenario.specs.Described.{lookups_in};
-ghost use Rattle.run_scenario.specs.Runs.{said_with};
+ghost use Rattle.run_scenario.specs.Runs.{said_with, asked_shares};
 ghost use Rattle.run_scenario.specs.PrivateHistories.{AreEven, said_by, said_whole, splits_over, summary_over};
 
 use crate::running::RunOptions;
+use crate::shares::shares_told;
 use change_share::ChangeCounts;
 use cluster_core::{Totals, packet_at};
 use cluster_node::{Event, Outcome, Packet};
@@ -215,11 +216,12 @@ fn summary_told(
 #[derive(Drop)]
 pub(crate) struct Told {
     pub(crate) before: String,
+    pub(crate) shares: String,
     pub(crate) behind: String,
     pub(crate) counts: Option<ChangeCounts>,
 }
 
-/// A run's history, and how it is told. The books of splits and changes hash by the key.
+/// A run's history, and how it is told. The books hash flows by the key.
 #[derive(Clone, Copy)]
 pub(crate) struct Telling<'a> {
     pub(crate) key: TableKey,
@@ -245,6 +247,16 @@ impl Telling<'_> {
         }
     }
 
+    // The shares, where they are asked for.
+    fn shares(&self, alloc: Global, nodes: &[NodeRecord]) -> Result<String, AllocError>
+        requires even { AreEven nodes.now }
+        ensures { IfOk result (λ s. string_bytes s ≡ shares_as self.now.options.form (asked_shares self.now.options) (said_whole self.now.packets.now nodes.now)) }
+    {
+        let form = self.options.form;
+        let asked = self.options.asked_shares();
+        shares_told(alloc, self.key, form, asked, self.packets, nodes)
+    }
+
     // What is told where the changes are kept.
     fn tell_changes(&self, alloc: Global, nodes: &[NodeRecord]) -> Result<Told, AllocError>
         requires even { AreEven nodes.now }
@@ -252,10 +264,12 @@ impl Telling<'_> {
     {
         let book = changes_of(alloc, self.key, self.packets, nodes)?;
         let before = self.before(alloc, &book)?;
+        let shares = self.shares(alloc, nodes)?;
         let behind = summary_told(alloc, self.scenario, &book, self.options)?;
         let counts = Some(book.counts());
         Ok(Told {
             before,
+            shares,
             behind,
             counts,
         })
@@ -268,6 +282,7 @@ impl Telling<'_> {
     {
         Ok(Told {
             before: splits_alone(alloc, self.key, self.scenario, nodes, self.options)?,
+            shares: self.shares(alloc, nodes)?,
             behind: String::new(alloc),
             counts: None,
         })

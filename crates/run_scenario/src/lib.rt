@@ -11,6 +11,7 @@ mod records;
 mod report;
 mod running;
 mod sending;
+mod shares;
 mod threads;
 
 pub use failure::RunFailure;

@@ -25,6 +25,7 @@ use std::alloc::Global;
 use std::sync::Wait;
 use std::thread::Threads;
 use thread_records::NodeRecord;
+use traffic_shares::AskedShares;
 
 /// What is asked of a run beside its scenario.
 #[derive(Clone, Copy, Debug, PartialEq, Eq)]
@@ -33,6 +34,10 @@ pub struct RunOptions {
     pub splits: bool,
     /// It does, and each split's line tells where its two packets were sent, and why the later one went elsewhere.
     pub places: bool,
+    /// Behind it comes what each backend took under each version.
+    pub backends: bool,
+    /// The same of each node.
+    pub nodes: bool,
     /// It ends with how many connections changed their server, how often, and why.
     pub summary: bool,
     /// A node's driver waits at a full ring.
@@ -43,6 +48,7 @@ pub struct RunOptions {
 
 impl RunOptions {
     ghost use Rattle.simulate_scenario.specs.Asked.{keeps_changes};
+    ghost use Rattle.run_scenario.specs.Runs.{asked_shares};
 
     /// Whether the changes are kept: the splits are told with places, or the summary is.
     pub(crate) fn keeps_changes(self) -> bool
@@ -51,9 +57,19 @@ impl RunOptions {
         self.places || self.summary
     }
 
+    /// Whose shares are asked for.
+    pub(crate) fn asked_shares(self) -> AskedShares
+        ensures { result ≡ asked_shares self }
+    {
+        AskedShares {
+            backends: self.backends,
+            nodes: self.nodes,
+        }
+    }
+
     /// Whether anything is told beside the report.
     pub(crate) fn tells(self) -> bool {
-        self.splits || self.places || self.summary
+        self.splits || self.places || self.backends || self.nodes || self.summary
     }
 }
 
@@ -105,6 +121,7 @@ fn run_over<R: Threads + Wait + Sync>(
     let Audited { run, agrees, told } = audited;
     let Told {
         before,
+        shares,
         behind,
         counts,
     } = told;
@@ -115,6 +132,7 @@ fn run_over<R: Threads + Wait + Sync>(
     form.push_head(&mut text, "run")?;
     text.push_str(before.as_str())?;
     text.push_str(report.as_str())?;
+    text.push_str(shares.as_str())?;
     text.push_str(behind.as_str())?;
     Ok(Done {
         nodes: run.nodes,

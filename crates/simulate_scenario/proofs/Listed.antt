@@ -2,7 +2,7 @@
 use Rattle.std.proofs.Common.{◌≡◌, ℕ, ◌+◌, List, [], ◌∷◌, ◌++◌, reverse, Option, Result, Ok, Err, refl, sym, ap, ◌∙◌, subst, string_bytes, arith}
 use Rattle.std.specs.Prelude.{OnOk}
 use Rattle.cluster_node.specs.declared.events.LogEntry.{LogEntry}
-use Rattle.json_lines.specs.Forms.{listing_as}
+use Rattle.json_lines.specs.Forms.{listing_as, shares_as}
 use Rattle.pcap_file.specs.declared.format.InputEnd.{InputEnd}
 use Rattle.pcap_file.specs.Device.{Tape}
 use Rattle.event_trace.specs.Trace.{Trace}
@@ -13,7 +13,7 @@ use Rattle.simulate_scenario.specs.declared.asking.Wanted.{Wanted}
 use Rattle.simulate_scenario.specs.Answers.{report_behind, report_of, splits_if, plain_report, summary_if}
 use Rattle.simulate_scenario.specs.declared.asking.Query.TheVariants.{Report}
 use Rattle.simulate_scenario.specs.declared.notes.Notebook.{Notebook}
-use Rattle.simulate_scenario.specs.Asked.{begun, listed, unlisted}
+use Rattle.simulate_scenario.specs.Asked.{begun, asked_shares, listed, unlisted}
 use Rattle.simulate_scenario.specs.Notebooks.{AreOf}
 use Rattle.simulate_scenario.specs.Paging.{ArePaged}
 use Rattle.simulate_scenario.specs.Described.{cluster_in, choice_in, plan_in, lookups_in}
@@ -26,8 +26,9 @@ pub behind_told : (told : List ℕ → List ℕ → Type 0) → ((text whole mor
 behind_told told more text whole lookups idle wanted trace packets ending h =
     let splits = splits_if wanted.form wanted.places wanted.splits lookups idle trace in
     let report = plain_report wanted.form trace packets ending in
-    more ((text ++ splits) ++ report) ((whole ++ splits) ++ report) (summary_if wanted.form wanted.summary lookups idle trace)
-    (more (text ++ splits) (whole ++ splits) report (more text whole splits h))
+    let shares = shares_as wanted.form (asked_shares wanted) trace.past in
+    more (((text ++ splits) ++ report) ++ shares) (((whole ++ splits) ++ report) ++ shares) (summary_if wanted.form wanted.summary lookups idle trace)
+    (more ((text ++ splits) ++ report) ((whole ++ splits) ++ report) shares (more (text ++ splits) (whole ++ splits) report (more text whole splits h)))
 
 head_or : {P : Type 0} → P → List P → P
 head_or p [] = p

@@ -1,8 +1,9 @@
 -- What is kept of a record that has one event more.
-use Rattle.std.proofs.Common.{◌≡◌, ℕ, zero, suc, ◌+◌, Bool, true, false, List, [], ◌∷◌, ◌++◌, length, reverse, string_bytes, Option, Some, None, Result, Ok, Err, refl, sym, ap, ◌∙◌, append_assoc, subst, arith, not}
+use Rattle.std.proofs.Common.{◌≡◌, ℕ, zero, suc, ◌+◌, Bool, true, false, List, [], ◌∷◌, ◌++◌, length, reverse, string_bytes, Option, Some, None, Result, refl, sym, ap, ◌∙◌, append_assoc, subst, arith, not}
 use Rattle.std.specs.Prelude.{◌==◌, ◌||◌, if◌then◌else◌, slice_get, OnOk}
 use Rattle.std.proofs.lemmas.List.{append-nil, reverse-append, length-reverse}
 use Rattle.std.proofs.lemmas.Bool.{eqb-true, eq-eqb, true≢false}
+use Rattle.std.proofs.lemmas.Result.{on_ok_weaker}
 use Rattle.cluster_node.specs.declared.events.LogEntry.{LogEntry}
 use Rattle.cluster_node.specs.declared.outcomes.Outcome.{Outcome}
 use Rattle.cluster_core.specs.Histories.{outcomes_of}
@@ -22,9 +23,11 @@ use Rattle.json_lines.specs.declared.forms.Form.{Form}
 use Rattle.json_lines.specs.declared.forms.Form.TheVariants.{Plain, Json}
 use Rattle.json_lines.specs.Forms.{event_as, listing_as}
 use Rattle.json_lines.proofs.Listed.{listing_push}
-use Rattle.simulate_scenario.specs.Asked.{form_of, begun, is_plain, keeps_splits, keeps_changes}
+use Rattle.simulate_scenario.specs.Asked.{form_of, begun, is_plain, asked_shares, shares_in, keeps_splits, keeps_changes}
 use Rattle.connection_changes.specs.declared.book.ChangeBook.{ChangeBook}
 use Rattle.connection_changes.specs.Books.{IsChangeBookOf}
+use Rattle.traffic_shares.specs.declared.books.ShareBooks.{ShareBooks}
+use Rattle.traffic_shares.specs.Books.{AreShareBooksOf}
 use Rattle.simulate_scenario.specs.Answers.{totals_in}
 
 -- of no events there are no lines
@@ -45,10 +48,10 @@ none_changed : (b : ChangeBook) → IsChangeBookOf [] b → (changes : Bool) →
 none_changed b h true = h
 none_changed b h false = tt
 
-pub none_noted : (n : Notebook) (asked : Query) → CountsAre [] n.counts → n.number ≡ 0 → string_bytes n.lines ≡ begun (form_of asked) → IsBookOf [] n.book → IsChangeBookOf [] n.changes → n.one ≡ None → n.other ≡ None → n.first ≡ None → n.later ≡ None → AreOf asked [] n
-none_noted n (Report wanted) c k l b d o p q r =
-    (c, (none_listed n wanted.form k l wanted.list, none_booked n.book b (keeps_splits (keeps_changes wanted.places wanted.summary) wanted.splits), none_changed n.changes d (keeps_changes wanted.places wanted.summary)))
-none_noted n (Events i j form) c k l b d o p q r = record { number = k; one_is = o; other_is = p; first_is = q; later_is = r }
+pub none_noted : (n : Notebook) (asked : Query) → CountsAre [] n.counts → n.number ≡ 0 → string_bytes n.lines ≡ begun (form_of asked) → IsBookOf [] n.book → IsChangeBookOf [] n.changes → AreShareBooksOf (shares_in asked) [] n.shares → n.one ≡ None → n.other ≡ None → n.first ≡ None → n.later ≡ None → AreOf asked [] n
+none_noted n (Report wanted) c k l b d a o p q r =
+    (c, (none_listed n wanted.form k l wanted.list, none_booked n.book b (keeps_splits (keeps_changes wanted.places wanted.summary) wanted.splits), none_changed n.changes d (keeps_changes wanted.places wanted.summary), a))
+none_noted n (Events i j form) c k l b d a o p q r = record { number = k; one_is = o; other_is = p; first_is = q; later_is = r }
 
 -- the lines are the same
 pub lists_same : (form : Form) (list : Bool) (past : List LogEntry) (n m : Notebook) → m.number ≡ n.number → m.lines ≡ n.lines → ListsIf form list past n → ListsIf form list past m
@@ -66,39 +69,46 @@ kept_changes true past d e h = h
 kept_changes false past d e h = absurd cc
 
 -- where the report alone is wanted nothing more is kept
-pub plain_more : (w : Wanted) (past : List LogEntry) (s : LogEntry) (n m : Notebook) → is_plain w ≡ true → m.number ≡ n.number → m.lines ≡ n.lines → KeepsMore w past n → KeepsMore w (s ∷ past) m
-plain_more w past s n m plain e f k = go w.list w.splits w.places w.summary plain k
+pub plain_more : (w : Wanted) (past : List LogEntry) (s : LogEntry) (n m : Notebook) → is_plain w ≡ true → m.number ≡ n.number → m.lines ≡ n.lines → m.shares ≡ n.shares → KeepsMore w past n → KeepsMore w (s ∷ past) m
+plain_more w past s n m plain e f g k = go w.list w.splits w.places w.backends w.nodes w.summary plain k
   where
-    go : (l t p u : Bool) → not (l || t || p || u) ≡ true → ListsIf w.form l past n × BookIf (keeps_splits (keeps_changes p u) t) past n.book × ChangesIf (keeps_changes p u) past n.changes
-        → ListsIf w.form l (s ∷ past) m × BookIf (keeps_splits (keeps_changes p u) t) (s ∷ past) m.book × ChangesIf (keeps_changes p u) (s ∷ past) m.changes
-    go false false false false h k = (ap string_bytes f ∙ k.0, tt, tt)
-    go true t p u h k = absurd cc
-    go false true p u h k = absurd cc
-    go false false true u h k = absurd cc
-    go false false false true h k = absurd cc
+    go : (l t p a b u : Bool) → not (l || t || p || a || b || u) ≡ true
+        → ListsIf w.form l past n × BookIf (keeps_splits (keeps_changes p u) t) past n.book × ChangesIf (keeps_changes p u) past n.changes × AreShareBooksOf (record { backends = a; nodes = b }) past n.shares
+        → ListsIf w.form l (s ∷ past) m × BookIf (keeps_splits (keeps_changes p u) t) (s ∷ past) m.book × ChangesIf (keeps_changes p u) (s ∷ past) m.changes × AreShareBooksOf (record { backends = a; nodes = b }) (s ∷ past) m.shares
+    go false false false false false false h k = (ap string_bytes f ∙ k.0, tt, tt, record { these = ap (λ (x : ShareBooks). x.asked) g ∙ k.3.these; backends = tt; nodes = tt })
+    go true t p a b u h k = absurd cc
+    go false true p a b u h k = absurd cc
+    go false false true a b u h k = absurd cc
+    go false false false true b u h k = absurd cc
+    go false false false false true u h k = absurd cc
+    go false false false false false true h k = absurd cc
 
--- each of the three books, one after another
-pub more_told : {E : Type 0} (r : Result (Unit {0}) E) (w : Wanted) (past : List LogEntry) (s : LogEntry) (n a b d : Notebook) (splits changes : Bool) → KeepsMore w past n
+-- each of the four, one after another
+pub more_told : {E : Type 0} (r : Result (Unit {0}) E) (w : Wanted) (past : List LogEntry) (s : LogEntry) (n a b d f : Notebook) (splits changes : Bool) → KeepsMore w past n
     → splits ≡ keeps_splits (keeps_changes w.places w.summary) w.splits → changes ≡ keeps_changes w.places w.summary
-    → (ListsIf w.form w.list past n → ListsIf w.form w.list (s ∷ past) a) → a.book ≡ n.book → a.changes ≡ n.changes
-    → (BookIf splits past a.book → BookIf splits (s ∷ past) b.book) → b.number ≡ a.number → b.lines ≡ a.lines → b.changes ≡ a.changes
-    → (ChangesIf changes past b.changes → OnOk r (ChangesIf changes (s ∷ past) d.changes)) → d ≡ record b { changes = d.changes } → OnOk r (KeepsMore w (s ∷ past) d)
-more_told {E} r w past s n a b d splits changes k splits_is changes_is lists a_book a_changes books b_number b_lines b_changes change d_is = ok r (change before)
+    → (ListsIf w.form w.list past n → ListsIf w.form w.list (s ∷ past) a) → a.book ≡ n.book → a.changes ≡ n.changes → a.shares ≡ n.shares
+    → (BookIf splits past a.book → BookIf splits (s ∷ past) b.book) → b.number ≡ a.number → b.lines ≡ a.lines → b.changes ≡ a.changes → b.shares ≡ a.shares
+    → (ChangesIf changes past b.changes → ChangesIf changes (s ∷ past) d.changes) → d ≡ record b { changes = d.changes }
+    → (AreShareBooksOf (asked_shares w) past d.shares → OnOk r (AreShareBooksOf (asked_shares w) (s ∷ past) f.shares)) → f ≡ record d { shares = f.shares } → OnOk r (KeepsMore w (s ∷ past) f)
+more_told {E} r w past s n a b d f splits changes k splits_is changes_is lists a_book a_changes a_shares books b_number b_lines b_changes b_shares change d_is share f_is = on_ok_weaker r (λ shares. (listed, booked, changed, shares)) (share shares_before)
   where
     before : ChangesIf changes past b.changes
     before = subst (λ (x : ChangeBook). ChangesIf changes past x) (sym (b_changes ∙ a_changes)) (subst (λ (t : Bool). ChangesIf t past n.changes) (sym changes_is) k.2)
 
-    listed : ListsIf w.form w.list (s ∷ past) d
-    listed = lists_same w.form w.list (s ∷ past) a d (ap (λ (x : Notebook). x.number) d_is ∙ b_number) (ap (λ (x : Notebook). x.lines) d_is ∙ b_lines) (lists k.0)
+    shares_before : AreShareBooksOf (asked_shares w) past d.shares
+    shares_before = subst (λ (x : ShareBooks). AreShareBooksOf (asked_shares w) past x) (sym (ap (λ (x : Notebook). x.shares) d_is ∙ b_shares ∙ a_shares)) k.3
 
-    booked : BookIf (keeps_splits (keeps_changes w.places w.summary) w.splits) (s ∷ past) d.book
-    booked = subst (λ (x : SplitBook). BookIf (keeps_splits (keeps_changes w.places w.summary) w.splits) (s ∷ past) x) (sym (ap (λ (x : Notebook). x.book) d_is))
+    listed : ListsIf w.form w.list (s ∷ past) f
+    listed = lists_same w.form w.list (s ∷ past) a f
+        (ap (λ (x : Notebook). x.number) f_is ∙ ap (λ (x : Notebook). x.number) d_is ∙ b_number) (ap (λ (x : Notebook). x.lines) f_is ∙ ap (λ (x : Notebook). x.lines) d_is ∙ b_lines) (lists k.0)
+
+    booked : BookIf (keeps_splits (keeps_changes w.places w.summary) w.splits) (s ∷ past) f.book
+    booked = subst (λ (x : SplitBook). BookIf (keeps_splits (keeps_changes w.places w.summary) w.splits) (s ∷ past) x) (sym (ap (λ (x : Notebook). x.book) f_is ∙ ap (λ (x : Notebook). x.book) d_is))
         (subst (λ (t : Bool). BookIf t (s ∷ past) b.book) splits_is
         (books (subst (λ (x : SplitBook). BookIf splits past x) (sym a_book) (subst (λ (t : Bool). BookIf t past n.book) (sym splits_is) k.1))))
 
-    ok : (q : Result (Unit {0}) E) → OnOk q (ChangesIf changes (s ∷ past) d.changes) → OnOk q (KeepsMore w (s ∷ past) d)
-    ok (Ok u) h = (listed, booked, subst (λ (t : Bool). ChangesIf t (s ∷ past) d.changes) changes_is h)
-    ok (Err e) h = tt
+    changed : ChangesIf (keeps_changes w.places w.summary) (s ∷ past) f.changes
+    changed = subst (λ (x : ChangeBook). ChangesIf (keeps_changes w.places w.summary) (s ∷ past) x) (sym (ap (λ (x : Notebook). x.changes) f_is)) (subst (λ (t : Bool). ChangesIf t (s ∷ past) d.changes) changes_is (change before))
 
 -- the listing has one line more
 pub listing_more : (form : Form) (past : List LogEntry) (s : LogEntry) (number : ℕ) → number ≡ length past

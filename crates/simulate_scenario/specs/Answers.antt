@@ -22,10 +22,10 @@ use Rattle.run_report.specs.Causes.{Lookups}
 use Rattle.change_share.specs.declared.counts.ChangeCounts.{ChangeCounts}
 use Rattle.connection_changes.specs.Changes.{counts_of}
 use Rattle.json_lines.specs.declared.forms.Form.{Form}
-use Rattle.json_lines.specs.Forms.{listing_as, splits_as, places_as, report_as, summary_as, verdict_as}
+use Rattle.json_lines.specs.Forms.{listing_as, splits_as, places_as, report_as, shares_as, summary_as, verdict_as}
 use Rattle.scenario.specs.declared.plan.Scenario.{Scenario}
 use Rattle.simulate_scenario.specs.Described.{cluster_in, choice_in, plan_in, lookups_in}
-use Rattle.simulate_scenario.specs.Asked.{begun, keeps_changes}
+use Rattle.simulate_scenario.specs.Asked.{begun, asked_shares, keeps_changes}
 use Rattle.simulate_scenario.specs.declared.asking.Query.{Query}
 use Rattle.simulate_scenario.specs.declared.asking.Wanted.{Wanted}
 use Rattle.simulate_scenario.specs.declared.asking.Query.TheVariants.{Report, Events}
@@ -68,8 +68,8 @@ summary_if form false lookups idle trace = []
 -- the report behind a listing, with what else is wanted before it, and after it
 abbrev pub report_behind : List ℕ → Lookups → Option ℕ → Wanted → Trace → ℕ → InputEnd → List ℕ
 report_behind listing lookups idle wanted trace packets ending =
-    ((listing ++ splits_if wanted.form wanted.places wanted.splits lookups idle trace)
-    ++ plain_report wanted.form trace packets ending) ++ summary_if wanted.form wanted.summary lookups idle trace
+    (((listing ++ splits_if wanted.form wanted.places wanted.splits lookups idle trace)
+    ++ plain_report wanted.form trace packets ending) ++ shares_as wanted.form (asked_shares wanted) trace.past) ++ summary_if wanted.form wanted.summary lookups idle trace
 
 -- the report with what is wanted before it, and after it
 abbrev pub report_of : Lookups → Option ℕ → Wanted → Trace → ℕ → InputEnd → List ℕ

@@ -1,5 +1,6 @@
 -- What is kept of a run's events for what is wanted of it.
 use Rattle.std.specs.Prelude.{ℕ, Bool, true, false, ◌||◌, not, List, codes}
+use Rattle.traffic_shares.specs.declared.books.AskedShares.{AskedShares}
 use Rattle.json_lines.specs.declared.forms.Form.{Form}
 use Rattle.json_lines.specs.Forms.{head_as}
 use Rattle.simulate_scenario.specs.declared.asking.Query.{Query}
@@ -24,7 +25,15 @@ unlisted w = record w { list = false }
 
 -- the report alone is wanted
 abbrev pub is_plain : Wanted → Bool
-is_plain w = not (w.list || w.splits || w.places || w.summary)
+is_plain w = not (w.list || w.splits || w.places || w.backends || w.nodes || w.summary)
+
+-- whose shares are wanted
+abbrev pub asked_shares : Wanted → AskedShares
+asked_shares w = record { backends = w.backends; nodes = w.nodes }
+
+abbrev pub shares_in : Query → AskedShares
+shares_in (Report wanted) = asked_shares wanted
+shares_in (Events one other form) = record { backends = false; nodes = false }
 
 -- the changes are kept: they are wanted with their places, or in a summary
 abbrev pub keeps_changes : Bool → Bool → Bool

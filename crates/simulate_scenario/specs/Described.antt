@@ -1,5 +1,5 @@
 -- The cluster that a scenario describes.
-use Rattle.std.specs.Prelude.{ℕ, List, length, is_some}
+use Rattle.std.specs.Prelude.{length, is_some}
 use Rattle.hash_laws.specs.Any.{plain_of}
 use Rattle.pool_versions.specs.Pool.{version_at}
 use Rattle.selection.specs.Candidates.{candidates_of}

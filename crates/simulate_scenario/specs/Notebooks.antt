@@ -8,9 +8,10 @@ use Rattle.run_report.specs.Books.{IsBookOf}
 use Rattle.run_report.specs.Splits.{sent_at}
 use Rattle.connection_changes.specs.declared.book.ChangeBook.{ChangeBook}
 use Rattle.connection_changes.specs.Books.{IsChangeBookOf}
+use Rattle.traffic_shares.specs.Books.{AreShareBooksOf}
 use Rattle.json_lines.specs.declared.forms.Form.{Form}
 use Rattle.json_lines.specs.Forms.{listing_as}
-use Rattle.simulate_scenario.specs.Asked.{begun, keeps_splits, keeps_changes}
+use Rattle.simulate_scenario.specs.Asked.{begun, asked_shares, keeps_splits, keeps_changes}
 use Rattle.simulate_scenario.specs.declared.asking.Query.{Query}
 use Rattle.simulate_scenario.specs.declared.asking.Wanted.{Wanted}
 use Rattle.simulate_scenario.specs.declared.asking.Query.TheVariants.{Report, Events}
@@ -47,11 +48,15 @@ pub record KeepsTwo (one other : ℕ) (past : List LogEntry) (n : Notebook) : Ty
 
 -- the books are the record's, those that what is wanted of a report needs
 abbrev pub KeepsBooks : Wanted → List LogEntry → Notebook → Type 0
-KeepsBooks wanted past n = BookIf (keeps_splits (keeps_changes wanted.places wanted.summary) wanted.splits) past n.book × ChangesIf (keeps_changes wanted.places wanted.summary) past n.changes
+KeepsBooks wanted past n =
+    BookIf (keeps_splits (keeps_changes wanted.places wanted.summary) wanted.splits) past n.book × ChangesIf (keeps_changes wanted.places wanted.summary) past n.changes
+    × AreShareBooksOf (asked_shares wanted) past n.shares
 
 -- what is kept beside the counts of a report
 abbrev pub KeepsMore : Wanted → List LogEntry → Notebook → Type 0
-KeepsMore wanted past n = ListsIf wanted.form wanted.list past n × BookIf (keeps_splits (keeps_changes wanted.places wanted.summary) wanted.splits) past n.book × ChangesIf (keeps_changes wanted.places wanted.summary) past n.changes
+KeepsMore wanted past n =
+    ListsIf wanted.form wanted.list past n × BookIf (keeps_splits (keeps_changes wanted.places wanted.summary) wanted.splits) past n.book
+    × ChangesIf (keeps_changes wanted.places wanted.summary) past n.changes × AreShareBooksOf (asked_shares wanted) past n.shares
 
 -- the notes are those of a record, for what is asked
 abbrev pub AreOf : Query → List LogEntry → Notebook → Type 0

@@ -183,6 +183,7 @@ pub(crate) fn report<S: Scheme, H: FlowHash, P: Spread>(
     let mut text = lines;
     push_splits_if(&mut text, deployment, wanted, &notes.book, &notes.changes)?;
     text.push_str(report.as_str())?;
+    wanted.form.push_shares(alloc, &mut text, &notes.shares)?;
     push_summary_if(alloc, &mut text, deployment, wanted, &notes.changes)?;
     Ok(text)
 }

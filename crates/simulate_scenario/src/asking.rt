@@ -3,28 +3,34 @@ ghost use Rattle.std.specs.Prelude.{◌≡◌};
 
 use change_share::ChangeCounts;
 use json_lines::Form;
+use traffic_shares::AskedShares;
 
 /// What comes before a report, and after it. With `list` a line for each event comes first. With `splits` there is then a line
 /// for each flow that was split, and how many there were. With `places` each of these lines also tells where its two packets
 /// were sent, and why the later one went elsewhere; then they are there without `splits` too. With `summary` the report is
-/// followed by how many connections changed their server, how often, and why.
+/// followed by how many connections changed their server, how often, and why. Before that comes what each backend took under
+/// each version, with `backends`, and then the same of each node, with `nodes`.
 #[derive(Clone, Copy, Debug, PartialEq, Eq)]
 pub struct Wanted {
     pub list: bool,
     pub splits: bool,
     pub places: bool,
+    pub backends: bool,
+    pub nodes: bool,
     pub summary: bool,
     pub form: Form,
 }
 
 impl Wanted {
-    ghost use Rattle.simulate_scenario.specs.Asked.{unlisted, is_plain, keeps_splits, keeps_changes};
+    ghost use Rattle.simulate_scenario.specs.Asked.{unlisted, is_plain, asked_shares, keeps_splits, keeps_changes};
 
     /// The report alone.
     pub const REPORT: Wanted = Wanted {
         list: false,
         splits: false,
         places: false,
+        backends: false,
+        nodes: false,
         summary: false,
         form: Form::Plain,
     };
@@ -44,7 +50,17 @@ impl Wanted {
     pub(crate) fn is_plain(self) -> bool
         ensures { result ≡ is_plain self }
     {
-        !(self.list || self.splits || self.places || self.summary)
+        !(self.list || self.splits || self.places || self.backends || self.nodes || self.summary)
+    }
+
+    /// Whose shares are wanted.
+    pub(crate) fn asked_shares(self) -> AskedShares
+        ensures { result ≡ asked_shares self }
+    {
+        AskedShares {
+            backends: self.backends,
+            nodes: self.nodes,
+        }
     }
 
     /// Whether the splits are kept by themselves: a book of changes has them too.
@@ -74,7 +90,7 @@ pub enum Query {
 }
 
 impl Query {
-    ghost use Rattle.simulate_scenario.specs.Asked.{form_of};
+    ghost use Rattle.simulate_scenario.specs.Asked.{form_of, shares_in};
 
     /// In which form the answer is.
     pub(crate) fn form(&self) -> Form
@@ -83,6 +99,19 @@ impl Query {
         match *self {
             Query::Report(wanted) => wanted.form,
             Query::Events { form, .. } => form,
+        }
+    }
+
+    /// Whose shares are asked for.
+    pub(crate) fn asked_shares(&self) -> AskedShares
+        ensures { result ≡ shares_in self.now }
+    {
+        match *self {
+            Query::Report(wanted) => wanted.asked_shares(),
+            Query::Events { .. } => AskedShares {
+                backends: false,
+                nodes: false,
+            },
         }
     }
 }

@@ -7,6 +7,8 @@ ghost use Rattle.cluster_node.specs.declared.events.LogEntry.{LogEntry};
 ghost use Rattle.cluster_node.specs.declared.packets.Packet.{Packet};
 ghost use Rattle.event_trace.specs.Noting.{said_by};
 ghost use Rattle.run_report.specs.Splits.{sent_by};
+ghost use Rattle.traffic_shares.specs.declared.books.AskedShares.{AskedShares};
+ghost use Rattle.traffic_shares.specs.Books.{AreShareBooksOf};
 
 use crate::asking::{Query, Wanted};
 use cluster_node::{Event, Outcome, Packet};
@@ -16,15 +18,17 @@ use event_trace::{Counts, Notes};
 use json_lines::Form;
 use run_report::{Sending, SplitBook, sent_by};
 use std::alloc::{AllocError, Global};
+use traffic_shares::ShareBooks;
 
-/// For a report the counts, and the lines, the splits and the changes where it has them; else the outcomes of two events, and what they
-/// sent. How many events there were is kept where it is needed.
+/// For a report the counts, and the lines, the splits, the changes and the shares where it has them; else the outcomes of two
+/// events, and what they sent. How many events there were is kept where it is needed.
 #[derive(Drop)]
 pub(crate) struct Notebook {
     pub(crate) counts: Counts,
     pub(crate) lines: String,
     pub(crate) book: SplitBook,
     pub(crate) changes: ChangeBook,
+    pub(crate) shares: ShareBooks,
     pub(crate) number: u64,
     pub(crate) one: Option<Outcome>,
     pub(crate) other: Option<Outcome>,
@@ -69,7 +73,7 @@ fn kept_send(
 impl Notebook {
     ghost use Rattle.simulate_scenario.specs.Notebooks.{Lists, ListsIf, BookIf, ChangesIf, KeepsMore, KeepsTwo, AreOf};
 
-    /// Nothing was noted, for what is asked. The books of splits and of changes hash by the key.
+    /// Nothing was noted, for what is asked. The books hash flows by the key.
     pub(crate) fn make(alloc: Global, key: TableKey, asked: &Query) -> Result<Notebook, AllocError>
         ensures { IfOk result (λ n. AreOf asked.now [] n) }
     {
@@ -80,6 +84,7 @@ impl Notebook {
             lines,
             book: SplitBook::new(alloc, key),
             changes: ChangeBook::new(alloc, key),
+            shares: ShareBooks::new(alloc, key, asked.asked_shares()),
             number: 0,
             one: None,
             other: None,
@@ -100,6 +105,7 @@ impl Notebook {
         ensures counts { self.new.counts ≡ self.old.counts }
         ensures book { self.new.book ≡ self.old.book }
         ensures changes { self.new.changes ≡ self.old.changes }
+        ensures shares { self.new.shares ≡ self.old.shares }
     {
         let number = self.number;
         form.push_event(&mut self.lines, number, event, packet, outcome)?;
@@ -121,6 +127,7 @@ impl Notebook {
         ensures counts { self.new.counts ≡ self.old.counts }
         ensures book { self.new.book ≡ self.old.book }
         ensures changes { self.new.changes ≡ self.old.changes }
+        ensures shares { self.new.shares ≡ self.old.shares }
     {
         if wanted.list {
             self.list(wanted.form, event, packet, outcome)
@@ -137,6 +144,7 @@ impl Notebook {
         ensures number { self.new.number ≡ self.old.number }
         ensures counts { self.new.counts ≡ self.old.counts }
         ensures changes { self.new.changes ≡ self.old.changes }
+        ensures shares { self.new.shares ≡ self.old.shares }
     {
         if splits {
             self.book.note(event, outcome)
@@ -164,6 +172,19 @@ impl Notebook {
         }
     }
 
+    // The same of the shares that are asked for.
+    fn share(
+        &mut self,
+        event: &Event,
+        packet: Option<&Packet>,
+        outcome: &Outcome,
+    ) -> Result<(), AllocError>
+        ensures shares { (asked : AskedShares) (past : List LogEntry) → AreShareBooksOf asked past self.old.shares → OnOk result (AreShareBooksOf asked (said_by event.now (option_copied packet.entry) outcome.now ∷ past) self.new.shares) }
+        ensures rest { self.new ≡ record self.old { shares = self.new.shares } }
+    {
+        self.shares.note(event, packet, outcome)
+    }
+
     // What is kept beside the counts.
     fn more(
         &mut self,
@@ -177,7 +198,8 @@ impl Notebook {
     {
         self.list_if(wanted, event, packet, outcome)?;
         self.book_if(wanted.keeps_splits(), event, outcome)?;
-        self.change_if(wanted.keeps_changes(), event, packet, outcome)
+        self.change_if(wanted.keeps_changes(), event, packet, outcome)?;
+        self.share(event, packet, outcome)
     }
 
     /// An event is noted for a report.

@@ -13,10 +13,11 @@ use Rattle.event_trace.specs.declared.play.Tally.{Tally}
 use Rattle.simulate_scenario.specs.Answers.{totals_in, is_cut}
 use Rattle.simulate_scenario.specs.Described.{rules_in, choice_in}
 use Rattle.node_threads.proofs.Settled.{all_settled}
-use Rattle.run_scenario.specs.PrivateHistories.{AreEven, splits_over, summary_over, counts_over}
-use Rattle.run_scenario.specs.Runs.{begun, audited_report, splits_if, tally_in, packets_in, commands_in, steps_in}
+use Rattle.json_lines.specs.Forms.{shares_as}
+use Rattle.run_scenario.specs.PrivateHistories.{AreEven, said_whole, splits_over, summary_over, counts_over}
+use Rattle.run_scenario.specs.Runs.{begun, audited_report, asked_shares, record_with, splits_if, tally_in, packets_in, commands_in, steps_in}
 use Rattle.run_scenario.proofs.InWords.{packets_are, tally_is}
-use Rattle.run_scenario.proofs.OneByOne.{are_even, history_of, joins, same_splits, same_summary, same_counts, same_outcomes}
+use Rattle.run_scenario.proofs.OneByOne.{are_even, history_of, joins, same_splits, same_shares, same_summary, same_counts, same_outcomes}
 use Rattle.run_scenario.proofs.running.run_over.Goals as goal
 
 pub run_named-requires-clause-nodes : goal.run_named-requires-clause-nodes
@@ -62,17 +63,24 @@ returns-clause-over g c =
     record {
       history = history_of run even few;
       run = record { runs = runs; joins = joins (rules_in s) (packets_in s link records) s.ring (commands_in s link records) run even few runs };
-      report = c.in_ok-push_str-3.ensures.bytes
+      report =
+          let whole = splits_if o.form o.places o.splits s (packets_in s link records) (history_of run even few) in
+          let audited = audited_report o.form (tally_in s link records) (totals_in (history_of run even few).outcomes.items) (is_cut ending) true in
+          let shares = shares_as o.form (asked_shares o) (record_with (packets_in s link records) (history_of run even few)) in
+          c.in_ok-push_str-4.ensures.bytes
+          ∙ ap (λ (l : List ℕ). l ++ c.as_str-4.result.now) (c.in_ok-push_str-3.ensures.bytes
           ∙ ap (λ (l : List ℕ). l ++ c.as_str-3.result.now) (c.in_ok-push_str-2.ensures.bytes
           ∙ ap (λ (l : List ℕ). l ++ c.as_str-2.result.now) (c.in_ok-push_str.ensures.bytes
           ∙ ap (λ (l : List ℕ). l ++ c.as_str.result.now) (c.in_ok-push_head.ensures ∙ ap (λ (l : List ℕ). l ++ begun o.form) c.new-text.ensures.bytes)
           ∙ ap (λ (l : List ℕ). begun o.form ++ l) (c.as_str.ensures.value ∙ c.in_ok-audited.ensures.told.before
           ∙ ap (λ (ps : List Packet). splits_over o.form o.places o.splits s ps run.nodes.items) are ∙ same_splits o.form o.places o.splits s (packets_in s link records) run even few))
-          ∙ ap (λ (l : List ℕ). (begun o.form ++ splits_if o.form o.places o.splits s (packets_in s link records) (history_of run even few)) ++ l) (c.as_str-2.ensures.value ∙ c.in_ok-report.ensures
+          ∙ ap (λ (l : List ℕ). (begun o.form ++ whole) ++ l) (c.as_str-2.ensures.value ∙ c.in_ok-report.ensures
           ∙ ap (λ (t : Tally). audited_report o.form t c.totals_of-totals.result (is_cut ending) c.in_ok-audited.audited.agrees) tally
           ∙ ap (λ (t : Totals). audited_report o.form (tally_in s link records) t (is_cut ending) c.in_ok-audited.audited.agrees) (c.totals_of-totals.ensures ∙ ap (λ (os : List Outcome). totals_in os) (same_outcomes run even few))
           ∙ ap (λ (b : Bool). audited_report o.form (tally_in s link records) (totals_in (history_of run even few).outcomes.items) (is_cut ending) b) c.in_ok-audited.ensures.audit))
-          ∙ ap (λ (l : List ℕ). ((begun o.form ++ splits_if o.form o.places o.splits s (packets_in s link records) (history_of run even few)) ++ audited_report o.form (tally_in s link records) (totals_in (history_of run even few).outcomes.items) (is_cut ending) true) ++ l)
-          (c.as_str-3.ensures.value ∙ c.in_ok-audited.ensures.told.behind ∙ ap (λ (ps : List Packet). summary_over o.form o.summary s ps run.nodes.items) are ∙ same_summary o.form o.summary s (packets_in s link records) run even few);
+          ∙ ap (λ (l : List ℕ). ((begun o.form ++ whole) ++ audited) ++ l) (c.as_str-3.ensures.value ∙ c.in_ok-audited.ensures.told.shares
+          ∙ ap (λ (ps : List Packet). shares_as o.form (asked_shares o) (said_whole ps run.nodes.items)) are ∙ same_shares o.form (asked_shares o) (packets_in s link records) run even few))
+          ∙ ap (λ (l : List ℕ). (((begun o.form ++ whole) ++ audited) ++ shares) ++ l)
+          (c.as_str-4.ensures.value ∙ c.in_ok-audited.ensures.told.behind ∙ ap (λ (ps : List Packet). summary_over o.form o.summary s ps run.nodes.items) are ∙ same_summary o.form o.summary s (packets_in s link records) run even few);
       counted = c.in_ok-audited.ensures.told.counts ∙ ap (λ (ps : List Packet). counts_over o ps run.nodes.items) are ∙ same_counts o s link records run even few;
     }

@@ -11,7 +11,7 @@ pub report-requires-clause-counts : goal.report-requires-clause-counts
 report-requires-clause-counts g c = c.requires.notes.kept_are.0
 
 pub report-requires-clause-books : goal.report-requires-clause-books
-report-requires-clause-books g c = (c.requires.notes.kept_are.1.1, c.requires.notes.kept_are.1.2)
+report-requires-clause-books g c = (c.requires.notes.kept_are.1.1, c.requires.notes.kept_are.1.2, c.requires.notes.kept_are.1.3)
 
 pub returns : goal.returns
 returns g c =

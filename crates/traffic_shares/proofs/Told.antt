@@ -1,0 +1,12 @@
+-- The lines of the rows are those of a record.
+use Rattle.std.proofs.Common.{◌≡◌, List, ap}
+use Rattle.std.specs.List.{flat_map}
+use Rattle.cluster_node.specs.declared.events.LogEntry.{LogEntry}
+use Rattle.traffic_shares.specs.declared.holders.ShareKind.{ShareKind}
+use Rattle.traffic_shares.specs.declared.shares.ShareRow.{ShareRow}
+use Rattle.traffic_shares.specs.Shares.{rows_of}
+use Rattle.traffic_shares.specs.Texts.{row_line, shares_text}
+
+pub rows_told : (kind : ShareKind) (past : List LogEntry) (rows : List ShareRow) → rows ≡ rows_of kind past → flat_map row_line rows ≡ shares_text kind past
+unfolding shares_text
+rows_told kind past rows is = ap (λ (l : List ShareRow). flat_map row_line l) is
