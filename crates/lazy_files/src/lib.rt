@@ -423,23 +423,43 @@ impl Write for StandardOutput<'_> {
     }
 }
 
-/// A text that is kept until it is printed.
+/// How many bytes of the end of a text are kept at least, where it is printed as it comes.
+const END: usize = 65_536;
+
+/// A report that is kept until it is printed, or that is printed as it comes, and of which the end is kept.
 #[derive(Drop)]
-pub struct KeptText {
+pub struct ReportText<'a> {
+    rt: &'a HostRuntime,
     text: Vec<u8>,
     is_short: bool,
+    is_printed: bool,
+    to_error: bool,
+    refusal: Option<Refusal>,
 }
 
-impl KeptText {
-    /// No text yet.
-    pub fn new(alloc: Global) -> KeptText {
-        KeptText {
-            text: Vec::new(alloc),
+impl<'a> ReportText<'a> {
+    /// No text yet. It is kept.
+    pub fn kept(rt: &'a HostRuntime) -> ReportText<'a> {
+        ReportText {
+            rt,
+            text: Vec::new(rt.alloc()),
             is_short: false,
+            is_printed: false,
+            to_error: false,
+            refusal: None,
         }
     }
 
-    /// The text.
+    /// No text yet. It is printed as it comes: on standard output, or on standard error.
+    pub fn printed(rt: &'a HostRuntime, to_error: bool) -> ReportText<'a> {
+        ReportText {
+            is_printed: true,
+            to_error,
+            ..ReportText::kept(rt)
+        }
+    }
+
+    /// The text, or its end where it was printed as it came.
     pub fn text(&self) -> &[u8] {
         self.text.as_slice()
     }
@@ -448,14 +468,61 @@ impl KeptText {
     pub fn is_short(&self) -> bool {
         self.is_short
     }
-}
 
-impl Write for KeptText {
+    /// Whether it was printed as it came.
+    pub fn is_printed(&self) -> bool {
+        self.is_printed
+    }
+
+    /// What the system answered where printing it was refused.
+    pub fn refusal(&self) -> Option<Refusal> {
+        self.refusal
+    }
+
     #[inline(always)]
-    fn write(&mut self, buf: &[u8]) -> io::Result<usize> {
+    fn keep(&mut self, buf: &[u8]) -> io::Result<usize>
+        ensures { WritesAtMost result buf.now }
+    {
         let written = self.text.write(buf);
         self.is_short = written.is_err();
         written
+    }
+
+    fn print(&mut self, buf: &[u8]) -> io::Result<usize>
+        ensures { WritesAtMost result buf.now }
+    {
+        let printed = if self.to_error {
+            self.rt.stderr().write(buf)
+        } else {
+            io::writer(self.rt).write(buf)
+        };
+        noted(printed, &mut self.refusal)
+    }
+
+    // Keeps the end of the text, with what was printed now. Where memory is refused nothing is kept of what came before.
+    fn keep_end(&mut self, bytes: &[u8]) {
+        if self.text.len().saturating_add(bytes.len()) > 2 * END {
+            let from = self.text.len().saturating_sub(END);
+            let end = Vec::from_slice(self.rt.alloc(), self.text.get(from..).unwrap_or(&[]));
+            self.text = end.unwrap_or(Vec::new(self.rt.alloc()));
+        }
+        if self.text.write(bytes).is_err() {
+            self.text.clear();
+        }
+    }
+}
+
+impl Write for ReportText<'_> {
+    #[inline(always)]
+    fn write(&mut self, buf: &[u8]) -> io::Result<usize> {
+        if !self.is_printed {
+            return self.keep(buf);
+        }
+        let printed = self.print(buf);
+        if let Ok(length) = &printed {
+            self.keep_end(buf.get(..*length).unwrap_or(&[]));
+        }
+        printed
     }
 
     fn flush(&mut self) -> io::Result<()> {

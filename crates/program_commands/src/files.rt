@@ -7,7 +7,7 @@ use change_share::ChangeCounts;
 use command_faults::CliFault;
 use connection_table::TableKey;
 use lazy_files::{
-    FileFault, InputFile, KeptText, OutputFile, Refusal, StandardOutput, is_standard,
+    FileFault, InputFile, OutputFile, Refusal, ReportText, StandardOutput, is_standard,
     is_standard_output,
 };
 use padded_capture::Padded;
@@ -108,7 +108,7 @@ fn of_input(fault: CliFault, input: &InputFile<'_>) -> CliFault {
 }
 
 // A fault of writing, where opening the output or keeping the report may have been refused.
-fn of_output(fault: CliFault, output: &OutputFile<'_>, report: &KeptText) -> CliFault {
+fn of_output(fault: CliFault, output: &OutputFile<'_>, report: &ReportText<'_>) -> CliFault {
     match (fault, output.fault()) {
         (CliFault::Write, Some(refused)) => of_file(refused, CliFault::OpenOutput),
         (CliFault::Write, None) if report.is_short() => CliFault::Memory,
@@ -149,25 +149,34 @@ fn print_report(rt: &HostRuntime, text: &[u8], to_error: bool) -> Result<(), Tro
 
 /// What a command printed, and how many connections there were and changed their server, where that was counted.
 #[derive(Drop)]
-pub(crate) struct Printed {
-    pub(crate) report: KeptText,
+pub(crate) struct Printed<'x> {
+    pub(crate) report: ReportText<'x>,
     pub(crate) counts: Option<ChangeCounts>,
 }
 
 // The end of a command: the output is written out, and then the report is printed and answered, or the fault is.
-fn finished(
+fn finished<'x>(
     rt: &HostRuntime,
     files: &Paths<'_>,
     input: InputFile<'_>,
     mut output: OutputFile<'_>,
-    report: KeptText,
+    report: ReportText<'x>,
     outcome: Result<Option<ChangeCounts>, PlacedFault>,
-) -> Result<Printed, Trouble> {
+) -> Result<Printed<'x>, Trouble> {
     let stopped = match (flushed(&mut output), outcome) {
         (Err(fault), _) => PlacedFault { fault, place: None },
         (Ok(()), Ok(counts)) => {
-            print_report(rt, report.text(), is_standard_output(rt, files.output))?;
+            if !report.is_printed() {
+                print_report(rt, report.text(), is_standard_output(rt, files.output))?;
+            }
             return Ok(Printed { report, counts });
+        }
+        (Ok(()), Err(stopped)) if report.refusal().is_some() => {
+            return Err(Trouble {
+                system: report.refusal(),
+                of_report: true,
+                ..Trouble::from(stopped)
+            });
         }
         (Ok(()), Err(stopped)) => PlacedFault {
             fault: of_output(of_input(stopped.fault, &input), &output, &report),
@@ -177,30 +186,51 @@ fn finished(
     Err(trouble_of(stopped, &input, output.refusal()))
 }
 
+/// How a command reads its capture, and prints its report.
+#[derive(Clone, Copy)]
+pub(crate) struct Manner {
+    /// Records that a snap length cut are played as they were.
+    pub(crate) is_padded: bool,
+    /// The report is printed as it comes.
+    pub(crate) is_streamed: bool,
+}
+
+impl Manner {
+    // Where the report goes.
+    fn report<'x>(self, rt: &'x HostRuntime, output: &str) -> ReportText<'x> {
+        if self.is_streamed {
+            ReportText::printed(rt, is_standard_output(rt, output))
+        } else {
+            ReportText::kept(rt)
+        }
+    }
+}
+
 /// A command that reads a capture and writes another: `play` gets the tables' key, the scenario's text, and the devices, each
-/// of which is opened at its first call. The report is kept until the output is written out, and then printed and answered.
+/// of which is opened at its first call. The report is kept until the output is written out, and then printed, or it is
+/// printed as it comes. It is answered too.
 pub(crate) fn between_files<'x, F>(
     rt: &'x HostRuntime,
     files: &Paths<'x>,
-    is_padded: bool,
+    manner: Manner,
     text: &[u8],
     play: F,
-) -> Result<Printed, Trouble>
+) -> Result<Printed<'x>, Trouble>
 where
     F: FnOnce(
         TableKey,
         &[u8],
         &mut CaptureFile<'x>,
         &mut ToWrite<OutputFile<'x>>,
-        &mut ToWrite<KeptText>,
+        &mut ToWrite<ReportText<'x>>,
     ) -> Result<Option<ChangeCounts>, PlacedFault>,
     F: Drop,
     requires { F.IsAlwaysCallable play }
 {
     let key = table_key(rt)?;
-    let mut input = capture_file(rt, files.input, is_padded);
+    let mut input = capture_file(rt, files.input, manner.is_padded);
     let mut output = ToWrite::new(OutputFile::new(rt, files.output, files.read()));
-    let mut report = ToWrite::new(KeptText::new(rt.alloc()));
+    let mut report = ToWrite::new(manner.report(rt, files.output));
     let outcome = play(key, text, &mut input, &mut output, &mut report);
     finished(
         rt,

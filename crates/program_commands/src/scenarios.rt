@@ -1,6 +1,6 @@
 //! The commands that play a scenario on one thread, from what the command line says, and the end of each command over files.
 use crate::files::{
-    CaptureFile, Paths, Printed, between_files, explain_files, outcome_of, read_scenario,
+    CaptureFile, Manner, Paths, Printed, between_files, explain_files, outcome_of, read_scenario,
     records_before, sketch_file,
 };
 use crate::reasons::{Files, Trouble, reason};
@@ -11,13 +11,13 @@ use clap::ArgMatches;
 use command_faults::CliFault;
 use connection_table::TableKey;
 use json_lines::Form;
-use lazy_files::{KeptText, OutputFile, StandardOutput};
+use lazy_files::{OutputFile, ReportText, StandardOutput};
 use pcap_file::{PcapFault, ToWrite};
 use report_advice::{advice_of, up_to_report};
 use rollout_order::order;
 use rollout_plan::plan_as;
 use scenario::{Played, read};
-use scenario_commands::simulate_keyed;
+use scenario_commands::simulate_listed;
 use scenario_faults::PlacedFault;
 use scenario_warnings::{warning_text, warnings};
 use shown_text::shown;
@@ -65,7 +65,7 @@ fn warn(rt: &HostRuntime, voice: Voice<'_>, played: Played, text: &[u8]) -> Resu
 const REPORT: usize = 4096;
 
 // Tells what may be amiss in a run, by its report.
-fn advise(rt: &HostRuntime, voice: Voice<'_>, report: &KeptText) -> Result<(), AllocError> {
+fn advise(rt: &HostRuntime, voice: Voice<'_>, report: &ReportText<'_>) -> Result<(), AllocError> {
     let Ok(text) = str::from_utf8(report.text()) else {
         return Ok(());
     };
@@ -132,7 +132,7 @@ fn judged_end(
     rt: &HostRuntime,
     voice: Voice<'_>,
     ending: Ending<'_>,
-    done: Result<Printed, Trouble>,
+    done: Result<Printed<'_>, Trouble>,
 ) -> u8 {
     let Ending {
         paths,
@@ -161,11 +161,12 @@ struct Ending<'x> {
 }
 
 /// A command that plays a scenario from one capture to another, as the command line says. `play` plays it, with the tables'
-/// key, the scenario's text, the input, the output, and what keeps the report.
+/// key, the scenario's text, the input, the output, and what keeps the report, or prints it as it comes where it `is_streamed`.
 pub fn between_captures<'x, F>(
     rt: &'x HostRuntime,
     matches: &'x ArgMatches<'_>,
     played: Played,
+    is_streamed: bool,
     play: F,
 ) -> u8
 where
@@ -174,7 +175,7 @@ where
         &[u8],
         &mut CaptureFile<'x>,
         &mut ToWrite<OutputFile<'x>>,
-        &mut ToWrite<KeptText>,
+        &mut ToWrite<ReportText<'x>>,
     ) -> Result<Option<ChangeCounts>, PlacedFault>,
     F: Drop,
     requires { F.IsAlwaysCallable play }
@@ -194,8 +195,12 @@ where
     };
     let (text, read) = read_scenario(rt, paths.scenario);
     let text = text.as_slice();
+    let manner = Manner {
+        is_padded: is_padded(matches),
+        is_streamed,
+    };
     let done = match read {
-        Ok(()) => between_files(rt, &paths, is_padded(matches), text, play),
+        Ok(()) => between_files(rt, &paths, manner, text, play),
         Err(trouble) => Err(trouble),
     };
     let ending = Ending {
@@ -236,8 +241,10 @@ pub(crate) fn run_simulate(rt: &HostRuntime, matches: &ArgMatches<'_>) -> u8 {
         rt,
         matches,
         Played::InTurn,
+        wanted.list,
         |key, text, input, output, report| {
-            simulate_keyed(rt.alloc(), key, text, input, output, report, wanted)
+            let done = simulate_listed(rt.alloc(), key, text, input, output, report, wanted);
+            done.map(|(counts, _)| counts)
         },
     )
 }

@@ -1,8 +1,7 @@
-//! The command `simulate` with its listing, whose lines are written as the run goes.
+//! The command `simulate`, whose listing is written as the run goes.
 ghost use Rattle.std.specs.Prelude.{◌≡◌, IfOk, IfErr};
 ghost use Rattle.scenario.specs.declared.playing.Played.TheVariants.{InTurn};
 ghost use Rattle.scenario_faults.specs.Refusals.{IsPlaced};
-ghost use Rattle.simulate_scenario.specs.Asked.{listed};
 ghost use Rattle.simulate_scenario.specs.declared.asking.Query.TheVariants.{Report};
 ghost use Rattle.scenario_commands.specs.Scenarios.{CountedPlays, run_fault};
 ghost use Rattle.scenario_commands.specs.Listings.{IsListingFault, ListingFails};
@@ -27,10 +26,9 @@ fn listing_fault<R: Sink + Drop>(given_up: ListingGivenUp<Streamed<R>>) -> CliFa
     }
 }
 
-/// The command `simulate` with a line for each event, whether `wanted` says so or not. The lines go to the report's device as
-/// the run goes, some 65,536 bytes at a time, and the rest behind them; so memory doesn't grow with the events. After a
-/// fault the device may have got a part of the lines. The device comes back with the counts of the connections, which are
-/// there where the changes are kept.
+/// The command `simulate`, whose listing goes to the report's device as the run goes, some 65,536 bytes at a time. So memory
+/// doesn't grow with it. The rest comes behind it. After a fault the device may have got a part of the listing. The device comes
+/// back with the counts of the connections, which are there where the changes are kept.
 pub fn simulate_listed<I: Source, O: Sink, R: Sink + Drop>(
     alloc: Global,
     key: TableKey,
@@ -40,9 +38,9 @@ pub fn simulate_listed<I: Source, O: Sink, R: Sink + Drop>(
     report: R,
     wanted: Wanted,
 ) -> Result<(Option<ChangeCounts>, R), PlacedFault>
-    ensures counted { IfOk result (λ r. CountedPlays (Report (listed wanted)) scenario.now
+    ensures counted { IfOk result (λ r. CountedPlays (Report wanted) scenario.now
         (I.tape input.old) (I.tape input.new) (O.tape output.old) (O.tape output.new) (R.tape report) (R.tape r.1) r.0) }
-    ensures stopped { IfErr result (λ r. ListingFails r.fault (Report (listed wanted)) scenario.now
+    ensures stopped { IfErr result (λ r. ListingFails r.fault (Report wanted) scenario.now
         (I.tape input.old) (I.tape input.new) (O.tape output.old) (O.tape output.new) ((input.new ≡ input.old) × (output.new ≡ output.old))) }
     ensures place { IfErr result (IsPlaced InTurn scenario.now) }
 {

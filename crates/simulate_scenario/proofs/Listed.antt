@@ -1,8 +1,9 @@
 -- A report behind what pages were told of its listing.
-use Rattle.std.proofs.Common.{◌≡◌, ℕ, ◌+◌, List, [], ◌∷◌, ◌++◌, reverse, Option, Result, Ok, Err, refl, sym, ap, ◌∙◌, subst, string_bytes, arith}
+use Rattle.std.proofs.Common.{◌≡◌, ℕ, Bool, true, false, List, [], ◌∷◌, ◌++◌, Option, Result, Ok, Err, refl, sym, ap, ◌∙◌, subst, string_bytes}
 use Rattle.std.specs.Prelude.{OnOk}
 use Rattle.cluster_node.specs.declared.events.LogEntry.{LogEntry}
-use Rattle.json_lines.specs.Forms.{listing_as, shares_as}
+use Rattle.json_lines.specs.Forms.{shares_as}
+use Rattle.json_lines.specs.declared.forms.Form.{Form}
 use Rattle.pcap_file.specs.declared.format.InputEnd.{InputEnd}
 use Rattle.pcap_file.specs.Device.{Tape}
 use Rattle.event_trace.specs.Trace.{Trace}
@@ -10,14 +11,15 @@ use Rattle.run_report.specs.Causes.{Lookups}
 use Rattle.scenario.specs.declared.plan.Scenario.{Scenario}
 use Rattle.simulate_scenario.specs.declared.asking.Answer.{Answer}
 use Rattle.simulate_scenario.specs.declared.asking.Wanted.{Wanted}
-use Rattle.simulate_scenario.specs.Answers.{report_behind, report_of, splits_if, plain_report, summary_if}
+use Rattle.simulate_scenario.specs.Answers.{listing_if, report_behind, report_of, splits_if, plain_report, summary_if}
 use Rattle.simulate_scenario.specs.declared.asking.Query.TheVariants.{Report}
 use Rattle.simulate_scenario.specs.declared.notes.Notebook.{Notebook}
-use Rattle.simulate_scenario.specs.Asked.{begun, asked_shares, listed, unlisted}
+use Rattle.simulate_scenario.specs.Asked.{begun, asked_shares}
 use Rattle.simulate_scenario.specs.Notebooks.{AreOf}
-use Rattle.simulate_scenario.specs.Paging.{ArePaged}
+use Rattle.simulate_scenario.specs.Paging.{ArePaged, NumbersIf, lines_if}
+use Rattle.simulate_scenario.proofs.Noted.{begun_listed}
 use Rattle.simulate_scenario.specs.Described.{cluster_in, choice_in, plan_in, lookups_in}
-use Rattle.simulate_scenario.specs.Told.{AnswersBy, IsToldAnswer, ListedIn}
+use Rattle.simulate_scenario.specs.Told.{AnswersBy, IsToldAnswer, ToldIn}
 
 -- what stands behind a listing stands behind the whole
 pub behind_told : (told : List ℕ → List ℕ → Type 0) → ((text whole more : List ℕ) → told text whole → told (text ++ more) (whole ++ more))
@@ -35,18 +37,18 @@ head_or p [] = p
 head_or p (q ∷ qs) = q
 
 pub listed_told : {P : Type 0} (told : P → P → List ℕ → List ℕ → Type 0) (s : Scenario) (wanted asked : Wanted) (pages left out : P) (firsts : List P) (a : Answer) (i i' o o' : Tape)
-    → asked ≡ unlisted wanted → firsts ≡ pages ∷ [] → out ≡ left
+    → asked ≡ wanted → firsts ≡ pages ∷ [] → out ≡ left
     → AnswersBy (λ l d t n e. IsToldAnswer told asked firsts left a l d t n e) (cluster_in s) (choice_in s) (plan_in s) (lookups_in s) s.idle i i' o o'
-    → ListedIn s (listed wanted) (λ text whole. told pages out text whole) i i' o o' (string_bytes a.text) a.counts
+    → ToldIn s wanted (λ text whole. told pages out text whole) i i' o o' (string_bytes a.text) a.counts
 unfolding head_or
 listed_told told s wanted asked pages left out firsts a i i' o o' e f g h =
     go (subst (λ (w : Wanted). AnswersBy (λ l d t n e. IsToldAnswer told w firsts left a l d t n e) (cluster_in s) (choice_in s) (plan_in s) (lookups_in s) s.idle i i' o o') e h)
   where
-    go : AnswersBy (λ l d t n e. IsToldAnswer told (unlisted wanted) firsts left a l d t n e) (cluster_in s) (choice_in s) (plan_in s) (lookups_in s) s.idle i i' o o'
-        → ListedIn s (listed wanted) (λ text whole. told pages out text whole) i i' o o' (string_bytes a.text) a.counts
+    go : AnswersBy (λ l d t n e. IsToldAnswer told wanted firsts left a l d t n e) (cluster_in s) (choice_in s) (plan_in s) (lookups_in s) s.idle i i' o o'
+        → ToldIn s wanted (λ text whole. told pages out text whole) i i' o o' (string_bytes a.text) a.counts
     go k =
         let t = k.answer in
-        let whole = report_of (lookups_in s) s.idle (listed wanted) k.trace k.packets k.ending in
+        let whole = report_of (lookups_in s) s.idle wanted k.trace k.packets k.ending in
         record {
           whole = whole;
           counted = (record { trace = k.trace; packets = k.packets; ending = k.ending; simulated = k.simulated; answer = refl }, t.counted);
@@ -55,15 +57,31 @@ listed_told told s wanted asked pages left out firsts a i i' o o' e f g h =
         }
 
 -- one event more
-pub paged_more : {P E : Type 0} (told : P → P → List ℕ → List ℕ → Type 0) (r : Result (Unit {0}) E) (wanted : Wanted) (firsts : List P) (past : List LogEntry) (s : LogEntry)
-    (old new : Notebook) (number number' : ℕ) (lines lines' : List ℕ) (pages pages' : P) → ArePaged told wanted firsts past old number lines pages → number' ≡ number + 1
-    → ((first : P) → told first pages lines (begun wanted.form ++ listing_as wanted.form (reverse past)) → told first pages' lines' (begun wanted.form ++ listing_as wanted.form (reverse (s ∷ past))))
-    → (AreOf (Report wanted) past old → OnOk r (AreOf (Report wanted) (s ∷ past) new)) → OnOk r (ArePaged told wanted firsts (s ∷ past) new number' lines' pages')
-paged_more told (Err e) wanted firsts past s old new number number' lines lines' pages pages' h is line kept = tt
-paged_more told (Ok u) wanted firsts past s old new number number' lines lines' pages pages' h is line kept = record {
+pub paged_more : {P E : Type 0} (told : P → P → List ℕ → List ℕ → Type 0) (r : Result (Unit {0}) E) (wanted beside : Wanted) (firsts : List P) (past : List LogEntry) (s : LogEntry)
+    (old new : Notebook) (number number' : ℕ) (lines lines' : List ℕ) (pages pages' : P) → ArePaged told wanted beside firsts past old number lines pages
+    → (NumbersIf wanted.list past number → NumbersIf wanted.list (s ∷ past) number')
+    → ((first : P) → NumbersIf wanted.list past number → told first pages lines (lines_if wanted.form wanted.list past) → told first pages' lines' (lines_if wanted.form wanted.list (s ∷ past)))
+    → (AreOf (Report beside) past old → OnOk r (AreOf (Report beside) (s ∷ past) new)) → OnOk r (ArePaged told wanted beside firsts (s ∷ past) new number' lines' pages')
+paged_more told (Err e) wanted beside firsts past s old new number number' lines lines' pages pages' h is line kept = tt
+paged_more told (Ok u) wanted beside firsts past s old new number number' lines lines' pages pages' h is line kept = record {
+  beside_is = h.beside_is;
   kept_are = kept h.kept_are;
-  number_is = is ∙ ap (λ (n : ℕ). n + 1) h.number_is ∙ omega arith;
+  numbers = is h.numbers;
   first = h.first;
   first_is = h.first_is;
-  lines_told = line h.first h.lines_told;
+  lines_told = line h.first h.numbers h.lines_told;
 }
+
+-- of no events nothing is counted, and there are no lines
+pub none_numbered : (list : Bool) → NumbersIf list [] 0
+none_numbered true = refl
+none_numbered false = tt
+
+pub none_listed : (form : Form) (list : Bool) → lines_if form list [] ≡ begun form
+none_listed form true = begun_listed form
+none_listed form false = refl
+
+-- the lines are those of the run's listing
+pub lines_are : (form : Form) (list : Bool) (trace : Trace) → lines_if form list trace.past ≡ listing_if form list trace
+lines_are form true trace = refl
+lines_are form false trace = refl

@@ -16,10 +16,7 @@ form_of (Events one other form) = form
 abbrev pub begun : Form → List ℕ
 begun form = head_as form (codes "simulate")
 
--- the same with a line for each event, and without
-abbrev pub listed : Wanted → Wanted
-listed w = record w { list = true }
-
+-- the same without a line for each event
 abbrev pub unlisted : Wanted → Wanted
 unlisted w = record w { list = false }
 

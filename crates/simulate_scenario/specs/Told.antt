@@ -11,7 +11,6 @@ use Rattle.scenario.specs.declared.plan.Scenario.{Scenario}
 use Rattle.simulation.specs.Plans.{Planned}
 use Rattle.simulation.specs.Simulated.{Simulated}
 use Rattle.simulate_scenario.specs.Answers.{answer_of, counts_for, report_of, CountedIn}
-use Rattle.simulate_scenario.specs.Asked.{listed}
 use Rattle.simulate_scenario.specs.declared.asking.Answer.{Answer}
 use Rattle.simulate_scenario.specs.declared.asking.Query.{Query}
 use Rattle.simulate_scenario.specs.declared.asking.Query.TheVariants.{Report}
@@ -30,17 +29,17 @@ pub record AnswersBy (holds : Lookups → Option ℕ → Trace → ℕ → Input
 abbrev pub IsAnswer : Query → Answer → Lookups → Option ℕ → Trace → ℕ → InputEnd → Type 0
 IsAnswer asked a lookups idle trace packets ending = (string_bytes a.text ≡ answer_of lookups idle asked trace packets ending) × (a.counts ≡ counts_for asked trace.past)
 
--- The answer is that to a report with its listing, behind what the pages were told since they were the first.
+-- The answer is that to a report, behind what the pages were told since they were the first.
 pub record IsToldAnswer {P : Type 0} (told : P → P → List ℕ → List ℕ → Type 0) (wanted : Wanted) (firsts : List P) (pages : P) (a : Answer)
     (lookups : Lookups) (idle : Option ℕ) (trace : Trace) (packets : ℕ) (ending : InputEnd) : Type 0 where
   pub first : P
   pub first_is : firsts ≡ first ∷ []
-  pub text_told : told first pages (string_bytes a.text) (report_of lookups idle (listed wanted) trace packets ending)
+  pub text_told : told first pages (string_bytes a.text) (report_of lookups idle wanted trace packets ending)
   pub counted : a.counts ≡ counts_for (Report wanted) trace.past
 
 -- A scenario was played, and a report of the run is the whole of what was told, with this text behind it. These are the
 -- counts of its connections.
-pub record ListedIn (s : Scenario) (wanted : Wanted) (told : List ℕ → List ℕ → Type 0) (input input' output output' : Tape) (text : List ℕ) (counts : Option ChangeCounts) : Type 0 where
+pub record ToldIn (s : Scenario) (wanted : Wanted) (told : List ℕ → List ℕ → Type 0) (input input' output output' : Tape) (text : List ℕ) (counts : Option ChangeCounts) : Type 0 where
   pub whole : List ℕ
   pub counted : CountedIn s (Report wanted) input input' output output' whole counts
   pub is_told : told text whole

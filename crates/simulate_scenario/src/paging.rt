@@ -1,11 +1,11 @@
-//! A report whose lines of events go to pages as the run goes.
+//! A report whose listing goes to pages as the run goes.
 ghost use Rattle.std.specs.Prelude.{◌≡◌, ◌+◌, ◌++◌, ◌∷◌, [], List, length, reverse, IfOk, OnOk, string_bytes, option_copied};
 ghost use Rattle.hash_laws.specs.Any.{plain_of};
 ghost use Rattle.cluster_node.specs.declared.events.LogEntry.{LogEntry};
 ghost use Rattle.event_trace.specs.Noting.{said_by};
 ghost use Rattle.json_lines.specs.Forms.{listing_as};
-ghost use Rattle.simulate_scenario.specs.Asked.{begun, unlisted};
-ghost use Rattle.simulate_scenario.specs.Paging.{ArePaged};
+ghost use Rattle.simulate_scenario.specs.Asked.{begun};
+ghost use Rattle.simulate_scenario.specs.Paging.{ArePaged, NumbersIf, lines_if};
 
 use crate::answering::{Answering, Asking, counts_if, report};
 use crate::asking::{Answer, Query, Wanted};
@@ -23,17 +23,18 @@ use std::alloc::{AllocError, Global};
 use std::mem;
 use text_pages::Pages;
 
-/// What is wanted of a run, and where the lines of its events go.
+/// What is wanted of a run, and where its listing goes.
 #[derive(Debug, Drop)]
 pub struct Listing<P> {
     pub wanted: Wanted,
     pub pages: P,
 }
 
-/// What is wanted beside the lines, and the pages as they were at first.
+/// What is wanted, the same without the lines of events, and the pages as they were at first.
 #[derive(Drop)]
 pub(crate) struct Paged<P> {
     wanted: Wanted,
+    unlisted: Wanted,
     first: Log<P>,
 }
 
@@ -52,17 +53,21 @@ pub(crate) fn asking_paged<P: Pages>(
     key: TableKey,
     listing: Listing<P>,
 ) -> Result<Asking<Paged<P>, PagedNotes<P>>, AllocError>
-    ensures fresh { IfOk result (λ a. ArePaged (λ first pages text whole. P.told first pages text whole) a.asked.wanted a.asked.first.items [] a.notes.kept a.notes.number (string_bytes a.notes.lines) a.notes.pages) }
-    ensures asked { IfOk result (λ a. a.asked.wanted ≡ unlisted listing.wanted) }
+    ensures fresh { IfOk result (λ a. ArePaged (λ first pages text whole. P.told first pages text whole) a.asked.wanted a.asked.unlisted a.asked.first.items [] a.notes.kept a.notes.number (string_bytes a.notes.lines) a.notes.pages) }
+    ensures asked { IfOk result (λ a. a.asked.wanted ≡ listing.wanted) }
     ensures first { IfOk result (λ a. a.asked.first.items ≡ listing.pages ∷ []) }
 {
     let Listing { wanted, pages } = listing;
-    let wanted = wanted.unlisted();
-    let kept = Notebook::make(alloc, key, &Query::Report(wanted))?;
+    let unlisted = wanted.unlisted();
+    let kept = Notebook::make(alloc, key, &Query::Report(unlisted))?;
     let mut lines = String::new(alloc);
     wanted.form.push_head(&mut lines, "simulate")?;
     let first = Log::new().and(&pages);
-    let asked = Paged { wanted, first };
+    let asked = Paged {
+        wanted,
+        unlisted,
+        first,
+    };
     let notes = PagedNotes {
         kept,
         number: 0,
@@ -78,6 +83,28 @@ impl<P: Pages> PagedNotes<P> {
         ensures { result ≡ self.pages }
     {
         self.pages
+    }
+
+    // The line of an event, where lines are wanted.
+    #[inline(always)]
+    fn list_if(
+        &mut self,
+        wanted: Wanted,
+        event: &Event,
+        packet: Option<&Packet>,
+        outcome: &Outcome,
+    ) -> Result<(), AllocError>
+        ensures numbers { (past : List LogEntry) → NumbersIf wanted.list past self.old.number → OnOk result (NumbersIf wanted.list (said_by event.now (option_copied packet.entry) outcome.now ∷ past) self.new.number) }
+        ensures lines { (first : P) (past : List LogEntry) → NumbersIf wanted.list past self.old.number
+            → P.told first self.old.pages (string_bytes self.old.lines) (lines_if wanted.form wanted.list past)
+            → OnOk result (P.told first self.new.pages (string_bytes self.new.lines) (lines_if wanted.form wanted.list (said_by event.now (option_copied packet.entry) outcome.now ∷ past))) }
+        ensures kept { self.new.kept ≡ self.old.kept }
+    {
+        if wanted.list {
+            self.list(wanted.form, event, packet, outcome)
+        } else {
+            Ok(())
+        }
     }
 
     // The line of an event.
@@ -106,8 +133,9 @@ impl<P: Pages> Notes for PagedNotes<P> {
 
     ghost use Rattle.simulate_scenario.specs.Paging.{ArePaged};
 
-    ghost are_of = { λ asked past notes. ArePaged (λ first pages text whole. P.told first pages text whole) asked.wanted asked.first.items past notes.kept notes.number (string_bytes notes.lines) notes.pages };
+    ghost are_of = { λ asked past notes. ArePaged (λ first pages text whole. P.told first pages text whole) asked.wanted asked.unlisted asked.first.items past notes.kept notes.number (string_bytes notes.lines) notes.pages };
 
+    #[inline(always)]
     fn note(
         &mut self,
         asked: &Paged<P>,
@@ -115,8 +143,8 @@ impl<P: Pages> Notes for PagedNotes<P> {
         packet: Option<&Packet>,
         outcome: &Outcome,
     ) -> Result<(), AllocError> {
-        self.list(asked.wanted.form, event, packet, outcome)?;
-        self.kept.report(asked.wanted, event, packet, outcome)
+        self.list_if(asked.wanted, event, packet, outcome)?;
+        self.kept.report(asked.unlisted, event, packet, outcome)
     }
 }
 

@@ -10,8 +10,7 @@ ghost use Rattle.simulate_scenario.specs.Described.{StoppedIn, cluster_in, choic
 ghost use Rattle.named_scheme.specs.Picking.{pick_of};
 ghost use Rattle.named_spread.specs.Choosing.{choice_by, choice_of, live_of};
 ghost use Rattle.simulate_scenario.specs.Answers.{AnswersIn, CountedIn};
-ghost use Rattle.simulate_scenario.specs.Told.{AnswersBy, ListedIn};
-ghost use Rattle.simulate_scenario.specs.Asked.{listed};
+ghost use Rattle.simulate_scenario.specs.Told.{AnswersBy, ToldIn};
 ghost use Rattle.simulation.specs.declared.fault.SimulationFault.TheVariants as SimulationFault;
 ghost use Rattle.simulate_scenario.specs.Kept.{KeepsPromises};
 
@@ -242,9 +241,8 @@ fn pages_of<P: Pages>(given_up: GivenUp<PagedNotes<P>>) -> ListingGivenUp<P>
     }
 }
 
-/// The same of a report that has a line for each event, whether that is wanted or not. The lines go to pages as the run goes,
-/// so that memory doesn't grow with them. The whole is what the pages were told, with the answer's text behind it. Where a page
-/// can't be turned the fault is Memory.
+/// The same of a report whose listing goes to pages as the run goes, so that memory doesn't grow with it. The whole report is
+/// what the pages were told, with the answer's text behind it. Where a page can't be turned the fault is Memory.
 pub fn play_listed<P: Pages, I: Source, O: Outlet>(
     alloc: Global,
     key: TableKey,
@@ -253,7 +251,7 @@ pub fn play_listed<P: Pages, I: Source, O: Outlet>(
     input: &mut I,
     output: &mut O,
 ) -> Result<(Answer, P), ListingGivenUp<P>>
-    ensures ok { IfOk result (λ r. ListedIn scenario (listed listing.wanted) (λ text whole. P.told listing.pages r.1 text whole)
+    ensures ok { IfOk result (λ r. ToldIn scenario listing.wanted (λ text whole. P.told listing.pages r.1 text whole)
         (I.tape input.old) (I.tape input.new) (O.tape output.old) (O.tape output.new) (string_bytes r.0.text) r.0.counts) }
     ensures stopped { IfErr result (λ g. StoppedIn scenario (I.tape input.old) (I.tape input.new) (O.tape output.old) (O.tape output.new) g.fault) }
 {

@@ -9,9 +9,9 @@ use Rattle.simulate_scenario.proofs.paging.PagedNotesNotes.note.Goals as goal
 
 pub returns : goal.returns
 returns g c = λ past h.
-    let wanted = c.args.asked.now.wanted in
+    let asked = c.args.asked.now in
     let s = said_by c.args.event.now (option_copied c.args.packet) c.args.outcome.now in
-    paged_more (λ first pages text whole. g.P.Pages.told first pages text whole) c.report.result wanted c.args.asked.now.first.items past s c.args.self.now.kept c.report.new.self
-    c.args.self.now.number c.list.new.self.number _ _ c.args.self.now.pages c.list.new.self.pages h c.in_ok-list.ensures.number
-    (λ first told. c.in_ok-list.ensures.lines first past h.number_is told)
-    (λ k. c.report.ensures past (subst (λ (n : Notebook). AreOf (Report wanted) past n) (sym c.in_ok-list.ensures.kept) k))
+    paged_more (λ first pages text whole. g.P.Pages.told first pages text whole) c.report.result asked.wanted asked.unlisted asked.first.items past s c.args.self.now.kept c.report.new.self
+    c.args.self.now.number c.list_if.new.self.number _ _ c.args.self.now.pages c.list_if.new.self.pages h (c.in_ok-list_if.ensures.numbers past)
+    (λ first numbers told. c.in_ok-list_if.ensures.lines first past numbers told)
+    (λ k. c.report.ensures past (subst (λ (n : Notebook). AreOf (Report asked.unlisted) past n) (sym c.in_ok-list_if.ensures.kept) k))
