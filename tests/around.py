@@ -66,6 +66,8 @@ def test_captures_that_work():
         ways = [("VLAN", capture(1, ethernet + b"\x81\x00\x00\x05\x08\x00"), using("editcap -F pcap -L -C 12:4"))]
         ways.append(("cooked", capture(113, cooked), using("editcap -F pcap -L -C 16")))
         ways.append(("cooked, version 2", capture(276, cooked_again), using("editcap -F pcap -L -C 16").replace("16", "20")))
+        ways.append(("two VLAN tags", capture(1, ethernet + bytes.fromhex("88a80005810000070800")), using("editcap -F pcap -L -C 12:8")))
+        ways.append(("BSD's loopback", capture(0, bytes.fromhex("02000000")), using("editcap -F pcap -L -C 4")))
         ways.append(("gzip", None, using("gunzip -c")))
         if has("tshark"):
             ways.append(("one direction", capture(101, b""), using("tshark -r in.pcap -Y 'ip.dst")))
@@ -79,6 +81,18 @@ def test_captures_that_work():
             check("pcapng isn't read", played(folder, "in.pcapng")[2] == b"fault: BadMagic\n")
             subprocess.run(using("editcap -F pcap in.pcapng"), shell=True, cwd=folder, check=True)
             check("pcapng: made a capture that works", played(folder, "out.pcap") == expected)
+        if has("editcap") and has("mergecap"):
+            _, records, _ = model.read_capture(capture(101, b""))
+            for place in (0, 1):
+                (folder / f"in.pcap{place}").write_bytes(model.written(records[4:] if place else records[:4], 101))
+            subprocess.run(using("mergecap -F pcap -w out.pcap in.pcap0"), shell=True, cwd=folder, check=True)
+            check("rotated files: made a capture that works", played(folder, "out.pcap") == expected)
+        if has("tshark") and has("mergecap"):
+            tags = [ethernet + b"\x81\x00\x00\x05\x08\x00", ethernet + b"\x08\x00"]
+            mixed = [(secs, micros, tags[place % 2] + frame) for place, (secs, micros, frame) in enumerate(model.read_capture(capture(101, b""))[1])]
+            (folder / "in.pcap").write_bytes(model.written(mixed, 1))
+            subprocess.run(using("tshark -r in.pcap -Y vlan"), shell=True, cwd=folder, check=True, capture_output=True)
+            check("frames with a tag and without: made a capture that works", played(folder, "out.pcap") == expected)
 
 
 def example_in(folder):

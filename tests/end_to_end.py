@@ -637,6 +637,77 @@ def test_cuts():
         simulates(f"{length} bytes of a capture", text, data[:length], written, whole[: 24 + 80 * records])
 
 
+def sized(letter, length):
+    """A packet of so many bytes: its flow, its total length, and a header checksum that is right. What is behind it is sevens."""
+    head = packet(letter)[:2] + length.to_bytes(2, "big") + P[4:10] + bytes(2) + P[12:20]
+    head = head[:10] + (65535 - model.folded(head)).to_bytes(2, "big") + head[12:]
+    return head + packet(letter)[20:] + bytes([7]) * (length - len(P))
+
+
+def snapped(order, packets, most):
+    """A capture in a byte order of these packets, each of which was cut to so many bytes."""
+    head = struct.pack(order + "IHHIIII", 0xA1B2C3D4, 2, 4, 0, 0, 65535, 101)
+    return head + b"".join(struct.pack(order + "4I", 1, 0, min(most, len(data)), len(data)) + data[:most] for data in packets)
+
+
+def plays_as(name, text, data, whole):
+    """With `--cut pad` a capture is played as another one: to the byte, by each command, from a file and from standard input."""
+    for words in [["simulate"], ["simulate", "--list"], ["simulate", "--splits", "--where"], ["run", "--splits"]]:
+
+        def use(folder, more, words=words):
+            answer = run([*words, *more, "s.toml", "in.pcap", "out.pcap"], cwd=folder)
+            return answer, (folder / "out.pcap").read_bytes()
+
+        expected = with_files(text, whole, lambda folder: use(folder, []))
+        answer = with_files(text, data, lambda folder: use(folder, ["--cut", "pad"]))
+        check(f"{name}: {' '.join(words)}", answer == expected and expected[0][0] == 0, f"{answer} {expected}")
+    expected = with_files(text, whole, lambda folder: run(["explain", "s.toml", "in.pcap", "2", "4"], cwd=folder))
+    answer = with_files(text, data, lambda folder: run(["explain", "--cut", "pad", "s.toml", "-", "2", "4"], stdin=data, cwd=folder))
+    check(f"{name}: explain", answer == expected, f"{answer} {expected}")
+
+
+def test_cut():
+    """`--cut pad` plays records that a snap length cut as the datagrams that they were, with zeros where bytes are missing."""
+    lengths = [40, 41, 59, 60, 61, 100, 1400, 40, 9000, 64]
+    packets = [sized(letter, length) for letter, length in zip("yzxyzxyzxy", lengths)]
+    text = scenario(["install 0 1", "install 1 2", "take 10"])
+    for order in "<>":
+        whole = snapped(order, packets, 65535)
+        for most in [40, 60, 96]:
+            data = snapped(order, packets, most)
+            padded = model.padded(data)
+            check("the model pads to the original lengths", len(padded) == len(whole), str(len(padded)))
+            plays_as(f"a snap length of {most}, {order}", text, data, padded)
+            expected = model.Run(text, padded)
+            simulates(f"the padded capture of {most}, {order}", text, data, expected.report(), expected.output(), ["--cut", "pad"])
+            # what was sent of the whole capture, but for the bytes that are missing
+            report = simulated(text, whole, ["--list"])[1].decode()
+            simulates(f"as the whole capture, {most}, {order}", text, data, report, words=["--list", "--cut", "pad"])
+        plays_as(f"nothing was cut, {order}", text, whole, whole)
+        cut = snapped(order, packets, 60)
+        for left in [1, 59, 60, 61, 75, 76, 100, len(cut) - 24]:
+            plays_as(f"an input that ends {left} bytes early, {order}", text, cut[: len(cut) - left], model.padded(cut[: len(cut) - left]))
+        long = cut + struct.pack(order + "4I", 1, 0, 40, 262145) + P
+        plays_as(f"an original length that no record has, {order}", text.replace("take 10", "take 11"), long, model.padded(long))
+        most = cut + struct.pack(order + "4I", 1, 0, 40, 262144) + P
+        plays_as(f"the greatest original length, {order}", text.replace("take 10", "take 11"), most, model.padded(most))
+    for seed in range(50):
+        source = random.Random(31000 + seed)
+        data = bytearray(random_capture(source))
+        for _ in range(3):
+            if len(data) > 60:
+                data[source.randrange(24, len(data))] ^= 1 << source.randrange(8)
+        whole = model.padded(bytes(data))
+        steps = with_files(text, whole, lambda folder: run(["simulate", "s.toml", "in.pcap", "out.pcap"], cwd=folder))
+        answer = with_files(text, bytes(data), lambda folder: run(["simulate", "--cut", "pad", "s.toml", "in.pcap", "out.pcap"], cwd=folder))
+        check(f"a spoiled capture {seed} is played as the padded one", answer == steps, f"{answer} {steps}")
+    for name, data in [("no byte", b""), ("a short header", HEAD[:23]), ("no magic number", bytes(40))]:
+        plain = with_files(text, data, lambda folder: run(["simulate", "s.toml", "in.pcap", "out.pcap"], cwd=folder))
+        answer = with_files(text, data, lambda folder: run(["simulate", "--cut", "pad", "s.toml", "in.pcap", "out.pcap"], cwd=folder))
+        check(f"{name} is refused as without the option", answer == plain and plain[0] == 1, f"{answer} {plain}")
+    misused("simulate with another way", ["simulate", "--cut", "drop", "s.toml", "in.pcap", "out.pcap"])
+
+
 def datagram_of(length):
     """A datagram of so many bytes, with a wrong checksum."""
     return P[:2] + length.to_bytes(2, "big") + P[4:] + bytes([7]) * (length - len(P))
@@ -1042,11 +1113,11 @@ def test_verbose_of_words():
 
 HELPS = {
     "NotIpv4": "their frames aren't IPv4: VLAN tags and IPv6 aren't read",
-    "Truncated": "the capture has only the beginnings of its packets: capture whole ones, with tcpdump -s 0",
+    "Truncated": "the capture has only the beginnings of its packets: play them as they were by --cut pad, or capture whole ones, with tcpdump -s 0",
     "NoService": "SCENARIO has no service of their address, protocol and port: maglev scenario INPUT lists those that INPUT has",
     "NoBackend": "every member of their service was down or drained",
     "NoVersion": "their balancer had no version yet: begin with a step install",
-    "RingsFull": "every ring was full: give more places by ring in SCENARIO, or let drivers wait by --pace",
+    "RingsFull": "every ring was full: give more places by ring in SCENARIO, or play it by run --pace, whose drivers wait for room",
 }
 
 
@@ -1508,6 +1579,29 @@ def sketch_plays(name, data):
     check(f"{name} has a service", services)
 
 
+def between(source, target):
+    """A datagram of TCP from an address and a port to others."""
+    head = P[:10] + bytes(2) + b"".join(bytes(map(int, address.split("."))) for address, _ in (source, target))
+    head = head[:10] + (65535 - model.folded(head)).to_bytes(2, "big") + head[12:]
+    return head + source[1].to_bytes(2, "big") + target[1].to_bytes(2, "big") + P[24:]
+
+
+def both_directions():
+    """500 clients of two services, each of which sends seven packets and gets eight, one after the other."""
+    data = HEAD
+    for client in range(500):
+        ends = (f"10.0.{client % 250}.1", 4000 + client), (("192.0.2.1", 80), ("192.0.2.2", 443))[client % 3 == 0]
+        data += (record(between(*ends)) + record(between(*reversed(ends)))) * 7 + record(between(*reversed(ends)))
+    return data
+
+
+def random_directions(source):
+    """Packets between a few places, each of which sends to each."""
+    places = [(f"10.0.0.{host}", port) for host in (1, 2) for port in (53, 4000)]
+    flows = [source.sample(places, 2) for _ in range(source.randrange(1, 5))]
+    return HEAD + b"".join(record(between(*source.choice(flows)[:: source.choice((1, -1))])) for _ in range(source.randrange(80)))
+
+
 def test_scenario():
     for path in sorted((TOP / "examples").glob("*.pcap")):
         sketches(path.name, path.read_bytes())
@@ -1519,6 +1613,16 @@ def test_scenario():
     sketches("six packets", HEAD + six)
     sketches("a capture that is cut", HEAD + six + record(P)[:-1])
     sketches("no records", HEAD)
+    sketches("both directions", both_directions())
+    sketches("both directions, from the midst on", HEAD + both_directions()[24 + 16 + 40 :])
+    text, services = model.sketched(both_directions())
+    check("two services of 500 clients", services == [("192.0.2.1", "tcp", 80), ("192.0.2.2", "tcp", 443)], str(services))
+    # One transfer, of which more packets come back than go there.
+    there, back = between(("10.0.0.1", 4000), ("192.0.2.1", 80)), between(("192.0.2.1", 80), ("10.0.0.1", 4000))
+    sketches("a transfer", HEAD + record(there) * 7 + record(back) * 20)
+    check("its service", model.sketched(HEAD + record(there) * 7 + record(back) * 20)[1] == [("192.0.2.1", "tcp", 80)])
+    for seed in range(60):
+        sketches(f"random directions {seed}", random_directions(random.Random(9500 + seed)))
 
 
 def test_scenario_faults():

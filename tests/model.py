@@ -164,6 +164,27 @@ def read_capture(data):
     return link, records, at < len(data)
 
 
+def padded(data):
+    """The capture with each record that was cut as long as its frame was, with zeros where bytes are missing: one that captured
+    fewer bytes than its frame had, where the frame had no more than a record may have. All else is as it is, and what is no
+    capture too. A header whose input ends behind it is mended as well."""
+    magics = {"d4c3b2a1": "<", "4d3cb2a1": "<", "a1b2c3d4": ">", "a1b23c4d": ">"}
+    order = magics.get(data[:4].hex())
+    if order is None or len(data) < 24:
+        return data
+    out, at = data[:24], 24
+    while at + 16 <= len(data):
+        captured, original = struct.unpack(order + "2I", data[at + 8 : at + 16])
+        was_cut = captured < original <= 262144
+        out += data[at : at + 8] + (data[at + 12 : at + 16] if was_cut else data[at + 8 : at + 12]) + data[at + 12 : at + 16]
+        at += 16
+        if at + captured > len(data):
+            break
+        out += data[at : at + captured] + bytes(original - captured if was_cut else 0)
+        at += captured
+    return out + data[at:]
+
+
 def wrapped(datagram, node, backend):
     """The datagram in GRE."""
     head = struct.pack(">BBHHHBBH", 0x45, 0, 24 + len(datagram), 0, 0x4000, 64, 47, 0) + node + backend
@@ -695,7 +716,7 @@ def ordered(scenario, first, second):
     return f"servers {len(leaving)} orders 1 greedy\nmoved {count(order)} {' '.join(order)}\n"
 
 
-SKETCH = """# Destinations: {all}. Of more than 5 packets: {busy}. The first 256 of these are services, the most frequent first.
+SKETCH = """# Destinations: {all}. Of more than 5 packets: {busy}. Without the other direction of these: {left}. The first 256 of them are services, the most frequent first.
 format = 1
 size = 65537
 hash = "fnv"
@@ -721,16 +742,32 @@ members = []
 """
 
 
+def is_other_direction(place, hops):
+    """Whether a destination is the other direction of the one that its first packet came from: more than five packets went there,
+    and it is the service of both. That is the one to which packets came from several places. Where they did to both or to
+    neither, it is the one to which a packet went before the first one to the other."""
+    comes = [at for at, (_, to) in enumerate(hops) if to == place]
+    service = hops[comes[0]][0]
+    to_service = [source for source, to in hops if to == service]
+    has_several, service_has_several = len({hops[at][0] for at in comes}) > 1, len(set(to_service)) > 1
+    is_answer = any(to == service for _, to in hops[: comes[0]])
+    if len(to_service) <= 5:
+        return False
+    return is_answer if has_several == service_has_several else service_has_several
+
+
 def sketched(data):
     """What `scenario` prints of a capture, and the services in it as (address, protocol, port)."""
     link, records, _ = read_capture(data)
     read = [read_packet(link, frame, True) for _, _, frame in records]
-    places = [(flow[4:8], flow[12], flow[10:12]) for flow, datagram in read if datagram]
+    hops = [((flow[:4], flow[12], flow[8:10]), (flow[4:8], flow[12], flow[10:12])) for flow, datagram in read if datagram]
+    places = [to for _, to in hops]
     counts = collections.Counter(places)
     first = {place: at for at, place in reversed(list(enumerate(places)))}
     busy = sorted((place for place in counts if counts[place] > 5), key=lambda place: (-counts[place], first[place]))
-    services = [(dotted(vip), WORDS[proto], int.from_bytes(port, "big")) for vip, proto, port in busy[:256]]
-    text = SKETCH.format(all=len(counts), busy=len(busy), records=len(records))
-    for place, (vip, proto, port) in zip(busy, services):
+    left = [place for place in busy if not is_other_direction(place, hops)]
+    services = [(dotted(vip), WORDS[proto], int.from_bytes(port, "big")) for vip, proto, port in left[:256]]
+    text = SKETCH.format(all=len(counts), busy=len(busy), left=len(left), records=len(records))
+    for place, (vip, proto, port) in zip(left, services):
         text += SKETCHED_SERVICE.format(packets=counts[place], vip=vip, proto=proto, port=port)
     return text + ("" if services else "services = []\n"), services

@@ -71,6 +71,9 @@ LATER = {"s.toml": THREES, "in.pcap": CAPTURE + CAPTURE[24:27] + b"\x03" + CAPTU
 SHOWN = "service 192.0.2.1:80/tcp\nslots 7\nA@10.8.0.1 weight 1 slots 3\nB@10.8.0.2 weight 1 slots 2\nC@10.8.0.3 weight 1 slots 2\n"
 CHANGED = "service 192.0.2.1:80/tcp\nslots 7 changed 3 down 3 moved 0 least 3\n"
 CHANGED += "A@10.8.0.1 weight 1 before 3 after 0 down\nB@10.8.0.2 weight 1 before 2 after 4\nC@10.8.0.3 weight 1 before 2 after 3\n"
+# The record, of which a snap length cut four bytes.
+SNAPPED = {"s.toml": SCENARIO, "in.pcap": CAPTURE[:32] + bytes([0, 0, 0, 36]) + CAPTURE[36:-4]}
+PADDED = model.Run(SCENARIO.decode(), model.padded(SNAPPED["in.pcap"]))
 # A service of six packets.
 SKETCHED, _ = model.sketched(CAPTURE + 5 * CAPTURE[24:])
 # Two nodes of a worker each, and a packet of one flow at each: what the second sends bears its own address.
@@ -147,6 +150,8 @@ CASES = [
     Case(["plan", "s.toml", "1", "2"], CHANGED, files=LATER),
     Case(["run", "s.toml", "in.pcap", "out.pcap"], TWO + "audit agrees\n", files=LATER, faults=[LOST]),
     Case(["explain", "s.toml", "in.pcap", "2", "2"], "same\n", files=FILES),
+    Case(["simulate", "--cut", "pad", "s.toml", "in.pcap", "out.pcap"], PADDED.report(), files=SNAPPED, written={"out.pcap": PADDED.output()}),
+    Case(["run", "--cut", "pad", "s.toml", "in.pcap", "out.pcap"], PADDED.report() + "audit agrees\n", files=SNAPPED, written={"out.pcap": PADDED.output()}, faults=[LOST]),
     Case(["run", "s.toml", "in.pcap", "out.pcap"], AUDITED, files=FILES, written={"out.pcap": SENT}, faults=[LOST]),
     Case(["run", "s.toml", "in.pcap", "out.pcap"], TWO + "audit agrees\n", files=NODES, written={"out.pcap": SENT_BY_TWO}, faults=[LOST]),
     Case(["run", "s.toml", "in.pcap", "out.pcap"], RESTARTED, files=CLUSTER, faults=[LOST]),

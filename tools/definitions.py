@@ -88,6 +88,11 @@ PROMISES = [
         [("maglev_cli", "running", "run")],
     ),
     (
+        "`--cut pad`: the capture that is played in place of one whose records were cut",
+        "`Padded::new` and the law `padded_is_whole` of `padded_capture`.",
+        [("padded_capture", "padded", "new"), ("padded_capture", "laws", "padded_is_whole")],
+    ),
+    (
         "`scenario`: the scenario to start from that a capture gives",
         "`sketch` and the law `ranked_are_fair` of `scenario_sketch`.",
         [("scenario_sketch", "sketch_command", "sketch"), ("scenario_sketch", "laws", "ranked_are_fair")],

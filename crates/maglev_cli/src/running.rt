@@ -106,8 +106,10 @@ pub fn run_keyed<T: Threads + Wait + Sync, I: Source, O: Sink, R: Sink>(
     let answer = match run_scenario(rt, alloc, key, &scenario, options, input, output) {
         Ok(answer) => answer,
         Err(stop) => {
-            let fault = failure_fault(stop);
-            return Err(PlacedFault { fault, place: None });
+            return Err(PlacedFault {
+                fault: failure_fault(stop),
+                place: None,
+            });
         }
     };
     match put_text(report, answer.text.as_str()) {

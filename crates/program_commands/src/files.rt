@@ -10,6 +10,7 @@ use lazy_files::{
     FileFault, InputFile, KeptText, OutputFile, Refusal, StandardOutput, is_standard,
     is_standard_output,
 };
+use padded_capture::Padded;
 use pcap_file::{Frame, FromRead, PcapFault, ToWrite, read_record_into, read_start};
 use scenario_commands::answer_keyed;
 use scenario_faults::PlacedFault;
@@ -19,6 +20,19 @@ use std::fs::File;
 use std::io;
 use std::io::{BufReader, ErrorKind, Read, Write};
 use std::random::RandomSource;
+
+/// INPUT's device, which may pad what a snap length cut.
+pub type CaptureFile<'x> = Padded<FromRead<InputFile<'x>>>;
+
+// INPUT, with or without zeros where bytes are missing.
+fn capture_file<'x>(rt: &'x HostRuntime, path: &'x str, is_padded: bool) -> CaptureFile<'x> {
+    let input = FromRead::new(InputFile::new(rt, path));
+    if is_padded {
+        Padded::new(input)
+    } else {
+        Padded::plain(input)
+    }
+}
 
 /// The paths of a command's files. `explain` has no output.
 #[derive(Clone, Copy)]
@@ -168,6 +182,7 @@ fn finished(
 pub(crate) fn between_files<'x, F>(
     rt: &'x HostRuntime,
     files: &Paths<'x>,
+    is_padded: bool,
     text: &[u8],
     play: F,
 ) -> Result<Printed, Trouble>
@@ -175,7 +190,7 @@ where
     F: FnOnce(
         TableKey,
         &[u8],
-        &mut FromRead<InputFile<'x>>,
+        &mut CaptureFile<'x>,
         &mut ToWrite<OutputFile<'x>>,
         &mut ToWrite<KeptText>,
     ) -> Result<Option<ChangeCounts>, PlacedFault>,
@@ -183,14 +198,14 @@ where
     requires { F.IsAlwaysCallable play }
 {
     let key = table_key(rt)?;
-    let mut input = FromRead::new(InputFile::new(rt, files.input));
+    let mut input = capture_file(rt, files.input, is_padded);
     let mut output = ToWrite::new(OutputFile::new(rt, files.output, files.read()));
     let mut report = ToWrite::new(KeptText::new(rt.alloc()));
     let outcome = play(key, text, &mut input, &mut output, &mut report);
     finished(
         rt,
         files,
-        input.into_inner(),
+        input.into_inner().into_inner(),
         output.into_inner(),
         report.into_inner(),
         outcome,
@@ -232,14 +247,19 @@ fn outcome_over(
 pub(crate) fn explain_files(
     rt: &HostRuntime,
     files: &Paths<'_>,
+    is_padded: bool,
     text: &[u8],
     asked: Query,
 ) -> Result<(), Trouble> {
     let key = table_key(rt)?;
-    let mut input = FromRead::new(InputFile::new(rt, files.input));
+    let mut input = capture_file(rt, files.input, is_padded);
     let mut report = ToWrite::new(StandardOutput::new(rt));
     let outcome = answer_keyed(rt.alloc(), key, text, asked, &mut input, &mut report);
-    outcome_over(outcome, &input.into_inner(), &report.into_inner())
+    outcome_over(
+        outcome,
+        &input.into_inner().into_inner(),
+        &report.into_inner(),
+    )
 }
 
 /// The command `scenario` over a file.

@@ -1,7 +1,7 @@
 //! The commands that play a scenario on one thread, from what the command line says, and the end of each command over files.
 use crate::files::{
-    Paths, Printed, between_files, explain_files, outcome_of, read_scenario, records_before,
-    sketch_file,
+    CaptureFile, Paths, Printed, between_files, explain_files, outcome_of, read_scenario,
+    records_before, sketch_file,
 };
 use crate::reasons::{Files, Trouble, reason};
 use crate::voice::Voice;
@@ -11,8 +11,8 @@ use clap::ArgMatches;
 use command_faults::CliFault;
 use connection_table::TableKey;
 use json_lines::Form;
-use lazy_files::{InputFile, KeptText, OutputFile, StandardOutput};
-use pcap_file::{FromRead, PcapFault, ToWrite};
+use lazy_files::{KeptText, OutputFile, StandardOutput};
+use pcap_file::{PcapFault, ToWrite};
 use report_advice::{advice_of, up_to_report};
 use rollout_order::order;
 use rollout_plan::plan_as;
@@ -32,6 +32,11 @@ pub(crate) fn paths_of<'a>(matches: &'a ArgMatches<'_>, output: &'a str) -> Opti
         input: matches.get_str("input")?,
         output,
     })
+}
+
+// Whether records that a snap length cut are played as they were.
+fn is_padded(matches: &ArgMatches<'_>) -> bool {
+    matches.get_str("cut").is_some()
 }
 
 /// The most warnings that are told of one scenario.
@@ -167,7 +172,7 @@ where
     F: FnOnce(
         TableKey,
         &[u8],
-        &mut FromRead<InputFile<'x>>,
+        &mut CaptureFile<'x>,
         &mut ToWrite<OutputFile<'x>>,
         &mut ToWrite<KeptText>,
     ) -> Result<Option<ChangeCounts>, PlacedFault>,
@@ -190,7 +195,7 @@ where
     let (text, read) = read_scenario(rt, paths.scenario);
     let text = text.as_slice();
     let done = match read {
-        Ok(()) => between_files(rt, &paths, text, play),
+        Ok(()) => between_files(rt, &paths, is_padded(matches), text, play),
         Err(trouble) => Err(trouble),
     };
     let ending = Ending {
@@ -253,7 +258,7 @@ pub(crate) fn run_explain(rt: &HostRuntime, matches: &ArgMatches<'_>) -> u8 {
     let (text, read) = read_scenario(rt, paths.scenario);
     let text = text.as_slice();
     let outcome = match read {
-        Ok(()) => explain_files(rt, &paths, text, asked),
+        Ok(()) => explain_files(rt, &paths, is_padded(matches), text, asked),
         Err(trouble) => Err(trouble),
     };
     let voice = Voice::of(rt, matches);

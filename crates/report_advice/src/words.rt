@@ -7,7 +7,7 @@ fn help_for(cause: &str) -> &'static str {
     match cause {
         "NotIpv4" => "their frames aren't IPv4: VLAN tags and IPv6 aren't read",
         "Truncated" =>
-            "the capture has only the beginnings of its packets: capture whole ones, with tcpdump -s 0",
+            "the capture has only the beginnings of its packets: play them as they were by --cut pad, or capture whole ones, with tcpdump -s 0",
         "BadHeader" | "BadTransport" => "their headers aren't those of a datagram",
         "BadChecksum" =>
             "their header checksums are wrong, as where a network card makes them: check = false in SCENARIO",
@@ -19,7 +19,7 @@ fn help_for(cause: &str) -> &'static str {
         "NoBackend" => "every member of their service was down or drained",
         "NoVersion" => "their balancer had no version yet: begin with a step install",
         _ =>
-            "every ring was full: give more places by ring in SCENARIO, or let drivers wait by --pace",
+            "every ring was full: give more places by ring in SCENARIO, or play it by run --pace, whose drivers wait for room",
     }
 }
 

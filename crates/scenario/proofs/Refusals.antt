@@ -1,22 +1,20 @@
 -- A draft's fault is its document's.
-use Rattle.std.proofs.Common.{◌≡◌, ℕ, List, Option, Some, None, Result, Ok, Err, IfErr, IsErrAnd, ◌∙◌, refl, sym, ap, subst}
+use Rattle.std.proofs.Common.{◌≡◌, ℕ, List, Option, Some, None, Result, Ok, Err, IfErr, IsErrAnd, ◌∙◌, sym, ap, subst}
 use Rattle.version_drafts.specs.Plain.{PlainVersion}
 use Rattle.version_drafts.specs.Drafts.{PlainVersionDraft}
 use Rattle.scenario_pools.specs.declared.fault.PoolsFault.{PoolsFault}
 use Rattle.scenario_pools.specs.declared.fault.PoolsFault.TheVariants as written
 use Rattle.scenario.specs.Steps.{PlainStep}
-use Rattle.scenario.specs.Meaning.{PlainDraft, PlainScenario, with_steps, with_pools, with_versions, with_draft, with_format, plan_of_draft, plan_of, draft_in, pool_refused, IsDocument, IsRefused, IsDraftRefused, AreVersionsRefused}
+use Rattle.scenario.specs.Meaning.{PlainDraft, PlainScenario, with_steps, with_pools, with_versions, with_draft, with_format, plan_of_draft, plan_of, draft_in, IsDocument, IsRefused, IsDraftRefused, AreVersionsRefused}
 use Rattle.scenario_keys.specs.Formats.{format_of}
 use Rattle.scenario.specs.declared.playing.Played.{Played}
 use Rattle.scenario_keys.specs.declared.formats.Format.{Format}
 use Rattle.scenario.specs.declared.fault.ScenarioFault.{ScenarioFault}
 use Rattle.scenario.specs.declared.fault.ScenarioFault.TheVariants as fault
 use Rattle.scenario.specs.declared.plan.Scenario.{Scenario}
-use Rattle.scenario.specs.Places.{IsAt, IsDraftAt, AreVersionsAt, ArePoolsAt, AreRefusedAt}
+use Rattle.scenario.specs.Places.{IsAt, IsDraftAt, AreVersionsAt, ArePoolsAt}
 use Rattle.scenario.specs.declared.refused.Refused.{Refused}
 use Rattle.scenario_pools.specs.Writing.{versions_of}
-use Rattle.scenario_places.specs.PoolPlaces.{pool_place_of}
-use Rattle.scenario_places.specs.Catalogues.{IsPoolRefused, IsPoolAt}
 use Rattle.version_drafts.specs.declared.place.Place.{Place}
 use Rattle.pool_versions.specs.declared.backend.Member.{Member}
 use Rattle.pool_versions.specs.declared.catalogue.PoolFault.{PoolFault}
@@ -143,41 +141,3 @@ versions_placed ms d ds r e same is h at_place =
     let P : List PlainVersionDraft → Type 0 = λ ds. AreVersionsRefused ds e.fault in
     let Q : List PlainVersionDraft → Type 0 = λ ds. AreVersionsAt ms ds e.fault e.place in
     passed_on r e (λ x. IsDraftAt ms d x.fault x.place) is (draft_placed ms d e.fault e.place (subst P same h) (subst Q same at_place))
-
--- the fault of a catalogue, and its place, are the draft's
-of_pools : (f : Format) (played : Played) (d : PlainDraft) (vs : List (PlainVersion Member)) (g : PoolFault) → versions_of d.versions ≡ Ok vs → IsPoolRefused d.choices.size vs g →
-    IsDraftRefused f played d (pool_refused g)
-unfolding plan_of_draft
-of_pools f played d vs pool.Memory is h = tt
-of_pools f played d vs pool.BadNumber is h = ap (with_versions f played d) is ∙ ap (with_pools f played d vs) h
-of_pools f played d vs pool.NumberTaken is h = ap (with_versions f played d) is ∙ ap (with_pools f played d vs) h
-of_pools f played d vs pool.DoubleService is h = ap (with_versions f played d) is ∙ ap (with_pools f played d vs) h
-of_pools f played d vs pool.DoubleName is h = ap (with_versions f played d) is ∙ ap (with_pools f played d vs) h
-of_pools f played d vs pool.TooMany is h = ap (with_versions f played d) is ∙ ap (with_pools f played d vs) h
-
-pools_at : (size : ℕ) (r : Result (List (PlainVersion Member)) PoolsFault) (vs : List (PlainVersion Member)) (p : Place) → r ≡ Ok vs → pool_place_of size vs ≡ Some p → ArePoolsAt size r (Some p)
-pools_at size r vs p is h = let P : Result (List (PlainVersion Member)) PoolsFault → Type 0 = λ x. ArePoolsAt size x (Some p) in subst P (sym is) h
-
-at_pools : (ms : Members) (d : PlainDraft) (vs : List (PlainVersion Member)) (g : PoolFault) (o : Option Place) → versions_of d.versions ≡ Ok vs → IsPoolAt d.choices.size vs g o →
-    IsDraftAt ms d (pool_refused g) o
-at_pools ms d vs pool.Memory o is h = h
-at_pools ms d vs pool.BadNumber None is h = absurd h
-at_pools ms d vs pool.BadNumber (Some p) is h = pools_at d.choices.size (versions_of d.versions) vs p is h
-at_pools ms d vs pool.NumberTaken None is h = absurd h
-at_pools ms d vs pool.NumberTaken (Some p) is h = pools_at d.choices.size (versions_of d.versions) vs p is h
-at_pools ms d vs pool.DoubleService None is h = absurd h
-at_pools ms d vs pool.DoubleService (Some p) is h = pools_at d.choices.size (versions_of d.versions) vs p is h
-at_pools ms d vs pool.DoubleName None is h = absurd h
-at_pools ms d vs pool.DoubleName (Some p) is h = pools_at d.choices.size (versions_of d.versions) vs p is h
-at_pools ms d vs pool.TooMany None is h = absurd h
-at_pools ms d vs pool.TooMany (Some p) is h = pools_at d.choices.size (versions_of d.versions) vs p is h
-
-pub catalogue_refused : (f : Format) (played : Played) (d : PlainDraft) (vs : List (PlainVersion Member)) (r : Result Scenario Refused) (e : Refused)
-    → versions_of d.versions ≡ Ok vs → IsErrAnd r (λ x. x ≡ e) → AreRefusedAt d.choices.size vs e → IfErr r (λ x. IsDraftRefused f played d x.fault)
-catalogue_refused f played d vs r e same is h =
-    passed_on r e (λ x. IsDraftRefused f played d x.fault) is (rw h.1 (of_pools f played d vs h.0 same h.2))
-
-pub catalogue_placed : (ms : Members) (d : PlainDraft) (vs : List (PlainVersion Member)) (r : Result Scenario Refused) (e : Refused)
-    → versions_of d.versions ≡ Ok vs → IsErrAnd r (λ x. x ≡ e) → AreRefusedAt d.choices.size vs e → IfErr r (λ x. IsDraftAt ms d x.fault x.place)
-catalogue_placed ms d vs r e same is h =
-    passed_on r e (λ x. IsDraftAt ms d x.fault x.place) is (rw h.1 (at_pools ms d vs h.0 e.place same h.3))

@@ -51,8 +51,10 @@ fn play<I: Source, O: Outlet, R: Sink>(
     let answer = match play_scenario(alloc, key, scenario, asked, input, output) {
         Ok(answer) => answer,
         Err(fault) => {
-            let fault = run_fault(fault);
-            return Err(PlacedFault { fault, place: None });
+            return Err(PlacedFault {
+                fault: run_fault(fault),
+                place: None,
+            });
         }
     };
     match put_text(report, answer.text.as_str()) {

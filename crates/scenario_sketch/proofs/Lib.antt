@@ -1,5 +1,6 @@
 pub mod Keys
 pub mod Counting
+pub mod Found
 pub mod Orders
 pub mod Texts
 pub mod Walks

@@ -1,3 +1,4 @@
+pub mod Hops
 pub mod Counts
 pub mod Entries
 pub mod Text

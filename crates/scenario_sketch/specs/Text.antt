@@ -4,11 +4,13 @@ use Rattle.std.specs.List.{flat_map}
 use Rattle.std.specs.Fmt.{decimal}
 use Rattle.maglev_texts.specs.Printing.{address_text}
 use Rattle.scenario_sketch.specs.declared.counted.Counted.{Counted}
+use Rattle.scenario_sketch.specs.declared.sketch_text.SketchCounts.{SketchCounts}
 
--- how many destinations there are, and how many of them are busy
-abbrev pub comment_text : ℕ → ℕ → List ℕ
-comment_text destinations busy =
-    codes "# Destinations: " ++ (decimal destinations ++ (codes ". Of more than 5 packets: " ++ (decimal busy ++ codes ". The first 256 of these are services, the most frequent first.\n")))
+-- how many destinations there are, how many of them are busy, and how many of these aren't the other direction of another one
+abbrev pub comment_text : ℕ → ℕ → ℕ → List ℕ
+comment_text destinations busy left =
+    codes "# Destinations: " ++ (decimal destinations ++ (codes ". Of more than 5 packets: " ++ (decimal busy
+    ++ (codes ". Without the other direction of these: " ++ (decimal left ++ codes ". The first 256 of them are services, the most frequent first.\n")))))
 
 -- a cluster of one balancer
 abbrev pub cluster_text : List ℕ
@@ -38,6 +40,6 @@ abbrev pub services_text : List Counted → List ℕ
 services_text [] = codes "services = []\n"
 services_text (c ∷ cs) = flat_map service_text (take 256 (c ∷ cs))
 
--- the scenario to start from, for so many records to so many destinations
-unfoldable pub sketch_text : ℕ → ℕ → List Counted → List ℕ
-sketch_text records destinations ranked = comment_text destinations (length ranked) ++ (head_text records ++ services_text ranked)
+-- the scenario to start from, with these services
+unfoldable pub sketch_text : SketchCounts → List Counted → List ℕ
+sketch_text counts services = comment_text counts.destinations counts.busy (length services) ++ (head_text counts.records ++ services_text services)

@@ -3,9 +3,11 @@ ghost use Rattle.pcap_file.specs.Device.{Unfailed};
 ghost use Rattle.command_faults.specs.Printing.{Prints, BreaksOff};
 ghost use Rattle.scenario_sketch.specs.Sketch.{IsSketchOf, SketchFails};
 
+use crate::listing::listed;
+use crate::origins::Origins;
 use crate::ranking::ranked;
 use crate::reading::count_records;
-use crate::sketch_text::sketch_text;
+use crate::sketch_text::{SketchCounts, sketch_text};
 use crate::tally::Tally;
 use command_faults::{CliFault, capture_fault, put_text};
 use connection_table::TableKey;
@@ -24,13 +26,19 @@ fn text_of<I: Source>(alloc: Global, key: TableKey, input: &mut I) -> Result<Str
         Err(fault) => return Err(capture_fault(fault)),
     };
     let mut tally = Tally::new(alloc, key);
-    let records = match count_records(alloc, input, head, &mut tally) {
+    let mut origins = Origins::new(alloc, key);
+    let records = match count_records(alloc, input, head, &mut tally, &mut origins) {
         Ok(records) => records,
         Err(fault) => return Err(capture_fault(fault)),
     };
     let ranked = ranked(alloc, &tally)?;
-    let destinations = tally.destinations();
-    match sketch_text(alloc, records, destinations, ranked.as_slice()) {
+    let services = listed(alloc, &tally, &origins, ranked.as_slice())?;
+    let counts = SketchCounts {
+        records,
+        destinations: tally.destinations(),
+        busy: ranked.len(),
+    };
+    match sketch_text(alloc, counts, services.as_slice()) {
         Ok(text) => Ok(text),
         Err(_) => Err(CliFault::Memory),
     }
@@ -39,7 +47,8 @@ fn text_of<I: Source>(alloc: Global, key: TableKey, input: &mut I) -> Result<Str
 /// The command `scenario`: reads a capture, and writes a scenario to start from.
 ///
 /// Its services are the destinations of the capture's datagrams with more than five packets, the most frequent first. Of two
-/// that are as frequent the one that came first in the capture is first, and of more than 256 the first 256 are services.
+/// that are as frequent the one that came first in the capture is first. A destination that is the other direction of another
+/// one isn't a service, and of more than 256 services the first 256 are there.
 /// Datagrams that can't be balanced aren't counted. Memory grows with the destinations, which are hashed by the key. The text
 /// is written in one piece, so after any fault but `Write` nothing was written.
 pub fn sketch<I: Source, S: Sink>(

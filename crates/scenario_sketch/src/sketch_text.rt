@@ -20,7 +20,7 @@ nodes = [\"10.9.0.1\"]
 ";
 
 /// Which destinations are services.
-const ORDER: &str = "The first 256 of these are services, the most frequent first.";
+const ORDER: &str = "The first 256 of them are services, the most frequent first.";
 
 /// No members yet, and what they may be.
 const MEMBERS: &str = "members = []
@@ -76,21 +76,34 @@ fn push_services(text: &mut String, ranked: &[Counted]) -> Result<(), AllocError
     push_all(text, &ranked[..most])
 }
 
-/// The scenario to start from, for so many records to so many destinations. The busy ones are ranked.
+/// What the head of a sketch tells of a capture.
+#[derive(Clone, Copy)]
+pub(crate) struct SketchCounts {
+    pub(crate) records: u32,
+    pub(crate) destinations: usize,
+    /// The destinations of more than a handful of packets.
+    pub(crate) busy: usize,
+}
+
+/// The scenario to start from, with these services of a capture.
 #[tactic(auto, unfolding(crate::specs::Text::sketch_text))]
 pub(crate) fn sketch_text(
     alloc: Global,
-    records: u32,
-    destinations: usize,
-    ranked: &[Counted],
+    counts: SketchCounts,
+    services: &[Counted],
 ) -> Result<String, AllocError>
-    ensures { IfOk result (λ s. string_bytes s ≡ sketch_text records destinations ranked.now) }
+    ensures { IfOk result (λ s. string_bytes s ≡ sketch_text counts services.now) }
 {
-    let busy = ranked.len();
+    let SketchCounts {
+        records,
+        destinations,
+        busy,
+    } = counts;
+    let left = services.len();
     let mut text = format!(in alloc;
-        "# Destinations: {destinations}. Of more than 5 packets: {busy}. {ORDER}\n"
+        "# Destinations: {destinations}. Of more than 5 packets: {busy}. Without the other direction of these: {left}. {ORDER}\n"
     )?;
     push_head(&mut text, records)?;
-    push_services(&mut text, ranked)?;
+    push_services(&mut text, services)?;
     Ok(text)
 }

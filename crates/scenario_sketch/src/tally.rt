@@ -1,6 +1,7 @@
 //! How many packets went to each destination.
-ghost use Rattle.std.specs.Prelude.{◌≡◌, ◌<◌, ◌++◌, ◌∷◌, [], length, map, filter, IfOk, OnOk};
+ghost use Rattle.std.specs.Prelude.{◌≡◌, ◌<◌, ◌++◌, ◌∷◌, [], length, map, filter, count_by, IfOk, OnOk};
 ghost use Rattle.pcap_file.specs.Format.{max_records};
+ghost use Rattle.pool_versions.specs.Pool.{same_key};
 ghost use Rattle.scenario_sketch.specs.Counts.{destinations_among, is_busy, busy};
 ghost use Rattle.scenario_sketch.specs.Entries.{counted_in};
 
@@ -13,7 +14,7 @@ use std::alloc::{AllocError, Global};
 use std::marker::Model;
 
 /// More packets than this are more than a handful.
-const HANDFUL: u32 = 5;
+pub(crate) const HANDFUL: u32 = 5;
 
 /// How many packets went to each destination, in the order in which the destinations came first. Its memory grows with the
 /// destinations, and not with the packets. Contracts see the destination of each packet, in order.
@@ -72,6 +73,13 @@ impl Tally {
         self.counts.insert(to, before + 1)?;
         self.past = self.past.and(&to);
         Ok(())
+    }
+
+    /// How many packets went to a destination.
+    pub(crate) fn packets(&self, to: ServiceKey) -> u32
+        ensures { result ≡ count_by (same_key to) self.now }
+    {
+        self.counts.get(&to).copied().unwrap_or(0)
     }
 
     /// How many destinations there are.

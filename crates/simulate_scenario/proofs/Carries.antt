@@ -1,10 +1,14 @@
 -- The setup that is made of a scenario is what the scenario describes.
-use Rattle.std.proofs.Common.{◌≡◌, ℕ, List, Option, ap, ◌∙◌, subst, length}
+use Rattle.std.proofs.Common.{◌≡◌, ℕ, List, Option, ap, ◌∙◌, subst, length, string_bytes}
 use Rattle.std.specs.Prelude.{is_some}
 use Rattle.hash_laws.specs.declared.any.AnyHash.{AnyHash}
 use Rattle.hash_laws.specs.Any.{plain_of}
 use Rattle.forwarder.specs.Serving.{Pick}
-use Rattle.run_report.specs.Causes.{lookups_of}
+use Rattle.run_report.specs.Causes.{Lookups, lookups_of}
+use Rattle.spreader.specs.Choices.{Choice}
+use Rattle.cluster_core.specs.Cluster.{Cluster}
+use Rattle.event_trace.specs.Trace.{Trace}
+use Rattle.pcap_file.specs.declared.format.InputEnd.{InputEnd}
 use Rattle.pool_versions.specs.Pool.{version_at}
 use Rattle.selection.specs.Candidates.{candidates_of}
 use Rattle.cluster_node.specs.Rules.{Rules}
@@ -17,7 +21,8 @@ use Rattle.pcap_file.specs.Device.{Tape}
 use Rattle.simulation.specs.declared.fault.SimulationFault.{SimulationFault}
 use Rattle.simulation.specs.Plans.{Planned}
 use Rattle.simulation.specs.Simulated.{Stopped}
-use Rattle.change_share.specs.declared.counts.ChangeCounts.{ChangeCounts}
+use Rattle.simulate_scenario.specs.Told.{AnswersBy, IsAnswer}
+use Rattle.simulate_scenario.specs.declared.asking.Answer.{Answer}
 use Rattle.simulate_scenario.specs.declared.asking.Query.{Query}
 use Rattle.named_scheme.specs.Picking.{pick_by}
 use Rattle.simulate_scenario.specs.Described.{rules_in, cluster_in, choice_in, plan_in, lookups_in}
@@ -45,14 +50,20 @@ described pick_of scheme s e = ap (λ (p : Pick). record {
   idle = s.idle;
 }) e
 
-pub answers : {S : Type 0} (pick_of : S → ℕ → Pick) (scheme : S) (s : Scenario) (r : Deployed S AnyHash) (plan : Planned) (asked : Query) (i i' o o' : Tape) (text : List ℕ) (counts : Option ChangeCounts)
+pub answers : {S : Type 0} (pick_of : S → ℕ → Pick) (scheme : S) (s : Scenario) (r : Deployed S AnyHash) (plan : Planned) (holds : Lookups → Option ℕ → Trace → ℕ → InputEnd → Type 0) (i i' o o' : Tape)
     → pick_of scheme s.size ≡ pick_by s.scheme (plain_of s.hash) s.size → r ≡ ruling_of scheme s → plan ≡ plan_in s
-    → CountedAnswers (cluster_by (rules_of pick_of plain_of r)) (choice_by s.spread (plain_of r.setup.hash)) plan (lookups_of (plain_of r.setup.hash) r.setup.size r.catalogue) r.setup.idle asked i i' o o' text counts
-    → CountedAnswers (cluster_in s) (choice_in s) (plan_in s) (lookups_in s) s.idle asked i i' o o' text counts
-answers {S} pick_of scheme s r plan asked i i' o o' text counts e f g h =
-    subst (λ (rules : Rules). CountedAnswers (cluster_by rules) (choice_in s) (plan_in s) (lookups_in s) s.idle asked i i' o o' text counts) (described pick_of scheme s e)
-    (subst (λ (q : Deployed S AnyHash). CountedAnswers (cluster_by (rules_of pick_of plain_of q)) (choice_by s.spread (plain_of q.setup.hash)) (plan_in s) (lookups_of (plain_of q.setup.hash) q.setup.size q.catalogue) q.setup.idle asked i i' o o' text counts) f
-    (subst (λ (p : Planned). CountedAnswers (cluster_by (rules_of pick_of plain_of r)) (choice_by s.spread (plain_of r.setup.hash)) p (lookups_of (plain_of r.setup.hash) r.setup.size r.catalogue) r.setup.idle asked i i' o o' text counts) g h))
+    → AnswersBy holds (cluster_by (rules_of pick_of plain_of r)) (choice_by s.spread (plain_of r.setup.hash)) plan (lookups_of (plain_of r.setup.hash) r.setup.size r.catalogue) r.setup.idle i i' o o'
+    → AnswersBy holds (cluster_in s) (choice_in s) (plan_in s) (lookups_in s) s.idle i i' o o'
+answers {S} pick_of scheme s r plan holds i i' o o' e f g h =
+    subst (λ (rules : Rules). AnswersBy holds (cluster_by rules) (choice_in s) (plan_in s) (lookups_in s) s.idle i i' o o') (described pick_of scheme s e)
+    (subst (λ (q : Deployed S AnyHash). AnswersBy holds (cluster_by (rules_of pick_of plain_of q)) (choice_by s.spread (plain_of q.setup.hash)) (plan_in s) (lookups_of (plain_of q.setup.hash) q.setup.size q.catalogue) q.setup.idle i i' o o') f
+    (subst (λ (p : Planned). AnswersBy holds (cluster_by (rules_of pick_of plain_of r)) (choice_by s.spread (plain_of r.setup.hash)) p (lookups_of (plain_of r.setup.hash) r.setup.size r.catalogue) r.setup.idle i i' o o') g h))
+
+-- an answer to what is asked, with the counts of its connections
+pub counted_answers : (cluster : Cluster) (choice : Choice) (plan : Planned) (lookups : Lookups) (idle : Option ℕ) (asked : Query) (a : Answer) (i i' o o' : Tape)
+    → AnswersBy (λ l d t n e. IsAnswer asked a l d t n e) cluster choice plan lookups idle i i' o o' → CountedAnswers cluster choice plan lookups idle asked i i' o o' (string_bytes a.text) a.counts
+counted_answers cluster choice plan lookups idle asked a i i' o o' h =
+    (record { trace = h.trace; packets = h.packets; ending = h.ending; simulated = h.simulated; answer = h.answer.0 }, h.answer.1)
 
 pub stops : {S : Type 0} (pick_of : S → ℕ → Pick) (scheme : S) (s : Scenario) (r : Deployed S AnyHash) (plan : Planned) (i i' o o' : Tape) (fault : SimulationFault)
     → pick_of scheme s.size ≡ pick_by s.scheme (plain_of s.hash) s.size → r ≡ ruling_of scheme s → plan ≡ plan_in s

@@ -3,3 +3,4 @@ pub mod Runs
 pub mod Carries
 pub mod Keeping
 pub mod Noted
+pub mod Listed

@@ -30,6 +30,11 @@ use Rattle.traffic_shares.specs.declared.books.ShareBooks.{ShareBooks}
 use Rattle.traffic_shares.specs.Books.{AreShareBooksOf}
 use Rattle.simulate_scenario.specs.Answers.{totals_in}
 
+-- of no events there are no lines
+pub begun_listed : (form : Form) → begun form ++ listing_as form [] ≡ begun form
+begun_listed Plain = refl
+begun_listed Json = append-nil (begun Json)
+
 none_listed : (n : Notebook) (form : Form) → n.number ≡ 0 → string_bytes n.lines ≡ begun form → (list : Bool) → ListsIf form list [] n
 none_listed n Plain k l true = record { number = k; lines = l }
 none_listed n Json k l true = record { number = k; lines = l ∙ sym (append-nil (begun Json)) }
@@ -105,20 +110,22 @@ more_told {E} r w past s n a b d f splits changes k splits_is changes_is lists a
     changed : ChangesIf (keeps_changes w.places w.summary) (s ∷ past) f.changes
     changed = subst (λ (x : ChangeBook). ChangesIf (keeps_changes w.places w.summary) (s ∷ past) x) (sym (ap (λ (x : Notebook). x.changes) f_is)) (subst (λ (t : Bool). ChangesIf t (s ∷ past) d.changes) changes_is (change before))
 
+-- the listing has one line more
+pub listing_more : (form : Form) (past : List LogEntry) (s : LogEntry) (number : ℕ) → number ≡ length past
+    → (begun form ++ listing_as form (reverse past)) ++ event_as form number s ≡ begun form ++ listing_as form (reverse (s ∷ past))
+listing_more form past s number is = append_assoc (begun form) (listing_as form (reverse past)) (event_as form number s) ∙ ap (λ (text : List ℕ). begun form ++ text) one_more
+  where
+    one_more : listing_as form (reverse past) ++ event_as form number s ≡ listing_as form (reverse (s ∷ past))
+    one_more =
+        ap (λ (k : ℕ). listing_as form (reverse past) ++ event_as form k s) (is ∙ sym (length-reverse past) ∙ (let e : length (reverse past) ≡ 0 + length (reverse past) = omega arith in e))
+        ∙ sym (listing_push form (reverse past) s)
+        ∙ ap (λ (h : List LogEntry). listing_as form h) (sym (reverse-append (s ∷ []) past))
+
 pub lists_more : (form : Form) (past : List LogEntry) (s : LogEntry) (n m : Notebook) → Lists form past n → m.number ≡ n.number + 1 → string_bytes m.lines ≡ string_bytes n.lines ++ event_as form n.number s → Lists form (s ∷ past) m
 lists_more form past s n m l e f = record {
   number = omega (arith, e, l.number);
-  lines = f
-      ∙ ap (λ (text : List ℕ). text ++ event_as form n.number s) l.lines
-      ∙ append_assoc (begun form) (listing_as form (reverse past)) (event_as form n.number s)
-      ∙ ap (λ (text : List ℕ). begun form ++ text) one_more;
+  lines = f ∙ ap (λ (text : List ℕ). text ++ event_as form n.number s) l.lines ∙ listing_more form past s n.number l.number;
 }
-  where
-    one_more : listing_as form (reverse past) ++ event_as form n.number s ≡ listing_as form (reverse (s ∷ past))
-    one_more =
-        ap (λ (k : ℕ). listing_as form (reverse past) ++ event_as form k s) (l.number ∙ sym (length-reverse past) ∙ (let e : length (reverse past) ≡ 0 + length (reverse past) = omega arith in e))
-        ∙ sym (listing_push form (reverse past) s)
-        ∙ ap (λ (h : List LogEntry). listing_as form h) (sym (reverse-append (s ∷ []) past))
 
 -- an outcome behind others
 at_end : (os : List Outcome) (o : Outcome) → slice_get (os ++ o ∷ []) (length os) ≡ Some o

@@ -65,11 +65,15 @@ abbrev pub summary_if : Form → Bool → Lookups → Option ℕ → Trace → L
 summary_if form true lookups idle trace = summary_as form lookups idle trace.past
 summary_if form false lookups idle trace = []
 
+-- the report behind a listing, with what else is wanted before it, and after it
+abbrev pub report_behind : List ℕ → Lookups → Option ℕ → Wanted → Trace → ℕ → InputEnd → List ℕ
+report_behind listing lookups idle wanted trace packets ending =
+    (((listing ++ splits_if wanted.form wanted.places wanted.splits lookups idle trace)
+    ++ plain_report wanted.form trace packets ending) ++ shares_as wanted.form (asked_shares wanted) trace.past) ++ summary_if wanted.form wanted.summary lookups idle trace
+
 -- the report with what is wanted before it, and after it
 abbrev pub report_of : Lookups → Option ℕ → Wanted → Trace → ℕ → InputEnd → List ℕ
-report_of lookups idle wanted trace packets ending =
-    (((listing_if wanted.form wanted.list trace ++ splits_if wanted.form wanted.places wanted.splits lookups idle trace)
-    ++ plain_report wanted.form trace packets ending) ++ shares_as wanted.form (asked_shares wanted) trace.past) ++ summary_if wanted.form wanted.summary lookups idle trace
+report_of lookups idle wanted trace packets ending = report_behind (listing_if wanted.form wanted.list trace) lookups idle wanted trace packets ending
 
 -- what was sent at an event, counted from 0
 abbrev pub send_at : List LogEntry → ℕ → Option Send

@@ -16,6 +16,13 @@ form_of (Events one other form) = form
 abbrev pub begun : Form → List ℕ
 begun form = head_as form (codes "simulate")
 
+-- the same with a line for each event, and without
+abbrev pub listed : Wanted → Wanted
+listed w = record w { list = true }
+
+abbrev pub unlisted : Wanted → Wanted
+unlisted w = record w { list = false }
+
 -- the report alone is wanted
 abbrev pub is_plain : Wanted → Bool
 is_plain w = not (w.list || w.splits || w.places || w.backends || w.nodes || w.summary)

@@ -3,3 +3,5 @@ pub mod Asked
 pub mod Answers
 pub mod Kept
 pub mod Notebooks
+pub mod Paging
+pub mod Told

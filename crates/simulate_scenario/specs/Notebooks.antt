@@ -46,6 +46,12 @@ pub record KeepsTwo (one other : ℕ) (past : List LogEntry) (n : Notebook) : Ty
   pub first_is : n.first ≡ sent_at past one
   pub later_is : n.later ≡ sent_at past other
 
+-- the books are the record's, those that what is wanted of a report needs
+abbrev pub KeepsBooks : Wanted → List LogEntry → Notebook → Type 0
+KeepsBooks wanted past n =
+    BookIf (keeps_splits (keeps_changes wanted.places wanted.summary) wanted.splits) past n.book × ChangesIf (keeps_changes wanted.places wanted.summary) past n.changes
+    × AreShareBooksOf (asked_shares wanted) past n.shares
+
 -- what is kept beside the counts of a report
 abbrev pub KeepsMore : Wanted → List LogEntry → Notebook → Type 0
 KeepsMore wanted past n =

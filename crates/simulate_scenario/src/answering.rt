@@ -1,5 +1,5 @@
 //! What answers what is asked of a run.
-ghost use Rattle.std.specs.Prelude.{◌≡◌, ◌≤◌, ◌++◌, List, IfOk, OnOk, IfSome, string_bytes, reverse, true, option_and_then};
+ghost use Rattle.std.specs.Prelude.{◌≡◌, ◌≤◌, ◌++◌, ℕ, List, Option, IfOk, OnOk, IfSome, string_bytes, reverse, true, option_and_then};
 ghost use Rattle.hash_laws.specs.Any.{plain_of};
 ghost use Rattle.selection.specs.Picks.{slot_of_flow};
 ghost use Rattle.cluster_node.specs.Records.{Judged};
@@ -7,17 +7,18 @@ ghost use Rattle.cluster_core.specs.Histories.{outcomes_of};
 ghost use Rattle.cluster_core.specs.Explain.{send_of, explained, PickedSend};
 ghost use Rattle.cluster_core.specs.Deployed.{rules_of, cluster_of, IsBalanced};
 ghost use Rattle.event_trace.specs.Counting.{CountsAre};
-ghost use Rattle.simulate_scenario.specs.declared.asking.Query.TheVariants.{Report};
 ghost use Rattle.run_report.specs.Verdicts.{left_drained};
 ghost use Rattle.cluster_node.specs.declared.events.LogEntry.{LogEntry};
 ghost use Rattle.run_report.specs.Books.{IsBookOf};
 ghost use Rattle.connection_changes.specs.Books.{IsChangeBookOf};
 ghost use Rattle.json_lines.specs.Forms.{splits_as, places_as, summary_as, verdict_as};
-ghost use Rattle.run_report.specs.Causes.{lookups_of};
+ghost use Rattle.run_report.specs.Causes.{Lookups, lookups_of};
 ghost use Rattle.event_trace.specs.Trace.{Trace};
-ghost use Rattle.simulate_scenario.specs.Answers.{is_cut, plain_report, splits_if, summary_if, report_of, answer_of, counts_if, counts_for};
+ghost use Rattle.pcap_file.specs.declared.format.InputEnd.{InputEnd};
+ghost use Rattle.named_scheme.specs.Picking.{pick_of};
+ghost use Rattle.simulate_scenario.specs.Answers.{is_cut, plain_report, splits_if, summary_if, report_behind, counts_if};
 ghost use Rattle.simulate_scenario.specs.Asked.{keeps_splits, keeps_changes};
-ghost use Rattle.simulate_scenario.specs.Notebooks.{BookIf, ChangesIf, AreOf};
+ghost use Rattle.simulate_scenario.specs.Notebooks.{BookIf, ChangesIf, KeepsBooks};
 
 use crate::asking::{Answer, Query, Wanted};
 use crate::notes::Notebook;
@@ -25,15 +26,18 @@ use change_share::ChangeCounts;
 use cluster_core::{Deployment, Verdict, explain};
 use cluster_node::Outcome;
 use connection_changes::ChangeBook;
-use event_trace::{Counts, Task};
-use hash_laws::FlowHash;
+use event_trace::{Counts, Notes, Task};
+use hash_laws::{AnyHash, FlowHash};
 use json_lines::Form;
+use named_scheme::NamedScheme;
+use named_spread::NamedSpread;
 use pcap_file::InputEnd;
 use run_report::{SplitBook, left_drained};
 use selection::Scheme;
 use simulation::Played;
 use spreader::Spread;
 use std::alloc::{AllocError, Global};
+use std::mem;
 
 /// Whether a capture ended inside a record.
 pub fn is_cut(ending: InputEnd) -> bool
@@ -159,20 +163,24 @@ fn push_summary_if<S: Scheme, H: FlowHash>(
     push_summary_of(alloc, wanted.form, text, deployment, changes)
 }
 
-fn report<S: Scheme, H: FlowHash, P: Spread>(
+/// The report of a run, behind some lines.
+pub(crate) fn report<S: Scheme, H: FlowHash, P: Spread>(
     alloc: Global,
     deployment: &Deployment<S, H>,
     played: &Played<P>,
-    notes: Notebook,
+    notes: &Notebook,
+    lines: String,
     wanted: Wanted,
 ) -> Result<String, AllocError>
     requires read { played.now.play.trace.read ≤ played.now.packets }
     requires balance { IsBalanced (reverse played.now.play.trace.past) }
-    requires notes { AreOf (Report wanted) played.now.play.trace.past notes }
-    ensures { IfOk result (λ s. string_bytes s ≡ report_of (lookups_of (H.plain deployment.now.setup.hash) deployment.now.setup.size deployment.now.catalogue) deployment.now.setup.idle wanted played.now.play.trace played.now.packets played.now.ending) }
+    requires counts { CountsAre (outcomes_of played.now.play.trace.past) notes.now.counts }
+    requires books { KeepsBooks wanted played.now.play.trace.past notes.now }
+    ensures { IfOk result (λ s. string_bytes s ≡ report_behind (string_bytes lines) (lookups_of (H.plain deployment.now.setup.hash) deployment.now.setup.size deployment.now.catalogue) deployment.now.setup.idle
+        wanted played.now.play.trace played.now.packets played.now.ending) }
 {
     let report = plain_report(alloc, wanted.form, played, &notes.counts)?;
-    let mut text = notes.lines;
+    let mut text = lines;
     push_splits_if(&mut text, deployment, wanted, &notes.book, &notes.changes)?;
     text.push_str(report.as_str())?;
     wanted.form.push_shares(alloc, &mut text, &notes.shares)?;
@@ -216,8 +224,8 @@ fn line<S: Scheme, H: FlowHash>(
     form.verdict(alloc, &verdict, drained)
 }
 
-// How many connections changed their server, where the changes are kept.
-fn counts_if(wanted: Wanted, changes: &ChangeBook) -> Option<ChangeCounts>
+/// How many connections changed their server, where the changes are kept.
+pub(crate) fn counts_if(wanted: Wanted, changes: &ChangeBook) -> Option<ChangeCounts>
     ensures { (past : List LogEntry) → ChangesIf (keeps_changes wanted.places wanted.summary) past changes.now →
         result ≡ counts_if (keeps_changes wanted.places wanted.summary) past }
 {
@@ -228,32 +236,59 @@ fn counts_if(wanted: Wanted, changes: &ChangeBook) -> Option<ChangeCounts>
     }
 }
 
-/// What answers what is asked of a run, of whose events these are the notes.
-pub(crate) fn answer_to<S: Scheme, H: FlowHash, P: Spread>(
-    alloc: Global,
-    task: &Task<S, H, Query>,
-    played: &Played<P>,
-    notes: Notebook,
-) -> Result<Answer, AllocError>
-    requires read { played.now.play.trace.read ≤ played.now.packets }
-    requires balance { IsBalanced (reverse played.now.play.trace.past) }
-    requires judged { Judged (cluster_of (λ s z. S.pick s z) (λ h. H.plain h) task.now.deployment).judge played.now.play.trace.past }
-    requires notes { AreOf task.now.asked played.now.play.trace.past notes }
-    ensures text { let setup = task.now.deployment.setup in let lookups = lookups_of (H.plain setup.hash) setup.size task.now.deployment.catalogue in
-        IfOk result (λ a. string_bytes a.text ≡ answer_of lookups setup.idle task.now.asked played.now.play.trace played.now.packets played.now.ending) }
-    ensures counts { IfOk result (λ a. a.counts ≡ counts_for task.now.asked played.now.play.trace.past) }
-{
-    match task.asked {
-        Query::Report(wanted) => {
-            let counts = counts_if(wanted, &notes.changes);
-            let text = report(alloc, &task.deployment, played, notes, wanted)?;
-            Ok(Answer { text, counts })
-        }
-        Query::Events { form, .. } => {
-            task.deployment.send_by_picks();
-            let text = line(alloc, form, &task.deployment, &notes)?;
-            let counts = None;
-            Ok(Answer { text, counts })
+/// What is asked of a run, and notes of no events.
+pub(crate) struct Asking<Q, N> {
+    pub(crate) asked: Q,
+    pub(crate) notes: N,
+}
+
+/// Notes by which it is answered what is asked of a run.
+pub(crate) trait Answering: Notes {
+    ghost use Rattle.simulate_scenario.specs.declared.asking.Answer.{Answer};
+
+    /// What is asked of a run is answered so, with what is left of its notes.
+    ghost is_answered: { Self.Query → Self → Answer → Lookups → Option ℕ → Trace → ℕ → InputEnd → Type 0 };
+
+    /// What answers what is asked of a run, of whose events these are the notes.
+    fn answer(
+        &mut self,
+        alloc: Global,
+        task: &Task<NamedScheme, AnyHash, Self::Query>,
+        played: &Played<NamedSpread>,
+    ) -> Result<Answer, AllocError>
+        requires read { played.now.play.trace.read ≤ played.now.packets }
+        requires balance { IsBalanced (reverse played.now.play.trace.past) }
+        requires judged { Judged (cluster_of (λ s z. pick_of s z) (λ h. plain_of h) task.now.deployment).judge played.now.play.trace.past }
+        requires notes { Self.are_of task.now.asked played.now.play.trace.past self.old }
+        ensures { let d = task.now.deployment in let lookups = lookups_of (plain_of d.setup.hash) d.setup.size d.catalogue in let r = played.now in
+            IfOk result (λ a. is_answered task.now.asked self.new a lookups d.setup.idle r.play.trace r.packets r.ending) };
+}
+
+impl Answering for Notebook {
+    ghost use Rattle.simulate_scenario.specs.declared.asking.Answer.{Answer};
+    ghost use Rattle.simulate_scenario.specs.Told.{IsAnswer};
+
+    ghost is_answered = { λ asked _ answer lookups idle trace packets ending. IsAnswer asked answer lookups idle trace packets ending };
+
+    fn answer(
+        &mut self,
+        alloc: Global,
+        task: &Task<NamedScheme, AnyHash, Query>,
+        played: &Played<NamedSpread>,
+    ) -> Result<Answer, AllocError> {
+        match task.asked {
+            Query::Report(wanted) => {
+                let counts = counts_if(wanted, &self.changes);
+                let lines = mem::replace(&mut self.lines, String::new(alloc));
+                let text = report(alloc, &task.deployment, played, self, lines, wanted)?;
+                Ok(Answer { text, counts })
+            }
+            Query::Events { form, .. } => {
+                task.deployment.send_by_picks();
+                let text = line(alloc, form, &task.deployment, self)?;
+                let counts = None;
+                Ok(Answer { text, counts })
+            }
         }
     }
 }

@@ -22,7 +22,7 @@ pub struct Wanted {
 }
 
 impl Wanted {
-    ghost use Rattle.simulate_scenario.specs.Asked.{is_plain, asked_shares, keeps_splits, keeps_changes};
+    ghost use Rattle.simulate_scenario.specs.Asked.{unlisted, is_plain, asked_shares, keeps_splits, keeps_changes};
 
     /// The report alone.
     pub const REPORT: Wanted = Wanted {
@@ -34,6 +34,16 @@ impl Wanted {
         summary: false,
         form: Form::Plain,
     };
+
+    /// The same without a line for each event.
+    pub(crate) fn unlisted(self) -> Wanted
+        ensures { result ≡ unlisted self }
+    {
+        Wanted {
+            list: false,
+            ..self
+        }
+    }
 
     /// Whether it is the report alone.
     #[inline(always)]

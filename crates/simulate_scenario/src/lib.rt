@@ -5,8 +5,10 @@
 mod answering;
 mod asking;
 mod notes;
+mod paging;
 mod playing;
 
 pub use answering::is_cut;
 pub use asking::{Answer, Query, Wanted};
-pub use playing::play_scenario;
+pub use paging::Listing;
+pub use playing::{ListingGivenUp, play_listed, play_scenario};

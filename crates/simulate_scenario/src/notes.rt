@@ -39,8 +39,8 @@ pub(crate) struct Notebook {
     pub(crate) later: Option<Sending>,
 }
 
-// The number of the next event. Where it has no room it is refused, as memory is.
-fn next(number: u64) -> Result<u64, AllocError>
+/// The number of the next event. Where it has no room it is refused, as memory is.
+pub(crate) fn next(number: u64) -> Result<u64, AllocError>
     ensures { IfOk result (λ n. n ≡ number + 1) }
 {
     match number.checked_add(1) {
@@ -205,9 +205,9 @@ impl Notebook {
         self.share(event, packet, outcome)
     }
 
-    // An event is noted for a report.
+    /// An event is noted for a report.
     #[inline(always)]
-    fn report(
+    pub(crate) fn report(
         &mut self,
         wanted: Wanted,
         event: &Event,

@@ -6,15 +6,19 @@ ghost use Rattle.cluster_core.specs.Deployed.{cluster_of};
 ghost use Rattle.simulation.specs.Plans.{planned};
 ghost use Rattle.simulation.specs.Simulated.{Stopped};
 ghost use Rattle.run_report.specs.Causes.{lookups_of};
-ghost use Rattle.simulate_scenario.specs.Described.{StoppedIn};
+ghost use Rattle.simulate_scenario.specs.Described.{StoppedIn, cluster_in, choice_in, plan_in, lookups_in};
 ghost use Rattle.named_scheme.specs.Picking.{pick_of};
 ghost use Rattle.named_spread.specs.Choosing.{choice_by, choice_of, live_of};
-ghost use Rattle.simulate_scenario.specs.Answers.{CountedAnswers, AnswersIn, CountedIn};
+ghost use Rattle.simulate_scenario.specs.Answers.{AnswersIn, CountedIn};
+ghost use Rattle.simulate_scenario.specs.Told.{AnswersBy, ListedIn};
+ghost use Rattle.simulate_scenario.specs.Asked.{listed};
+ghost use Rattle.simulation.specs.declared.fault.SimulationFault.TheVariants as SimulationFault;
 ghost use Rattle.simulate_scenario.specs.Kept.{KeepsPromises};
 
-use crate::answering::answer_to;
+use crate::answering::{Answering, Asking};
 use crate::asking::{Answer, Query};
 use crate::notes::Notebook;
+use crate::paging::{Listing, PagedNotes, asking_paged};
 use cluster_core::{Deployment, Setup};
 use connection_table::{PlaceTable, TableKey};
 use event_trace::{Balancers, Task};
@@ -25,89 +29,121 @@ use pcap_file::Source;
 use scenario::{Scenario, SpreadKind};
 use simulation::{Outlet, Plan, RunContext, SimulationFault, play_capture};
 use std::alloc::Global;
+use text_pages::Pages;
+
+/// A run that was given up, with its notes, if there were any yet.
+#[derive(Drop)]
+pub(crate) struct GivenUp<N> {
+    pub(crate) fault: SimulationFault,
+    pub(crate) notes: Option<N>,
+}
+
+impl<N> GivenUp<N> {
+    // Memory was refused before there were notes.
+    fn of_memory() -> GivenUp<N>
+        ensures { result.fault ≡ SimulationFault.Memory }
+    {
+        GivenUp {
+            fault: SimulationFault::Memory,
+            notes: None,
+        }
+    }
+}
 
 // Plays the steps with this spreader, and answers.
-fn play_with<I: Source, O: Outlet>(
-    alloc: Global,
-    task: &Task<NamedScheme, AnyHash, Query>,
+fn play_with<N: Answering, I: Source, O: Outlet>(
+    run: &RunContext<'_, Task<NamedScheme, AnyHash, N::Query>>,
+    notes: N,
     spread: NamedSpread,
-    plan: Plan<'_>,
     input: &mut I,
     output: &mut O,
-) -> Result<Answer, SimulationFault>
-    requires live { live_of spread ≡ below (length plan.nodes.now) }
-    requires nodes { length plan.nodes.now ≤ 64 }
-    requires steps { length plan.steps.now ≤ 100000 }
-    requires cluster { length task.now.deployment.setup.nodes ≡ length plan.nodes.now }
-    requires workers { task.now.deployment.setup.workers ≤ 16 }
-    ensures ok { let d = task.now.deployment in let k = cluster_of (λ s z. pick_of s z) (λ h. plain_of h) d in
+) -> Result<(Answer, N), GivenUp<N>>
+    requires fresh { N.are_of run.now.setup.now.asked [] notes }
+    requires live { live_of spread ≡ below (length run.now.plan.nodes.now) }
+    requires nodes { length run.now.plan.nodes.now ≤ 64 }
+    requires steps { length run.now.plan.steps.now ≤ 100000 }
+    requires cluster { length run.now.setup.now.deployment.setup.nodes ≡ length run.now.plan.nodes.now }
+    requires workers { run.now.setup.now.deployment.setup.workers ≤ 16 }
+    ensures ok { let d = run.now.setup.now.deployment in let k = cluster_of (λ s z. pick_of s z) (λ h. plain_of h) d in
         let lookups = lookups_of (plain_of d.setup.hash) d.setup.size d.catalogue in
-        IfOk result (λ a. CountedAnswers k (choice_of spread) (planned plan.entry) lookups d.setup.idle task.now.asked
-        (I.tape input.old) (I.tape input.new) (O.tape output.old) (O.tape output.new) (string_bytes a.text) a.counts) }
-    ensures stopped { let d = task.now.deployment in let k = cluster_of (λ s z. pick_of s z) (λ h. plain_of h) d in
-        IfErr result (Stopped k (choice_of spread) (planned plan.entry) (I.tape input.old) (I.tape input.new) (O.tape output.old) (O.tape output.new)) }
+        IfOk result (λ r. AnswersBy (N.is_answered run.now.setup.now.asked r.1 r.0) k (choice_of spread) (planned run.now.plan) lookups d.setup.idle
+        (I.tape input.old) (I.tape input.new) (O.tape output.old) (O.tape output.new)) }
+    ensures stopped { let d = run.now.setup.now.deployment in let k = cluster_of (λ s z. pick_of s z) (λ h. plain_of h) d in
+        IfErr result (λ g. Stopped k (choice_of spread) (planned run.now.plan) (I.tape input.old) (I.tape input.new) (O.tape output.old) (O.tape output.new) g.fault) }
 {
+    let task = run.setup;
     let deployment = &task.deployment;
-    let notes = Notebook::make(alloc, deployment.setup().key(), &task.asked)?;
-    let mut balancers = Balancers::<NamedScheme, AnyHash, PlaceTable, Notebook>::make(
-        alloc, deployment, notes,
-    )?;
-    deployment.keep_order();
-    let run = RunContext {
-        alloc,
-        plan,
-        setup: task,
+    let Ok(mut balancers) = Balancers::<NamedScheme, AnyHash, PlaceTable, N>::make(
+        run.alloc, deployment, notes,
+    ) else {
+        return Err(GivenUp::of_memory());
     };
-    match play_capture(&run, &mut balancers, spread, input, output) {
-        Ok(played) => {
-            balancers.keep_balance(deployment);
-            let (_, notes) = balancers.into_parts();
-            match answer_to(alloc, task, &played, notes) {
-                Ok(answer) => Ok(answer),
-                Err(_) => Err(SimulationFault::Memory),
-            }
+    deployment.keep_order();
+    let outcome = play_capture(run, &mut balancers, spread, input, output);
+    balancers.keep_balance(deployment);
+    let (_, mut notes) = balancers.into_parts();
+    let played = match outcome {
+        Ok(played) => played,
+        Err(fault) => {
+            let notes = Some(notes);
+            return Err(GivenUp { fault, notes });
         }
-        Err(fault) => Err(fault),
+    };
+    match notes.answer(run.alloc, task, &played) {
+        Ok(answer) => Ok((answer, notes)),
+        Err(_) => {
+            let notes = Some(notes);
+            Err(GivenUp {
+                fault: SimulationFault::Memory,
+                notes,
+            })
+        }
     }
 }
 
 // Plays with the spreader that the scenario names.
-fn play_over<I: Source, O: Outlet>(
-    alloc: Global,
-    task: &Task<NamedScheme, AnyHash, Query>,
+fn play_over<N: Answering, I: Source, O: Outlet>(
+    run: &RunContext<'_, Task<NamedScheme, AnyHash, N::Query>>,
+    notes: N,
     spread: SpreadKind,
-    plan: Plan<'_>,
     input: &mut I,
     output: &mut O,
-) -> Result<Answer, SimulationFault>
-    requires nodes { length plan.nodes.now ≤ 64 }
-    requires steps { length plan.steps.now ≤ 100000 }
-    requires cluster { length task.now.deployment.setup.nodes ≡ length plan.nodes.now }
-    requires workers { task.now.deployment.setup.workers ≤ 16 }
-    ensures ok { let d = task.now.deployment in let k = cluster_of (λ s z. pick_of s z) (λ h. plain_of h) d in
+) -> Result<(Answer, N), GivenUp<N>>
+    requires fresh { N.are_of run.now.setup.now.asked [] notes }
+    requires nodes { length run.now.plan.nodes.now ≤ 64 }
+    requires steps { length run.now.plan.steps.now ≤ 100000 }
+    requires cluster { length run.now.setup.now.deployment.setup.nodes ≡ length run.now.plan.nodes.now }
+    requires workers { run.now.setup.now.deployment.setup.workers ≤ 16 }
+    ensures ok { let d = run.now.setup.now.deployment in let k = cluster_of (λ s z. pick_of s z) (λ h. plain_of h) d in
         let lookups = lookups_of (plain_of d.setup.hash) d.setup.size d.catalogue in
-        IfOk result (λ a. CountedAnswers k (choice_by spread (plain_of d.setup.hash)) (planned plan.entry) lookups d.setup.idle task.now.asked
-        (I.tape input.old) (I.tape input.new) (O.tape output.old) (O.tape output.new) (string_bytes a.text) a.counts) }
-    ensures stopped { let d = task.now.deployment in let k = cluster_of (λ s z. pick_of s z) (λ h. plain_of h) d in
-        IfErr result (Stopped k (choice_by spread (plain_of d.setup.hash)) (planned plan.entry)
+        IfOk result (λ r. AnswersBy (N.is_answered run.now.setup.now.asked r.1 r.0) k (choice_by spread (plain_of d.setup.hash)) (planned run.now.plan) lookups d.setup.idle
         (I.tape input.old) (I.tape input.new) (O.tape output.old) (O.tape output.new)) }
+    ensures stopped { let d = run.now.setup.now.deployment in let k = cluster_of (λ s z. pick_of s z) (λ h. plain_of h) d in
+        IfErr result (λ g. Stopped k (choice_by spread (plain_of d.setup.hash)) (planned run.now.plan)
+        (I.tape input.old) (I.tape input.new) (O.tape output.old) (O.tape output.new) g.fault) }
 {
-    let hash = task.deployment.setup().hash();
-    let spread = spread_of(alloc, spread, hash, plan.nodes.len() as u16)?;
-    play_with(alloc, task, spread, plan, input, output)
+    let hash = run.setup.deployment.setup().hash();
+    let Ok(spread) = spread_of(run.alloc, spread, hash, run.plan.nodes.len() as u16) else {
+        return Err(GivenUp::of_memory());
+    };
+    play_with(run, notes, spread, input, output)
 }
 
 // Plays with the scheme that the scenario names.
-fn play_named<I: Source, O: Outlet>(
+fn play_named<N: Answering, I: Source, O: Outlet>(
     alloc: Global,
     key: TableKey,
     scenario: Scenario,
-    asked: Query,
+    asking: Asking<N::Query, N>,
     input: &mut I,
     output: &mut O,
-) -> Result<Answer, SimulationFault>
-    ensures ok { IfOk result (λ a. CountedIn scenario asked (I.tape input.old) (I.tape input.new) (O.tape output.old) (O.tape output.new) (string_bytes a.text) a.counts) }
-    ensures stopped { IfErr result (StoppedIn scenario (I.tape input.old) (I.tape input.new) (O.tape output.old) (O.tape output.new)) }
+) -> Result<(Answer, N), GivenUp<N>>
+where
+    N::Query: Drop,
+    requires fresh { N.are_of asking.asked [] asking.notes }
+    ensures ok { IfOk result (λ r. AnswersBy (N.is_answered asking.asked r.1 r.0) (cluster_in scenario) (choice_in scenario) (plan_in scenario) (lookups_in scenario) scenario.idle
+        (I.tape input.old) (I.tape input.new) (O.tape output.old) (O.tape output.new)) }
+    ensures stopped { IfErr result (λ g. StoppedIn scenario (I.tape input.old) (I.tape input.new) (O.tape output.old) (O.tape output.new) g.fault) }
 {
     let Scenario {
         size,
@@ -130,15 +166,21 @@ fn play_named<I: Source, O: Outlet>(
     let Some(deployment) = Deployment::new(setup.keyed(key), catalogue) else {
         unreachable!()
     };
+    let Asking { asked, notes } = asking;
     let task = Task { deployment, asked };
     let plan = Plan {
         nodes: task.deployment.setup().nodes(),
         check,
         steps: steps.as_slice(),
     };
-    match play_over(alloc, &task, spread, plan, input, output) {
-        Ok(answer) => Ok(answer),
-        Err(fault) => Err(fault),
+    let run = RunContext {
+        alloc,
+        plan,
+        setup: &task,
+    };
+    match play_over(&run, notes, spread, input, output) {
+        Ok(answered) => Ok(answered),
+        Err(given_up) => Err(given_up),
     }
 }
 
@@ -173,8 +215,61 @@ pub fn play_scenario<I: Source, O: Outlet>(
 {
     let _slots = scenario.size.slots();
     scenario.catalogue.keeps_doubles_out();
-    match play_named(alloc, key, scenario, asked, input, output) {
-        Ok(answer) => Ok(answer),
-        Err(fault) => Err(fault),
+    let Ok(notes) = Notebook::make(alloc, key, &asked) else {
+        return Err(SimulationFault::Memory);
+    };
+    let asking = Asking { asked, notes };
+    match play_named(alloc, key, scenario, asking, input, output) {
+        Ok((answer, _)) => Ok(answer),
+        Err(given_up) => Err(given_up.fault),
+    }
+}
+
+/// A listing that was given up, with its pages, unless memory was refused before the run.
+#[derive(Debug, Drop)]
+pub struct ListingGivenUp<P> {
+    pub fault: SimulationFault,
+    pub pages: Option<P>,
+}
+
+// The pages of notes, if there are any.
+fn pages_of<P: Pages>(given_up: GivenUp<PagedNotes<P>>) -> ListingGivenUp<P>
+    ensures { result.fault ≡ given_up.fault }
+{
+    ListingGivenUp {
+        fault: given_up.fault,
+        pages: given_up.notes.map(PagedNotes::into_pages),
+    }
+}
+
+/// The same of a report that has a line for each event, whether that is wanted or not. The lines go to pages as the run goes,
+/// so that memory doesn't grow with them. The whole is what the pages were told, with the answer's text behind it. Where a page
+/// can't be turned the fault is Memory.
+pub fn play_listed<P: Pages, I: Source, O: Outlet>(
+    alloc: Global,
+    key: TableKey,
+    scenario: Scenario,
+    listing: Listing<P>,
+    input: &mut I,
+    output: &mut O,
+) -> Result<(Answer, P), ListingGivenUp<P>>
+    ensures ok { IfOk result (λ r. ListedIn scenario (listed listing.wanted) (λ text whole. P.told listing.pages r.1 text whole)
+        (I.tape input.old) (I.tape input.new) (O.tape output.old) (O.tape output.new) (string_bytes r.0.text) r.0.counts) }
+    ensures stopped { IfErr result (λ g. StoppedIn scenario (I.tape input.old) (I.tape input.new) (O.tape output.old) (O.tape output.new) g.fault) }
+{
+    let _slots = scenario.size.slots();
+    scenario.catalogue.keeps_doubles_out();
+    let asking = match asking_paged(alloc, key, listing) {
+        Ok(asking) => asking,
+        Err(_) => {
+            return Err(ListingGivenUp {
+                fault: SimulationFault::Memory,
+                pages: None,
+            });
+        }
+    };
+    match play_named(alloc, key, scenario, asking, input, output) {
+        Ok((answer, notes)) => Ok((answer, notes.into_pages())),
+        Err(given_up) => Err(pages_of(given_up)),
     }
 }

@@ -1,5 +1,5 @@
 // Random captures, whose sketches are read back as scenarios.
-use crate::captures::{head, push_packet, push_record};
+use crate::captures::{head, push_both, push_packet, push_record};
 use crate::checks::{holds, same_number, same_outcome};
 use connection_table::TableKey;
 use pcap_file::{FromRead, ToWrite};
@@ -178,5 +178,34 @@ fn many_destinations(rt: HostRuntime) {
     same_number(&rt, version.services.len() as u64, 256, "services", 0);
     for (place, service) in version.services.iter().enumerate() {
         same_number(&rt, u64::from(service.port), place as u64, "port", place);
+    }
+}
+
+// Packets of 500 clients to two services, and as many back: the services alone are those of the sketch.
+#[test]
+fn both_directions(rt: HostRuntime) {
+    let alloc = rt.alloc();
+    let mut capture = head(&rt, alloc);
+    for round in 0..6 * 500u16 {
+        let client = round % 500;
+        let to = ServiceKey {
+            vip: 0xc000_0201,
+            proto: 6,
+            port: if client % 3 == 0 { 443 } else { 80 },
+        };
+        let from = (0x0a00_0000 + u32::from(client), 4000 + client);
+        push_both(&rt, alloc, &mut capture, from, to);
+    }
+    let mut out = ToWrite::new(Vec::new(alloc));
+    let mut input = FromRead::new(capture.as_slice());
+    let done = sketch(alloc, TableKey::fixed(), &mut input, &mut out);
+    same_outcome(&rt, done, Ok(()), 0);
+    let text = out.into_inner();
+    let scenario = read(alloc, Played::InTurn, text.as_slice()).expect(&rt, "a scenario");
+    let version = scenario.catalogue.get(1).expect(&rt, "version 1");
+    same_number(&rt, version.services.len() as u64, 2, "services", 0);
+    for (service, port) in version.services.iter().zip([80u64, 443]) {
+        same_number(&rt, u64::from(service.port), port, "port", 0);
+        same_number(&rt, u64::from(service.vip), 0xc000_0201, "vip", 0);
     }
 }

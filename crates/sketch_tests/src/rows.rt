@@ -43,7 +43,7 @@ fn sketches(rt: &impl Abort, alloc: Global, capture: &[u8], text: &str, at: usiz
 }
 
 static NONE: &str =
-    "# Destinations: 0. Of more than 5 packets: 0. The first 256 of these are services, the most frequent first.
+    "# Destinations: 0. Of more than 5 packets: 0. Without the other direction of these: 0. The first 256 of them are services, the most frequent first.
 format = 1
 size = 65537
 hash = \"fnv\"
@@ -60,7 +60,7 @@ services = []
 ";
 
 static THREE: &str =
-    "# Destinations: 3. Of more than 5 packets: 2. The first 256 of these are services, the most frequent first.
+    "# Destinations: 3. Of more than 5 packets: 2. Without the other direction of these: 2. The first 256 of them are services, the most frequent first.
 format = 1
 size = 65537
 hash = \"fnv\"

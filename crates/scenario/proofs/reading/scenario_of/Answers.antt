@@ -2,7 +2,7 @@ use Rattle.std.proofs.Common.{arith, rules}
 use Rattle.std.proofs.lemmas.Grind.{common_steps}
 use Rattle.toml.specs.View.{table_view}
 use Rattle.scenario.specs.Meaning.{plain_draft}
-use Rattle.scenario.proofs.Refusals.{versions_refused, versions_placed, catalogue_refused, catalogue_placed}
+use Rattle.scenario.proofs.Refusals.{versions_refused, versions_placed}
 use Rattle.scenario.proofs.reading.scenario_of.Goals as goal
 
 pub returns-in_err-versions-clause-ok : goal.returns-in_err-versions-clause-ok

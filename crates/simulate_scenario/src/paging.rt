@@ -1,0 +1,142 @@
+//! A report whose lines of events go to pages as the run goes.
+ghost use Rattle.std.specs.Prelude.{◌≡◌, ◌+◌, ◌++◌, ◌∷◌, [], List, length, reverse, IfOk, OnOk, string_bytes, option_copied};
+ghost use Rattle.hash_laws.specs.Any.{plain_of};
+ghost use Rattle.cluster_node.specs.declared.events.LogEntry.{LogEntry};
+ghost use Rattle.event_trace.specs.Noting.{said_by};
+ghost use Rattle.json_lines.specs.Forms.{listing_as};
+ghost use Rattle.simulate_scenario.specs.Asked.{begun, unlisted};
+ghost use Rattle.simulate_scenario.specs.Paging.{ArePaged};
+
+use crate::answering::{Answering, Asking, counts_if, report};
+use crate::asking::{Answer, Query, Wanted};
+use crate::notes::{Notebook, next};
+use cluster_node::{Event, Outcome, Packet};
+use connection_table::TableKey;
+use event_trace::{Notes, Task};
+use ghost_log::Log;
+use hash_laws::AnyHash;
+use json_lines::Form;
+use named_scheme::NamedScheme;
+use named_spread::NamedSpread;
+use simulation::Played;
+use std::alloc::{AllocError, Global};
+use std::mem;
+use text_pages::Pages;
+
+/// What is wanted of a run, and where the lines of its events go.
+#[derive(Debug, Drop)]
+pub struct Listing<P> {
+    pub wanted: Wanted,
+    pub pages: P,
+}
+
+/// What is wanted beside the lines, and the pages as they were at first.
+#[derive(Drop)]
+pub(crate) struct Paged<P> {
+    wanted: Wanted,
+    first: Log<P>,
+}
+
+/// The notes of a report, and the lines of the events that the pages don't have yet.
+#[derive(Drop)]
+pub(crate) struct PagedNotes<P: Pages> {
+    kept: Notebook,
+    number: u64,
+    lines: String,
+    pages: P,
+}
+
+/// What is asked where lines go to pages, and notes of no events.
+pub(crate) fn asking_paged<P: Pages>(
+    alloc: Global,
+    key: TableKey,
+    listing: Listing<P>,
+) -> Result<Asking<Paged<P>, PagedNotes<P>>, AllocError>
+    ensures fresh { IfOk result (λ a. ArePaged (λ first pages text whole. P.told first pages text whole) a.asked.wanted a.asked.first.items [] a.notes.kept a.notes.number (string_bytes a.notes.lines) a.notes.pages) }
+    ensures asked { IfOk result (λ a. a.asked.wanted ≡ unlisted listing.wanted) }
+    ensures first { IfOk result (λ a. a.asked.first.items ≡ listing.pages ∷ []) }
+{
+    let Listing { wanted, pages } = listing;
+    let wanted = wanted.unlisted();
+    let kept = Notebook::make(alloc, key, &Query::Report(wanted))?;
+    let mut lines = String::new(alloc);
+    wanted.form.push_head(&mut lines, "simulate")?;
+    let first = Log::new().and(&pages);
+    let asked = Paged { wanted, first };
+    let notes = PagedNotes {
+        kept,
+        number: 0,
+        lines,
+        pages,
+    };
+    Ok(Asking { asked, notes })
+}
+
+impl<P: Pages> PagedNotes<P> {
+    /// The pages.
+    pub(crate) fn into_pages(self) -> P
+        ensures { result ≡ self.pages }
+    {
+        self.pages
+    }
+
+    // The line of an event.
+    fn list(
+        &mut self,
+        form: Form,
+        event: &Event,
+        packet: Option<&Packet>,
+        outcome: &Outcome,
+    ) -> Result<(), AllocError>
+        ensures number { OnOk result (self.new.number ≡ self.old.number + 1) }
+        ensures lines { (first : P) (past : List LogEntry) → self.old.number ≡ length past
+            → P.told first self.old.pages (string_bytes self.old.lines) (begun form ++ listing_as form (reverse past))
+            → OnOk result (P.told first self.new.pages (string_bytes self.new.lines) (begun form ++ listing_as form (reverse (said_by event.now (option_copied packet.entry) outcome.now ∷ past)))) }
+        ensures kept { self.new.kept ≡ self.old.kept }
+    {
+        form.push_event(&mut self.lines, self.number, event, packet, outcome)?;
+        self.pages.turn(&mut self.lines)?;
+        self.number = next(self.number)?;
+        Ok(())
+    }
+}
+
+impl<P: Pages> Notes for PagedNotes<P> {
+    type Query = Paged<P>;
+
+    ghost use Rattle.simulate_scenario.specs.Paging.{ArePaged};
+
+    ghost are_of = { λ asked past notes. ArePaged (λ first pages text whole. P.told first pages text whole) asked.wanted asked.first.items past notes.kept notes.number (string_bytes notes.lines) notes.pages };
+
+    fn note(
+        &mut self,
+        asked: &Paged<P>,
+        event: &Event,
+        packet: Option<&Packet>,
+        outcome: &Outcome,
+    ) -> Result<(), AllocError> {
+        self.list(asked.wanted.form, event, packet, outcome)?;
+        self.kept.report(asked.wanted, event, packet, outcome)
+    }
+}
+
+impl<P: Pages> Answering for PagedNotes<P> {
+    ghost use Rattle.simulate_scenario.specs.declared.asking.Answer.{Answer};
+    ghost use Rattle.simulate_scenario.specs.Told.{IsToldAnswer};
+
+    ghost is_answered = { λ asked notes answer lookups idle trace packets ending.
+        IsToldAnswer (λ first pages text whole. P.told first pages text whole) asked.wanted asked.first.items notes.pages answer lookups idle trace packets ending };
+
+    fn answer(
+        &mut self,
+        alloc: Global,
+        task: &Task<NamedScheme, AnyHash, Paged<P>>,
+        played: &Played<NamedSpread>,
+    ) -> Result<Answer, AllocError> {
+        let wanted = task.asked.wanted;
+        let counts = counts_if(wanted, &self.kept.changes);
+        let lines = mem::replace(&mut self.lines, String::new(alloc));
+        let text = report(alloc, &task.deployment, played, &self.kept, lines, wanted)?;
+        Ok(Answer { text, counts })
+    }
+}
