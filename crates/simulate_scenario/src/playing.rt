@@ -1,5 +1,5 @@
 //! A scenario is played.
-ghost use Rattle.std.specs.Prelude.{◌≡◌, ◌≤◌, [], IfOk, IfErr, string_bytes, length, reverse};
+ghost use Rattle.std.specs.Prelude.{◌≡◌, ◌≤◌, [], ℕ, List, IfOk, IfErr, string_bytes, length, reverse};
 ghost use Rattle.hash_laws.specs.Any.{plain_of};
 ghost use Rattle.event_trace.specs.Steps.{below};
 ghost use Rattle.cluster_core.specs.Deployed.{cluster_of};
@@ -13,6 +13,7 @@ ghost use Rattle.simulate_scenario.specs.Answers.{AnswersIn, CountedIn};
 ghost use Rattle.simulate_scenario.specs.Told.{AnswersBy, ToldIn};
 ghost use Rattle.simulation.specs.declared.fault.SimulationFault.TheVariants as SimulationFault;
 ghost use Rattle.simulate_scenario.specs.Kept.{KeepsPromises};
+ghost use Rattle.simulate_scenario.specs.declared.asking.Query.TheVariants.{Report};
 
 use crate::answering::{Answering, Asking};
 use crate::asking::{Answer, Query};
@@ -242,7 +243,8 @@ fn pages_of<P: Pages>(given_up: GivenUp<PagedNotes<P>>) -> ListingGivenUp<P>
 }
 
 /// The same of a report whose listing goes to pages as the run goes, so that memory doesn't grow with it. The whole report is
-/// what the pages were told, with the answer's text behind it. Where a page can't be turned the fault is Memory.
+/// what the pages were told, with the answer's text behind it. Where a page can't be turned the fault is Memory. The run keeps
+/// the promises too.
 pub fn play_listed<P: Pages, I: Source, O: Outlet>(
     alloc: Global,
     key: TableKey,
@@ -253,6 +255,9 @@ pub fn play_listed<P: Pages, I: Source, O: Outlet>(
 ) -> Result<(Answer, P), ListingGivenUp<P>>
     ensures ok { IfOk result (λ r. ToldIn scenario listing.wanted (λ text whole. P.told listing.pages r.1 text whole)
         (I.tape input.old) (I.tape input.new) (O.tape output.old) (O.tape output.new) (string_bytes r.0.text) r.0.counts) }
+    ensures kept { IfOk result (λ r. (whole : List ℕ)
+        (answers : AnswersIn scenario (Report listing.wanted) (I.tape input.old) (I.tape input.new) (O.tape output.old) (O.tape output.new) whole) →
+        KeepsPromises scenario answers.trace) }
     ensures stopped { IfErr result (λ g. StoppedIn scenario (I.tape input.old) (I.tape input.new) (O.tape output.old) (O.tape output.new) g.fault) }
 {
     let _slots = scenario.size.slots();

@@ -8,7 +8,7 @@ use Rattle.cluster_core.specs.Setups.{rules_for}
 use Rattle.cluster_node.specs.Rules.{Rules}
 use Rattle.thread_records.specs.declared.nodes.NodeRecord.{NodeRecord}
 use Rattle.thread_records.specs.Runs.{AreRuns}
-use Rattle.run_scenario.specs.PrivateHistories.{AreEven}
+use Rattle.run_scenario.specs.PrivateHistories.{AreEven, TellsOf}
 use Rattle.run_scenario.proofs.Audited.{all_told}
 use Rattle.run_scenario.proofs.OneByOne.{are_even}
 use Rattle.run_scenario.proofs.Ruled.{same_rules, same_fixed}
@@ -34,3 +34,9 @@ returns-clause-runs g c =
     let picks = ap (λ (pick : ℕ → Pick). pick c.args.task.now.scenario.now.size) c.scheme_of-scheme.ensures in
     let is = same_rules (λ s z. pick_of s z) c.scheme_of-scheme.result c.args.task.now.scenario.now c.keyed-setup.result picks (c.keyed-setup.ensures ∙ c.in-Ok.ensures.1 ∙ same_fixed c.scheme_of-scheme.result c.args.task.now.scenario.now c.in_ok-nodes.nodes.items (c.in_ok-nodes.ensures.items ∙ c.as_slice.ensures.value)) in
     subst (λ (rules : Rules). AreRuns rules c.args.task.now.packets.now c.args.task.now.scenario.now.ring 0 (map (λ l. l.items) c.args.task.now.commands.now) c.in_ok-run.run'.nodes.items) is c.in_ok-run.ensures.runs
+
+pub returns-clause-told : goal.returns-clause-told
+returns-clause-told g c =
+    let task = c.args.task.now in
+    let told = subst (λ r. IfOk r (TellsOf task.options task.scenario.now task.packets.now c.as_slice-3.result.now)) c.in_ok-told.was c.judged-agrees.ensures.told in
+    subst (λ (ns : List NodeRecord). TellsOf task.options task.scenario.now task.packets.now ns c.in_ok-told.field-0) c.as_slice-3.ensures.value told
