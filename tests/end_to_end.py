@@ -716,9 +716,7 @@ def datagram_of(length):
 def test_limits():
     """Runs at the limits of what is accepted."""
     # More than 1,000 records, and a listing of more than 65,536 bytes.
-    events = "0 install 0 1: installed\n"
-    for place in range(1200):
-        events += f"{2 * place + 1} arrive 0 {place}: placed 0\n{2 * place + 2} serve 0 0 1: forward A@10.8.0.1 from 1\n"
+    events = listing_of(1200)
     many = scenario(["live 0", "install 0 1", "take 1200"])
     simulates("many records", many, capture("y" * 1200), events + report(1200, 1200), WRITTEN_HEAD + SENT_RECORD * 1200, ["--list"])
     check("a long listing", len(events) > 65_536)
@@ -738,6 +736,75 @@ def test_limits():
     status, out, err, made = simulated(text, capture("yy"), ["--list"])
     check("the largest cluster", (status, out, err) == (0, (events + report(2, 2)).encode(), b""), f"{status} {out!r} {err!r}")
     check("the largest cluster, what is written", len(made) == 24 + 2 * 80)
+
+
+def listing_of(records):
+    """The listing of a run in which one balancer sends so many records of one flow."""
+    events = "0 install 0 1: installed\n"
+    for place in range(records):
+        events += f"{2 * place + 1} arrive 0 {place}: placed 0\n{2 * place + 2} serve 0 0 1: forward A@10.8.0.1 from 1\n"
+    return events
+
+
+def peak_of(command, folder):
+    """The most memory that a command had, in kilobytes."""
+    with subprocess.Popen(command, cwd=folder, stdout=subprocess.DEVNULL, stderr=subprocess.DEVNULL) as child:
+        _, status, usage = os.wait4(child.pid, 0)
+        child.returncode = os.waitstatus_to_exitcode(status)
+    return child.returncode, usage.ru_maxrss
+
+
+def test_listings_as_they_go():
+    """A listing is printed as the run goes: what memory there is doesn't grow with it, and a fault finds a part of it printed."""
+    steps = ["live 0", "install 0 1", "take 60000"]
+    # A record that is too long is found behind 2,000 others, whose lines fill a page.
+    def stops(folder):
+        (folder / "in.pcap").write_bytes(capture("y" * 2000) + struct.pack(">4I", 1, 0, 262_145, 262_145))
+        for more in [["--list"], ["--json", "--list"]]:
+            status, out, err = run(["simulate", *more, "s.toml", "in.pcap", "out.pcap"], cwd=folder)
+            name = f"a fault behind {' '.join(more)}"
+            check(f"{name}: the fault", status == 1 and b"TooLong" in err and err.count(b"\n") == 1, f"{status} {err!r}")
+            whole = listing_of(2000).encode()
+            is_prefix = whole.startswith(out) if more == ["--list"] else out.startswith(b'{"type":"maglev"')
+            check(f"{name}: a part of the listing", is_prefix and len(out) >= 65_536, f"{len(out)} {out[:80]!r}")
+        status, out, err = run(["simulate", "s.toml", "in.pcap", "out.pcap"], cwd=folder)
+        check("a fault without --list: nothing is printed", (status, out, err) == (1, b"", b"fault: TooLong\n"), f"{status} {out!r} {err!r}")
+
+    with_files(scenario(steps), b"", stops)
+
+    # A device that is full, and a reader that goes away, while the run goes.
+    def unheard(folder):
+        words = ["simulate", "--list", "s.toml", "in.pcap", "out.pcap"]
+        unprinted(words, folder)
+        with open("/dev/full", "wb") as full:
+            status, _, err = run([*words[:1], "-v", *words[1:]], cwd=folder, stdout=full)
+        check("-v of a listing that can't be written", status == 1 and err.startswith(b"fault: Write\n") and err.count(b"\n") == 2, err)
+        with subprocess.Popen([PROGRAM, *words], cwd=folder, stdout=subprocess.PIPE, stderr=subprocess.PIPE) as child:
+            first = child.stdout.readline()
+            child.stdout.close()
+            err = child.stderr.read()
+            status = child.wait()
+        check("a reader of a listing goes away", (first, err, status) == (b"0 install 0 1: installed\n", b"", 141), f"{first!r} {err!r} {status}")
+        # Where OUTPUT is standard output the listing goes to standard error.
+        status, out, err = run(["simulate", "--list", "s.toml", "in.pcap", "-"], cwd=folder)
+        is_right = status == 0 and err == (listing_of(2000) + report(2000, 2000)).encode() and out == WRITTEN_HEAD + SENT_RECORD * 2000
+        check("a listing on standard error", is_right, f"{status} {len(out)} {len(err)}")
+
+    with_files(scenario(steps), capture("y" * 2000), unheard)
+
+    # Thirty times as many events take no more memory.
+    def peaks(folder):
+        one = record(packet("y"))
+        for more in [["--list"], ["--json", "--list"]]:
+            found = []
+            for count in [4_000, 120_000]:
+                (folder / "in.pcap").write_bytes(HEAD + one * count)
+                (folder / "s.toml").write_text(scenario(["live 0", "install 0 1", f"take {count}"]))
+                found.append(peak_of([PROGRAM, "simulate", *more, "s.toml", "in.pcap", "out.pcap"], folder))
+            (few, low), (many, high) = found
+            check(f"{' '.join(more)}: memory doesn't grow", few == 0 and many == 0 and high < low + 600, f"{found}")
+
+    with_files(scenario(steps), b"", peaks)
 
 
 def unprinted(arguments, folder):
