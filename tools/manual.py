@@ -13,9 +13,9 @@ TEXTS = TOP / "tests" / "texts"
 SHARE = TOP / "share"
 FORMATS = TOP / "docs" / "FORMATS.md"
 # The words that an option takes.
-CHOICES = {"--size": ["7", "13", "251", "1021", "8191", "65537"], "--hash": ["fnv", "sha256", "sum"]}
+CHOICES = {"--size": ["7", "13", "251", "1021", "8191", "65537"], "--hash": ["fnv", "sha256", "sum"], "--cut": ["pad"]}
 # When the commands were last changed.
-DATE = "2026-11-28"
+DATE = "2026-11-29"
 # Arguments that are files.
 FILES = ("SCENARIO", "INPUT", "OUTPUT")
 
