@@ -1,7 +1,8 @@
 #!/usr/bin/env python3
 """page.py: the page that share/maglev/report.py makes of what `--json` prints.
 
-Its numbers are those of tests/model.py. Names with signs of HTML, other scripts and a million splits are drawn too. Where Chromium is
+Its numbers are those of tests/model.py. Names with signs of HTML, other scripts, a million splits and shares of 300 versions are drawn
+too. Where Chromium is
 installed it draws the page, without a network, light and dark, and the texts and shapes are looked for in what it made. The last line
 is 'N passed, N failed'.
 """
@@ -129,11 +130,121 @@ def test_what_is_unknown():
 
 def test_what_lacks_keys():
     """Objects without their keys, and bytes that are no text, end it with a word too."""
-    for name, data in [("a summary", b'{"type":"summary"}\n'), ("a report", b'{"type":"report","version":1}\n'), ("no text", b"\xd4\xc3\xb2\xa1\xff\n")]:
+    shares = [("a backend", b'{"type":"backend","version":1,"backend":"A"}\n'), ("a node", b'{"type":"node","version":1,"node":0,"packets":"1","bytes":1,"flows":1}\n')]
+    for name, data in [("a summary", b'{"type":"summary"}\n'), ("a report", b'{"type":"report","version":1}\n'), ("no text", b"\xd4\xc3\xb2\xa1\xff\n"), *shares]:
         with tempfile.TemporaryDirectory() as folder:
             (Path(folder) / "in.jsonl").write_bytes(data)
             done = subprocess.run([sys.executable, TOOL, "in.jsonl", "out.html"], cwd=folder, capture_output=True, text=True, timeout=60, check=False)
         check(f"no keys: {name}", done.returncode == 1 and "maglev --json" in done.stderr and "Traceback" not in done.stderr, done)
+
+
+def backend(version, name, address, *counts):
+    """The object of a backend's share, with its packets, bytes and flows."""
+    return {"type": "backend", "version": version, "backend": name, "address": address} | dict(zip(("packets", "bytes", "flows"), counts))
+
+
+def node(version, number, *counts):
+    """The same of a node's."""
+    return {"type": "node", "version": version, "node": number} | dict(zip(("packets", "bytes", "flows"), counts))
+
+
+def shares_in(page):
+    """The part of a page that has the shares."""
+    return page[page.index("<h3>Each ") : page.index("<h3>Connections that") if "<h3>Connections that" in page else page.index("</body>")]
+
+
+def cells_of(page):
+    """The texts of each row of a page's tables."""
+    found = [Shape(row.partition("</tr>")[0]).texts for row in page.split("<tr>")[1:]]
+    return [cells for cells in found if cells]
+
+
+HEADS = ["packets, share", "packets", "bytes", "bytes, share", "flows"]
+
+
+def test_shares_by_hand():
+    """A run without a listing has the shares that its objects tell, those with the most packets first."""
+    head = {"type": "maglev", "version": 1, "command": "run"}
+    backends = [backend(1, "A", "10.8.0.1", 1, 300, 1), backend(1, "B", "10.8.0.2", 3, 700, 2), backend(12345, "B", "10.8.0.2", 1500, 60000, 1200)]
+    nodes = [node(1, 0, 4, 1000, 3), node(12345, 0, 500, 20000, 400), node(12345, 1, 1000, 40000, 1000)]
+    servers = [["server", *HEADS], ["B@10.8.0.2", "75.0 %", "3", "700", "70.0 %", "2"], ["A@10.8.0.1", "25.0 %", "1", "300", "30.0 %", "1"]]
+    servers += [["server", *HEADS], ["B@10.8.0.2", "100.0 %", "1,500", "60,000", "100.0 %", "1,200"]]
+    balancers = [["balancer", *HEADS], ["balancer 0", "100.0 %", "4", "1,000", "100.0 %", "3"], ["balancer", *HEADS]]
+    balancers += [["balancer 1", "66.7 %", "1,000", "40,000", "66.7 %", "1,000"], ["balancer 0", "33.3 %", "500", "20,000", "33.3 %", "400"]]
+    for name, told, expected in [("both", backends + nodes, servers + balancers), ("backends", backends, servers), ("nodes", nodes, balancers)]:
+        page, shape = page_of(f"shares of {name}", objects.text_of([head, *told]))
+        check(f"shares of {name}: the rows", cells_of(page) == expected, cells_of(page))
+        titles = [text for text in shape.texts if text.startswith(("Each ", "version "))]
+        parts = [part for part, kind in (("Each server's share", backends), ("Each balancer's share", nodes)) if kind[0] in told]
+        check(f"shares of {name}: the parts", titles == [title for part in parts for title in (part, "version 1", "version 12345")], titles)
+        check(f"shares of {name}: what they are of, once", page.count("<p>Of all services") == 1 and page.count("<p>Flows are") == 1, page[-900:])
+        check(f"shares of {name}: no time line", "svg" not in shape.tags and '<i class="one" style="width:100.0%">' in page, shape.tags)
+
+
+def modelled(found, by_node):
+    """The name, packets, bytes and flows of each share by the model, version by version, those with the most packets first."""
+    told = [(version, -packets, f"balancer {key}" if by_node else "@".join(key), size, flows) for version, key, packets, size, flows in found.shares(by_node)]
+    return [[name, f"{-packets:,}", f"{size:,}", f"{flows:,}"] for _, packets, name, size, flows in sorted(told)]
+
+
+def test_shares_of_a_rollout():
+    """The objects' shares are the listing's, and those of flows beside them. Nothing is there twice, and without both there are none."""
+    _, _, found = rolling()
+    asked = ("--per-backend", "--per-node")
+    words = {"the listing": ("--list",), "both": ("--list", *asked), "the objects": asked, "backends and the listing": ("--list", asked[0]), "neither": ()}
+    pages = {name: page_of(f"a rollout by {name}", objects.text_of(objects.simulated(found, "--where", "--summary", *some)))[0] for name, some in words.items()}
+    pages["a run"], _ = page_of("a rollout by a run", objects.text_of(objects.ran(found, "--where", *asked)))
+    check("a rollout by neither: no shares", "share</h3>" not in pages["neither"] and "flows" not in pages["neither"])
+    listing, both = (cells_of(shares_in(pages[name])) for name in ("the listing", "both"))
+    check("a rollout by both: the listing's numbers", [cells[:-1] for cells in both] == listing and len(both) > 20, both[:9])
+    check("a rollout by both: nothing twice", pages["both"].count("share</h3>") == 2, pages["both"].count("share</h3>"))
+    check("a rollout by the objects: the same", shares_in(pages["the objects"]) == shares_in(pages["both"]))
+    half = pages["backends and the listing"]
+    place = [one.index("<h3>Each balancer's") for one in (half, pages["both"], pages["the listing"])]
+    check("a rollout by backends and the listing: servers", half[: place[0]] == pages["both"][: place[1]])
+    check("a rollout by backends and the listing: balancers", half[place[0] :] == pages["the listing"][place[2] :])
+    told = [[cells[0], cells[2], cells[3], cells[5]] for cells in both if cells[-1] != "flows"]
+    expected = modelled(found, False) + modelled(found, True)
+    check("a rollout by both: the model's numbers", told == expected, f"{told} {expected}")
+    expected = cells_of(shares_in(page_of("a run's shares", objects.text_of([objects.head("run"), *objects.behind(found.on_threads(), asked)]))[0]))
+    check("a rollout by a run: its shares", cells_of(shares_in(pages["a run"])) == expected and len(expected) > 20, expected[:9])
+
+
+def test_awkward_shares():
+    """Signs of HTML in an address, a node or a version are shown as they are."""
+    name = "<q>\"&'</q> \u05d0"
+    told = [backend(name, name, name, 0, 0, 0), node(name, name, 1, 40, 1)]
+    page, shape = page_of("awkward shares", objects.text_of(told))
+    check("awkward shares: no tag is made", "q" not in shape.tags and "<q" not in page, shape.tags)
+    for shown in (f"{name}@{name}", f"balancer {name}", f"version {name}"):
+        check(f"awkward shares: {shown}", shown in "".join(shape.texts), shape.texts[-30:])
+
+
+def test_shares_of_many():
+    """Of 300 versions the first 39 and the last are drawn, each with 40 of its servers, though the last has 400,000. The sums are of all."""
+    with tempfile.TemporaryDirectory() as folder:
+        with open(f"{folder}/in.jsonl", "w", encoding="utf-8") as lines:
+            lines.write('{"type":"maglev","version":1,"command":"run"}\n')
+            for version in range(1, 301):
+                for place in range(100 if version < 300 else 400_000):
+                    lines.write(objects.text_of([backend(version, f"web-{place:06}", f"10.8.{version % 256}.1", 1 + place, 100, 1)]))
+            for version in range(1, 301):
+                lines.write(objects.text_of([node(version, place, 1, 40, 1) for place in range(100)]))
+        before = resource.getrusage(resource.RUSAGE_CHILDREN).ru_maxrss
+        done = subprocess.run([sys.executable, TOOL, "in.jsonl", "out.html"], cwd=folder, capture_output=True, timeout=600, check=False)
+        page = (Path(folder) / "out.html").read_text() if done.returncode == 0 else ""
+    most = resource.getrusage(resource.RUSAGE_CHILDREN).ru_maxrss
+    check("shares of many: drawn", done.returncode == 0 and 0 < len(page) < 1_000_000, f"{done} {len(page)}")
+    check("shares of many: little memory", most <= max(before, 100_000), f"{most} KB")
+    titles = [text for text in Shape(page).texts if text.startswith("version ")]
+    check("shares of many: versions", titles == 2 * [f"version {version}" for version in [*range(1, 40), 300]], titles)
+    check("shares of many: the others", page.count("<p>and 260 more versions, before the last</p><h4>version 300<") == 2, page.count("versions,"))
+    counts = [page.count(text) for text in ("<tr>", "<p>and 60 more</p>", "<p>and 399,960 more</p>")]
+    check("shares of many: rows", counts == [80 * 41, 79, 1], counts)
+    greatest = ["web-000099@10.8.39.1", "2.0 %", "100", "100", "1.0 %", "1"], ["web-000060@10.8.39.1", "1.2 %", "61", "100", "1.0 %", "1"]
+    found = cells_of(page)[38 * 41 : 40 * 41]
+    check("shares of many: the greatest, of all", (found[1], found[40]) == greatest, found)
+    check("shares of many: the last's", [found[place][0] for place in (42, 81)] == [f"web-{place}@10.8.44.1" for place in (399_999, 399_960)], found)
 
 
 def test_commands_apart():

@@ -2,16 +2,16 @@
 """report.py IN.jsonl OUT.html: a page for people, of what `maglev .. --json` printed.
 
 IN has the lines of one command or of several, one after another, and each has a part of the page. `simulate --json --list --where
---summary` gives all that the page can show of a run, `plan --json` what a change of versions moves. The page is one file, which
-asks nothing of the network. IN is read once, line by line, so that a run of any length fits into memory. `-` is standard input or
-standard output.
+--per-backend --per-node --summary` gives all that the page can show of a run, `plan --json` what a change of versions moves. The page
+is one file, which asks nothing of the network. IN is read once, line by line, so that a run of any length fits into memory. `-` is
+standard input or standard output.
 """
 import collections
 import html
 import json
 import sys
 
-# The version of the objects, and the most splits, and else the most rows, that a table has.
+# The version of the objects, and the most splits, and else the most rows, that a table has, and the most versions with their shares.
 VERSION, MOST_SPLITS, MOST_ROWS = 1, 500, 40
 # The types of which a command prints one object.
 WHOLE = ("report", "summary", "splits", "audit", "orders", "table", "compare", "fault")
@@ -82,6 +82,39 @@ class Bins:
         return found, wide
 
 
+class Ranked:
+    """Rows, each a key, its packets, its bytes, and maybe its flows. Of all of them the sums are kept, and those with the most packets."""
+
+    def __init__(self):
+        self.rows, self.count, self.packets, self.size = [], 0, 0, 0
+
+    def note(self, one):
+        self.count += 1
+        self.packets += one[1]
+        self.size += one[2]
+        self.rows.append(one)
+        if len(self.rows) > 2 * MOST_ROWS:
+            self.rows = self.most()
+
+    def most(self):
+        return sorted(self.rows, key=lambda each: (-each[1], each[0]))[:MOST_ROWS]
+
+
+class Shares:
+    """The rows of each version. Versions ascend; where they are many the first are kept, and the last."""
+
+    def __init__(self):
+        self.versions, self.count = {}, 0
+
+    def note(self, version, one):
+        if version not in self.versions:
+            if len(self.versions) == MOST_ROWS:
+                self.versions.popitem()
+            self.versions[version] = Ranked()
+            self.count += 1
+        self.versions[version].note(one)
+
+
 def micros_of(time):
     """A time in seconds, as `json` gives it, in whole microseconds."""
     return round(time * 1_000_000)
@@ -102,8 +135,10 @@ class Told:
         self.packets, self.changes = Bins(), Bins()
         # of each balancer the records that wait there, each with its bytes, and how often
         self.waiting = collections.defaultdict(dict)
-        # packets and bytes by version and server, and by version and balancer
+        # what the listing has sent: packets and bytes by version and server, and by version and balancer
         self.servers, self.nodes = collections.defaultdict(lambda: [0, 0]), collections.defaultdict(lambda: [0, 0])
+        # what the objects of shares tell of the same
+        self.server_shares, self.node_shares = Shares(), Shares()
         self.splits, self.split_count, self.why = [], 0, collections.Counter()
         self.services, self.ways, self.rows = [], [], []
 
@@ -139,6 +174,12 @@ class Told:
         for counts in (self.servers[one["version"], server_of(one)], self.nodes[one["version"], one["node"]]):
             counts[0] += 1
             counts[1] += size
+
+    def note_backend(self, one):
+        self.server_shares.note(one["version"], (server_of(one), one["packets"], one["bytes"], one["flows"]))
+
+    def note_node(self, one):
+        self.node_shares.note(one["version"], (one["node"], one["packets"], one["bytes"], one["flows"]))
 
     def note_split(self, one):
         self.split_count += 1
@@ -257,27 +298,46 @@ def more_of(shown, count):
     return f"<p>and {count - shown:,} more</p>" if count > shown else ""
 
 
-def shares_of(name, counts, words):
+def listed(counts):
+    """The shares of what the listing has sent."""
+    found = Shares()
+    for version, key in sorted(counts):
+        found.note(version, (key, *counts[version, key]))
+    return found
+
+
+def ranked_of(name, version, found, words):
+    """A version's shares, those with the most packets first."""
+    most = found.most()
+    rows = [
+        row([words(key), bar(sent, most[0][1]), ("count", share(sent, found.packets)), sent, size, ("count", share(size, found.size)), *flows])
+        for key, sent, size, *flows in most
+    ]
+    heads = [name, ("bar", ""), count_head("packets, share"), count_head("packets"), count_head("bytes"), count_head("bytes, share")]
+    heads += [count_head("flows")] if len(most[0]) > 3 else []
+    return f"<h4>{text(f'version {version}')}</h4>{table(heads, rows)}{more_of(len(rows), found.count)}"
+
+
+def shares_of(name, found, words):
     """Each version's shares, one version after another."""
-    parts = []
-    for version in sorted({version for version, _ in counts}):
-        found = sorted(((key, *counts[one, key]) for one, key in counts if one == version), key=lambda each: (-each[1], each[0]))
-        packets, size = (sum(each[place] for each in found) for place in (1, 2))
-        rows = [
-            row([words(key), bar(sent, found[0][1]), ("count", share(sent, packets)), sent, length, ("count", share(length, size))])
-            for key, sent, length in found[:MOST_ROWS]
-        ]
-        heads = [name, ("bar", ""), count_head("packets, share"), count_head("packets"), count_head("bytes"), count_head("bytes, share")]
-        parts.append(f"<h4>version {version}</h4>{table(heads, rows)}{more_of(MOST_ROWS, len(found))}")
+    parts = [ranked_of(name, version, each, words) for version, each in found.versions.items()]
+    if found.count > len(parts):
+        parts.insert(len(parts) - 1, f"<p>and {found.count - len(parts):,} more versions, before the last</p>")
     return "".join(parts)
 
 
 def shares(told):
-    if not told.servers:
-        return ""
-    servers, nodes = shares_of("server", told.servers, str), shares_of("balancer", told.nodes, lambda node: f"balancer {node}")
+    """Each server's share and each balancer's, by the objects that tell it, and else by the listing."""
+    servers = told.server_shares if told.server_shares.count else listed(told.servers)
+    nodes = told.node_shares if told.node_shares.count else listed(told.nodes)
     said = "<p>Of all services together, by the version under which packets were served.</p>"
-    return f"<h3>Each server's share</h3>{said}{servers}<h3>Each balancer's share</h3>{nodes}"
+    if told.server_shares.count or told.node_shares.count:
+        said += "<p>Flows are connections, and count in each row that has packets of them.</p>"
+    drawn = []
+    for name, found, words in [("server", servers, str), ("balancer", nodes, lambda node: f"balancer {node}")]:
+        if found.count:
+            drawn.append(f"<h3>Each {name}'s share</h3>{'' if drawn else said}{shares_of(name, found, words)}")
+    return "".join(drawn)
 
 
 def reasons(told):
