@@ -746,12 +746,11 @@ def listing_of(records):
     return events
 
 
-def peak_of(command, folder):
-    """The most memory that a command had, in kilobytes."""
-    with subprocess.Popen(command, cwd=folder, stdout=subprocess.DEVNULL, stderr=subprocess.DEVNULL) as child:
-        _, status, usage = os.wait4(child.pid, 0)
-        child.returncode = os.waitstatus_to_exitcode(status)
-    return child.returncode, usage.ru_maxrss
+def ends_within(kilobytes, command, folder):
+    """How a command ends that has so much room for its addresses, and what it says on standard error."""
+    limited = ["sh", "-c", f'ulimit -v {kilobytes} && exec "$0" "$@"', *command]
+    done = subprocess.run(limited, cwd=folder, stdout=subprocess.DEVNULL, stderr=subprocess.PIPE, timeout=600)
+    return done.returncode, done.stderr
 
 
 def test_listings_as_they_go():
@@ -792,19 +791,13 @@ def test_listings_as_they_go():
 
     with_files(scenario(steps), capture("y" * 2000), unheard)
 
-    # Thirty times as many events take no more memory.
-    def peaks(folder):
-        one = record(packet("y"))
+    # A listing of 30,000,000 bytes, or objects of 200,000,000, in 40,000 kilobytes.
+    def fits(folder):
         for more in [["--list"], ["--json", "--list"]]:
-            found = []
-            for count in [4_000, 120_000]:
-                (folder / "in.pcap").write_bytes(HEAD + one * count)
-                (folder / "s.toml").write_text(scenario(["live 0", "install 0 1", f"take {count}"]))
-                found.append(peak_of([PROGRAM, "simulate", *more, "s.toml", "in.pcap", "out.pcap"], folder))
-            (few, low), (many, high) = found
-            check(f"{' '.join(more)}: memory doesn't grow", few == 0 and many == 0 and high < low + 600, f"{found}")
+            answer = ends_within(40_000, [PROGRAM, "simulate", *more, "s.toml", "in.pcap", "out.pcap"], folder)
+            check(f"{' '.join(more)}: memory doesn't grow with the events", answer == (0, b""), answer)
 
-    with_files(scenario(steps), b"", peaks)
+    with_files(scenario(["live 0", "install 0 1", "take 300000"]), HEAD + record(packet("y")) * 300_000, fits)
 
 
 def unprinted(arguments, folder):
