@@ -1,3 +1,4 @@
 pub mod Padding
 pub mod Stages
 pub mod Playing
+pub mod Either

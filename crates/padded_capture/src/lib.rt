@@ -5,9 +5,11 @@
 //! bytes. All else comes as it is, and so does what is no capture. Nothing is kept but the bytes of one header.
 #![tactic(auto)]
 
+mod either;
 mod laws;
 mod padded;
 mod stage;
 
+pub use either::CaptureSource;
 pub use laws::padded_is_whole;
 pub use padded::Padded;

@@ -43,17 +43,6 @@ impl<I: Source> Padded<I> {
         }
     }
 
-    /// The source as it is: nothing of it is padded.
-    pub fn plain(source: I) -> Padded<I>
-        ensures { ⟦<Padded<I> as Source>⟧.tape result ≡ uncalled (I.tape source).bytes }
-    {
-        Padded {
-            source,
-            stage: Stage::plain(),
-            counts: CallCounts::none(),
-        }
-    }
-
     /// The source back, as far as it was read.
     pub fn into_inner(self) -> I
         ensures { (s : State) × ((⟦<Padded<I> as Source>⟧.tape self).bytes ≡ coming_of s (I.tape result).bytes) }

@@ -2,7 +2,7 @@
 ghost use Rattle.std.specs.Prelude.{◌≡◌, ◌≤◌, ◌<◌, ◌+◌, ◌-◌, ◌++◌, true, false, min, length, take, drop, [], IsTrue, ◌↔◌, replicate, slice_range, nat_lt, ◌&&◌, not};
 ghost use Rattle.pcap_file.specs.Format.{number_in, magic_of, max_captured};
 ghost use Rattle.padded_capture.specs.Padding.{mended, missing};
-ghost use Rattle.padded_capture.specs.Stages.{fresh, untouched, header_len, form_of, ComesSame, IsTurn, FitsIn, left_of};
+ghost use Rattle.padded_capture.specs.Stages.{fresh, header_len, form_of, ComesSame, IsTurn, FitsIn, left_of};
 
 use byteorder::{BigEndian, ByteOrder, LittleEndian};
 use pcap_file::Order;
@@ -89,21 +89,6 @@ impl Stage {
         Stage {
             form: Form::Unknown,
             is_gathering: true,
-            text: [0; 24],
-            given: 0,
-            held: 0,
-            plain: 0,
-            zeros: 0,
-        }
-    }
-
-    /// All comes as it is.
-    pub(crate) fn plain() -> Stage
-        ensures { result ≡ untouched }
-    {
-        Stage {
-            form: Form::Plain,
-            is_gathering: false,
             text: [0; 24],
             given: 0,
             held: 0,

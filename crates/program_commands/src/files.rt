@@ -10,7 +10,7 @@ use lazy_files::{
     FileFault, InputFile, OutputFile, Refusal, ReportText, StandardOutput, is_standard,
     is_standard_output,
 };
-use padded_capture::Padded;
+use padded_capture::{CaptureSource, Padded};
 use pcap_file::{Frame, FromRead, PcapFault, ToWrite, read_record_into, read_start};
 use scenario_commands::answer_keyed;
 use scenario_faults::PlacedFault;
@@ -22,15 +22,15 @@ use std::io::{BufReader, ErrorKind, Read, Write};
 use std::random::RandomSource;
 
 /// INPUT's device, which may pad what a snap length cut.
-pub type CaptureFile<'x> = Padded<FromRead<InputFile<'x>>>;
+pub type CaptureFile<'x> = CaptureSource<FromRead<InputFile<'x>>>;
 
 // INPUT, with or without zeros where bytes are missing.
 fn capture_file<'x>(rt: &'x HostRuntime, path: &'x str, is_padded: bool) -> CaptureFile<'x> {
     let input = FromRead::new(InputFile::new(rt, path));
     if is_padded {
-        Padded::new(input)
+        CaptureSource::Padded(Padded::new(input))
     } else {
-        Padded::plain(input)
+        CaptureSource::Plain(input)
     }
 }
 
