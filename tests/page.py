@@ -119,7 +119,13 @@ def test_awkward_names():
 
 def test_what_is_unknown():
     """Later types and keys are left out; a line that is no object ends it with a word on standard error."""
-    page_of("nothing", "")
+    with tempfile.TemporaryDirectory() as folder:
+        _, done = drawn("", Path(folder))
+        made = (Path(folder) / "out.html").exists()
+    check("nothing is no page", done.returncode == 1 and "says nothing" in done.stderr and not made, done)
+    head = json.dumps({"type": "maglev", "version": 1, "command": "simulate"}) + "\n"
+    _, shape = page_of("a report that is missing", head)
+    check("a report that is missing: the page says so", any("The report is missing" in one for one in shape.texts), shape.texts)
     page_of("a later type", '{"type":"later"}\n{"type":"report"' + "".join(f',"{word}":0' for word in ("packets", "received", "forwarded", "waiting", "refused", "lost", "unrouted", "skipped", "left", "more")) + ',"cut":true,"dropped":{}}\n')
     late = '{"type":"event","event":0,"kind":"arrive","node":0,"record":0,"time":1e400,"bytes":1,"flow":"","outcome":"drop","cause":""}\n'
     for line in ("fault: BadKey\n", "[1]\n", '{"type":"split"}\n', "\n", late, '{"type":"maglev","version":2,"command":"run"}\n'):

@@ -12,6 +12,8 @@ TOP = pathlib.Path(__file__).resolve().parent.parent
 TEXTS = TOP / "tests" / "texts"
 SHARE = TOP / "share"
 FORMATS = TOP / "docs" / "FORMATS.md"
+# The options that take a file.
+FILE_OPTIONS = ("--scenario",)
 # The words that an option takes.
 CHOICES = {"--size": ["7", "13", "251", "1021", "8191", "65537"], "--hash": ["fnv", "sha256", "sum"], "--cut": ["pad"]}
 # When the commands were last changed.
@@ -111,7 +113,7 @@ def man_page(whole, commands):
             page += [".TP", f".B {roff(word)}", roff(text)]
         for line in one.after:
             page += after_help(line)
-    page += section("SCENARIO", "Keys", "A scenario is a TOML document with these keys. Each is required but ring, check and idle.")
+    page += section("SCENARIO", "Keys", "A scenario is a TOML document with these keys. Each is required but ring, check and idle, and those of format 3 alone. Sections that are named are those of docs/FORMATS.md.")
     page += section("STEPS", "Steps", "Each step is a text. N is a node and W a worker, counted from 0; V is the number of a version.")
     page += [".SH EXIT STATUS", ".TP", "0", "Done.", ".TP", "1", "A fault, which a line on standard error names."]
     page += [".TP", "2", "A bad command line."]
@@ -129,6 +131,7 @@ def bash_words(whole, commands):
     lines.append('    if [ "$COMP_CWORD" -eq 1 ]; then')
     lines.append(f'        mapfile -t COMPREPLY < <(compgen -W "{" ".join(whole.commands())} help --help" -- "$word")')
     lines += ["        return", "    fi", "    case $before in"]
+    lines.append(f'        {"|".join(FILE_OPTIONS)}) compopt -o filenames 2>/dev/null; mapfile -t COMPREPLY < <(compgen -f -- "$word"); return ;;')
     for option, words in CHOICES.items():
         lines.append(f'        {option}) mapfile -t COMPREPLY < <(compgen -W "{" ".join(words)}" -- "$word"); return ;;')
     lines += ["    esac", "    case ${COMP_WORDS[1]} in"]
@@ -155,6 +158,7 @@ def zsh_words(whole, commands):
         specs = []
         for long, takes, text in one.options():
             what = ":" + takes + ":(" + " ".join(CHOICES[long]) + ")" if long in CHOICES else f":{takes}:" if takes else ""
+            what += "_files" if long in FILE_OPTIONS else ""
             specs.append(quoted(f"{long}[{text.replace('[', '(').replace(']', ')')}]{what}"))
         specs.append(quoted("*:file:_files") if one.takes_files() else quoted("*:word:"))
         lines.append(f"        {one.name}) shift words; (( CURRENT-- )); _arguments {' '.join(specs)} ;;")
@@ -172,7 +176,7 @@ def fish_words(whole, commands):
         if one.takes_files():
             lines.append(f"complete -c maglev {seen} -F")
         for long, takes, text in one.options():
-            words = f" -x -a {quoted(' '.join(CHOICES[long]))}" if long in CHOICES else " -x" if takes else ""
+            words = f" -x -a {quoted(' '.join(CHOICES[long]))}" if long in CHOICES else " -r -F" if long in FILE_OPTIONS else " -x" if takes else ""
             lines.append(f"complete -c maglev {seen} -l {long[2:]}{words} -d {quoted(text)}")
     return "\n".join(lines) + "\n"
 

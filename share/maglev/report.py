@@ -426,18 +426,28 @@ def totals(told):
     return facts(found) if found else ""
 
 
+def notes(told):
+    """What has to be known of what a command told."""
+    found = []
+    if told.command in ("simulate", "run") and not {"report", "fault"} & told.whole.keys():
+        found.append("The report is missing: what was told ends before it.")
+    if told.command == "run" and "splits" in told.whole:
+        found.append("Threads decide what is sent first. Changes are in the order of the run's history, balancer by balancer, and not of time.")
+    return "".join(f"<p>{note}</p>" for note in found)
+
+
 def part(told):
     """What one command told."""
     found = told.whole.get("fault")
     fault = f"<p>fault: {text(found['fault'])}. {text(found['detail'] or '')}</p>" if found else ""
-    drawn = [totals(told), over_time(told), reasons(told), shares(told), splits(told), plans(told), orders(told), answers(told)]
+    drawn = [notes(told), totals(told), over_time(told), reasons(told), shares(told), splits(told), plans(told), orders(told), answers(told)]
     return f"<h2>{text(told.command)}</h2>{fault}{''.join(drawn)}"
 
 
 def page(commands):
     """The page's markup."""
     head = f'<meta charset="utf-8"><meta name="viewport" content="width=device-width"><title>maglev</title><style>{STYLE}</style>'
-    parts = "".join(part(told) for told in commands) or "<p>Nothing was told.</p>"
+    parts = "".join(part(told) for told in commands)
     return f'<!doctype html><html lang="en"><head>{head}</head><body><h1>maglev</h1>{parts}</body></html>\n'
 
 
@@ -467,7 +477,10 @@ def main(words):
         return 0 if words[:1] in (["-h"], ["--help"]) else 2
     try:
         with opened(words[0], "r", sys.stdin) as lines:
-            drawn = page(told_by(lines))
+            commands = told_by(lines)
+        if not commands:
+            sys.exit(f"report.py: {words[0]} says nothing: the command before it may have failed")
+        drawn = page(commands)
         with opened(words[1], "w", sys.stdout) as out:
             out.write(drawn)
     except OSError as fault:
