@@ -1175,7 +1175,7 @@ HELPS = {
     "NotIpv4": "their frames aren't IPv4: VLAN tags and IPv6 aren't read",
     "Truncated": "the capture has only the beginnings of its packets: play them as they were by --cut pad, or capture whole ones, with tcpdump -s 0",
     "NoService": "SCENARIO has no service of their address, protocol and port: maglev scenario INPUT lists those that INPUT has",
-    "NoBackend": "every member of their service was down or drained",
+    "NoBackend": "their service had no member, or every member was down or drained",
     "NoVersion": "their balancer had no version yet: begin with a step install",
     "RingsFull": "every ring was full: give more places by ring in SCENARIO, or play it by run --pace, whose drivers wait for room",
 }
@@ -1211,7 +1211,7 @@ def warns(name, steps, expected, words=("simulate", "-v", "s.toml", "in.pcap", "
 def test_warnings():
     """What a scenario that is played may not mean as it was meant."""
     bare = "node {} is live when packets come, and never has a version"
-    lacks = "step {} installs version {} on node {}, which the catalogue lacks"
+    lacks = "a step installs version {}, which the catalogue lacks"
     on_threads = ("run", "-v", "s.toml", "in.pcap", "out.pcap")
     for name, steps, expected in [
         ("nothing", ["install 0 1", "install 1 2", "take 2"], []),
@@ -1220,8 +1220,9 @@ def test_warnings():
         ("one that is live too late", ["install 0 1", "live 0", "take 2", "live 0 1", "lose 1"], []),
         ("one that is live again", ["install 0 1", "live 0", "take 1", "live 1", "again 0"], [bare.format(1)]),
         ("no packet", ["live 0 1"], []),
-        ("an unknown version", ["install 0 1", "install 1 1", "install 0 7", "take 2"], [lacks.format(2, 7, 0)]),
-        ("unknown versions alone", ["install 0 7", "install 1 0", "take 2"], [lacks.format(0, 7, 0), lacks.format(1, 0, 1), bare.format(0), bare.format(1)]),
+        ("an unknown version", ["install 0 1", "install 1 1", "install 0 7", "take 2"], [lacks.format(7)]),
+        ("unknown versions alone", ["install 0 7", "install 1 0", "take 2"], [lacks.format(7), lacks.format(0), bare.format(0), bare.format(1)]),
+        ("a version on each node, and again", ["install 0 1", "install 1 1", "install 0 7", "install 1 7", "take 1", "install 0 7"], [lacks.format(7)]),
         ("a version that comes late", ["take 1", "install 0 1", "install 1 1", "take 1"], []),
     ]:
         warns(name, steps, expected)
@@ -1231,9 +1232,13 @@ def test_warnings():
         answer = with_files(text, capture(letters), lambda folder: run(["simulate", "-v", "s.toml", "in.pcap", "out.pcap"], cwd=folder))
         lines = advised(answer[1].decode())
         check(f"advised: {name}", len(lines) == 1 and answer[2].decode() == f"warning: {lines[0]}\n", f"{answer} {lines}")
-    many = [lacks.format(step, 7, 0) for step in range(25)]
-    warns("many", ["install 0 7"] * 25, many[:20] + ["5 more of these"])
+    many = [lacks.format(version) for version in range(7, 32)]
+    warns("many", [f"install 0 {version}" for version in range(7, 32)], many[:20] + ["5 more of these"])
     warns("a stop", ["install 0 1", "stop 0", "take 1"], [bare.format(1)], on_threads)
+    empty = "warning: service 192.0.2.1:80/tcp of version {} has no members\n"
+    text = scenario(["install 0 1", "install 1 1", "take 2"], ([], ALL, []))
+    answer = with_files(text, None, lambda folder: run(["plan", "-v", "s.toml", "1", "2"], cwd=folder))
+    check("warned: services without members", answer[::2] == (0, (empty.format(1) + empty.format(3)).encode()), repr(answer))
     warns("explain", ["install 0 1", "take 2"], [bare.format(1)], ("explain", "-v", "s.toml", "in.pcap", "1", "2"))
 
 
@@ -1261,7 +1266,7 @@ def test_what_is_told_at_a_terminal():
     files = ["s.toml", "in.pcap", "out.pcap"]
     size = "size, line 2: found 8, expected 7, 13, 251, 1021, 8191 or 65537\n"
     warned = scenario(["install 0 1", "install 0 7", "take 2"])
-    lacks = "warning: step 1 installs version 7 on node 0, which the catalogue lacks\n"
+    lacks = "warning: a step installs version 7, which the catalogue lacks\n"
     bare = "warning: node 1 is live when packets come, and never has a version\n"
     refused = "warning: 1 event refused, as an install of a version that isn't newer: simulate --list shows which\n"
     for words in [["simulate", *files], ["run", *files], ["explain", *files[:2], "2", "3"], ["plan", "s.toml", "1", "2"]]:

@@ -180,7 +180,8 @@ def test_shares():
         answer = rows.simulated(apart, capture("xxyz"), ["--fail-above", share])
         check(f"above {share}", answer[:3] == (status, lines.encode(), b""), answer)
     none = rows.simulated(scenario(["take 1"]), capture("x"), ["--fail-above", "0"])
-    check("no connection is no share", none[0] == 0, none)
+    warned = b"warning: nothing was sent, so that --fail-above had nothing to judge\n"
+    check("no connection is no share", (none[0], none[2]) == (0, warned), none)
     told = objects.text_of([*objects.ran(found, "--summary")])
     answer = rows.ran(apart, capture("xxyz"), ["--json", "--fail-above", "0"])
     check("above on threads", answer[:3] == (3, told.encode(), b""), f"{answer} {told}")

@@ -10,6 +10,8 @@ mod flows;
 #[cfg(test)]
 mod headers;
 #[cfg(test)]
+mod progress;
+#[cfg(test)]
 mod tests;
 #[cfg(test)]
 mod tunnels;

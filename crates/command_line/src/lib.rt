@@ -67,7 +67,7 @@ SCENARIO may be -, which is standard input. Faults of the scenario are those of 
 /// The end of the help of `scenario`.
 const SCENARIO_HELP: &str = "Example: maglev scenario examples/rolling.pcap > scenario.toml
 
-INPUT may be -, which is standard input. The scenario has a service for each address, protocol and port to which more than 5 packets went, the most frequent first. The clients of a service that stands before them are left out. Fill in the members of each, and play it with simulate. Faults are those of simulate for INPUT, NoRandom, Write and Memory.";
+INPUT may be -, which is standard input. The scenario has a service for each address, protocol and port to which more than 5 packets went, the most frequent first. A destination that is the other direction of another one, as a client's port is, is left out: docs/FORMATS.md has the rule. Fill in the members of each, and play it with simulate. Faults are those of simulate for INPUT, NoRandom, Write and Memory.";
 
 /// The end of the help of `table`.
 const TABLE_HELP: &str = "Example: maglev table --size 7 --hash sum A B C
@@ -379,6 +379,15 @@ fn cut<'a>(alloc: Global) -> Arg<'a> {
         .value_parser(WAYS_WITH_CUT.as_slice())
 }
 
+fn progress<'a>(alloc: Global) -> Arg<'a> {
+    Arg::new(alloc, "progress")
+        .long("progress")
+        .help(
+            "show on standard error from the beginning on how far INPUT is read, also where that is a file; a terminal shows it without this, a pipe never",
+        )
+        .action(ArgAction::SetTrue)
+}
+
 fn pace<'a>(alloc: Global) -> Arg<'a> {
     Arg::new(alloc, "pace")
         .long("pace")
@@ -446,7 +455,12 @@ fn plan<'a>(alloc: Global) -> Result<Command<'a>, AllocError> {
 }
 
 fn sketch<'a>(alloc: Global) -> Result<Command<'a>, AllocError> {
-    let args = [of_captures(alloc), input(alloc)];
+    let args = [
+        cut(alloc),
+        progress(alloc),
+        of_captures(alloc),
+        input(alloc),
+    ];
     let args = Vec::from_array(alloc, args)?;
     Command::new(alloc, "scenario")
         .about(
@@ -466,6 +480,7 @@ fn simulate<'a>(alloc: Global) -> Result<Command<'a>, AllocError> {
         summary(alloc),
         fail_above(alloc),
         cut(alloc),
+        progress(alloc),
         json(alloc),
         of_places(alloc),
         scenario(alloc),
@@ -484,6 +499,7 @@ fn simulate<'a>(alloc: Global) -> Result<Command<'a>, AllocError> {
 fn explain<'a>(alloc: Global) -> Result<Command<'a>, AllocError> {
     let args = [
         cut(alloc),
+        progress(alloc),
         json(alloc),
         of_places(alloc),
         scenario(alloc),
@@ -510,6 +526,7 @@ fn run<'a>(alloc: Global) -> Result<Command<'a>, AllocError> {
         fail_above(alloc),
         cut(alloc),
         pace(alloc),
+        progress(alloc),
         json(alloc),
         of_places(alloc),
         scenario(alloc),

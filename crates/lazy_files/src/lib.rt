@@ -4,12 +4,13 @@
 ghost use Rattle.std.specs.Prelude.{◌≡◌};
 ghost use Rattle.std.specs.Io.{ReadsAtMost, WritesAtMost};
 
+use read_progress::{Showing, Watched};
 use std::alloc::Global;
 use std::fs::{File, metadata};
 use std::io;
 use std::io::{BufReader, BufWriter, ErrorKind, Printer, Read, Stdin, Write};
 use std::os::fd::AsRawFd;
-use std::os::unix::fs::MetadataExt;
+use std::os::unix::fs::{FileTypeExt, MetadataExt};
 use thiserror::Error;
 
 /// The bytes that a file's buffer holds.
@@ -158,6 +159,25 @@ fn is_regular(rt: &HostRuntime, path: &str) -> bool {
     }
 }
 
+/// Whether a path names a pipe or a socket.
+pub fn is_pipe(rt: &HostRuntime, path: &str) -> bool {
+    match metadata(rt, path) {
+        Ok(found) => {
+            let kind = found.file_type();
+            kind.is_fifo() || kind.is_socket()
+        }
+        Err(_) => false,
+    }
+}
+
+// The bytes of a regular file.
+fn length_of(rt: &HostRuntime, path: &str) -> Option<u64> {
+    match metadata(rt, path) {
+        Ok(found) if found.is_file() => Some(found.len()),
+        _ => None,
+    }
+}
+
 // The path of a file, or of the standard stream that is meant in its place.
 fn path_or<'a>(path: &'a str, stream: &'a str) -> &'a str {
     if is_standard(path) { stream } else { path }
@@ -178,41 +198,60 @@ pub fn is_standard_output(rt: &HostRuntime, path: &str) -> bool {
 
 // What an input is read from.
 #[derive(Drop)]
-enum Reader {
-    File(BufReader<File>),
-    Standard(BufReader<Stdin>),
+enum Reader<'a> {
+    File(BufReader<Watched<'a, File>>),
+    Standard(BufReader<Watched<'a, Stdin>>),
 }
 
-/// An input that is opened at the first read.
+/// An input that is opened at the first read. It may show how far it is.
 #[derive(Drop)]
 pub struct InputFile<'a> {
     rt: &'a HostRuntime,
     path: &'a str,
-    reader: Option<Reader>,
+    showing: Option<Showing>,
+    reader: Option<Reader<'a>>,
     head: FirstBytes,
     refusal: Option<Refusal>,
 }
 
 impl<'a> InputFile<'a> {
-    /// The file of this path, not opened yet.
-    pub fn new(rt: &'a HostRuntime, path: &'a str) -> InputFile<'a> {
+    /// The file of this path, not opened yet. How far it is, is shown so.
+    pub fn new(rt: &'a HostRuntime, path: &'a str, showing: Option<Showing>) -> InputFile<'a> {
         InputFile {
             rt,
             path,
+            showing,
             reader: None,
             head: FirstBytes::empty(),
             refusal: None,
         }
     }
 
-    fn open(&self) -> io::Result<Reader> {
-        let alloc: Global = self.rt.alloc();
+    // Standard input, which has no length of its own.
+    fn open_standard(&self) -> io::Result<Reader<'a>> {
+        let watched = Watched::new(self.rt, self.rt.stdin(), self.showing, None);
+        let reader = BufReader::with_capacity(self.rt.alloc(), BUFFER, watched)?;
+        Ok(Reader::Standard(reader))
+    }
+
+    fn open(&self) -> io::Result<Reader<'a>> {
         if is_standard(self.path) {
-            let reader = BufReader::with_capacity(alloc, BUFFER, self.rt.stdin())?;
-            return Ok(Reader::Standard(reader));
+            return self.open_standard();
         }
         let file = File::open(self.rt, self.path)?;
-        Ok(Reader::File(BufReader::with_capacity(alloc, BUFFER, file)?))
+        let length = length_of(self.rt, self.path);
+        let watched = Watched::new(self.rt, file, self.showing, length);
+        let reader = BufReader::with_capacity(self.rt.alloc(), BUFFER, watched)?;
+        Ok(Reader::File(reader))
+    }
+
+    /// Takes from a terminal what is shown of how far it is.
+    pub fn clear(&mut self) {
+        match &mut self.reader {
+            Some(Reader::File(reader)) => reader.get_mut().clear(),
+            Some(Reader::Standard(reader)) => reader.get_mut().clear(),
+            None => {}
+        }
     }
 
     fn opened(&mut self) -> io::Result<()> {

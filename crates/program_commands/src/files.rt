@@ -12,6 +12,7 @@ use lazy_files::{
 };
 use padded_capture::{CaptureSource, Padded};
 use pcap_file::{Frame, FromRead, PcapFault, ToWrite, read_record_into, read_start};
+use read_progress::Showing;
 use scenario_commands::answer_keyed;
 use scenario_faults::PlacedFault;
 use scenario_sketch::sketch;
@@ -25,13 +26,22 @@ use std::random::RandomSource;
 pub type CaptureFile<'x> = CaptureSource<FromRead<InputFile<'x>>>;
 
 // INPUT, with or without zeros where bytes are missing.
-fn capture_file<'x>(rt: &'x HostRuntime, path: &'x str, is_padded: bool) -> CaptureFile<'x> {
-    let input = FromRead::new(InputFile::new(rt, path));
-    if is_padded {
+fn capture_file<'x>(rt: &'x HostRuntime, path: &'x str, reading: ReadingManner) -> CaptureFile<'x> {
+    let input = FromRead::new(InputFile::new(rt, path, reading.showing));
+    if reading.is_padded {
         CaptureSource::Padded(Padded::new(input))
     } else {
         CaptureSource::Plain(input)
     }
+}
+
+/// How a command reads its capture.
+#[derive(Clone, Copy)]
+pub(crate) struct ReadingManner {
+    /// Records that a snap length cut are read as they were.
+    pub(crate) is_padded: bool,
+    /// How it is shown how far the reading is.
+    pub(crate) showing: Option<Showing>,
 }
 
 /// The paths of a command's files. `explain` has no output.
@@ -158,11 +168,12 @@ pub(crate) struct Printed<'x> {
 fn finished<'x>(
     rt: &HostRuntime,
     files: &Paths<'_>,
-    input: InputFile<'_>,
+    mut input: InputFile<'_>,
     mut output: OutputFile<'_>,
     report: ReportText<'x>,
     outcome: Result<Option<ChangeCounts>, PlacedFault>,
 ) -> Result<Printed<'x>, Trouble> {
+    input.clear();
     let stopped = match (flushed(&mut output), outcome) {
         (Err(fault), _) => PlacedFault { fault, place: None },
         (Ok(()), Ok(counts)) => {
@@ -189,8 +200,7 @@ fn finished<'x>(
 /// How a command reads its capture, and prints its report.
 #[derive(Clone, Copy)]
 pub(crate) struct Manner {
-    /// Records that a snap length cut are played as they were.
-    pub(crate) is_padded: bool,
+    pub(crate) reading: ReadingManner,
     /// The report is printed as it comes.
     pub(crate) is_streamed: bool,
 }
@@ -228,7 +238,7 @@ where
     requires { F.IsAlwaysCallable play }
 {
     let key = table_key(rt)?;
-    let mut input = capture_file(rt, files.input, manner.is_padded);
+    let mut input = capture_file(rt, files.input, manner.reading);
     let mut output = ToWrite::new(OutputFile::new(rt, files.output, files.read()));
     let mut report = ToWrite::new(manner.report(rt, files.output));
     let outcome = play(key, text, &mut input, &mut output, &mut report);
@@ -261,13 +271,14 @@ pub(crate) fn outcome_of(
 // The same of a command that reads a capture.
 fn outcome_over(
     outcome: Result<(), PlacedFault>,
-    input: &InputFile<'_>,
+    mut input: InputFile<'_>,
     output: &StandardOutput<'_>,
 ) -> Result<(), Trouble> {
+    input.clear();
     match outcome {
         Err(PlacedFault { fault, place }) if fault != CliFault::Write => {
-            let fault = of_input(fault, input);
-            Err(trouble_of(PlacedFault { fault, place }, input, None))
+            let fault = of_input(fault, &input);
+            Err(trouble_of(PlacedFault { fault, place }, &input, None))
         }
         outcome => outcome_of(outcome, output),
     }
@@ -277,29 +288,33 @@ fn outcome_over(
 pub(crate) fn explain_files(
     rt: &HostRuntime,
     files: &Paths<'_>,
-    is_padded: bool,
+    reading: ReadingManner,
     text: &[u8],
     asked: Query,
 ) -> Result<(), Trouble> {
     let key = table_key(rt)?;
-    let mut input = capture_file(rt, files.input, is_padded);
+    let mut input = capture_file(rt, files.input, reading);
     let mut report = ToWrite::new(StandardOutput::new(rt));
     let outcome = answer_keyed(rt.alloc(), key, text, asked, &mut input, &mut report);
     outcome_over(
         outcome,
-        &input.into_inner().into_inner(),
+        input.into_inner().into_inner(),
         &report.into_inner(),
     )
 }
 
 /// The command `scenario` over a file.
-pub(crate) fn sketch_file(rt: &HostRuntime, path: &str) -> Result<(), Trouble> {
+pub(crate) fn sketch_file(
+    rt: &HostRuntime,
+    path: &str,
+    reading: ReadingManner,
+) -> Result<(), Trouble> {
     let key = table_key(rt)?;
-    let mut input = FromRead::new(InputFile::new(rt, path));
+    let mut input = capture_file(rt, path, reading);
     let mut out = ToWrite::new(StandardOutput::new(rt));
     let outcome = sketch(rt.alloc(), key, &mut input, &mut out);
     let outcome = outcome.map_err(|fault| PlacedFault { fault, place: None });
-    outcome_over(outcome, &input.into_inner(), &out.into_inner())
+    outcome_over(outcome, input.into_inner().into_inner(), &out.into_inner())
 }
 
 /// How many whole records are before the one at which reading a capture stops. Standard input can't be read again.

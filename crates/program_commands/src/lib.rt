@@ -6,6 +6,7 @@ mod described;
 mod files;
 mod reasons;
 mod scenarios;
+mod showing;
 mod tables;
 mod voice;
 mod word_reasons;

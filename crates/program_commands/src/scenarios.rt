@@ -1,9 +1,10 @@
 //! The commands that play a scenario on one thread, from what the command line says, and the end of each command over files.
 use crate::files::{
-    CaptureFile, Manner, Paths, Printed, between_files, explain_files, outcome_of, read_scenario,
-    records_before, sketch_file,
+    CaptureFile, Manner, Paths, Printed, ReadingManner, between_files, explain_files, outcome_of,
+    read_scenario, records_before, sketch_file,
 };
 use crate::reasons::{Files, Trouble, reason};
+use crate::showing::showing_of;
 use crate::voice::Voice;
 use crate::{ABOVE, USAGE};
 use change_share::{ChangeCounts, Share};
@@ -34,9 +35,17 @@ pub(crate) fn paths_of<'a>(matches: &'a ArgMatches<'_>, output: &'a str) -> Opti
     })
 }
 
-// Whether records that a snap length cut are played as they were.
-fn is_padded(matches: &ArgMatches<'_>) -> bool {
-    matches.get_str("cut").is_some()
+// How a command reads its capture.
+fn reading_of(
+    rt: &HostRuntime,
+    matches: &ArgMatches<'_>,
+    prints: bool,
+    stays: bool,
+) -> ReadingManner {
+    ReadingManner {
+        is_padded: matches.get_str("cut").is_some(),
+        showing: showing_of(rt, matches, prints, stays),
+    }
 }
 
 /// The most warnings that are told of one scenario.
@@ -119,10 +128,14 @@ fn limit_of(matches: &ArgMatches<'_>) -> Result<Option<Share>, ()> {
     }
 }
 
-// The status of a run that was printed.
-fn judged(limit: Option<Share>, counts: Option<ChangeCounts>) -> u8 {
+// The status of a run that was printed. Where nothing was sent no share could be above the limit, which is warned of.
+fn judged(voice: Voice<'_>, limit: Option<Share>, counts: Option<ChangeCounts>) -> u8 {
     match (limit, counts) {
         (Some(share), Some(counts)) if counts.is_above(share) => ABOVE,
+        (Some(_), Some(counts)) if counts.connections == 0 => {
+            voice.warn("nothing was sent, so that --fail-above had nothing to judge");
+            0
+        }
         _ => 0,
     }
 }
@@ -146,7 +159,7 @@ fn judged_end(
             if voice.says_more() {
                 let _ = advise(rt, voice, &printed.report);
             }
-            judged(limit, printed.counts)
+            judged(voice, limit, printed.counts)
         }
         Err(trouble) => ended(rt, voice, paths, played, text, &Err(trouble)),
     }
@@ -196,7 +209,7 @@ where
     let (text, read) = read_scenario(rt, paths.scenario);
     let text = text.as_slice();
     let manner = Manner {
-        is_padded: is_padded(matches),
+        reading: reading_of(rt, matches, is_streamed, true),
         is_streamed,
     };
     let done = match read {
@@ -264,8 +277,9 @@ pub(crate) fn run_explain(rt: &HostRuntime, matches: &ArgMatches<'_>) -> u8 {
     };
     let (text, read) = read_scenario(rt, paths.scenario);
     let text = text.as_slice();
+    let reading = reading_of(rt, matches, false, false);
     let outcome = match read {
-        Ok(()) => explain_files(rt, &paths, is_padded(matches), text, asked),
+        Ok(()) => explain_files(rt, &paths, reading, text, asked),
         Err(trouble) => Err(trouble),
     };
     let voice = Voice::of(rt, matches);
@@ -353,7 +367,8 @@ pub(crate) fn run_sketch(rt: &HostRuntime, matches: &ArgMatches<'_>) -> u8 {
         input,
         output: "standard output",
     };
-    let outcome = sketch_file(rt, input);
+    let reading = reading_of(rt, matches, false, false);
+    let outcome = sketch_file(rt, input, reading);
     let voice = Voice::of(rt, matches);
     ended(rt, voice, paths, Played::InTurn, b"", &outcome)
 }

@@ -16,7 +16,7 @@ fn help_for(cause: &str) -> &'static str {
         "TooLarge" => "they don't fit into a tunnel's datagram",
         "NoService" =>
             "SCENARIO has no service of their address, protocol and port: maglev scenario INPUT lists those that INPUT has",
-        "NoBackend" => "every member of their service was down or drained",
+        "NoBackend" => "their service had no member, or every member was down or drained",
         "NoVersion" => "their balancer had no version yet: begin with a step install",
         _ =>
             "every ring was full: give more places by ring in SCENARIO, or play it by run --pace, whose drivers wait for room",

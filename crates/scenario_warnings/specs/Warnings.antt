@@ -1,15 +1,16 @@
 -- What may not be as it was meant in a scenario that is one.
-use Rattle.std.specs.Prelude.{ℕ, zero, suc, ◌+◌, ◌==◌, ◌&&◌, not, Bool, true, false, if◌then◌else◌, List, [], ◌∷◌, ◌++◌, length, is_some, codes}
-use Rattle.std.specs.List.{list_any}
-use Rattle.std.specs.Fmt.{decimal}
+use Rattle.std.specs.Prelude.{ℕ, zero, suc, ◌+◌, ◌==◌, ◌&&◌, not, Bool, true, false, if◌then◌else◌, List, [], ◌∷◌, ◌++◌, length, Option, Some, None, is_some}
+use Rattle.std.specs.List.{list_any, flat_map}
 use Rattle.pool_versions.specs.declared.catalogue.Catalogue.{Catalogue}
-use Rattle.pool_versions.specs.Pool.{version_at}
+use Rattle.pool_versions.specs.declared.service.Service.{Service}
+use Rattle.pool_versions.specs.declared.service.Version.{Version}
+use Rattle.pool_versions.specs.Pool.{version_at, key_of}
 use Rattle.event_trace.specs.declared.steps.ScenarioStep.TheVariants as steps
 use Rattle.timed_steps.specs.declared.TimedStep.{TimedStep}
 use Rattle.timed_steps.specs.declared.TimedStep.TheVariants.{Counted, Until}
 use Rattle.scenario.specs.declared.plan.Scenario.{Scenario}
 use Rattle.scenario_warnings.specs.declared.Warning.{Warning}
-use Rattle.scenario_warnings.specs.declared.Warning.TheVariants.{UnknownVersion, NoVersion}
+use Rattle.scenario_warnings.specs.declared.Warning.TheVariants.{UnknownVersion, NoVersion, NoMembers}
 
 -- the catalogue has a version of this number
 abbrev pub is_known : Catalogue → ℕ → Bool
@@ -62,23 +63,40 @@ abbrev pub comes : ℕ → Bool → List TimedStep → Bool
 comes n live [] = false
 comes n live (s ∷ ss) = if live && delivers s then true else comes n (live_after n live s) ss
 
--- a step that installs what the catalogue lacks, by its number
-abbrev pub unknown_at : Catalogue → ℕ → TimedStep → List Warning
-unknown_at c i (Counted (steps.Install n v)) = if is_known c v then [] else UnknownVersion i n v ∷ []
-unknown_at c i (Counted (steps.Live ns)) = []
-unknown_at c i (Counted (steps.Take k)) = []
-unknown_at c i (Counted (steps.Lose k)) = []
-unknown_at c i (Counted (steps.Again k)) = []
-unknown_at c i (Counted (steps.Full m ms)) = []
-unknown_at c i (Counted (steps.Hold m)) = []
-unknown_at c i (Counted (steps.Drain m)) = []
-unknown_at c i (Counted (steps.Restart m)) = []
-unknown_at c i (Counted (steps.Stop m)) = []
-unknown_at c i (Until t) = []
+-- a warning is of this version, which the catalogue lacks
+abbrev pub tells : ℕ → Warning → Bool
+tells v (UnknownVersion w) = w == v
+tells v (NoVersion n) = false
+tells v (NoMembers w k) = false
 
-abbrev pub unknown_from : Catalogue → ℕ → List TimedStep → List Warning
-unknown_from c i [] = []
-unknown_from c i (s ∷ ss) = unknown_at c i s ++ unknown_from c (i + 1) ss
+-- the version that a step installs, where the catalogue lacks it
+abbrev pub lacking : Catalogue → TimedStep → Option ℕ
+lacking c (Counted (steps.Install n v)) = if is_known c v then None else Some v
+lacking c (Counted (steps.Live ns)) = None
+lacking c (Counted (steps.Take k)) = None
+lacking c (Counted (steps.Lose k)) = None
+lacking c (Counted (steps.Again k)) = None
+lacking c (Counted (steps.Full m ms)) = None
+lacking c (Counted (steps.Hold m)) = None
+lacking c (Counted (steps.Drain m)) = None
+lacking c (Counted (steps.Restart m)) = None
+lacking c (Counted (steps.Stop m)) = None
+lacking c (Until t) = None
+
+-- the warnings with that of a version, which comes once
+abbrev pub told_of : ℕ → List Warning → List Warning
+told_of v ws = if list_any (tells v) ws then ws else ws ++ UnknownVersion v ∷ []
+
+abbrev pub told_if : Option ℕ → List Warning → List Warning
+told_if None ws = ws
+told_if (Some v) ws = told_of v ws
+
+abbrev pub told_after : Catalogue → TimedStep → List Warning → List Warning
+told_after c s ws = told_if (lacking c s) ws
+
+abbrev pub unknown_after : Catalogue → List TimedStep → List Warning → List Warning
+unknown_after c [] ws = ws
+unknown_after c (s ∷ ss) ws = unknown_after c ss (told_after c s ws)
 
 -- a node to which packets come, and on which no step installs a version of the catalogue
 abbrev pub bare_at : Catalogue → List TimedStep → ℕ → List Warning
@@ -88,16 +106,12 @@ abbrev pub bare_below : Catalogue → List TimedStep → ℕ → List Warning
 bare_below c ss zero = []
 bare_below c ss (suc n) = bare_below c ss n ++ bare_at c ss n
 
+-- a service of a version without members
+abbrev pub empty_at : ℕ → Service → List Warning
+empty_at v s = if length s.members.items == 0 then NoMembers v (key_of s) ∷ [] else []
+
+abbrev pub empty_in : Version → List Warning
+empty_in v = flat_map (empty_at v.number) v.services.items
+
 abbrev pub warnings_of : Scenario → List Warning
-warnings_of s = unknown_from s.catalogue 0 s.steps.items ++ bare_below s.catalogue s.steps.items (length s.nodes.items)
-
--- a warning as text
-abbrev pub unknown_text : ℕ → ℕ → ℕ → List ℕ
-unknown_text i n v = codes "step " ++ (decimal i ++ (codes " installs version " ++ (decimal v ++ (codes " on node " ++ (decimal n ++ codes ", which the catalogue lacks")))))
-
-abbrev pub bare_text : ℕ → List ℕ
-bare_text n = codes "node " ++ (decimal n ++ codes " is live when packets come, and never has a version")
-
-abbrev pub warning_text : Warning → List ℕ
-warning_text (UnknownVersion i n v) = unknown_text i n v
-warning_text (NoVersion n) = bare_text n
+warnings_of s = (unknown_after s.catalogue s.steps.items [] ++ bare_below s.catalogue s.steps.items (length s.nodes.items)) ++ flat_map empty_in s.catalogue.versions

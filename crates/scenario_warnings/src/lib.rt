@@ -2,21 +2,25 @@
 #![tactic(auto)]
 
 ghost use Rattle.std.specs.Prelude.{◌≡◌, ◌++◌, ◌==◌, ◌≤◌, List, IfOk, OnOk, length, true, string_bytes};
-ghost use Rattle.std.specs.List.{list_any};
-ghost use Rattle.scenario_warnings.specs.Warnings.{is_known, gives, live_after, delivers, comes, unknown_at, unknown_from, bare_at, bare_below, warnings_of, unknown_text, bare_text, warning_text};
+ghost use Rattle.std.specs.List.{list_any, flat_map};
+ghost use Rattle.scenario_warnings.specs.Warnings.{is_known, gives, live_after, delivers, comes, tells, lacking, told_of, told_after, unknown_after, bare_at, bare_below, empty_at, empty_in, warnings_of};
+ghost use Rattle.scenario_warnings.specs.Texts.{unknown_text, bare_text, empty_text, warning_text};
 
 use event_trace::ScenarioStep;
-use pool_versions::Catalogue;
+use pool_versions::{Catalogue, Service, ServiceKey, Version};
+use rollout_plan::ServiceText;
 use scenario::{Scenario, TimedStep};
 use std::alloc::{AllocError, Global};
 
 /// What a scenario may not mean as it was meant.
 #[derive(Clone, Copy, Debug, PartialEq, Eq)]
 pub enum Warning {
-    /// A step installs a version that the catalogue lacks. Steps are counted from 0.
-    UnknownVersion { step: u64, node: u16, version: u32 },
+    /// A step installs a version that the catalogue lacks.
+    UnknownVersion { version: u32 },
     /// A node is live when packets come, and no step installs a version of the catalogue on it.
     NoVersion { node: u16 },
+    /// A service of a version has no members.
+    NoMembers { version: u32, service: ServiceKey },
 }
 
 // Whether the catalogue has a version.
@@ -79,39 +83,65 @@ fn comes(node: u16, steps: &[TimedStep]) -> bool
     false
 }
 
-// Warns of a step that installs what the catalogue lacks.
-fn warn_at(
-    catalogue: &Catalogue,
-    number: u64,
-    step: &TimedStep,
-    warnings: &mut Vec<Warning>,
-) -> Result<(), AllocError>
-    ensures { OnOk result (warnings.new.items ≡ warnings.old.items ++ unknown_at catalogue.now number step.now) }
+// Whether a version was warned of.
+fn is_told(version: u32, warnings: &[Warning]) -> bool
+    ensures { result ≡ list_any (tells version) warnings.now }
+{
+    warnings.iter().any(|warning| {
+        matches!(warning, Warning::UnknownVersion { version: told } if *told == version)
+    })
+}
+
+// The version that a step installs, where the catalogue lacks it.
+fn lacking(catalogue: &Catalogue, step: &TimedStep) -> Option<u32>
+    ensures { result ≡ lacking catalogue.now step.now }
 {
     match *step {
-        TimedStep::Counted(ScenarioStep::Install { node, version })
-            if !is_known(catalogue, version) => {
-            warnings.push(Warning::UnknownVersion {
-                step: number,
-                node,
-                version,
-            })?;
-            Ok(())
+        TimedStep::Counted(ScenarioStep::Install { version, .. }) => {
+            if is_known(catalogue, version) {
+                None
+            } else {
+                Some(version)
+            }
         }
-        _ => Ok(()),
+        _ => None,
     }
 }
 
-// Warns of all steps that do.
+// Warns of a version, unless that was done.
+fn warn_of_version(version: u32, warnings: &mut Vec<Warning>) -> Result<(), AllocError>
+    ensures { OnOk result (warnings.new.items ≡ told_of version warnings.old.items) }
+{
+    if !is_told(version, warnings.as_slice()) {
+        warnings.push(Warning::UnknownVersion { version })?;
+    }
+    Ok(())
+}
+
+// Warns of the version that a step installs so.
+fn warn_at(
+    catalogue: &Catalogue,
+    step: &TimedStep,
+    warnings: &mut Vec<Warning>,
+) -> Result<(), AllocError>
+    ensures { OnOk result (warnings.new.items ≡ told_after catalogue.now step.now warnings.old.items) }
+{
+    match lacking(catalogue, step) {
+        None => Ok(()),
+        Some(version) => warn_of_version(version, warnings),
+    }
+}
+
+// Warns of the versions that all steps install so.
 fn warn_of_steps(
     catalogue: &Catalogue,
     steps: &[TimedStep],
     warnings: &mut Vec<Warning>,
 ) -> Result<(), AllocError>
-    ensures { OnOk result (warnings.new.items ≡ warnings.old.items ++ unknown_from catalogue.now 0 steps.now) }
+    ensures { OnOk result (warnings.new.items ≡ unknown_after catalogue.now steps.now warnings.old.items) }
 {
-    for (number, step) in steps.iter().enumerate() {
-        warn_at(catalogue, number as u64, step, warnings)?;
+    for step in steps {
+        warn_at(catalogue, step, warnings)?;
     }
     Ok(())
 }
@@ -146,8 +176,45 @@ fn warn_of_nodes(
     Ok(())
 }
 
-/// What a scenario may not mean as it was meant. First come the steps that install a version that the catalogue lacks. Then
-/// come the nodes to which packets may come, and which never have a version.
+// Warns of a service without members.
+fn warn_of_service(
+    version: u32,
+    service: &Service,
+    warnings: &mut Vec<Warning>,
+) -> Result<(), AllocError>
+    ensures { OnOk result (warnings.new.items ≡ warnings.old.items ++ empty_at version service.now) }
+{
+    if service.members.is_empty() {
+        warnings.push(Warning::NoMembers {
+            version,
+            service: service.key(),
+        })?;
+    }
+    Ok(())
+}
+
+// Warns of all services of a version that are so.
+fn warn_of_services(version: &Version, warnings: &mut Vec<Warning>) -> Result<(), AllocError>
+    ensures { OnOk result (warnings.new.items ≡ warnings.old.items ++ empty_in version.now) }
+{
+    for service in version.services.as_slice() {
+        warn_of_service(version.number, service, warnings)?;
+    }
+    Ok(())
+}
+
+// Warns of those of all versions.
+fn warn_of_versions(versions: &[Version], warnings: &mut Vec<Warning>) -> Result<(), AllocError>
+    ensures { OnOk result (warnings.new.items ≡ warnings.old.items ++ flat_map empty_in versions.now) }
+{
+    for version in versions {
+        warn_of_services(version, warnings)?;
+    }
+    Ok(())
+}
+
+/// What a scenario may not mean as it was meant. First come the versions that steps install and that the catalogue lacks, each
+/// once. Then come the nodes to which packets may come, and which never have a version, and the services without members.
 pub fn warnings(alloc: Global, scenario: &Scenario) -> Result<Vec<Warning>, AllocError>
     ensures { IfOk result (λ ws. ws.items ≡ warnings_of scenario.now) }
 {
@@ -156,15 +223,14 @@ pub fn warnings(alloc: Global, scenario: &Scenario) -> Result<Vec<Warning>, Allo
     let steps = scenario.steps.as_slice();
     warn_of_steps(catalogue, steps, &mut warnings)?;
     warn_of_nodes(catalogue, steps, scenario.nodes.len() as u16, &mut warnings)?;
+    warn_of_versions(catalogue.versions(), &mut warnings)?;
     Ok(warnings)
 }
 
-fn unknown_text(alloc: Global, step: u64, node: u16, version: u32) -> Result<String, AllocError>
-    ensures { IfOk result (λ s. string_bytes s ≡ unknown_text step node version) }
+fn unknown_text(alloc: Global, version: u32) -> Result<String, AllocError>
+    ensures { IfOk result (λ s. string_bytes s ≡ unknown_text version) }
 {
-    format!(in alloc;
-        "step {step} installs version {version} on node {node}, which the catalogue lacks"
-    )
+    format!(in alloc; "a step installs version {version}, which the catalogue lacks")
 }
 
 fn bare_text(alloc: Global, node: u16) -> Result<String, AllocError>
@@ -173,16 +239,20 @@ fn bare_text(alloc: Global, node: u16) -> Result<String, AllocError>
     format!(in alloc; "node {node} is live when packets come, and never has a version")
 }
 
+fn empty_text(alloc: Global, version: u32, key: ServiceKey) -> Result<String, AllocError>
+    ensures { IfOk result (λ s. string_bytes s ≡ empty_text version key) }
+{
+    let service = ServiceText(key);
+    format!(in alloc; "service {service} of version {version} has no members")
+}
+
 /// A warning as text.
 pub fn warning_text(alloc: Global, warning: &Warning) -> Result<String, AllocError>
     ensures { IfOk result (λ s. string_bytes s ≡ warning_text warning.now) }
 {
     match *warning {
-        Warning::UnknownVersion {
-            step,
-            node,
-            version,
-        } => unknown_text(alloc, step, node, version),
+        Warning::UnknownVersion { version } => unknown_text(alloc, version),
         Warning::NoVersion { node } => bare_text(alloc, node),
+        Warning::NoMembers { version, service } => empty_text(alloc, version, service),
     }
 }

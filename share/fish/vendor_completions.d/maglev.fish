@@ -42,6 +42,8 @@ complete -c maglev -n '__fish_seen_subcommand_from plan' -l json -d 'print JSON 
 complete -c maglev -n '__fish_seen_subcommand_from plan' -l verbose -d 'say where a fault is and what was expected, or warn of what may not be meant'
 complete -c maglev -n '__fish_seen_subcommand_from plan' -l help -d 'Print help'
 complete -c maglev -n '__fish_seen_subcommand_from scenario' -F
+complete -c maglev -n '__fish_seen_subcommand_from scenario' -l cut -x -a 'pad' -d 'play a record that a snap length cut as it was, with zeros where bytes are missing [possible values: pad]'
+complete -c maglev -n '__fish_seen_subcommand_from scenario' -l progress -d 'show on standard error from the beginning on how far INPUT is read, also where that is a file; a terminal shows it without this, a pipe never'
 complete -c maglev -n '__fish_seen_subcommand_from scenario' -l verbose -d 'say where a fault is and what was expected'
 complete -c maglev -n '__fish_seen_subcommand_from scenario' -l help -d 'Print help'
 complete -c maglev -n '__fish_seen_subcommand_from simulate' -F
@@ -53,11 +55,13 @@ complete -c maglev -n '__fish_seen_subcommand_from simulate' -l per-node -d 'pri
 complete -c maglev -n '__fish_seen_subcommand_from simulate' -l summary -d 'print behind the report how many connections changed their server, how often, and why'
 complete -c maglev -n '__fish_seen_subcommand_from simulate' -l fail-above -x -d 'end with status 3 where a greater share of the connections changed their server, as 0.01; it prints the summary'
 complete -c maglev -n '__fish_seen_subcommand_from simulate' -l cut -x -a 'pad' -d 'play a record that a snap length cut as it was, with zeros where bytes are missing [possible values: pad]'
+complete -c maglev -n '__fish_seen_subcommand_from simulate' -l progress -d 'show on standard error from the beginning on how far INPUT is read, also where that is a file; a terminal shows it without this, a pipe never'
 complete -c maglev -n '__fish_seen_subcommand_from simulate' -l json -d 'print JSON Lines: objects in place of lines, with the keys that docs/FORMATS.md lists'
 complete -c maglev -n '__fish_seen_subcommand_from simulate' -l verbose -d 'say where a fault is and what was expected, or warn of what may not be meant'
 complete -c maglev -n '__fish_seen_subcommand_from simulate' -l help -d 'Print help'
 complete -c maglev -n '__fish_seen_subcommand_from explain' -F
 complete -c maglev -n '__fish_seen_subcommand_from explain' -l cut -x -a 'pad' -d 'play a record that a snap length cut as it was, with zeros where bytes are missing [possible values: pad]'
+complete -c maglev -n '__fish_seen_subcommand_from explain' -l progress -d 'show on standard error from the beginning on how far INPUT is read, also where that is a file; a terminal shows it without this, a pipe never'
 complete -c maglev -n '__fish_seen_subcommand_from explain' -l json -d 'print JSON Lines: objects in place of lines, with the keys that docs/FORMATS.md lists'
 complete -c maglev -n '__fish_seen_subcommand_from explain' -l verbose -d 'say where a fault is and what was expected, or warn of what may not be meant'
 complete -c maglev -n '__fish_seen_subcommand_from explain' -l help -d 'Print help'
@@ -70,6 +74,7 @@ complete -c maglev -n '__fish_seen_subcommand_from run' -l summary -d 'print beh
 complete -c maglev -n '__fish_seen_subcommand_from run' -l fail-above -x -d 'end with status 3 where a greater share of the connections changed their server, as 0.01; it prints the summary'
 complete -c maglev -n '__fish_seen_subcommand_from run' -l cut -x -a 'pad' -d 'play a record that a snap length cut as it was, with zeros where bytes are missing [possible values: pad]'
 complete -c maglev -n '__fish_seen_subcommand_from run' -l pace -d 'wait for room where a ring is full, so that no packet is dropped for it'
+complete -c maglev -n '__fish_seen_subcommand_from run' -l progress -d 'show on standard error from the beginning on how far INPUT is read, also where that is a file; a terminal shows it without this, a pipe never'
 complete -c maglev -n '__fish_seen_subcommand_from run' -l json -d 'print JSON Lines: objects in place of lines, with the keys that docs/FORMATS.md lists'
 complete -c maglev -n '__fish_seen_subcommand_from run' -l verbose -d 'say where a fault is and what was expected, or warn of what may not be meant'
 complete -c maglev -n '__fish_seen_subcommand_from run' -l help -d 'Print help'

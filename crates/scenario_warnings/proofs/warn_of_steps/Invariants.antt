@@ -1,7 +1,7 @@
-use Rattle.std.proofs.Common.{◌≡◌, ◌++◌, drop}
-use Rattle.scenario_warnings.specs.Warnings.{unknown_from}
+use Rattle.std.proofs.Common.{◌≡◌, drop}
+use Rattle.scenario_warnings.specs.Warnings.{unknown_after}
 use Rattle.scenario_warnings.proofs.warn_of_steps.Given as goal
 
--- what is warned of is that of the steps so far
-abbrev pub invariant-loop-number : goal.invariant-loop-number
-invariant-loop-number l = l.warnings.items ++ unknown_from l.catalogue l.number (drop l.number l.steps) ≡ l.initial.warnings.items ++ unknown_from l.catalogue 0 l.steps
+-- what the steps that are left add to the warnings so far is what all add to those at first
+abbrev pub invariant-loop-step : goal.invariant-loop-step
+invariant-loop-step l = unknown_after l.catalogue (drop l.step-index l.steps) l.warnings.items ≡ unknown_after l.catalogue l.steps l.initial.warnings.items

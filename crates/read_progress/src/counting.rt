@@ -1,0 +1,103 @@
+//! The records of a capture, counted as its bytes go by.
+
+/// The bytes of a capture's header, and of a record's (draft-ietf-opsawg-pcap, 4 and 5).
+const FILE_HEADER: usize = 24;
+
+const RECORD_HEADER: usize = 16;
+
+/// Where a record's header has the length of what was captured.
+const CAPTURED: usize = 8;
+
+/// Counts the records of a classic capture, whose bytes are given in pieces of any length. A record counts from its header on.
+#[derive(Clone, Copy, Debug)]
+pub struct RecordCount {
+    records: u64,
+    // The bytes to the next header.
+    left: u64,
+    // What there is of a header, and how long it is.
+    header: [u8; FILE_HEADER],
+    held: usize,
+    whole: usize,
+    is_big: bool,
+}
+
+impl RecordCount {
+    /// Of no byte yet.
+    pub fn new() -> RecordCount {
+        RecordCount {
+            records: 0,
+            left: 0,
+            header: [0; FILE_HEADER],
+            held: 0,
+            whole: FILE_HEADER,
+            is_big: false,
+        }
+    }
+
+    /// How many records there were.
+    pub fn records(&self) -> u64 {
+        self.records
+    }
+
+    // Four bytes of the header, in the capture's byte order.
+    fn number_at(&self, at: usize) -> u32 {
+        let mut bytes = [0; 4];
+        for (place, byte) in bytes.iter_mut().zip(self.header.iter().skip(at)) {
+            *place = *byte;
+        }
+        if self.is_big {
+            u32::from_be_bytes(bytes)
+        } else {
+            u32::from_le_bytes(bytes)
+        }
+    }
+
+    // A header is whole: the capture's, or else a record's.
+    fn end_header(&mut self) {
+        if self.whole == FILE_HEADER {
+            self.is_big = self.header[0] == 0xa1;
+            self.whole = RECORD_HEADER;
+        } else {
+            self.records = self.records.saturating_add(1);
+            self.left = u64::from(self.number_at(CAPTURED));
+        }
+        self.held = 0;
+    }
+
+    // Takes a header's bytes from the front, and answers how many.
+    fn take_header(&mut self, bytes: &[u8]) -> usize {
+        let missing = self.whole.saturating_sub(self.held);
+        let places = self.header.iter_mut().skip(self.held).take(missing);
+        for (place, byte) in places.zip(bytes.iter()) {
+            *place = *byte;
+        }
+        let taken = missing.min(bytes.len());
+        self.held = self.held.saturating_add(taken);
+        if self.held >= self.whole {
+            self.end_header();
+        }
+        taken
+    }
+
+    // Takes bytes of one part from the front, and answers how many.
+    fn take(&mut self, bytes: &[u8]) -> usize {
+        if self.left == 0 {
+            return self.take_header(bytes);
+        }
+        let taken = self.left.min(bytes.len() as u64);
+        self.left = self.left.saturating_sub(taken);
+        taken as usize
+    }
+
+    /// More bytes go by.
+    pub fn note(&mut self, bytes: &[u8]) {
+        let mut rest = bytes;
+        for _ in 0..bytes.len() {
+            if rest.is_empty() {
+                return;
+            }
+            let taken = self.take(rest);
+            rest = rest.get(taken..).unwrap_or(&[]);
+        }
+    }
+}

@@ -1,0 +1,187 @@
+//! A reader whose progress is shown.
+use crate::counting::RecordCount;
+use crate::status::{Reading, status_text};
+use std::alloc::AllocError;
+use std::io;
+use std::io::{Read, Write};
+use std::time::{Duration, Instant};
+
+/// Where it is shown how far a reading is.
+#[derive(Clone, Copy, Debug, PartialEq, Eq)]
+pub enum Place {
+    /// On one line of a terminal, which is written again four times a second.
+    Line,
+    /// On lines that stay, one in ten seconds.
+    Lines,
+}
+
+/// How it is shown how far a reading is.
+#[derive(Clone, Copy, Debug, PartialEq, Eq)]
+pub struct Showing {
+    pub place: Place,
+    /// The line is there from the first bytes on, and not from half a second on.
+    pub is_eager: bool,
+    /// At the end of the reading the line says so, and stays until it is cleared. Else it goes there.
+    pub stays: bool,
+}
+
+impl Showing {
+    // How long nothing is shown at first.
+    fn delay(self) -> Duration {
+        match self.place {
+            Place::Line if self.is_eager => Duration::from_millis(0),
+            Place::Line => Duration::from_millis(500),
+            Place::Lines => Duration::from_secs(10),
+        }
+    }
+
+    // The time from one status to the next.
+    fn pause(self) -> Duration {
+        match self.place {
+            Place::Line => Duration::from_millis(250),
+            Place::Lines => Duration::from_secs(10),
+        }
+    }
+
+    fn is_line(self) -> bool {
+        self.place == Place::Line
+    }
+}
+
+/// What a terminal gets to begin its line again: the cursor goes to its start, and what stands there is cleared (ECMA-48, EL).
+const CLEARED: &str = "\r\u{1b}[K";
+
+// What is shown of a reading, and when.
+#[derive(Drop)]
+struct Progress<'a> {
+    rt: &'a HostRuntime,
+    showing: Showing,
+    whole: Option<u64>,
+    start: Instant,
+    due: Duration,
+    bytes: u64,
+    records: RecordCount,
+    is_shown: bool,
+    is_over: bool,
+}
+
+impl<'a> Progress<'a> {
+    // Of a reading that begins now. Where there is no clock there is none.
+    fn new(rt: &'a HostRuntime, showing: Showing, whole: Option<u64>) -> Option<Progress<'a>> {
+        let start = Instant::now(rt).ok()?;
+        Some(Progress {
+            rt,
+            showing,
+            whole,
+            start,
+            due: showing.delay(),
+            bytes: 0,
+            records: RecordCount::new(),
+            is_shown: false,
+            is_over: false,
+        })
+    }
+
+    // Shows a text in place of what is shown.
+    fn put(&mut self, text: &str) -> Result<(), AllocError> {
+        let alloc = self.rt.alloc();
+        let line = if self.showing.is_line() {
+            format!(in alloc; "{CLEARED}{text}")?
+        } else {
+            format!(in alloc; "{text}\n")?
+        };
+        let _ = self.rt.stderr().write_all(line.as_bytes());
+        self.is_shown = true;
+        Ok(())
+    }
+
+    // Shows how far it is.
+    fn show(&mut self, taken: Duration) {
+        let reading = Reading {
+            packets: self.records.records(),
+            bytes: self.bytes,
+            whole: self.whole,
+            taken,
+        };
+        if let Ok(text) = status_text(self.rt.alloc(), &reading) {
+            let _ = self.put(text.as_str());
+        }
+        self.due = taken.saturating_add(self.showing.pause());
+    }
+
+    // The reading is at its end. Where nothing was shown on the line there is no need to.
+    fn end(&mut self) {
+        if self.is_over {
+            return;
+        }
+        self.is_over = true;
+        if self.showing.is_line() && !(self.is_shown && self.showing.stays) {
+            return self.clear();
+        }
+        let records = self.records.records();
+        if let Ok(text) = format!(in self.rt.alloc(); "{records} packets, INPUT is read") {
+            let _ = self.put(text.as_str());
+        }
+    }
+
+    // Bytes were read.
+    fn note(&mut self, bytes: &[u8]) {
+        self.records.note(bytes);
+        self.bytes = self.bytes.saturating_add(bytes.len() as u64);
+        if let Ok(taken) = self.start.elapsed(self.rt)
+            && taken >= self.due
+        {
+            self.show(taken);
+        }
+    }
+
+    // Clears the line of a terminal.
+    fn clear(&mut self) {
+        if self.is_shown && self.showing.is_line() {
+            let _ = self.rt.stderr().write_all(CLEARED.as_bytes());
+        }
+        self.is_shown = false;
+    }
+}
+
+/// A reader that may show how far it is.
+#[derive(Drop)]
+pub struct Watched<'a, R> {
+    reader: R,
+    progress: Option<Progress<'a>>,
+}
+
+impl<'a, R> Watched<'a, R> {
+    /// A reader of so many bytes, where that is known, of which nothing is read yet. Without a way to show it nothing is shown.
+    pub fn new(
+        rt: &'a HostRuntime,
+        reader: R,
+        showing: Option<Showing>,
+        whole: Option<u64>,
+    ) -> Watched<'a, R> {
+        Watched {
+            reader,
+            progress: showing.and_then(|showing| Progress::new(rt, showing, whole)),
+        }
+    }
+
+    /// Takes what is shown from a terminal, and shows nothing more.
+    pub fn clear(&mut self) {
+        if let Some(progress) = &mut self.progress {
+            progress.clear();
+        }
+        self.progress = None;
+    }
+}
+
+impl<R: Read> Read for Watched<'_, R> {
+    fn read(&mut self, buf: &mut [u8]) -> io::Result<usize> {
+        let read = self.reader.read(buf);
+        match (&mut self.progress, &read) {
+            (Some(progress), Ok(0)) => progress.end(),
+            (Some(progress), Ok(length)) => progress.note(buf.get(..*length).unwrap_or(&[])),
+            _ => {}
+        }
+        read
+    }
+}
