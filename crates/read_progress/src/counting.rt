@@ -1,5 +1,7 @@
 //! The records of a capture, counted as its bytes go by.
 
+use byteorder::{BigEndian, ByteOrder, LittleEndian};
+
 /// The bytes of a capture's header, and of a record's (draft-ietf-opsawg-pcap, 4 and 5).
 const FILE_HEADER: usize = 24;
 
@@ -39,16 +41,16 @@ impl RecordCount {
         self.records
     }
 
-    // Four bytes of the header, in the capture's byte order.
-    fn number_at(&self, at: usize) -> u32 {
-        let mut bytes = [0; 4];
-        for (place, byte) in bytes.iter_mut().zip(self.header.iter().skip(at)) {
-            *place = *byte;
-        }
+    // The length in a record's header.
+    #[inline(always)]
+    fn length_in(&self, header: &[u8]) -> u32 {
+        let Some(bytes) = header.get(CAPTURED..RECORD_HEADER) else {
+            return 0;
+        };
         if self.is_big {
-            u32::from_be_bytes(bytes)
+            BigEndian::read_u32(bytes)
         } else {
-            u32::from_le_bytes(bytes)
+            LittleEndian::read_u32(bytes)
         }
     }
 
@@ -59,7 +61,7 @@ impl RecordCount {
             self.whole = RECORD_HEADER;
         } else {
             self.records = self.records.saturating_add(1);
-            self.left = u64::from(self.number_at(CAPTURED));
+            self.left = u64::from(self.length_in(&self.header));
         }
         self.held = 0;
     }
@@ -79,14 +81,27 @@ impl RecordCount {
         taken
     }
 
-    // Takes bytes of one part from the front, and answers how many.
-    fn take(&mut self, bytes: &[u8]) -> usize {
-        if self.left == 0 {
-            return self.take_header(bytes);
-        }
+    // Takes what is there of a record's bytes from the front, and answers how many.
+    #[inline(always)]
+    fn take_bytes(&mut self, bytes: &[u8]) -> usize {
         let taken = self.left.min(bytes.len() as u64);
         self.left = self.left.saturating_sub(taken);
         taken as usize
+    }
+
+    // Takes bytes from the front, and answers how many: a record whose header is whole, or a part.
+    #[inline(always)]
+    fn take(&mut self, bytes: &[u8]) -> usize {
+        if self.left > 0 {
+            return self.take_bytes(bytes);
+        }
+        let is_next = self.held == 0 && self.whole == RECORD_HEADER;
+        if !is_next || bytes.len() < RECORD_HEADER {
+            return self.take_header(bytes);
+        }
+        self.records = self.records.saturating_add(1);
+        self.left = (RECORD_HEADER as u64).saturating_add(u64::from(self.length_in(bytes)));
+        self.take_bytes(bytes)
     }
 
     /// More bytes go by.

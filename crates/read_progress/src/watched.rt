@@ -174,13 +174,28 @@ impl<'a, R> Watched<'a, R> {
     }
 }
 
+impl<R> Watched<'_, R> {
+    // Bytes were read into the front of a place; none at the end.
+    #[inline(never)]
+    fn note(&mut self, bytes: &[u8]) {
+        if let Some(progress) = &mut self.progress {
+            if bytes.is_empty() {
+                progress.end();
+            } else {
+                progress.note(bytes);
+            }
+        }
+    }
+}
+
 impl<R: Read> Read for Watched<'_, R> {
+    #[inline(never)]
     fn read(&mut self, buf: &mut [u8]) -> io::Result<usize> {
         let read = self.reader.read(buf);
-        match (&mut self.progress, &read) {
-            (Some(progress), Ok(0)) => progress.end(),
-            (Some(progress), Ok(length)) => progress.note(buf.get(..*length).unwrap_or(&[])),
-            _ => {}
+        if let Ok(length) = &read
+            && self.progress.is_some()
+        {
+            self.note(buf.get(..*length).unwrap_or(&[]));
         }
         read
     }
