@@ -2,8 +2,8 @@ use Rattle.std.proofs.Common.{◌≡◌, [], rules}
 use Rattle.cluster_core.specs.Setups.{rules_for}
 use Rattle.cluster_core.specs.Runs.{verdicts}
 use Rattle.thread_records.specs.declared.nodes.NodeRecord.{NodeRecord}
-use Rattle.node_threads.proofs.Audits.{agreed_of}
-use Rattle.node_threads.proofs.auditing.audit_nodes.Goals as goal
+use Rattle.shared_versions.proofs.Audits.{agreed_of}
+use Rattle.shared_versions.proofs.auditing.audit_nodes.Goals as goal
 
 pub returns : goal.returns
 returns g c =
