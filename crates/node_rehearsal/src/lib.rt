@@ -21,9 +21,9 @@ use connection_table::ConnTable;
 use forwarder::Choice;
 use hash_laws::FlowHash;
 use pool_versions::Catalogue;
-use selection::{PreparedVersion, Scheme};
+use selection::Scheme;
+use shared_versions::{Shared, prepare_after};
 use std::alloc::{AllocError, Global};
-use std::sync::Arc;
 use thread_records::{
     Command, Handled, Journal, LifeFault, NodeRecord, Rings, WorkerRecord, are_of,
 };
@@ -99,7 +99,7 @@ fn gather(
 fn serve<S: Scheme, H: FlowHash, T: ConnTable>(
     alloc: Global,
     setup: &Setup<S, H>,
-    newest: &Option<Arc<PreparedVersion<S>>>,
+    newest: &Option<Shared<S>>,
     items: &[Item],
 ) -> Result<WorkerRecord<S, T>, AllocError> {
     let mut worker = WorkerRecord::make(alloc, setup)?;
@@ -116,7 +116,7 @@ fn serve<S: Scheme, H: FlowHash, T: ConnTable>(
 fn serve_all<S: Scheme, H: FlowHash, T: ConnTable>(
     alloc: Global,
     setup: &Setup<S, H>,
-    newest: &Option<Arc<PreparedVersion<S>>>,
+    newest: &Option<Shared<S>>,
     queues: &Queues,
 ) -> Result<Vec<WorkerRecord<S, T>>, AllocError> {
     let mut workers = Vec::new(alloc);
@@ -152,24 +152,14 @@ fn prepare<S: Scheme, H: FlowHash>(
     alloc: Global,
     setup: &Setup<S, H>,
     catalogue: &Catalogue,
-    newest: &Option<Arc<PreparedVersion<S>>>,
+    newest: &Option<Shared<S>>,
     number: u32,
-) -> Result<Arc<PreparedVersion<S>>, LifeFault> {
+) -> Result<Shared<S>, LifeFault> {
     let Some(version) = catalogue.get(number) else {
         return Err(LifeFault::Foreign);
     };
-    let scheme = setup.scheme();
-    let prepared = match newest {
-        None => PreparedVersion::make(alloc, &scheme, setup.size(), version),
-        Some(before) => {
-            PreparedVersion::make_after(alloc, &scheme, setup.size(), version, before)
-        }
-    };
-    let Ok(prepared) = prepared else {
-        return Err(LifeFault::Memory);
-    };
-    match Arc::new(alloc, prepared) {
-        Ok(shared) => Ok(shared),
+    match prepare_after(alloc, setup, version, newest) {
+        Ok(next) => Ok(next),
         Err(_) => Err(LifeFault::Memory),
     }
 }
@@ -180,7 +170,7 @@ fn publish<S: Scheme, H: FlowHash>(
     journal: &mut Journal,
     setup: &Setup<S, H>,
     catalogue: &Catalogue,
-    newest: &mut Option<Arc<PreparedVersion<S>>>,
+    newest: &mut Option<Shared<S>>,
     number: u32,
 ) -> Result<(), LifeFault>
     ensures going { let rules = rules_for (λ s z. S.pick s z) (λ h. H.plain h) setup.now catalogue.now in
@@ -245,7 +235,7 @@ fn restart<S: Scheme, H: FlowHash, T: ConnTable>(
     journal: &mut Journal,
     setup: &Setup<S, H>,
     catalogue: &Catalogue,
-    newest: &Option<Arc<PreparedVersion<S>>>,
+    newest: &Option<Shared<S>>,
     queue: &Queues,
     node: u16,
     drained: bool,
@@ -276,7 +266,7 @@ fn end<S: Scheme, H: FlowHash, T: ConnTable>(
     journal: &mut Journal,
     setup: &Setup<S, H>,
     catalogue: &Catalogue,
-    newest: &Option<Arc<PreparedVersion<S>>>,
+    newest: &Option<Shared<S>>,
     queue: &Queues,
     node: u16,
 ) -> Result<Vec<Outcome>, LifeFault>

@@ -31,6 +31,7 @@ use connection_table::ConnTable;
 use hash_laws::FlowHash;
 use pool_versions::Catalogue;
 use selection::Scheme;
+use shared_versions::{Auditor, SharedVersions, audit_nodes};
 use stats_book::{Blanks, Names, Shares, Stats, StatsBook};
 use std::alloc::{AllocError, Global};
 use std::marker::Brand;
@@ -110,6 +111,35 @@ impl ClusterRun {
     {
         self.history
             .audit::<S, H, T>(alloc, setup, catalogue, packets)
+    }
+
+    /// Whether the outcomes of each node's events are those of the events in this cluster, as [`audit_nodes`] has it. Of a
+    /// run of the cluster this is [`audit`](Self::audit), since the nodes' histories follow one another in its history and no
+    /// node's events change another node.
+    pub fn audit_nodes<
+        S: Scheme + Send + Sync,
+        H: FlowHash + Send + Sync,
+        T: ConnTable + Send,
+        R: Threads + Sync,
+    >(
+        &self,
+        rt: &R,
+        alloc: Global,
+        setup: &Setup<S, H>,
+        catalogue: &Catalogue,
+        packets: &[Packet],
+    ) -> Result<bool, AllocError>
+    where
+        S::Prepared: Send + Sync,
+        requires size { catalogue.now.size ≡ setup.now.size }
+        requires read { (k : ℕ) (p : Packet) → slice_get packets.now k ≡ Some p → WasRead (Some p) }
+        ensures { let rules = rules_for (λ s z. S.pick s z) (λ h. H.plain h) setup.now catalogue.now in
+            IfOk result (λ b. IsTrue b ↔ All (λ r. r.outcomes.items ≡ verdicts rules [] packets.now r.events.items) self.now.nodes.items) }
+    {
+        let nodes = self.nodes.as_slice();
+        let prepared = SharedVersions::none(alloc);
+        let auditor = Auditor::new(alloc, setup, catalogue, &prepared)?;
+        audit_nodes::<S, H, T, R>(rt, alloc, nodes, &auditor, packets)
     }
 }
 
@@ -402,6 +432,10 @@ where
 /// The runs of all nodes of a cluster at once, as in [`run_cluster`], without the one history of all of them. That is a copy
 /// of all events and outcomes, which is made on one thread: who goes over the nodes' records one after another needs none.
 ///
+/// A version that was prepared for all nodes costs a driver that installs it neither time nor memory. Any other is prepared by
+/// each driver for itself, as `run_cluster` has it. Which of the two it is no answer tells: what the workers used is compared with
+/// the catalogue either way.
+///
 /// Where the rings are paced a driver waits at the ring of a packet's home worker while that is full. So no packet is lost to
 /// a full ring, and each that is steered goes to its home worker (`paced`). Whether the waiting ends no contract says. A
 /// worker takes from its ring until its driver ends the life, and then the driver doesn't wait. That holds of a worker that was
@@ -418,6 +452,7 @@ pub fn run_each<
     alloc: Global,
     setup: &Setup<S, H>,
     catalogue: &Catalogue,
+    prepared: &SharedVersions<S>,
     packets: &[Packet],
     commands: &[Vec<Command>],
     rings: RingRules,
@@ -441,6 +476,7 @@ where
     let order = ClusterOrder {
         setup,
         catalogue,
+        prepared,
         packets,
         lists: commands,
         gate,
@@ -500,8 +536,9 @@ where
         places: ring,
         paced: false,
     };
+    let prepared = SharedVersions::none(alloc);
     let run = run_each::<S, H, T, G, R>(
-        rt, alloc, setup, catalogue, packets, commands, rings, gate,
+        rt, alloc, setup, catalogue, &prepared, packets, commands, rings, gate,
     )?;
     let NodesRun { nodes, stats } = run;
     let history = join_runs(alloc, nodes.as_slice())?;

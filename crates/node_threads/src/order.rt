@@ -9,6 +9,7 @@ use cluster_node::Packet;
 use hash_laws::FlowHash;
 use pool_versions::Catalogue;
 use selection::Scheme;
+use shared_versions::SharedVersions;
 use stats_book::{Names, Shares, StatsBook};
 use std::fmt;
 use std::marker::Model;
@@ -32,6 +33,8 @@ pub struct NodeOrder<'e, S: Scheme, H: FlowHash, G> {
     pub setup: &'e Setup<S, H>,
     /// Its versions.
     pub catalogue: &'e Catalogue,
+    /// Those of them that were prepared for all nodes.
+    pub prepared: &'e SharedVersions<S>,
     /// The packets that the commands offer, by number.
     pub packets: &'e [Packet],
     /// The commands of the node's driver.
@@ -124,6 +127,7 @@ impl<'e, S: Scheme, H: FlowHash, G> NodeOrder<'e, S, H, G> {
         NodeTask {
             setup: self.setup,
             catalogue: self.catalogue,
+            prepared: self.prepared,
             packets: self.packets,
             commands: self.commands,
             gate: self.gate,
@@ -144,6 +148,8 @@ pub struct ClusterOrder<'e, S: Scheme, H: FlowHash, G> {
     pub setup: &'e Setup<S, H>,
     /// Its versions.
     pub catalogue: &'e Catalogue,
+    /// Those of them that were prepared for all nodes.
+    pub prepared: &'e SharedVersions<S>,
     /// The packets that the commands offer, by number.
     pub packets: &'e [Packet],
     /// For each node the commands of its driver.
@@ -201,6 +207,7 @@ impl<'e, S: Scheme, H: FlowHash, G> ClusterOrder<'e, S, H, G> {
         NodeOrder {
             setup: self.setup,
             catalogue: self.catalogue,
+            prepared: self.prepared,
             packets: self.packets,
             commands: self.lists[node as usize].as_slice(),
             gate: self.gate,

@@ -1,6 +1,7 @@
 //! A scenario's cluster runs on threads over a capture.
 ghost use Rattle.std.specs.Prelude.{◌≡◌, ◌≤◌, true, length, IfOk, IfErr, string_bytes};
 ghost use Rattle.pcap_file.specs.Format.{max_records};
+ghost use Rattle.simulation.specs.Sent.{packets_of};
 ghost use Rattle.thread_records.specs.Paced.{NoneRefused};
 ghost use Rattle.run_scenario.specs.Runs.{Ran, Halted, counts_in};
 ghost use Rattle.run_scenario.specs.Kept.{KeepsPromises};
@@ -14,6 +15,7 @@ use crate::reading::{Captured, packets_of, read_whole};
 use crate::report::audited_report;
 use crate::sending::{Sender, write_capture};
 use crate::threads::{Audited, Task, run_named};
+use cluster_node::Packet;
 use connection_table::TableKey;
 use ip_headers::Link;
 use json_lines::Form;
@@ -73,9 +75,10 @@ impl RunOptions {
     }
 }
 
-// What the nodes did, and what is answered.
+// The packets of a capture, what the nodes did, and what is answered.
 #[derive(Drop)]
 struct Done {
+    packets: Vec<Packet>,
     nodes: Vec<NodeRecord>,
     answer: Answer,
 }
@@ -103,6 +106,7 @@ fn run_over<R: Threads + Wait + Sync>(
     options: RunOptions,
 ) -> Result<Done, RunFailure>
     requires few { length captured.now.records ≤ max_records }
+    ensures packets { IfOk result (λ d. d.packets.items ≡ packets_of captured.now.head.link scenario.now.check captured.now.records) }
     ensures over { IfOk result (λ d. RanOver scenario.now options captured.now.head.link captured.now.records captured.now.ending d.nodes.items (string_bytes d.answer.text) d.answer.counts) }
     ensures paced { options.paced ≡ true → IfOk result (λ d. NoneRefused d.nodes.items) }
     ensures stopped { IfErr result IsOfThreads }
@@ -135,6 +139,7 @@ fn run_over<R: Threads + Wait + Sync>(
     text.push_str(shares.as_str())?;
     text.push_str(behind.as_str())?;
     Ok(Done {
+        packets,
         nodes: run.nodes,
         answer: Answer { text, counts },
     })
@@ -193,7 +198,12 @@ pub fn run_scenario<R: Threads + Wait + Sync, I: Source, O: Sink>(
     let wire = wire_of(scenario, captured.head.link);
     let nodes = done.nodes.as_slice();
     let records = &captured.records;
-    let sender = Sender { wire, records };
+    let packets = done.packets.as_slice();
+    let sender = Sender {
+        wire,
+        records,
+        packets,
+    };
     match write_capture(alloc, output, &sender, nodes) {
         Ok(()) => Ok(done.answer),
         Err(fault) => Err(RunFailure::Simulation(fault)),

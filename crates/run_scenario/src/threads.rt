@@ -3,7 +3,7 @@ ghost use Rattle.std.specs.Prelude.{◌≡◌, ◌<◌, ◌^◌, ◌↔◌, [], 
 ghost use Rattle.hash_laws.specs.Any.{plain_of};
 ghost use Rattle.cluster_core.specs.Cluster.{WereRead};
 ghost use Rattle.cluster_core.specs.Runs.{verdicts};
-ghost use Rattle.cluster_core.specs.Setups.{rules_for};
+ghost use Rattle.cluster_core.specs.Deployed.{rules_of};
 ghost use Rattle.thread_records.specs.Joins.{all_outcomes};
 ghost use Rattle.thread_records.specs.Paced.{NoneRefused};
 ghost use Rattle.thread_records.specs.Runs.{AreRuns};
@@ -21,8 +21,9 @@ use cluster_node::Packet;
 use connection_table::{PlaceTable, TableKey};
 use hash_laws::AnyHash;
 use named_scheme::{NamedScheme, scheme_of};
-use node_threads::{NodesRun, OpenGate, RingRules, RunFault, audit_nodes, run_each};
+use node_threads::{NodesRun, OpenGate, RingRules, RunFault, run_each};
 use scenario::Scenario;
+use shared_versions::{Auditor, SharedVersions, audit_nodes};
 use std::alloc::{AllocError, Global};
 use std::sync::Wait;
 use std::thread;
@@ -53,14 +54,13 @@ pub(crate) struct Audited {
 fn judged<R: Threads + Sync>(
     rt: &R,
     alloc: Global,
-    setup: &Setup<NamedScheme, AnyHash>,
+    auditor: &Auditor<'_, NamedScheme, AnyHash>,
     task: &Task<'_>,
     nodes: &[NodeRecord],
 ) -> (Result<bool, AllocError>, Result<Told, AllocError>)
-    requires sized { setup.now.size ≡ task.now.scenario.now.size }
     requires read { WereRead task.now.packets.now }
     requires even { AreEven nodes.now }
-    ensures audit { let rules = rules_for (λ s z. pick_of s z) (λ h. plain_of h) setup.now task.now.scenario.now.catalogue in
+    ensures audit { let rules = rules_of (λ s z. pick_of s z) (λ h. plain_of h) auditor.now in
         IfOk result.0 (λ b. IsTrue b ↔ All (λ r. r.outcomes.items ≡ verdicts rules [] task.now.packets.now r.events.items) nodes.now) }
     ensures told { IfOk result.1 (TellsOf task.now.options task.now.scenario.now task.now.packets.now nodes.now) }
 {
@@ -72,15 +72,10 @@ fn judged<R: Threads + Sync>(
         ..
     } = *task;
     let replay = || -> Result<bool, AllocError>
-        requires { (scenario.now.catalogue.size ≡ setup.now.size) × WereRead packets.now }
-        ensures { let rules = rules_for (λ s z. pick_of s z) (λ h. plain_of h) setup.entry.now scenario.entry.now.catalogue in
+        requires { WereRead packets.now }
+        ensures { let rules = rules_of (λ s z. pick_of s z) (λ h. plain_of h) auditor.entry.now in
             IfOk result (λ b. IsTrue b ↔ All (λ r. r.outcomes.items ≡ verdicts rules [] packets.entry.now r.events.items) nodes.entry.now) }
-    {
-        let catalogue = &scenario.catalogue;
-        audit_nodes::<NamedScheme, AnyHash, PlaceTable, R>(
-            rt, alloc, nodes, setup, catalogue, packets,
-        )
-    };
+    { audit_nodes::<NamedScheme, AnyHash, PlaceTable, R>(rt, alloc, nodes, auditor, packets) };
     let told = || -> Result<Told, AllocError>
         requires { AreEven nodes.now }
         ensures { IfOk result (TellsOf options scenario.entry.now packets.entry.now nodes.entry.now) }
@@ -136,11 +131,14 @@ pub(crate) fn run_named<R: Threads + Wait + Sync>(
         places: scenario.ring,
         paced: task.options.paced,
     };
+    let catalogue = &scenario.catalogue;
+    let prepared = SharedVersions::prepare(alloc, &setup, catalogue, task.commands)?;
     let run = run_each::<NamedScheme, AnyHash, PlaceTable, OpenGate, R>(
         rt,
         alloc,
         &setup,
-        &scenario.catalogue,
+        catalogue,
+        &prepared,
         task.packets,
         task.commands,
         rings,
@@ -149,7 +147,8 @@ pub(crate) fn run_named<R: Threads + Wait + Sync>(
     let Some(_) = outcome_count(run.nodes.as_slice()) else {
         return Err(RunFailure::Threads(RunFault::Memory));
     };
-    let (agrees, told) = judged(rt, alloc, &setup, task, run.nodes.as_slice());
+    let auditor = Auditor::new(alloc, &setup, catalogue, &prepared)?;
+    let (agrees, told) = judged(rt, alloc, &auditor, task, run.nodes.as_slice());
     Ok(Audited {
         run,
         agrees: agrees?,

@@ -20,18 +20,18 @@ ghost use Rattle.thread_roles.specs.declared.fault.RunFault.TheVariants.{Memory}
 
 use crate::fault::RunFault;
 use crate::gate::Gate;
-use crate::live::{Shared, prepare_after};
 use crate::plan::{NodePlan, Progress};
 use crate::post::Desk;
 use crate::ring::{Inputs, PacedInputs};
 use crate::tally::ThreadShares;
 use cluster_node::{Outcome, Packet};
 use hash_laws::FlowHash;
-use pool_versions::Catalogue;
+use pool_versions::{Catalogue, Version};
 use selection::Scheme;
+use shared_versions::{Shared, prepare_after};
 use stats_book::{Names, StatsBook};
 use std::alloc::{AllocError, Global};
-use std::sync::{Mutex, Wait};
+use std::sync::{Arc, Mutex, Wait};
 use thread_records::{Command, Journal};
 
 // Whether the catalogue has a version of this number.
@@ -41,8 +41,23 @@ fn knows(catalogue: &Catalogue, number: u32) -> bool
     catalogue.get(number).is_some()
 }
 
-// A version that was installed is prepared after the newest one, and shown to the workers. Of one that the catalogue has, and
-// that is above the last one published, only Memory is answered.
+// A version that was installed, prepared: the one that all nodes share, or one that is prepared after the newest.
+fn next_of<S: Scheme, H: FlowHash, G, B: Names>(
+    alloc: Global,
+    plan: NodePlan<'_, S, H, G, B>,
+    newest: &Option<Shared<S>>,
+    version: &Version,
+) -> Result<Shared<S>, AllocError>
+    ensures { IfOk result (λ p. (arc_value p).number ≡ version.now.number) }
+{
+    match plan.prepared.find(version.number) {
+        Some(shared) => Arc::try_clone(shared),
+        None => prepare_after(alloc, plan.setup, version, newest),
+    }
+}
+
+// A version that was installed is had prepared, and shown to the workers. Of one that the catalogue has, and that is above the
+// last one published, only Memory is answered.
 fn show_next<S: Scheme, H: FlowHash, G: Gate, B: Names, R: Wait + Drop>(
     alloc: Global,
     plan: NodePlan<'_, S, H, G, B>,
@@ -59,7 +74,7 @@ fn show_next<S: Scheme, H: FlowHash, G: Gate, B: Names, R: Wait + Drop>(
         return Err(RunFault::Foreign);
     };
     plan.gate.preparing(plan.node, number);
-    let next = prepare_after(alloc, plan.setup, version, newest)?;
+    let next = next_of(alloc, plan, newest, version)?;
     desk.publish(&next)?;
     *newest = Some(next);
     Ok(())
@@ -197,8 +212,8 @@ fn command_at(commands: &[Command], at: usize) -> Command
     commands[at]
 }
 
-/// Obeys the commands from one place on, up to one that ends the life or the end of the list. A version is prepared when it
-/// is installed, after the newest one, and shown then. Where the board has the number of the version installed last, only
+/// Obeys the commands from one place on, up to one that ends the life or the end of the list. A version is shown when it is
+/// installed. One that isn't shared is prepared then, after the newest one. Where the board has the number of the version installed last, only
 /// Memory is answered.
 pub fn drive<S: Scheme, H: FlowHash, G: Gate, B: Names, R: Wait, W: Wait + Drop>(
     rt: &R,

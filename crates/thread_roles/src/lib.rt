@@ -18,7 +18,7 @@ mod working;
 pub use driving::{drive, stops_at};
 pub use fault::{RunFault, fault_of};
 pub use gate::{Gate, OpenGate};
-pub use live::{Current, Shared, Stage, empty_stage, prepare_after, show};
+pub use live::{Current, Stage, empty_stage, show};
 pub use mux::gather;
 pub use plan::{NodePlan, NodeTask, Progress};
 pub use post::{Desk, Post};

@@ -2,21 +2,14 @@
 ghost use Rattle.std.specs.Prelude.{◌≡◌, ◌<◌, IfOk, OnOk, IfSome, Some};
 ghost use Rattle.std.specs.Arc.{arc_value};
 ghost use Rattle.left_right.specs.Handles.{published};
-ghost use Rattle.selection.specs.Readied.{readied_version};
-ghost use Rattle.cluster_core.specs.Setups.{Fixed};
 ghost use Rattle.thread_roles.specs.Shown.{number_of};
 
-use cluster_core::Setup;
-use hash_laws::FlowHash;
 use left_right::{Absorb, ReadHandle, WriteHandle};
-use pool_versions::Version;
-use selection::{PreparedVersion, Scheme};
+use selection::Scheme;
+use shared_versions::Shared;
 use std::alloc::{AllocError, Global};
 use std::fmt;
 use std::sync::{Arc, Wait};
-
-/// A prepared version with several owners: the two copies that are swapped, the driver, and the workers that used it last.
-pub type Shared<S> = Arc<PreparedVersion<S>>;
 
 /// What a worker finds: the version that was shown last, if there is one.
 #[derive(Drop)]
@@ -63,32 +56,6 @@ impl<S: Scheme> Absorb<Shared<S>> for Current<S> {
         let next = Arc::try_clone(operation)?;
         self.version = Some(next);
         Ok(())
-    }
-}
-
-/// Prepares a version for a cluster. What it has in common with the version before, if there is one, is shared with it.
-pub fn prepare_after<S: Scheme, H: FlowHash>(
-    alloc: Global,
-    setup: &Setup<S, H>,
-    version: &Version,
-    before: &Option<Shared<S>>,
-) -> Result<Shared<S>, AllocError>
-    ensures { IfOk result (λ p. arc_value p ≡ readied_version setup.now.scheme setup.now.size version.now) }
-{
-    let scheme = setup.scheme();
-    let prepared = match before {
-        None => PreparedVersion::make(alloc, &scheme, setup.size(), version),
-        Some(before) => {
-            PreparedVersion::make_after(alloc, &scheme, setup.size(), version, before)
-        }
-    };
-    // A version of a catalogue has no more backends than slots, so memory was refused here.
-    let Ok(prepared) = prepared else {
-        return Err(AllocError);
-    };
-    match Arc::new(alloc, prepared) {
-        Ok(shared) => Ok(shared),
-        Err(_) => Err(AllocError),
     }
 }
 

@@ -4,13 +4,13 @@ ghost use Rattle.std.specs.Arc.{arc_value};
 ghost use Rattle.thread_roles.specs.Counts.{counted};
 ghost use Rattle.thread_roles.specs.Shown.{number_of};
 
-use crate::live::Shared;
 use crate::tally::ThreadShares;
 use cluster_core::Setup;
 use cluster_node::Packet;
 use hash_laws::FlowHash;
 use pool_versions::Catalogue;
 use selection::Scheme;
+use shared_versions::{Shared, SharedVersions};
 use stats_book::{Names, Shares, StatsBook};
 use std::alloc::AllocError;
 use std::fmt;
@@ -25,6 +25,8 @@ pub struct NodeTask<'e, S: Scheme, H: FlowHash, G, B: Names> {
     pub setup: &'e Setup<S, H>,
     /// Its versions.
     pub catalogue: &'e Catalogue,
+    /// Those of them that were prepared for all nodes. A driver prepares any other when it installs it.
+    pub prepared: &'e SharedVersions<S>,
     /// The packets that the commands offer, by number.
     pub packets: &'e [Packet],
     /// The commands of the node's driver.
@@ -63,6 +65,8 @@ pub struct NodePlan<'e, S: Scheme, H: FlowHash, G, B: Names> {
     pub setup: &'e Setup<S, H>,
     /// Its versions.
     pub catalogue: &'e Catalogue,
+    /// Those of them that were prepared for all nodes. A driver prepares any other when it installs it.
+    pub prepared: &'e SharedVersions<S>,
     /// The packets that the commands offer, by number.
     pub packets: &'e [Packet],
     /// The commands of the node's driver.

@@ -10,11 +10,12 @@ ghost use Rattle.thread_roles.specs.Shown.{number_of};
 ghost use Rattle.thread_roles.specs.declared.fault.RunFault.TheVariants.{Memory};
 
 use crate::fault::RunFault;
-use crate::live::{Current, Shared, Stage, show};
+use crate::live::{Current, Stage, show};
 use cluster_node::Item;
 use connection_table::ConnTable;
 use left_right::{Absorb, ReadHandle};
 use selection::Scheme;
+use shared_versions::Shared;
 use std::fmt;
 use std::marker::Model;
 use std::sync::Wait;

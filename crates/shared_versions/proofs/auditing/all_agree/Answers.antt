@@ -1,9 +1,8 @@
 use Rattle.std.proofs.Common.{rules}
-use Rattle.std.specs.Prelude.{Ok}
 use Rattle.std.proofs.lemmas.List.Elements.{All-push}
-use Rattle.node_threads.specs.PrivateAudits.{IsGiven}
-use Rattle.node_threads.proofs.Audits.{agrees_more, differs_more}
-use Rattle.node_threads.proofs.auditing.all_agree.Goals as goal
+use Rattle.shared_versions.specs.PrivateAudits.{IsGiven}
+use Rattle.shared_versions.proofs.Audits.{agrees_more, differs_more}
+use Rattle.shared_versions.proofs.auditing.all_agree.Goals as goal
 
 pub loop-audit-preserved-then-not-branch : goal.loop-audit-preserved-then-not-branch
 loop-audit-preserved-then-not-branch c = record {

@@ -1,7 +1,7 @@
 use Rattle.std.proofs.Common.{◌≡◌, ◌↔◌, true}
 use Rattle.std.specs.Prelude.{All, Ok, IsTrue}
-use Rattle.node_threads.specs.PrivateAudits.{IsGiven}
-use Rattle.node_threads.proofs.auditing.all_agree.Given as goal
+use Rattle.shared_versions.specs.PrivateAudits.{IsGiven}
+use Rattle.shared_versions.proofs.auditing.all_agree.Given as goal
 
 abbrev pub invariant-loop-audit : goal.invariant-loop-audit
 invariant-loop-audit l = record {

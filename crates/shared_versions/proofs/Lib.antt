@@ -1,0 +1,3 @@
+pub mod Audits
+pub mod Wanted
+pub mod Kept

@@ -1,0 +1,3 @@
+pub mod Installed
+pub mod Held
+pub mod PrivateAudits

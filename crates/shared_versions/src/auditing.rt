@@ -1,0 +1,66 @@
+//! All nodes of a run are audited at once, on versions that were prepared once.
+ghost use Rattle.std.specs.Prelude.{◌≡◌, ◌↔◌, ◌<◌, [], true, ℕ, List, Ok, Some, IfOk, IsTrue, All, length, slice_get, slice_index_or};
+ghost use Rattle.cluster_core.specs.Deployed.{Deployed, rules_of};
+ghost use Rattle.cluster_core.specs.Runs.{verdicts};
+ghost use Rattle.cluster_node.specs.declared.packets.Packet.{Packet};
+ghost use Rattle.cluster_node.specs.Records.{WasRead};
+ghost use Rattle.thread_records.specs.declared.nodes.NodeRecord.{NodeRecord};
+ghost use Rattle.shared_versions.specs.PrivateAudits.{IsGiven};
+
+use crate::auditor::Auditor;
+use cluster_node::Packet;
+use connection_table::ConnTable;
+use hash_laws::FlowHash;
+use selection::Scheme;
+use std::alloc::{AllocError, Global};
+use std::thread;
+use std::thread::Threads;
+use thread_records::NodeRecord;
+
+// Whether all audits agreed. Memory is refused where one of them was refused it.
+fn all_agree(audits: Vec<Result<bool, AllocError>>) -> Result<bool, AllocError>
+    ensures given { IfOk result (λ b. All IsGiven audits.items) }
+    ensures agree { IfOk result (λ b. IsTrue b ↔ All (λ a. a ≡ Ok true) audits.items) }
+{
+    let mut agree = true;
+    for audit in audits {
+        if !audit? {
+            agree = false;
+        }
+    }
+    Ok(agree)
+}
+
+/// Whether each node's outcomes are those of its events in the auditor's cluster: each history is replayed by itself on
+/// connection tables of its own, all at once where threads can be had. The packets were read.
+pub fn audit_nodes<
+    S: Scheme + Send + Sync,
+    H: FlowHash + Send + Sync,
+    T: ConnTable + Send,
+    R: Threads + Sync,
+>(
+    rt: &R,
+    alloc: Global,
+    nodes: &[NodeRecord],
+    auditor: &Auditor<'_, S, H>,
+    packets: &[Packet],
+) -> Result<bool, AllocError>
+where
+    S::Prepared: Send + Sync,
+    requires read { (k : ℕ) (p : Packet) → slice_get packets.now k ≡ Some p → WasRead (Some p) }
+    ensures { let rules = rules_of (λ s z. S.pick s z) (λ h. H.plain h) auditor.now in
+        IfOk result (λ b. IsTrue b ↔ All (λ r. r.outcomes.items ≡ verdicts rules [] packets.now r.events.items) nodes.now) }
+{
+    let audits = thread::map_indices(
+        rt,
+        alloc,
+        nodes.len(),
+        &|at| -> Result<bool, AllocError>
+            requires { (at < length nodes.now) × ((k : ℕ) (p : Packet) → slice_get packets.now k ≡ Some p → WasRead (Some p)) }
+            ensures { let rules = rules_of (λ s z. S.pick s z) (λ h. H.plain h) auditor.entry.now in
+                (d : NodeRecord) → IfOk result (λ b. IsTrue b ↔
+                ((slice_index_or nodes.entry.now at d).outcomes.items ≡ verdicts rules [] packets.entry.now (slice_index_or nodes.entry.now at d).events.items)) }
+        { auditor.agrees::<T>(alloc, &nodes[at], packets) },
+    )?;
+    all_agree(audits)
+}
