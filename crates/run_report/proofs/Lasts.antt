@@ -12,7 +12,6 @@ use Rattle.run_report.specs.declared.last_sends.FlowKey.{FlowKey}
 use Rattle.run_report.specs.declared.last_sends.LastSend.{LastSend}
 use Rattle.run_report.specs.declared.last_sends.LastSends.{LastSends}
 use Rattle.run_report.specs.declared.noted.Noted.{Noted}
-use Rattle.run_report.specs.declared.sending.Sending.{Sending}
 use Rattle.run_report.specs.Books.{Keeps, same_key, told, AreLast}
 
 module _ {T : Type 0} where
@@ -31,7 +30,7 @@ module _ {T : Type 0} where
       go (Some b) n = ap (λ (y : Option Backend). Some (option_map (sending_of x l) y)) (k l.place b n ∙ sym n) ∙ h
 
   -- the entry of a send at its backend's place
-  abbrev entry_of : ℕ → Noted T → LastSend T
+  abbrev pub entry_of : ℕ → Noted T → LastSend T
   entry_of place n = record { number = n.sending.number; place = place; version = n.sending.version; origin = n.sending.origin; beside = n.beside }
 
   -- a send is its flow's last

@@ -1,14 +1,12 @@
 //! The last send of each flow, and the splits so far.
-ghost use Rattle.std.specs.Prelude.{◌≡◌, ◌+◌, ◌++◌, ◌∷◌, [], List, length, reverse, Option, Some, IfOk, OnOk, is_some, if◌then◌else◌};
-ghost use Rattle.std.specs.HashMap.{hash_map_len};
-ghost use Rattle.five_tuple.specs.declared.Flow.{Flow};
+ghost use Rattle.std.specs.Prelude.{◌≡◌, ◌+◌, ◌++◌, ◌∷◌, [], List, length, reverse, Option, Some, IfOk, OnOk};
 ghost use Rattle.cluster_node.specs.declared.events.LogEntry.{LogEntry};
 ghost use Rattle.cluster_node.specs.declared.packets.Packet.{Packet};
 ghost use Rattle.selection.specs.Readied.{same_backend};
 ghost use Rattle.run_report.specs.declared.noted.Noted.{Noted};
 ghost use Rattle.run_report.specs.Splits.{splits_of, flows_of, said_of};
 ghost use Rattle.run_report.specs.Noting.{noted_by, split_with, beside_with, besides_noted};
-ghost use Rattle.run_report.specs.Books.{with_send, AreLast, IsSettledAs, HasNoted};
+ghost use Rattle.run_report.specs.Books.{IsSettledAs, HasNoted};
 
 use crate::last_sends::LastSends;
 use crate::noted::{Beside, Noted};
@@ -104,10 +102,7 @@ impl<T: Copy> SplitBook<T> {
 
     // A send is its flow's last.
     fn send(&mut self, later: &Noted<T>) -> Result<(), AllocError>
-        ensures last { (sent : Flow → Option (Noted T)) → AreLast sent self.old.last → OnOk result (AreLast (with_send sent later.now) self.new.last) }
-        ensures flows { (sent : Flow → Option (Noted T)) → AreLast sent self.old.last → OnOk result (hash_map_len self.new.last.sends ≡ hash_map_len self.old.last.sends + (if is_some (sent later.now.sending.flow) then 0 else 1)) }
-        ensures splits { (sent : Flow → Option (Noted T)) → AreLast sent self.old.last → OnOk result (self.new.splits.items ≡ self.old.splits.items ++ split_with (sent later.now.sending.flow) later.now) }
-        ensures besides { (sent : Flow → Option (Noted T)) → AreLast sent self.old.last → OnOk result (self.new.besides.items ≡ self.old.besides.items ++ beside_with (sent later.now.sending.flow) later.now) }
+        ensures settled { (done : List (Noted T)) → IsSettledAs done self.old → OnOk result (IsSettledAs (later.now ∷ done) self.new) }
         ensures number { self.new.number ≡ self.old.number }
         ensures noted { self.new.noted ≡ self.old.noted }
     {
