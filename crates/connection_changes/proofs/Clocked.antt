@@ -1,5 +1,5 @@
 -- The times, lives and clocks after one event more.
-use Rattle.std.proofs.Common.{◌≡◌, ℕ, zero, suc, Bool, true, false, List, [], ◌∷◌, ◌++◌, length, Option, Some, None, Result, Ok, Err, refl, sym, ap, ◌∙◌, subst}
+use Rattle.std.proofs.Common.{◌≡◌, ℕ, zero, suc, Bool, true, false, List, [], ◌∷◌, ◌++◌, Option, Some, None, Result, Ok, Err, refl, ap, ◌∙◌, subst}
 use Rattle.std.specs.Prelude.{◌==◌, ◌&&◌, max, slice_get, slice_index, OnOk, if◌then◌else◌}
 use Rattle.std.proofs.lemmas.Bool.{eqb-true}
 use Rattle.cluster_node.specs.declared.events.LogEntry.{LogEntry}
@@ -7,9 +7,8 @@ use Rattle.connection_changes.specs.declared.clocks.Clocks.{Clocks}
 use Rattle.connection_changes.specs.declared.numbers.Numbers.{Numbers}
 use Rattle.connection_changes.specs.declared.sites.Arrived.{Arrived}
 use Rattle.connection_changes.specs.declared.sites.Served.{Served}
-use Rattle.connection_changes.specs.declared.worker_numbers.WorkerNumbers.{WorkerNumbers}
 use Rattle.connection_changes.specs.Sites.{arrived_by, time_with, time_of, begun_by, life_with, life_of, served_by, clock_begun, clock_with, clock_of}
-use Rattle.connection_changes.specs.Books.{number_in, worker_number, life_in, clock_in, AreClocksOf}
+use Rattle.connection_changes.specs.Books.{number_in, life_in, clock_in, AreClocksOf}
 
 both : (a b : Bool) → (a && b) ≡ true → (a ≡ true) × (b ≡ true)
 both true b h = (refl, h)

@@ -1,15 +1,14 @@
 -- What is kept of the events is that of one event more.
-use Rattle.std.proofs.Common.{◌≡◌, ℕ, ◌+◌, Bool, true, false, List, [], ◌∷◌, length, take, drop, get_or, Option, Some, None, Result, Ok, Err, refl, sym, ap, ◌∙◌, subst, arith, cond, not}
+use Rattle.std.proofs.Common.{◌≡◌, ℕ, ◌+◌, ◌<◌, Bool, true, false, List, [], ◌∷◌, ◌++◌, length, take, get_or, Result, Ok, Err, refl, sym, ap, ◌∙◌, subst, arith, cond, not, ◌⊎◌, inl, inr, append_assoc}
 use Rattle.std.specs.Prelude.{◌||◌, OnOk, if◌then◌else◌}
 use Rattle.std.specs.List.{list_any}
 use Rattle.std.specs.HashSet.{contains, hash_set_len}
 use Rattle.std.proofs.lemmas.Bool.{false≢true, false_from_ne_true}
+use Rattle.std.proofs.lemmas.List.{append-nil, take_more}
 use Rattle.five_tuple.specs.declared.Flow.{Flow}
 use Rattle.connection_table.specs.Touches.{same_flow}
 use Rattle.connection_table.proofs.Standing.{same_flow-true, same_flow-refl}
 use Rattle.cluster_node.specs.declared.events.LogEntry.{LogEntry}
-use Rattle.run_report.specs.declared.book.SplitBook.{SplitBook}
-use Rattle.run_report.specs.declared.noted.Noted.{Noted}
 use Rattle.run_report.specs.declared.noted.Beside.{Beside}
 use Rattle.run_report.specs.declared.sending.Split.{Split}
 use Rattle.run_report.specs.Books.{HasNoted, IsNotedBookOf, IsBookOf}
@@ -18,12 +17,11 @@ use Rattle.run_report.specs.Splits.{splits_of}
 use Rattle.connection_changes.specs.declared.book.ChangeBook.{ChangeBook}
 use Rattle.connection_changes.specs.declared.causes.Change.{Change}
 use Rattle.connection_changes.specs.declared.changed.ChangedFlows.{ChangedFlows}
-use Rattle.connection_changes.specs.declared.clocks.Clocks.{Clocks}
 use Rattle.connection_changes.specs.declared.sites.Site.{Site}
 use Rattle.connection_changes.specs.Sites.{site_in}
-use Rattle.connection_changes.specs.Changes.{changed_of, changed_with, changes_of}
+use Rattle.connection_changes.specs.Changes.{changed_with}
 use Rattle.connection_changes.specs.Books.{AreClocksOf, AreChanged, placed_changes, placed_of, IsNotedChangeBookOf, IsChangeBookOf}
-use Rattle.connection_changes.proofs.Steps.{changed_whole, changes_placed}
+use Rattle.connection_changes.proofs.Steps.{changed_append, changed_whole, changes_placed}
 
 -- ---- a flow among the changed ones
 
@@ -56,6 +54,34 @@ changed_put xs flow added a b was puts new len = go (list_any (same_flow flow) x
       each = λ x. puts x ∙ fresh x (same_flow flow x) refl;
       count = let n : hash_set_len b.flows ≡ length xs + 1 = more false known in omega (arith, n);
     }
+
+-- the flows of one split more
+pub changed_more : (ps : List Split) (i : ℕ) (p : Split) (xs : List Flow) (c : ChangedFlows) → i < length ps → p ≡ get_or ps i p
+    → AreChanged (if list_any (same_flow p.later.flow) (changed_with (take i ps) xs) then changed_with (take i ps) xs else p.later.flow ∷ changed_with (take i ps) xs) c → AreChanged (changed_with (take (i + 1) ps) xs) c
+changed_more ps i p xs c low is h = subst (λ (ys : List Flow). AreChanged ys c) same h
+  where
+    same : changed_with (p ∷ []) (changed_with (take i ps) xs) ≡ changed_with (take (i + 1) ps) xs
+    same =
+        sym (changed_append (take i ps) (p ∷ []) xs) ∙ ap (λ (q : Split). changed_with (take i ps ++ q ∷ []) xs) is
+        ∙ sym (ap (λ (qs : List Split). changed_with qs xs) (take_more ps i p low))
+
+-- one change more
+pub change_more : (cs : List Change) (ps qs : List Split) (bs ds : List (Beside Site)) (p : Split) (b : Beside Site) (more whole : List Change) → ps ≡ p ∷ qs → bs ≡ b ∷ ds
+    → more ≡ cs ++ record { split = p; first = b.first; later = b.later } ∷ [] → cs ++ placed_changes ps bs ≡ whole → more ++ placed_changes qs ds ≡ whole
+change_more cs ps qs bs ds p b more whole front back pushed h =
+    ap (λ (l : List Change). l ++ placed_changes qs ds) pushed ∙ append_assoc cs (record { split = p; first = b.first; later = b.later } ∷ []) (placed_changes qs ds)
+    ∙ ap (λ (l : List Change). cs ++ l) (sym step) ∙ h
+  where
+    step : placed_changes ps bs ≡ record { split = p; first = b.first; later = b.later } ∷ placed_changes qs ds
+    step = ap (λ (l : List Split). placed_changes l bs) front ∙ ap (λ (l : List (Beside Site)). placed_changes (p ∷ qs) l) back
+
+none_placed : (ps : List Split) (bs : List (Beside Site)) → (ps ≡ []) ⊎ (bs ≡ []) → placed_changes ps bs ≡ []
+none_placed ps bs (inl h) = ap (λ (l : List Split). placed_changes l bs) h
+none_placed [] bs (inr h) = refl
+none_placed (p ∷ ps) bs (inr h) = ap (λ (l : List (Beside Site)). placed_changes (p ∷ ps) l) h
+
+pub changes_end : (cs : List Change) (ps : List Split) (bs : List (Beside Site)) (whole : List Change) → (ps ≡ []) ⊎ (bs ≡ []) → cs ++ placed_changes ps bs ≡ whole → cs ≡ whole
+changes_end cs ps bs whole none h = sym (append-nil cs) ∙ ap (λ (l : List Change). cs ++ l) (sym (none_placed ps bs none)) ∙ h
 
 -- ---- the book
 

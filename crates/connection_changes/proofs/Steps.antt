@@ -1,5 +1,5 @@
 -- The changes after one event more.
-use Rattle.std.proofs.Common.{◌≡◌, ℕ, ◌+◌, ◌<◌, Bool, true, false, List, [], ◌∷◌, ◌++◌, length, map, Option, Some, None, refl, sym, ap, ◌∙◌, arith}
+use Rattle.std.proofs.Common.{◌≡◌, ℕ, ◌<◌, Bool, true, false, List, [], ◌∷◌, ◌++◌, length, map, Option, Some, None, refl, sym, ap, ◌∙◌, arith}
 use Rattle.std.specs.Prelude.{◌==◌, if◌then◌else◌, option_map}
 use Rattle.std.specs.List.{All}
 use Rattle.std.proofs.lemmas.Bool.{cond-true, cond-false, eq-eqb, ne_eqb}
@@ -68,25 +68,25 @@ put_yet s past x = go (last_sent past x) refl
 
 pub last_placed : (past : List LogEntry) (x : Flow) → last_noted (placed_of past) x ≡ option_map (λ f. put_at past f) (last_sent past x)
 last_placed [] x = refl
-last_placed (s ∷ past) x = go (newest s past) refl
+last_placed (s ∷ past) x = go (last_placed past x ∙ sym (put_yet s past x)) (newest s past) refl
   where
     site : Site
     site = site_in (s ∷ past) s.outcome
 
-    older : last_noted (placed_of past) x ≡ option_map (λ f. put_at (s ∷ past) f) (last_sent past x)
-    older = last_placed past x ∙ sym (put_yet s past x)
+    Older : Type 0
+    Older = last_noted (placed_of past) x ≡ option_map (λ f. put_at (s ∷ past) f) (last_sent past x)
 
     placed : Sending → Site → Noted Site
     placed f here = record { sending = f; beside = here }
 
-    one : (t : Sending) → newest s past ≡ Some t → (b : Bool)
+    one : Older → (t : Sending) → newest s past ≡ Some t → (b : Bool)
         → (if b then Some (placed t site) else last_noted (placed_of past) x) ≡ option_map (λ f. put_at (s ∷ past) f) (if b then Some t else last_sent past x)
-    one t e true = ap (λ (here : Site). Some (placed t here)) (sym (site_head s past t.number (sent_number (length past) s.event s.outcome t e)))
-    one t e false = older
+    one older t e true = ap (λ (here : Site). Some (placed t here)) (sym (site_head s past t.number (sent_number (length past) s.event s.outcome t e)))
+    one older t e false = older
 
-    go : (o : Option Sending) → newest s past ≡ o → last_noted (noted_with o site (placed_of past)) x ≡ option_map (λ f. put_at (s ∷ past) f) (last_after x o (last_sent past x))
-    go None e = older
-    go (Some t) e = one t e (same_flow t.flow x)
+    go : Older → (o : Option Sending) → newest s past ≡ o → last_noted (noted_with o site (placed_of past)) x ≡ option_map (λ f. put_at (s ∷ past) f) (last_after x o (last_sent past x))
+    go older None e = older
+    go older (Some t) e = one older t e (same_flow t.flow x)
 
 -- ---- where the packets of each split were sent
 
@@ -111,13 +111,10 @@ all_yet s past = map_same (λ p. both_at (s ∷ past) p) (λ p. both_at past p) 
 
 pub besides_placed : (past : List LogEntry) → besides_noted (placed_of past) ≡ map (λ p. both_at past p) (splits_of past)
 besides_placed [] = refl
-besides_placed (s ∷ past) = go (newest s past) refl
+besides_placed (s ∷ past) = go (besides_placed past ∙ sym (all_yet s past)) (newest s past) refl
   where
     site : Site
     site = site_in (s ∷ past) s.outcome
-
-    older : besides_noted (placed_of past) ≡ map (λ p. both_at (s ∷ past) p) (splits_of past)
-    older = besides_placed past ∙ sym (all_yet s past)
 
     here : Sending → Noted Site
     here t = record { sending = t; beside = site }
@@ -141,9 +138,10 @@ besides_placed (s ∷ past) = go (newest s past) refl
     behind t e None is = refl
     behind t e (Some f) is = apart t f e (last_below past t.flow f is) (same_backend f.backend t.backend)
 
-    go : (o : Option Sending) → newest s past ≡ o → besides_noted (noted_with o site (placed_of past)) ≡ map (λ p. both_at (s ∷ past) p) (splits_of past ++ split_by (λ x. last_sent past x) o)
-    go None e = older ∙ ap (λ (ps : List Split). map (λ p. both_at (s ∷ past) p) ps) (sym (append-nil (splits_of past)))
-    go (Some t) e =
+    go : besides_noted (placed_of past) ≡ map (λ p. both_at (s ∷ past) p) (splits_of past) → (o : Option Sending) → newest s past ≡ o
+        → besides_noted (noted_with o site (placed_of past)) ≡ map (λ p. both_at (s ∷ past) p) (splits_of past ++ split_by (λ x. last_sent past x) o)
+    go older None e = older ∙ ap (λ (ps : List Split). map (λ p. both_at (s ∷ past) p) ps) (sym (append-nil (splits_of past)))
+    go older (Some t) e =
         ap (λ (bs : List (Beside Site)). bs ++ beside_with (last_noted (placed_of past) t.flow) (here t)) older
         ∙ ap (λ (o : Option (Noted Site)). map (λ p. both_at (s ∷ past) p) (splits_of past) ++ beside_with o (here t)) (last_placed past t.flow)
         ∙ ap (λ (bs : List (Beside Site)). map (λ p. both_at (s ∷ past) p) (splits_of past) ++ bs) (behind t e (last_sent past t.flow) refl)
