@@ -71,6 +71,23 @@ fn kept_send(
     }
 }
 
+// The line of the event of a number, where it is asked for.
+fn push_event_if(
+    lines: &mut String,
+    number: u64,
+    two: TwoEvents,
+    event: &Event,
+    packet: Option<&Packet>,
+    outcome: &Outcome,
+) -> Result<(), AllocError>
+    ensures { OnOk result (string_bytes lines.new ≡ string_bytes lines.old ++ event_if two number (said_by event.now (option_copied packet.entry) outcome.now)) }
+{
+    if !two.lists(number) {
+        return Ok(());
+    }
+    two.form.push_event(lines, number, event, packet, outcome)
+}
+
 impl Notebook {
     ghost use Rattle.simulate_scenario.specs.Notebooks.{Lists, ListsIf, NotedIf, NotedChangesIf, BookIf, ChangesIf, KeepsMore, KeepsBooks, KeepsTwo, AreOf};
 
@@ -250,24 +267,6 @@ impl Notebook {
         self.settle_changes_if(wanted.keeps_changes())
     }
 
-    // The line of an event, where it is asked for.
-    fn tell(
-        &mut self,
-        two: TwoEvents,
-        event: &Event,
-        packet: Option<&Packet>,
-        outcome: &Outcome,
-    ) -> Result<(), AllocError>
-        ensures lines { OnOk result (string_bytes self.new.lines ≡ string_bytes self.old.lines ++ event_if two self.old.number (said_by event.now (option_copied packet.entry) outcome.now)) }
-        ensures rest { self.new ≡ record self.old { lines = self.new.lines } }
-    {
-        if !two.lists(self.number) {
-            return Ok(());
-        }
-        two.form
-            .push_event(&mut self.lines, self.number, event, packet, outcome)
-    }
-
     // What an event did, where it is one of the two that are asked for.
     fn keep(
         &mut self,
@@ -279,7 +278,7 @@ impl Notebook {
         ensures { (past : List LogEntry) → KeepsTwo two past self.old →
             OnOk result (KeepsTwo two (said_by event.now (option_copied packet.entry) outcome.now ∷ past) self.new) }
     {
-        self.tell(two, event, packet, outcome)?;
+        push_event_if(&mut self.lines, self.number, two, event, packet, outcome)?;
         self.first = kept_send(self.first, self.number, two.one, event, outcome);
         self.later = kept_send(self.later, self.number, two.other, event, outcome);
         self.one = kept(self.one, self.number, two.one, outcome);
