@@ -366,9 +366,9 @@ def explains(name, text, letters, one, other, line):
     explains_of(name, text, capture(letters), one, other, line)
 
 
-def explains_of(name, text, data, one, other, line):
-    """The same for a capture."""
-    words = ["explain", "s.toml", "in.pcap", str(one), str(other)]
+def explains_of(name, text, data, one, other, line, words=()):
+    """The same for a capture, and with further words."""
+    words = ["explain", *words, "s.toml", "in.pcap", str(one), str(other)]
     status, out, err = with_files(text, data, lambda folder: run(words, cwd=folder))
     check(name, (status, out, err) == (0, (line + "\n").encode(), b""), f"{status} {out!r} {err!r}")
 
@@ -386,6 +386,7 @@ def test_simulate_rows():
     explains("an event that sends nothing", apart, "xx", 2, 5, "not sent")
     explains("an event that isn't there", apart, "xx", 3, 2**64 - 1, "not sent")
     explains("two flows", apart, "xy", 3, 5, "other flow")
+    explains_listed(apart)
     text = scenario(["live 0", "install 0 1", "take 1", "install 0 2", "take 1"])
     events = """0 install 0 1: installed
 1 arrive 0 0: placed 0
@@ -417,6 +418,29 @@ def test_simulate_rows():
     text = scenario(["install 0 1", "install 1 1", "take 3"], scheme="round")
     lists("round robin", text, "yxx", {3: a1, 5: a1, 7: "forward B@10.8.0.2 from 1"})
     explains("round robin splits", text, "yxx", 7, 5, "split slot 5 version 1 B@10.8.0.2 version 1 A@10.8.0.1")
+
+
+def explains_listed(apart):
+    """`explain --list`: the lines of both events come first, in the order of the run, and say why a packet wasn't sent."""
+    first, later = "3 serve 0 0 1: forward A@10.8.0.1 from 1\n", "5 serve 1 0 2: forward C@10.8.0.3 from 2\n"
+    split = "split slot 5 version {} version {}"
+    sends = "1 A@10.8.0.1", "2 C@10.8.0.3"
+    rows = [
+        ("a split", "xx", 3, 5, first + later + split.format(*sends)),
+        ("the other way round", "xx", 5, 3, first + later + split.format(*sends[::-1])),
+        ("an event that sends nothing", "xx", 2, 5, "2 arrive 0 0: placed 0\n" + later + "not sent"),
+        ("one event", "xx", 3, 3, first + "same"),
+        ("an event that isn't there", "xx", 2**64 - 1, 5, later + "not sent"),
+        ("no event that is there", "xx", 900, 901, "not sent"),
+    ]
+    for name, letters, one, other, lines in rows:
+        explains_of(f"listed: {name}", apart, capture(letters), one, other, lines, ["--list"])
+    text = scenario(["live 0", "install 0 1", "take 1", "full 0 0", "take 1", "restart 0"])
+    told = "2 serve 0 0 1: forward A@10.8.0.1 from 1\n3 arrive 0 1: drop RingsFull\nnot sent"
+    explains_of("listed: full rings", text, capture("yy"), 2, 3, told, ["--list"])
+    text = scenario(["live 0", "install 0 1", "take 1"], [[f"{member}/down" for member in ALL]])
+    told = "1 arrive 0 0: placed 0\n2 serve 0 0 1: drop NoBackend\nnot sent"
+    explains_of("listed: nobody is up", text, capture("x"), 1, 2, told, ["--list"])
 
 
 def test_idle():
@@ -1757,6 +1781,9 @@ def test_against_the_model():
             answer = with_files(text, data, lambda folder: run(words, cwd=folder))
             line = expected.explained(one, other).encode()
             check(f"explain {one} {other} of scenario {seed}", answer == (0, line, b""), f"{answer} {line!r}")
+        one, other = source.randrange(len(expected.events)), source.randrange(len(expected.events) + 2)
+        told = (expected.told_of(one, other) + expected.explained(one, other)).rstrip("\n")
+        explains_of(f"explain --list {one} {other} of scenario {seed}", text, data, one, other, told, ["--list"])
 
 
 def test_repeats_against_the_model():

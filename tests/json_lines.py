@@ -93,6 +93,11 @@ def test_explained():
             answer = with_files(text, data, lambda folder, words=words: run(words, cwd=folder))
             told = objects.text_of(objects.explained(expected, one, other))
             check(f"explain {seed} {one} {other}", answer == (0, told.encode(), b""), f"{answer} {told!r}")
+        one, other = source.randrange(len(expected.events)), source.randrange(len(expected.events) + 2)
+        words = ["explain", "--json", "--list", "s.toml", "in.pcap", str(one), str(other)]
+        answer = with_files(text, data, lambda folder, words=words: run(words, cwd=folder))
+        told = objects.text_of(objects.explained(expected, one, other, "--list"))
+        check(f"explain --list {seed} {one} {other}", answer == (0, told.encode(), b""), f"{answer} {told!r}")
 
 
 def test_on_threads():

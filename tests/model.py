@@ -551,6 +551,11 @@ class Run:
             lines.append(f"{name} version {version} packets {packets} bytes {size} flows {flows}\n")
         return "".join(lines)
 
+    def told_of(self, *numbers):
+        """The lines that the listing has of these events, where the run has them, each once and in its order."""
+        lines = self.listing().splitlines(True)
+        return "".join(lines[place] for place in sorted(set(numbers)) if place < len(lines))
+
     def explained(self, one, other):
         sent = [self.events[place][2] if place < len(self.events) else None for place in (one, other)]
         if not all(isinstance(part, tuple) for part in sent):

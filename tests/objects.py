@@ -139,14 +139,19 @@ def behind(run, words):
     return found + ([summary(run)] if "--summary" in words else [])
 
 
-def explained(run, one, other):
+def explained(run, one, other, *words):
+    listed = [event for event in events(run) if event["event"] in (one, other)] if "--list" in words else []
+    return [head("explain"), *listed, verdict(run, one, other)]
+
+
+def verdict(run, one, other):
     text = run.explained(one, other).rstrip("\n")
     if not text.startswith("split"):
-        return [head("explain"), {"type": "explain", "verdict": text}]
+        return {"type": "explain", "verdict": text}
     first, later = (run.events[place][2] for place in (one, other))
     halves = [{"version": sent[4]} | server(sent[3]) for sent in (first, later)]
     found = {"type": "explain", "verdict": "split", "slot": run.slot(first[2]), "first": halves[0], "later": halves[1]}
-    return [head("explain"), found | {"drained": text.endswith(" drained")}]
+    return found | {"drained": text.endswith(" drained")}
 
 
 def simulated(run, *words):

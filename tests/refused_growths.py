@@ -139,6 +139,8 @@ CASES = [
     Case(["simulate", "--per-backend", "--per-node", "s.toml", "in.pcap", "out.pcap"], TWO + SHARES, files=SPLIT),
     Case(["run", "--per-backend", "--per-node", "s.toml", "in.pcap", "out.pcap"], TWO + "audit agrees\n" + SHARES, files=SPLIT, faults=[LOST]),
     Case(["explain", "--json", "s.toml", "in.pcap", "3", "5"], objects.text_of(objects.explained(TOLD, 3, 5)), files=SPLIT, faults=IN_OBJECTS),
+    Case(["explain", "--json", "--list", "s.toml", "in.pcap", "3", "5"], objects.text_of(objects.explained(TOLD, 3, 5, "--list")), files=SPLIT, faults=IN_OBJECTS),
+    Case(["explain", "--list", "s.toml", "in.pcap", "3", "5"], TOLD.told_of(3, 5) + TOLD.explained(3, 5), files=SPLIT),
     Case(["plan", "--json", "s.toml", "1", "2"], objects.text_of(objects.planned(model.plan(APART.decode(), 1, 2))), files=SPLIT, faults=IN_OBJECTS),
     Case(["plan", "s.toml", "1"], SHOWN, files=FILES),
     Case(["scenario", "in.pcap"], SKETCHED, files={"in.pcap": CAPTURE + 5 * CAPTURE[24:]}),

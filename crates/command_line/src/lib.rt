@@ -421,6 +421,13 @@ fn list<'a>(alloc: Global) -> Arg<'a> {
         .action(ArgAction::SetTrue)
 }
 
+fn list_two<'a>(alloc: Global) -> Arg<'a> {
+    Arg::new(alloc, "list")
+        .long("list")
+        .help("print the two events and their outcomes first, as simulate --list does")
+        .action(ArgAction::SetTrue)
+}
+
 fn version<'a>(alloc: Global, id: &'a str, name: &'a str, help: &'a str) -> Arg<'a> {
     Arg::new(alloc, id)
         .value_name(name)
@@ -498,6 +505,7 @@ fn simulate<'a>(alloc: Global) -> Result<Command<'a>, AllocError> {
 
 fn explain<'a>(alloc: Global) -> Result<Command<'a>, AllocError> {
     let args = [
+        list_two(alloc),
         cut(alloc),
         progress(alloc),
         json(alloc),

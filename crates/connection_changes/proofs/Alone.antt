@@ -1,5 +1,5 @@
 -- Where one worker without restarts sent all, no connection moved but for want of an entry.
-use Rattle.std.proofs.Common.{◌≡◌, ℕ, Bool, true, false, List, [], ◌∷◌, length, map, Option, Some, None, refl, sym, ap, ◌∙◌, subst, ◌⊎◌, ⊎_elim}
+use Rattle.std.proofs.Common.{◌≡◌, ℕ, Bool, true, List, [], ◌∷◌, length, Option, Some, None, refl, sym, ap, ◌∙◌, subst, ⊎_elim}
 use Rattle.std.specs.Prelude.{◌==◌, if◌then◌else◌}
 use Rattle.std.specs.List.{All, Contains}
 use Rattle.std.proofs.lemmas.Bool.{cases_eq, cond-true, cond-false, eq-eqb, ne_eqb}
@@ -17,11 +17,10 @@ use Rattle.run_report.specs.Causes.{Lookups, is_still_kept, has_drained, cause_o
 use Rattle.run_report.specs.Splits.{sent_by, sent_at, splits_of}
 use Rattle.run_report.specs.Pairs.{IsSplit}
 use Rattle.run_report.proofs.Pairs.{at_head, at_rest, each_split}
-use Rattle.connection_changes.specs.declared.causes.ChangeCause.{ChangeCause}
 use Rattle.connection_changes.specs.declared.causes.ChangeCause.TheVariants as causes
 use Rattle.connection_changes.specs.declared.sites.Site.{Site}
 use Rattle.connection_changes.specs.Sites.{begun_by, life_with, life_of, site_in, site_at}
-use Rattle.connection_changes.specs.Changes.{change_in, changes_of, is_past, cause_between, cause_in}
+use Rattle.connection_changes.specs.Changes.{change_in, changes_of, cause_between, cause_in}
 use Rattle.connection_changes.specs.Laws.{IsOutcomeBy, IsBy, MovesAreEvictions}
 
 module _ (n w : ℕ) where

@@ -1,9 +1,7 @@
 -- Each change has one cause.
-use Rattle.std.proofs.Common.{◌≡◌, ℕ, ◌+◌, suc, List, [], ◌∷◌, length, map, Option, refl, sym, ap, ◌∙◌, cond, arith}
-use Rattle.std.specs.List.{sum_by}
+use Rattle.std.proofs.Common.{◌≡◌, ℕ, ◌+◌, List, [], ◌∷◌, length, Option, refl, cond, arith}
 use Rattle.std.proofs.lemmas.List.Sums.{sum_by-cons}
 use Rattle.std.proofs.lemmas.List.{length-map}
-use Rattle.cluster_node.specs.declared.events.LogEntry.{LogEntry}
 use Rattle.run_report.specs.Causes.{Lookups}
 use Rattle.run_report.specs.Splits.{splits_of}
 use Rattle.connection_changes.specs.declared.causes.Change.{Change}

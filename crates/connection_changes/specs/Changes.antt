@@ -7,7 +7,6 @@ use Rattle.change_share.specs.declared.counts.ChangeCounts.{ChangeCounts}
 use Rattle.cluster_node.specs.declared.events.LogEntry.{LogEntry}
 use Rattle.run_report.specs.declared.cause.SplitCause.{SplitCause}
 use Rattle.run_report.specs.declared.cause.SplitCause.TheVariants as splits
-use Rattle.run_report.specs.declared.sending.Sending.{Sending}
 use Rattle.run_report.specs.declared.sending.Split.{Split}
 use Rattle.run_report.specs.Causes.{Lookups, cause_of}
 use Rattle.run_report.specs.Splits.{sent_by, last_sent, split_by, splits_of, flows_of}

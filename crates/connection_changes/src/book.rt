@@ -1,32 +1,32 @@
 //! The changes so far.
-ghost use Rattle.std.specs.Prelude.{◌≡◌, ◌∷◌, [], List, length, OnOk, option_copied, slice_get};
+ghost use Rattle.std.specs.Prelude.{◌≡◌, ◌∷◌, [], List, length, IfOk, OnOk, option_copied};
 ghost use Rattle.cluster_node.specs.declared.events.LogEntry.{LogEntry};
 ghost use Rattle.event_trace.specs.Noting.{said_by};
 ghost use Rattle.run_report.specs.Books.{IsBookOf};
-ghost use Rattle.connection_changes.specs.Sites.{sent_flow};
 ghost use Rattle.connection_changes.specs.Changes.{changed_of, changes_of, counts_of};
+ghost use Rattle.connection_changes.specs.Books.{placed_changes};
 
 use crate::causes::Change;
 use crate::changed::ChangedFlows;
 use crate::clocks::Clocks;
-use crate::last_sites::LastSites;
 use crate::sites::Site;
 use change_share::ChangeCounts;
 use cluster_node::{Event, Outcome, Packet};
 use connection_table::TableKey;
-use five_tuple::Flow;
-use run_report::{Split, SplitBook};
+use run_report::{Beside, Split, SplitBook};
 use std::alloc::{AllocError, Global};
 use std::fmt;
 
 /// What is known of a cluster's events so far: the splits with where their packets were sent, and the flows that were split.
 /// Changes are in the order of their later sends. The book's memory grows with the flows and the changes, and by 8 bytes with
-/// each record of the capture, and not with the events. Flows are hashed by a key.
+/// each record of the capture, and not with the events. Flows are hashed by a key. It answers what was settled.
 #[derive(Drop)]
 pub struct ChangeBook {
-    splits: SplitBook,
+    alloc: Global,
+    key: TableKey,
+    splits: SplitBook<Site>,
     clocks: Clocks,
-    last: LastSites,
+    // Of the splits that are settled.
     changed: ChangedFlows,
     changes: Vec<Change>,
 }
@@ -40,58 +40,43 @@ impl fmt::Debug for ChangeBook {
     }
 }
 
-// The flow of a packet that was sent.
-fn sent_flow(outcome: &Outcome) -> Option<Flow>
-    ensures { result ≡ sent_flow outcome.now }
+// The splits, each with where its packets were sent.
+fn changes_from(
+    alloc: Global,
+    splits: &[Split],
+    sites: &[Beside<Site>],
+) -> Result<Vec<Change>, AllocError>
+    ensures { IfOk result (λ v. v.items ≡ placed_changes splits.now sites.now) }
 {
-    match *outcome {
-        Outcome::Forward { flow, .. } => Some(flow),
-        _ => None,
+    let mut changes = Vec::new(alloc);
+    for (split, site) in splits.iter().zip(sites.iter()) {
+        let change = Change {
+            split: *split,
+            first: site.first,
+            later: site.later,
+        };
+        let Ok(()) = changes.push(change) else {
+            return Err(AllocError);
+        };
     }
-}
-
-fn split_at(splits: &[Split], place: usize) -> Option<Split>
-    ensures { result ≡ slice_get splits.now place }
-{
-    splits.get(place).copied()
+    Ok(changes)
 }
 
 impl ChangeBook {
-    ghost use Rattle.connection_changes.specs.Books.{IsChangeBookOf, IsNoted};
+    ghost use Rattle.connection_changes.specs.Books.{IsNotedChangeBookOf, IsChangeBookOf};
 
     /// The book of no events.
     pub fn new(alloc: Global, key: TableKey) -> ChangeBook
-        ensures { IsChangeBookOf [] result }
+        ensures { IsNotedChangeBookOf [] result }
     {
         ChangeBook {
+            alloc,
+            key,
             splits: SplitBook::new(alloc, key),
             clocks: Clocks::new(alloc),
-            last: LastSites::new(alloc, key),
             changed: ChangedFlows::new(alloc, key),
             changes: Vec::new(alloc),
         }
-    }
-
-    // The newest event is a send of this flow at this site, and there were so many splits before.
-    fn send(&mut self, flow: &Flow, site: &Site, before: usize) -> Result<(), AllocError>
-        ensures { (s : LogEntry) (past : List LogEntry) → IsNoted s past flow.now site.now before self.old → OnOk result (IsChangeBookOf (s ∷ past) self.new) }
-    {
-        let Some(first) = self.last.put(flow, site)? else {
-            return Ok(());
-        };
-        let Some(split) = split_at(self.splits.splits(), before) else {
-            return Ok(());
-        };
-        let change = Change {
-            split,
-            first,
-            later: *site,
-        };
-        self.changed.put(flow)?;
-        let Ok(()) = self.changes.push(change) else {
-            return Err(AllocError);
-        };
-        Ok(())
     }
 
     /// One event more, with the packet that it names where it is an arrival, and its outcome. Where memory is refused nothing
@@ -102,18 +87,22 @@ impl ChangeBook {
         packet: Option<&Packet>,
         outcome: &Outcome,
     ) -> Result<(), AllocError>
-        ensures { (past : List LogEntry) → IsChangeBookOf past self.old → OnOk result (IsChangeBookOf (said_by event.now (option_copied packet.entry) outcome.now ∷ past) self.new) }
+        ensures { (past : List LogEntry) → IsNotedChangeBookOf past self.old → OnOk result (IsNotedChangeBookOf (said_by event.now (option_copied packet.entry) outcome.now ∷ past) self.new) }
     {
-        let before = self.splits.splits().len();
-        self.splits.note(event, outcome)?;
         self.clocks.note(event, packet, outcome)?;
-        match sent_flow(outcome) {
-            None => Ok(()),
-            Some(flow) => {
-                let site = self.clocks.site(outcome);
-                self.send(&flow, &site, before)
-            }
-        }
+        let site = self.clocks.site(outcome);
+        self.splits.note(event, outcome, site)
+    }
+
+    /// What was noted is compared, and the book answers it. Where memory is refused nothing more is known of the book.
+    pub fn settle(&mut self) -> Result<(), AllocError>
+        ensures { (past : List LogEntry) → IsNotedChangeBookOf past self.old → OnOk result (IsChangeBookOf past self.new) }
+    {
+        self.splits.settle()?;
+        let splits = self.splits.splits();
+        self.changes = changes_from(self.alloc, splits, self.splits.besides())?;
+        self.changed = ChangedFlows::of_splits(self.alloc, self.key, splits)?;
+        Ok(())
     }
 
     /// How many connections changed their server.
@@ -141,7 +130,7 @@ impl ChangeBook {
     }
 
     /// The splits alone.
-    pub fn splits(&self) -> &SplitBook
+    pub fn splits(&self) -> &SplitBook<Site>
         ensures { (past : List LogEntry) → IsChangeBookOf past self.now → IsBookOf past result.now }
     {
         &self.splits

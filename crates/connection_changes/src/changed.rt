@@ -1,20 +1,21 @@
 //! The flows that changed their server.
-ghost use Rattle.std.specs.Prelude.{◌≡◌, [], ◌∷◌, List, length, OnOk, if◌then◌else◌};
+ghost use Rattle.std.specs.Prelude.{◌≡◌, [], ◌∷◌, ◌++◌, List, length, IfOk, OnOk, if◌then◌else◌};
 ghost use Rattle.std.specs.List.{list_any};
 ghost use Rattle.five_tuple.specs.declared.Flow.{Flow};
 ghost use Rattle.connection_table.specs.Touches.{same_flow};
+ghost use Rattle.connection_changes.specs.Changes.{changed_with};
 ghost use Rattle.connection_changes.specs.Books.{AreChanged};
 
-use crate::last_sites::FlowKey;
 use connection_table::TableKey;
 use five_tuple::Flow;
+use run_report::Split;
 use std::alloc::{AllocError, Global};
 use std::collections::HashSet;
 
 /// The flows that changed their server, each once.
 #[derive(Drop)]
 pub(crate) struct ChangedFlows {
-    flows: HashSet<FlowKey, TableKey>,
+    flows: HashSet<Flow, TableKey>,
 }
 
 impl ChangedFlows {
@@ -27,6 +28,21 @@ impl ChangedFlows {
         }
     }
 
+    /// Those of these splits.
+    pub(crate) fn of_splits(
+        alloc: Global,
+        key: TableKey,
+        splits: &[Split],
+    ) -> Result<ChangedFlows, AllocError>
+        ensures { IfOk result (λ c. AreChanged (changed_with splits.now []) c) }
+    {
+        let mut changed = ChangedFlows::new(alloc, key);
+        for split in splits {
+            changed.put(&split.later.flow)?;
+        }
+        Ok(changed)
+    }
+
     /// How many there are.
     pub(crate) fn len(&self) -> usize
         ensures { (xs : List Flow) → AreChanged xs self.now → result ≡ length xs }
@@ -34,11 +50,11 @@ impl ChangedFlows {
         self.flows.len()
     }
 
-    /// One flow more, if it isn't there yet.
-    pub(crate) fn put(&mut self, flow: &Flow) -> Result<(), AllocError>
+    // One flow more, if it isn't there yet.
+    fn put(&mut self, flow: &Flow) -> Result<(), AllocError>
         ensures { (xs : List Flow) → AreChanged xs self.old → OnOk result (AreChanged (if list_any (same_flow flow.now) xs then xs else flow.now ∷ xs) self.new) }
     {
-        let Ok(_) = self.flows.insert(FlowKey { flow: *flow }) else {
+        let Ok(_) = self.flows.insert(*flow) else {
             return Err(AllocError);
         };
         Ok(())

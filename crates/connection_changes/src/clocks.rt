@@ -2,35 +2,21 @@
 ghost use Rattle.std.specs.Prelude.{◌≡◌, ◌==◌, ◌&&◌, ◌+◌, ◌∷◌, [], ℕ, List, IfOk, OnOk, slice_index, option_copied, if◌then◌else◌};
 ghost use Rattle.cluster_node.specs.declared.events.LogEntry.{LogEntry};
 ghost use Rattle.event_trace.specs.Noting.{said_by};
-ghost use Rattle.connection_changes.specs.Sites.{time_with, life_with, clock_with, site_in};
-ghost use Rattle.connection_changes.specs.Books.{clock_told, life_in, clock_in, AreYoung, AreClocksOf};
+ghost use Rattle.connection_changes.specs.Sites.{time_with, life_with, clock_begun, clock_with, site_in};
+ghost use Rattle.connection_changes.specs.Books.{life_in, clock_in, AreClocksOf};
 
 use crate::numbers::Numbers;
 use crate::sites::{Arrived, Served, Site, arrived_by, begun_by, served_by};
+use crate::worker_numbers::WorkerNumbers;
 use cluster_node::{Event, Outcome, Packet};
 use std::alloc::{AllocError, Global};
-use std::collections::HashMap;
 
-#[derive(Clone, Copy, PartialEq, Eq, Hash)]
-struct WorkerKey {
-    node: u16,
-    worker: u16,
-}
-
-/// A worker's clock in a life of its node.
-#[derive(Clone, Copy)]
-struct LifeClock {
-    life: u64,
-    at: u64,
-}
-
-/// The time of each record that arrived, the life of each node, and the clock of each worker. A clock of an earlier life is
-/// left where it is, and counts for nothing.
+/// The time of each record that arrived, the life of each node, and the clock of each worker in its node's life.
 #[derive(Drop)]
 pub(crate) struct Clocks {
     times: Numbers,
     lives: Numbers,
-    clocks: HashMap<WorkerKey, LifeClock>,
+    clocks: WorkerNumbers,
 }
 
 // The number of the next life. Where it has no room it is refused, as memory is.
@@ -43,16 +29,6 @@ fn next(life: u64) -> Result<u64, AllocError>
     }
 }
 
-// A worker's clock in this life, by what was put last.
-fn clock_told(life: u64, last: Option<LifeClock>) -> u64
-    ensures { result ≡ clock_told life last }
-{
-    match last {
-        None => 0,
-        Some(last) => { if last.life == life { last.at } else { 0 } }
-    }
-}
-
 impl Clocks {
     /// Those of no events.
     pub(crate) fn new(alloc: Global) -> Clocks
@@ -61,7 +37,7 @@ impl Clocks {
         Clocks {
             times: Numbers::new(alloc),
             lives: Numbers::new(alloc),
-            clocks: HashMap::new(alloc),
+            clocks: WorkerNumbers::new(alloc),
         }
     }
 
@@ -69,8 +45,7 @@ impl Clocks {
     fn clock(&self, node: u16, worker: u16) -> u64
         ensures { result ≡ clock_in self.now node worker }
     {
-        let last = self.clocks.get(&WorkerKey { node, worker }).copied();
-        clock_told(self.lives.at(u32::from(node)), last)
+        self.clocks.at(node, worker)
     }
 
     // A record's time is known.
@@ -84,14 +59,16 @@ impl Clocks {
         }
     }
 
-    // A node's life begins.
+    // A node's life begins, with no clocks.
     fn begin(&mut self, begun: Option<u16>) -> Result<(), AllocError>
         ensures lives { OnOk result ((n : ℕ) → life_in self.new n ≡ life_with begun n (life_in self.old n)) }
-        ensures rest { self.new ≡ record self.old { lives = self.new.lives } }
+        ensures clocks { OnOk result ((n w : ℕ) → clock_in self.new n w ≡ clock_begun begun n (clock_in self.old n w)) }
+        ensures times { self.new.times ≡ self.old.times }
     {
         match begun {
             None => Ok(()),
             Some(node) => {
+                self.clocks.forget(node);
                 let node = u32::from(node);
                 let life = next(self.lives.at(node))?;
                 self.lives.put(node, life)
@@ -99,26 +76,9 @@ impl Clocks {
         }
     }
 
-    // A worker's clock is this in its node's life.
-    fn put(&mut self, node: u16, worker: u16, at: u64) -> Result<(), AllocError>
-        ensures clocks { OnOk result ((n w : ℕ) → clock_in self.new n w ≡ (if node == n && worker == w then at else clock_in self.old n w)) }
-        ensures young { AreYoung self.old → OnOk result (AreYoung self.new) }
-        ensures rest { self.new ≡ record self.old { clocks = self.new.clocks } }
-    {
-        let life = self.lives.at(u32::from(node));
-        let Ok(_) = self
-            .clocks
-            .insert(WorkerKey { node, worker }, LifeClock { life, at })
-        else {
-            return Err(AllocError);
-        };
-        Ok(())
-    }
-
     // A worker serves a packet.
     fn serve(&mut self, served: Option<Served>) -> Result<(), AllocError>
         ensures clocks { OnOk result ((n w : ℕ) → clock_in self.new n w ≡ clock_with served (λ k. slice_index self.old.times.all.items k) n w (clock_in self.old n w)) }
-        ensures young { AreYoung self.old → OnOk result (AreYoung self.new) }
         ensures rest { self.new ≡ record self.old { clocks = self.new.clocks } }
     {
         match served {
@@ -130,7 +90,7 @@ impl Clocks {
                     packet,
                 } = served;
                 let clock = self.clock(node, worker).max(self.times.at(packet));
-                self.put(node, worker, clock)
+                self.clocks.put(node, worker, clock)
             }
         }
     }

@@ -1,19 +1,19 @@
 //! Which connections changed their server: where both packets were sent, and why the later one went elsewhere.
 //!
-//! A change is a split with the sites of its two sends. `ChangeBook` finds them as a cluster's events come. It keeps the last
-//! site of each flow and the changes, the times of records, and a clock for each worker, and no event.
+//! A change is a split with the sites of its two sends. `ChangeBook` finds them as a cluster's events come. It keeps each flow's
+//! last send with its site, the splits, the times of records, and a clock for each worker, and no event.
 #![tactic(auto)]
 
 mod book;
 mod causes;
 mod changed;
 mod clocks;
-mod last_sites;
 mod laws;
 mod lines;
 mod numbers;
 mod sites;
 mod summary;
+mod worker_numbers;
 
 pub use book::ChangeBook;
 pub use causes::{Change, ChangeCause, cause_between};

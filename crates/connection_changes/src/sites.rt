@@ -10,9 +10,9 @@ use cluster_node::{Event, Outcome, Packet};
 #[derive(Clone, Copy, Debug, PartialEq, Eq)]
 pub struct Site {
     pub packet: u32,
-    pub time: u64,
     pub node: u16,
     pub worker: u16,
+    pub time: u64,
     pub life: u64,
     pub clock: u64,
 }

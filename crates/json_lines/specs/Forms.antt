@@ -79,7 +79,11 @@ abbrev pub summary_as : Form → Lookups → Option ℕ → List LogEntry → Li
 summary_as Plain lookups idle past = summary_text lookups idle past
 summary_as Json lookups idle past = summary_json lookups idle past
 
--- an explanation, with what its output begins with
+-- why two packets went where they went
 abbrev pub verdict_as : Form → Verdict → Bool → List ℕ
 verdict_as Plain verdict drained = explained_text verdict drained
-verdict_as Json verdict drained = head_json (codes "explain") ++ verdict_json verdict drained
+verdict_as Json verdict drained = verdict_json verdict drained
+
+-- the same behind the lines of some events, with what the output begins with
+abbrev pub explanation_as : Form → List ℕ → Verdict → Bool → List ℕ
+explanation_as form lines verdict drained = (head_as form (codes "explain") ++ lines) ++ verdict_as form verdict drained

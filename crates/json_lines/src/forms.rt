@@ -8,7 +8,7 @@ ghost use Rattle.run_report.specs.Causes.{Lookups, lookups_of};
 ghost use Rattle.connection_changes.specs.Books.{IsChangeBookOf};
 ghost use Rattle.traffic_shares.specs.declared.holders.ShareKind.{ShareKind};
 ghost use Rattle.traffic_shares.specs.Books.{BookIf};
-ghost use Rattle.json_lines.specs.Forms.{head_as, event_as, splits_as, places_as, report_as, audit_as, share_lines_if, shares_as, summary_as, verdict_as};
+ghost use Rattle.json_lines.specs.Forms.{head_as, event_as, splits_as, places_as, report_as, audit_as, share_lines_if, shares_as, summary_as, verdict_as, explanation_as};
 
 use crate::events::push_json_event;
 use crate::heads::{push_json_audit, push_json_head};
@@ -71,12 +71,12 @@ impl Form {
     }
 
     /// Puts a line for each split of a book after a text, and then their counts.
-    pub fn push_splits<H: FlowHash>(
+    pub fn push_splits<H: FlowHash, T: Copy>(
         self,
         text: &mut String,
         hash: &H,
         catalogue: &Catalogue,
-        book: &SplitBook,
+        book: &SplitBook<T>,
     ) -> Result<(), AllocError>
         ensures { (past : List LogEntry) → IsBookOf past book.now →
             OnOk result (string_bytes text.new ≡ string_bytes text.old
@@ -192,23 +192,40 @@ impl Form {
         }
     }
 
-    /// Why two packets went where they went, with whether the first one's server left after it had drained.
-    pub fn verdict(
+    /// Why two packets went where they went, behind the lines of their events: for none of these it is the verdict alone. It says
+    /// whether the first one's server left after it had drained.
+    pub fn explanation(
         self,
         alloc: Global,
+        lines: &str,
         verdict: &Verdict,
         drained: bool,
     ) -> Result<String, AllocError>
-        ensures { IfOk result (λ s. string_bytes s ≡ verdict_as self verdict.now drained) }
+        ensures { IfOk result (λ s. string_bytes s ≡ explanation_as self lines.now verdict.now drained) }
+    {
+        let mut text = String::new(alloc);
+        self.push_head(&mut text, "explain")?;
+        text.push_str(lines)?;
+        self.push_verdict(alloc, &mut text, verdict, drained)?;
+        Ok(text)
+    }
+
+    // The line of a verdict.
+    fn push_verdict(
+        self,
+        alloc: Global,
+        text: &mut String,
+        verdict: &Verdict,
+        drained: bool,
+    ) -> Result<(), AllocError>
+        ensures { OnOk result (string_bytes text.new ≡ string_bytes text.old ++ verdict_as self verdict.now drained) }
     {
         match self {
-            Form::Plain => explained_text(alloc, verdict, drained),
-            Form::Json => {
-                let mut text = String::new(alloc);
-                push_json_head(&mut text, "explain")?;
-                push_json_verdict(&mut text, verdict, drained)?;
-                Ok(text)
+            Form::Plain => {
+                let line = explained_text(alloc, verdict, drained)?;
+                text.push_str(line.as_str())
             }
+            Form::Json => push_json_verdict(text, verdict, drained),
         }
     }
 }

@@ -109,10 +109,10 @@ fn push_counts(text: &mut String, flows: usize, split: usize, gone: Gone) -> Res
 }
 
 /// Puts the line of the counts of a book's splits after a text.
-pub(crate) fn push_split_counts(
+pub(crate) fn push_split_counts<T: Copy>(
     text: &mut String,
     catalogue: &Catalogue,
-    book: &SplitBook,
+    book: &SplitBook<T>,
 ) -> Result<(), AllocError>
     ensures { (past : List LogEntry) (lookups : Lookups) → lookups.ups ≡ (λ v x. candidates_of catalogue.now v x) → lookups.versions ≡ catalogue.now.versions →
         IsBookOf past book.now →
@@ -125,11 +125,11 @@ pub(crate) fn push_split_counts(
 
 /// Puts a line for each split of a book after a text, and then one with the counts of flows and splits. Splits whose server
 /// left after it had drained are always counted.
-pub fn push_json_splits<H: FlowHash>(
+pub fn push_json_splits<H: FlowHash, T: Copy>(
     text: &mut String,
     hash: &H,
     catalogue: &Catalogue,
-    book: &SplitBook,
+    book: &SplitBook<T>,
 ) -> Result<(), AllocError>
     ensures { (past : List LogEntry) → IsBookOf past book.now →
         OnOk result (string_bytes text.new ≡ string_bytes text.old ++ splits_json (lookups_of (H.plain hash.now) catalogue.now.size catalogue.now) past) }

@@ -22,7 +22,7 @@ use scenario_commands::simulate_listed;
 use scenario_faults::PlacedFault;
 use scenario_warnings::{warning_text, warnings};
 use shown_text::shown;
-use simulate_scenario::{Query, Wanted};
+use simulate_scenario::{Query, TwoEvents, Wanted};
 use std::alloc::AllocError;
 use std::io::Write;
 
@@ -270,8 +270,12 @@ pub(crate) fn run_explain(rt: &HostRuntime, matches: &ArgMatches<'_>) -> u8 {
     ) else {
         return USAGE;
     };
-    let form = form_of(matches);
-    let asked = Query::Events { one, other, form };
+    let asked = Query::Events(TwoEvents {
+        one,
+        other,
+        list: matches.get_flag("list"),
+        form: form_of(matches),
+    });
     let Some(paths) = paths_of(matches, "standard output") else {
         return USAGE;
     };

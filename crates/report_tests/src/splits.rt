@@ -132,22 +132,29 @@ fn outcome_of(rt: &impl Abort, row: &Row) -> Outcome {
 }
 
 // The book of these servings, noted one by one.
-fn book_of(rt: &impl Abort, alloc: Global, rows: &[Row]) -> SplitBook {
+fn book_of(rt: &impl Abort, alloc: Global, rows: &[Row]) -> SplitBook<()> {
     let mut book = SplitBook::new(alloc, TableKey::fixed());
     for row in rows {
         let outcome = outcome_of(rt, row);
-        book.note(&serve(row.0), &outcome).expect(rt, "memory");
+        book.note(&serve(row.0), &outcome, ()).expect(rt, "memory");
     }
+    book.settle().expect(rt, "memory");
     book
 }
 
-fn tells_by(rt: &impl Abort, alloc: Global, catalogue: &Catalogue, book: &SplitBook, lines: &str) {
+fn tells_by(
+    rt: &impl Abort,
+    alloc: Global,
+    catalogue: &Catalogue,
+    book: &SplitBook<()>,
+    lines: &str,
+) {
     let mut text = String::new(alloc);
     push_splits(&mut text, &SumHash, catalogue, book).expect(rt, "memory");
     same_text(rt, text.as_str(), lines);
 }
 
-fn tells(rt: &impl Abort, alloc: Global, book: &SplitBook, lines: &str) {
+fn tells(rt: &impl Abort, alloc: Global, book: &SplitBook<()>, lines: &str) {
     tells_by(rt, alloc, &catalogue(rt, alloc), book, lines);
 }
 
@@ -160,8 +167,9 @@ fn nothing_was_sent(rt: HostRuntime) {
         node: 0,
         version: 1,
     };
-    book.note(&installed, &Outcome::Installed)
+    book.note(&installed, &Outcome::Installed, ())
         .expect(&rt, "memory");
+    book.settle().expect(&rt, "memory");
     tells(&rt, rt.alloc(), &book, counts);
     holds(&rt, book.flows() == 0, "no flows");
     holds(&rt, book.splits().is_empty(), "no splits");
@@ -211,6 +219,45 @@ fn causes(rt: HostRuntime) {
         holds(&rt, cause_of(&catalogue, split) == SplitCause::Down, "down");
         holds(&rt, split.first.number == place as u64, "the first");
         holds(&rt, split.later.number > split.first.number, "the later");
+    }
+}
+
+// A book that keeps a number beside each send, of so many servings of two flows. The flow of the even ones changes its backend
+// at each, and the other never.
+fn book_with_numbers(rt: &impl Abort, alloc: Global, servings: u32) -> SplitBook<u32> {
+    let mut book = SplitBook::new(alloc, TableKey::fixed());
+    let a = backend(rt, b"A", 0x0a08_0001);
+    let c = backend(rt, b"C", 0x0a08_0003);
+    for number in 0..servings {
+        let to = if number % 4 == 0 { a } else { c };
+        let outcome = if number % 2 == 0 {
+            forward(1006, to, 1)
+        } else {
+            forward(1000, a, 1)
+        };
+        book.note(&serve(1), &outcome, number).expect(rt, "memory");
+    }
+    book.settle().expect(rt, "memory");
+    book
+}
+
+// More sends than are noted before they are compared: each is compared once, in order, with what was kept beside it.
+#[test]
+fn many_sends(rt: HostRuntime) {
+    let book = book_with_numbers(&rt, rt.alloc(), 3000);
+    holds(&rt, book.flows() == 2, "two flows");
+    holds(&rt, book.splits().len() == 1499, "all splits");
+    for (place, beside) in book.besides().iter().enumerate() {
+        let first = 2 * place as u64;
+        holds(&rt, u64::from(beside.first) == first, "beside the first");
+        holds(
+            &rt,
+            u64::from(beside.later) == first.wrapping_add(2),
+            "beside the later",
+        );
+    }
+    for (place, split) in book.splits().iter().enumerate() {
+        holds(&rt, split.first.number == 2 * place as u64, "the first");
     }
 }
 

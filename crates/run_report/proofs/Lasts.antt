@@ -11,77 +11,74 @@ use Rattle.run_report.specs.declared.backends.Backends.{Backends}
 use Rattle.run_report.specs.declared.last_sends.FlowKey.{FlowKey}
 use Rattle.run_report.specs.declared.last_sends.LastSend.{LastSend}
 use Rattle.run_report.specs.declared.last_sends.LastSends.{LastSends}
-use Rattle.run_report.specs.declared.sending.Sending.{Sending}
+use Rattle.run_report.specs.declared.noted.Noted.{Noted}
 use Rattle.run_report.specs.Books.{Keeps, same_key, told, AreLast}
 
--- an entry stands for the same send while its backend keeps its place
-told_yet : (old new : List Backend) → Keeps old new → (x : Flow) (o : Option LastSend) (s : Option Sending)
-    → option_map (λ l. told old x l) o ≡ option_map Some s → option_map (λ l. told new x l) o ≡ option_map Some s
-told_yet old new k x None s h = h
-told_yet old new k x (Some l) None h = absurd cc
-told_yet old new k x (Some l) (Some t) h = go (slice_get old l.place) refl
-  where
-    sending : Backend → Sending
-    sending b = record { number = l.number; flow = x; version = l.version; backend = b; origin = l.origin }
+module _ {T : Type 0} where
+  abbrev sending_of : Flow → LastSend T → Backend → Noted T
+  sending_of x l b = record { sending = record { number = l.number; flow = x; version = l.version; backend = b; origin = l.origin }; beside = l.beside }
 
-    go : (b : Option Backend) → slice_get old l.place ≡ b → Some (told new x l) ≡ Some (Some t)
-    go None n = absurd (none-some t (same_Some None (Some t) (sym (ap (λ (y : Option Backend). Some (option_map sending y)) n) ∙ h)))
-    go (Some b) n = ap (λ (y : Option Backend). Some (option_map sending y)) (k l.place b n ∙ sym n) ∙ h
+  -- an entry represents the same send while its backend keeps its place
+  told_yet : (old new : List Backend) → Keeps old new → (x : Flow) (o : Option (LastSend T)) (s : Option (Noted T))
+      → option_map (λ l. told old x l) o ≡ option_map Some s → option_map (λ l. told new x l) o ≡ option_map Some s
+  told_yet old new k x None s h = h
+  told_yet old new k x (Some l) None h = absurd cc
+  told_yet old new k x (Some l) (Some t) h = go (slice_get old l.place) refl
+    where
+      go : (b : Option Backend) → slice_get old l.place ≡ b → Some (told new x l) ≡ Some (Some t)
+      go None n = absurd (none-some t (same_Some None (Some t) (sym (ap (λ (y : Option Backend). Some (option_map (sending_of x l) y)) n) ∙ h)))
+      go (Some b) n = ap (λ (y : Option Backend). Some (option_map (sending_of x l) y)) (k l.place b n ∙ sym n) ∙ h
 
--- a send is its flow's last
-told_now : (new : List Backend) (l : LastSend) (later : Sending) → slice_get new l.place ≡ Some later.backend → l.number ≡ later.number → l.version ≡ later.version
-    → l.origin ≡ later.origin → (x : Flow) → same_flow later.flow x ≡ true → told new x l ≡ Some later
-told_now new l later at number version origin x is =
-    subst (λ (y : Flow). told new y l ≡ Some later) (same_flow-true later.flow x is)
-    (ap (λ (b : Option Backend). option_map (made l.number l.version l.origin) b) at
-    ∙ ap (λ (n : ℕ). Some (made n l.version l.origin later.backend)) number
-    ∙ ap (λ (n : ℕ). Some (made later.number n l.origin later.backend)) version
-    ∙ ap (λ (n : ℕ). Some (made later.number later.version n later.backend)) origin)
-  where
-    made : ℕ → ℕ → ℕ → Backend → Sending
-    made n v o b = record { number = n; flow = later.flow; version = v; backend = b; origin = o }
+  -- the entry of a send at its backend's place
+  abbrev pub entry_of : ℕ → Noted T → LastSend T
+  entry_of place n = record { number = n.sending.number; place = place; version = n.sending.version; origin = n.sending.origin; beside = n.beside }
 
-pub last_more : (sent : Flow → Option Sending) (old new : LastSends) (l : LastSend) (later : Sending) → AreLast sent old → Keeps old.backends.all.items new.backends.all.items
-    → slice_get new.backends.all.items l.place ≡ Some later.backend → l.number ≡ later.number → l.version ≡ later.version → l.origin ≡ later.origin
-    → ((q : FlowKey) → get same_key new.sends q ≡ cond (same_key (record { flow = later.flow }) q) (Some l) (get same_key old.sends q))
-    → AreLast (λ x. if same_flow later.flow x then Some later else sent x) new
-last_more sent old new l later h k at number version origin put = record { each = λ x. go x (same_flow later.flow x) refl }
-  where
-    go : (x : Flow) (b : Bool) → same_flow later.flow x ≡ b → option_map (λ s. told new.backends.all.items x s) (get same_key new.sends (record { flow = x })) ≡ option_map Some (if b then Some later else sent x)
-    go x true is =
-        ap (λ (o : Option LastSend). option_map (λ s. told new.backends.all.items x s) o)
-        (put (record { flow = x }) ∙ ap (λ (c : Bool). cond c (Some l) (get same_key old.sends (record { flow = x }))) is)
-        ∙ ap Some (told_now new.backends.all.items l later at number version origin x is)
-    go x false is =
-        ap (λ (o : Option LastSend). option_map (λ s. told new.backends.all.items x s) o)
-        (put (record { flow = x }) ∙ ap (λ (c : Bool). cond c (Some l) (get same_key old.sends (record { flow = x }))) is)
-        ∙ told_yet old.backends.all.items new.backends.all.items k x (get same_key old.sends (record { flow = x })) (sent x) (h.each x)
+  -- a send is its flow's last
+  told_now : (new : List Backend) (place : ℕ) (later : Noted T) → slice_get new place ≡ Some later.sending.backend → (x : Flow) → same_flow later.sending.flow x ≡ true
+      → told new x (entry_of place later) ≡ Some later
+  told_now new place later at x is =
+      subst (λ (y : Flow). told new y (entry_of place later) ≡ Some later) (same_flow-true later.sending.flow x is)
+      (ap (λ (b : Option Backend). option_map (sending_of later.sending.flow (entry_of place later)) b) at)
 
--- a map that was written its own value has the same values
-same_value : (o : Option LastSend) (p : Option LastSend) (l : LastSend) (b : Bool) → (b ≡ true → p ≡ Some l) → o ≡ cond b (Some l) p → o ≡ p
-same_value o p l true is e = e ∙ sym (is refl)
-same_value o p l false is e = e
+  pub last_more : (sent : Flow → Option (Noted T)) (old new : LastSends T) (place : ℕ) (later : Noted T) → AreLast sent old → Keeps old.backends.all.items new.backends.all.items
+      → slice_get new.backends.all.items place ≡ Some later.sending.backend
+      → ((q : FlowKey) → get same_key new.sends q ≡ cond (same_key (record { flow = later.sending.flow }) q) (Some (entry_of place later)) (get same_key old.sends q))
+      → AreLast (λ x. if same_flow later.sending.flow x then Some later else sent x) new
+  last_more sent old new place later h k at put = record { each = λ x. go x (same_flow later.sending.flow x) refl }
+    where
+      go : (x : Flow) (b : Bool) → same_flow later.sending.flow x ≡ b
+          → option_map (λ s. told new.backends.all.items x s) (get same_key new.sends (record { flow = x })) ≡ option_map Some (if b then Some later else sent x)
+      go x true is =
+          ap (λ (o : Option (LastSend T)). option_map (λ s. told new.backends.all.items x s) o)
+          (put (record { flow = x }) ∙ ap (λ (c : Bool). cond c (Some (entry_of place later)) (get same_key old.sends (record { flow = x }))) is)
+          ∙ ap Some (told_now new.backends.all.items place later at x is)
+      go x false is =
+          ap (λ (o : Option (LastSend T)). option_map (λ s. told new.backends.all.items x s) o)
+          (put (record { flow = x }) ∙ ap (λ (c : Bool). cond c (Some (entry_of place later)) (get same_key old.sends (record { flow = x }))) is)
+          ∙ told_yet old.backends.all.items new.backends.all.items k x (get same_key old.sends (record { flow = x })) (sent x) (h.each x)
 
-pub kept_yet : (sent : Flow → Option Sending) (old new : LastSends) (flow : Flow) (l : LastSend) → AreLast sent old → new.backends ≡ old.backends
-    → get same_key old.sends (record { flow = flow }) ≡ Some l
-    → ((q : FlowKey) → get same_key new.sends q ≡ cond (same_key (record { flow = flow }) q) (Some l) (get same_key old.sends q)) → AreLast sent new
-kept_yet sent old new flow l h same found put = record {
-  each = λ x.
-      ap (λ (bs : Backends). option_map (λ s. told bs.all.items x s) (get same_key new.sends (record { flow = x }))) same
-      ∙ ap (λ (o : Option LastSend). option_map (λ s. told old.backends.all.items x s) o)
-      (same_value (get same_key new.sends (record { flow = x })) (get same_key old.sends (record { flow = x })) l (same_flow flow x)
-      (λ e. subst (λ (y : Flow). get same_key old.sends (record { flow = y }) ≡ Some l) (same_flow-true flow x e) found) (put (record { flow = x })))
-      ∙ h.each x;
-}
+  -- a map that was written its own value has the same values
+  same_value : (o : Option (LastSend T)) (p : Option (LastSend T)) (l : LastSend T) (b : Bool) → (b ≡ true → p ≡ Some l) → o ≡ cond b (Some l) p → o ≡ p
+  same_value o p l true is e = e ∙ sym (is refl)
+  same_value o p l false is e = e
 
--- the flow's last send, where its entry has this backend
-pub first_is : (sent : Flow → Option Sending) (old : LastSends) (flow : Flow) (l : LastSend) (b : Backend) → AreLast sent old → get same_key old.sends (record { flow = flow }) ≡ Some l
-    → slice_get old.backends.all.items l.place ≡ Some b → sent flow ≡ Some (record { number = l.number; flow = flow; version = l.version; backend = b; origin = l.origin })
-first_is sent old flow l b h found at = go (sent flow) (sym (h.each flow) ∙ ap (λ (o : Option LastSend). option_map (λ s. told old.backends.all.items flow s) o) found ∙ ap (λ (o : Option Backend). Some (option_map made o)) at)
-  where
-    made : Backend → Sending
-    made b = record { number = l.number; flow = flow; version = l.version; backend = b; origin = l.origin }
+  pub kept_yet : (sent : Flow → Option (Noted T)) (old new : LastSends T) (flow : Flow) (l : LastSend T) → AreLast sent old → new.backends ≡ old.backends
+      → get same_key old.sends (record { flow = flow }) ≡ Some l
+      → ((q : FlowKey) → get same_key new.sends q ≡ cond (same_key (record { flow = flow }) q) (Some l) (get same_key old.sends q)) → AreLast sent new
+  kept_yet sent old new flow l h same found put = record {
+    each = λ x.
+        ap (λ (bs : Backends). option_map (λ s. told bs.all.items x s) (get same_key new.sends (record { flow = x }))) same
+        ∙ ap (λ (o : Option (LastSend T)). option_map (λ s. told old.backends.all.items x s) o)
+        (same_value (get same_key new.sends (record { flow = x })) (get same_key old.sends (record { flow = x })) l (same_flow flow x)
+        (λ e. subst (λ (y : Flow). get same_key old.sends (record { flow = y }) ≡ Some l) (same_flow-true flow x e) found) (put (record { flow = x })))
+        ∙ h.each x;
+  }
 
-    go : (o : Option Sending) → option_map Some o ≡ Some (Some (made b)) → o ≡ Some (made b)
-    go None e = absurd cc
-    go (Some s) e = same_Some (Some s) (Some (made b)) e
+  -- the flow's last send, where its entry has this backend
+  pub first_is : (sent : Flow → Option (Noted T)) (old : LastSends T) (flow : Flow) (l : LastSend T) (b : Backend) → AreLast sent old → get same_key old.sends (record { flow = flow }) ≡ Some l
+      → slice_get old.backends.all.items l.place ≡ Some b → sent flow ≡ Some (sending_of flow l b)
+  first_is sent old flow l b h found at = go (sent flow) (sym (h.each flow) ∙ ap (λ (o : Option (LastSend T)). option_map (λ s. told old.backends.all.items flow s) o) found ∙ ap (λ (o : Option Backend). Some (option_map (sending_of flow l) o)) at)
+    where
+      go : (o : Option (Noted T)) → option_map Some o ≡ Some (Some (sending_of flow l b)) → o ≡ Some (sending_of flow l b)
+      go None e = absurd cc
+      go (Some s) e = same_Some (Some s) (Some (sending_of flow l b)) e

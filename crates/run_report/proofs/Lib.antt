@@ -1,6 +1,7 @@
 pub mod Ascii
 pub mod Walks
 pub mod Lasts
+pub mod Noting
 pub mod Members
 pub mod Pairs
 pub mod Explained

@@ -1,5 +1,5 @@
 -- A book of each flow's last send, and of the splits so far, is that of a record.
-use Rattle.std.specs.Prelude.{◌≡◌, ℕ, Bool, true, false, List, length, Option, Some, option_map, slice_get, if◌then◌else◌}
+use Rattle.std.specs.Prelude.{◌≡◌, ℕ, Bool, true, false, List, ◌++◌, length, map, reverse, Option, Some, option_map, slice_get, if◌then◌else◌}
 use Rattle.std.specs.HashMap.{get, hash_map_len}
 use Rattle.five_tuple.specs.declared.Flow.{Flow}
 use Rattle.connection_table.specs.Touches.{same_flow}
@@ -9,8 +9,9 @@ use Rattle.run_report.specs.declared.book.SplitBook.{SplitBook}
 use Rattle.run_report.specs.declared.last_sends.FlowKey.{FlowKey}
 use Rattle.run_report.specs.declared.last_sends.LastSend.{LastSend}
 use Rattle.run_report.specs.declared.last_sends.LastSends.{LastSends}
-use Rattle.run_report.specs.declared.sending.Sending.{Sending}
-use Rattle.run_report.specs.Splits.{last_sent, splits_of, flows_of}
+use Rattle.run_report.specs.declared.noted.Noted.{Noted}
+use Rattle.run_report.specs.Noting.{last_noted, splits_noted, besides_noted, count_noted, sends_of}
+use Rattle.run_report.specs.Splits.{splits_of, flows_of}
 
 -- each place of the one list is the same backend's in the other
 abbrev pub Keeps : List Backend → List Backend → Type 0
@@ -20,25 +21,45 @@ abbrev pub same_key : FlowKey → FlowKey → Bool
 same_key a b = same_flow a.flow b.flow
 
 -- the send that a flow's entry represents, by the backend at its place
-abbrev pub told : List Backend → Flow → LastSend → Option Sending
-told backends x l = option_map (λ b. record { number = l.number; flow = x; version = l.version; backend = b; origin = l.origin }) (slice_get backends l.place)
+abbrev pub told : {T : Type 0} → List Backend → Flow → LastSend T → Option (Noted T)
+told backends x l =
+    option_map (λ b. record { sending = record { number = l.number; flow = x; version = l.version; backend = b; origin = l.origin }; beside = l.beside }) (slice_get backends l.place)
 
 -- each flow's entry represents its last send, and the others have none
-pub record AreLast (sent : Flow → Option Sending) (l : LastSends) : Type 0 where
+pub record AreLast {T : Type 0} (sent : Flow → Option (Noted T)) (l : LastSends T) : Type 0 where
   pub each : (x : Flow) → option_map (λ s. told l.backends.all.items x s) (get same_key l.sends (record { flow = x })) ≡ option_map Some (sent x)
 
 -- these sends with one that is its flow's last
-abbrev pub with_send : (Flow → Option Sending) → Sending → Flow → Option Sending
-with_send sent later x = if same_flow later.flow x then Some later else sent x
+abbrev pub with_send : {T : Type 0} → (Flow → Option (Noted T)) → Noted T → Flow → Option (Noted T)
+with_send sent later x = if same_flow later.sending.flow x then Some later else sent x
 
 -- Where the flow's last send went to the same backend the later one has taken its place. Else nothing has changed.
-abbrev pub RenewedAs : Bool → (Flow → Option Sending) → Sending → LastSends → LastSends → Type 0
-RenewedAs true sent later old new =
-    (first : Sending) × (sent later.flow ≡ Some first) × (first.backend ≡ later.backend) × AreLast (with_send sent later) new × (hash_map_len new.sends ≡ hash_map_len old.sends)
+abbrev pub RenewedAs : {T : Type 0} → Bool → (Flow → Option (Noted T)) → Noted T → LastSends T → LastSends T → Type 0
+RenewedAs {T} true sent later old new =
+    (first : Noted T) × (sent later.sending.flow ≡ Some first) × (first.sending.backend ≡ later.sending.backend) × AreLast (with_send sent later) new × (hash_map_len new.sends ≡ hash_map_len old.sends)
 RenewedAs false sent later old new = AreLast sent new × (hash_map_len new.sends ≡ hash_map_len old.sends)
 
-pub record IsBookOf (past : List LogEntry) (b : SplitBook) : Type 0 where
+-- the book answers what these sends tell, the newest of which is in front
+pub record IsSettledAs {T : Type 0} (done : List (Noted T)) (b : SplitBook T) : Type 0 where
+  pub last : AreLast (λ x. last_noted done x) b.last
+  pub flows : hash_map_len b.last.sends ≡ count_noted done
+  pub splits : b.splits.items ≡ splits_noted done
+  pub besides : b.besides.items ≡ besides_noted done
+
+-- These sends were noted. The book answers what some of them tell, and the others wait in it.
+pub record HasNoted {T : Type 0} (all : List (Noted T)) (b : SplitBook T) : Type 0 where
+  pub done : List (Noted T)
+  pub settled : IsSettledAs done b
+  pub waiting : reverse b.noted.items ++ done ≡ all
+
+-- the sends of a record were noted
+pub record IsNotedBookOf {T : Type 0} (past : List LogEntry) (b : SplitBook T) : Type 0 where
   pub number : b.number ≡ length past
-  pub last : AreLast (λ x. last_sent past x) b.last
+  pub all : List (Noted T)
+  pub noted : HasNoted all b
+  pub sends : map (λ n. n.sending) all ≡ sends_of past
+
+pub record IsBookOf {T : Type 0} (past : List LogEntry) (b : SplitBook T) : Type 0 where
+  pub number : b.number ≡ length past
   pub flows : hash_map_len b.last.sends ≡ length (flows_of past)
   pub splits : b.splits.items ≡ splits_of past

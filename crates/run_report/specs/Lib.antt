@@ -7,4 +7,5 @@ pub mod Pairs
 pub mod Agreeing
 pub mod Causes
 pub mod Texts
+pub mod Noting
 pub mod Books

@@ -2,7 +2,8 @@
 //! connections were split, and why.
 //!
 //! A split is two packets of one flow that were sent to different backends, with no packet of that flow sent between them.
-//! `SplitBook` finds them as a cluster's events come; it keeps the last send of each flow and the splits, and no event.
+//! `SplitBook` finds them as a cluster's events come; it keeps the last send of each flow and the splits, and no event. Beside
+//! each send it keeps what its caller gives.
 #![tactic(auto)]
 
 mod backends;
@@ -12,6 +13,7 @@ mod last_sends;
 mod laws;
 mod lines;
 mod names;
+mod noted;
 mod pieces;
 mod reports;
 mod sending;
@@ -23,6 +25,7 @@ pub use cause::{SplitCause, cause_of, cause_where, does_anybody_drain};
 pub use laws::{splits_are_all_pairs, splits_are_explained, splits_follow_picks};
 pub use lines::push_line;
 pub use names::{CauseText, ReasonText};
+pub use noted::{Beside, Noted};
 pub use reports::{CAUSES, report_text};
 pub use sending::{Sending, Split, sent_by};
 pub use split_lines::{

@@ -215,10 +215,10 @@ pub fn gone_of(catalogue: &Catalogue, drains: bool, splits: &[Split]) -> Gone
 }
 
 /// Puts the counts that come after the lines of a book's splits after a text: those of `push_splits`, without the lines.
-pub fn push_split_counts(
+pub fn push_split_counts<T: Copy>(
     text: &mut String,
     catalogue: &Catalogue,
-    book: &SplitBook,
+    book: &SplitBook<T>,
 ) -> Result<(), AllocError>
     ensures { (past : List LogEntry) (lookups : Lookups) → lookups.ups ≡ (λ v x. candidates_of catalogue.now v x) → lookups.versions ≡ catalogue.now.versions → IsBookOf past book.now →
         OnOk result (string_bytes text.new ≡ string_bytes text.old ++ counts_text lookups (length (flows_of past)) (splits_of past)) }
@@ -232,11 +232,11 @@ pub fn push_split_counts(
 /// Puts a line for each split of a book after a text. Then it puts how many flows were sent, how many splits there are, and
 /// how many of them have each cause. Flows have their slots by the hash and the size of the catalogue's tables. Splits whose
 /// server left after it had drained are counted only where a member of a version drains.
-pub fn push_splits<H: FlowHash>(
+pub fn push_splits<H: FlowHash, T: Copy>(
     text: &mut String,
     hash: &H,
     catalogue: &Catalogue,
-    book: &SplitBook,
+    book: &SplitBook<T>,
 ) -> Result<(), AllocError>
     ensures { (past : List LogEntry) → IsBookOf past book.now → OnOk result (string_bytes text.new ≡ string_bytes text.old ++ splits_text (lookups_of (H.plain hash.now) catalogue.now.size catalogue.now) past) }
 {

@@ -5,7 +5,7 @@ ghost use Rattle.cluster_node.specs.declared.packets.Packet.{Packet};
 ghost use Rattle.cluster_core.specs.OutcomeCounts.{is_refused, how_many};
 ghost use Rattle.cluster_core.specs.Totals.{came_all, went_all};
 ghost use Rattle.run_report.specs.Books.{IsBookOf};
-ghost use Rattle.connection_changes.specs.Books.{IsChangeBookOf};
+ghost use Rattle.connection_changes.specs.Books.{IsNotedChangeBookOf, IsChangeBookOf};
 ghost use Rattle.json_lines.specs.Forms.{splits_as, places_as, shares_as};
 ghost use Rattle.simulate_scenario.specs.Asked.{keeps_changes};
 ghost use Rattle.thread_records.specs.declared.nodes.NodeRecord.{NodeRecord};
@@ -100,7 +100,7 @@ pub(crate) fn totals_of(run: &NodesRun) -> Totals
 }
 
 // The book of the splits.
-fn book_of(alloc: Global, key: TableKey, nodes: &[NodeRecord]) -> Result<SplitBook, AllocError>
+fn book_of(alloc: Global, key: TableKey, nodes: &[NodeRecord]) -> Result<SplitBook<()>, AllocError>
     requires { AreEven nodes.now }
     ensures { IfOk result (λ b. IsBookOf (said_by nodes.now) b) }
 {
@@ -108,6 +108,7 @@ fn book_of(alloc: Global, key: TableKey, nodes: &[NodeRecord]) -> Result<SplitBo
     for node in nodes {
         book.note_all(node.events.as_slice(), node.outcomes.as_slice())?;
     }
+    book.settle()?;
     Ok(book)
 }
 
@@ -118,7 +119,7 @@ fn note_node(
     events: &[Event],
     outcomes: &[Outcome],
 ) -> Result<(), AllocError>
-    ensures { (past : List LogEntry) → IsChangeBookOf past book.old → OnOk result (IsChangeBookOf (reverse (said_with packets.now events.now outcomes.now) ++ past) book.new) }
+    ensures { (past : List LogEntry) → IsNotedChangeBookOf past book.old → OnOk result (IsNotedChangeBookOf (reverse (said_with packets.now events.now outcomes.now) ++ past) book.new) }
 {
     for (event, outcome) in events.iter().zip(outcomes.iter()) {
         book.note(event, packet_at(packets, event), outcome)?;
@@ -141,15 +142,16 @@ fn changes_of(
         let events = node.events.as_slice();
         note_node(&mut book, packets, events, node.outcomes.as_slice())?;
     }
+    book.settle()?;
     Ok(book)
 }
 
 // The lines of the splits, and their counts.
-fn splits_told(
+fn splits_told<T: Copy>(
     alloc: Global,
     form: Form,
     scenario: &Scenario,
-    book: &SplitBook,
+    book: &SplitBook<T>,
 ) -> Result<String, AllocError>
     ensures { (past : List LogEntry) → IsBookOf past book.now → IfOk result (λ s. string_bytes s ≡ splits_as form (lookups_in scenario.now) past) }
 {

@@ -1,5 +1,5 @@
 //! The commands that play a scenario over a capture.
-ghost use Rattle.std.specs.Prelude.{◌≡◌, IfOk, IfErr, OnOk};
+ghost use Rattle.std.specs.Prelude.{◌≡◌, false, IfOk, IfErr, OnOk};
 ghost use Rattle.simulation.specs.Wires.{unkept};
 ghost use Rattle.json_lines.specs.declared.forms.Form.TheVariants.{Plain};
 ghost use Rattle.scenario.specs.declared.playing.Played.TheVariants.{InTurn};
@@ -12,7 +12,7 @@ use connection_table::TableKey;
 use json_lines::Form;
 use pcap_file::{Sink, Source};
 use scenario_faults::{PlacedFault, scenario_in};
-use simulate_scenario::{Query, Wanted, play_scenario};
+use simulate_scenario::{Query, TwoEvents, Wanted, play_scenario};
 use simulation::{Nowhere, Outlet, SimulationFault};
 use std::alloc::Global;
 
@@ -127,14 +127,18 @@ pub fn explain_run<I: Source, R: Sink>(
     other: u64,
     report: &mut R,
 ) -> Result<(), CliFault>
-    ensures played { OnOk result (Plays (Query.Events one other Plain) scenario.now
+    ensures played { OnOk result (Plays (Query.Events (record { one = one; other = other; list = false; form = Plain })) scenario.now
         (I.tape input.old) (I.tape input.new) unkept unkept (R.tape report.old) (R.tape report.new)) }
-    ensures stopped { IfErr result (λ fault. ExplainFails fault (Query.Events one other Plain) scenario.now
+    ensures stopped { IfErr result (λ fault. ExplainFails fault (Query.Events (record { one = one; other = other; list = false; form = Plain })) scenario.now
         (I.tape input.old) (I.tape input.new) (R.tape report.old) (R.tape report.new)
         ((input.new ≡ input.old) × (report.new ≡ report.old)) (report.new ≡ report.old)) }
 {
-    let form = Form::Plain;
-    let asked = Query::Events { one, other, form };
+    let asked = Query::Events(TwoEvents {
+        one,
+        other,
+        list: false,
+        form: Form::Plain,
+    });
     match answer_keyed(alloc, TableKey::fixed(), scenario, asked, input, report) {
         Ok(()) => Ok(()),
         Err(stopped) => Err(stopped.fault),

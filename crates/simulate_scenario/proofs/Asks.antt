@@ -11,13 +11,14 @@ use Rattle.cluster_core.specs.Explain.{Send, send_of, explained, PickedSend, Pic
 use Rattle.pcap_file.specs.declared.format.InputEnd.{InputEnd}
 use Rattle.event_trace.specs.Trace.{Trace}
 use Rattle.run_report.specs.Verdicts.{left_drained}
-use Rattle.json_lines.specs.declared.forms.Form.{Form}
-use Rattle.json_lines.specs.Forms.{verdict_as}
+use Rattle.json_lines.specs.Forms.{explanation_as}
 use Rattle.run_report.specs.Splits.{sent_at}
 use Rattle.run_report.specs.declared.sending.Sending.{Sending}
 use Rattle.simulate_scenario.specs.declared.asking.Query.{Query}
 use Rattle.simulate_scenario.specs.declared.asking.Query.TheVariants.{Events}
-use Rattle.simulate_scenario.specs.Answers.{send_at, answer_of}
+use Rattle.simulate_scenario.specs.declared.asking.TwoEvents.{TwoEvents}
+use Rattle.simulate_scenario.specs.Answers.{send_at, explanation_of, answer_of}
+use Rattle.simulate_scenario.specs.Asked.{lines_of_two}
 
 -- what was sent at an event, by its outcome
 pub send_told : (h : List LogEntry) (k : ℕ) (o : Option Outcome) → o ≡ slice_get (outcomes_of h) k → option_and_then (λ q. send_of q) o ≡ send_at h k
@@ -31,13 +32,22 @@ pub picked_if : (rules : Rules) (outs : List Outcome) (k : ℕ) (o : Option Outc
 picked_if rules outs k None p e = tt
 picked_if rules outs k (Some o) p e = p k o (sym e)
 
--- the line that says why two packets went where they went, by the outcomes of their events and by what they sent
-pub line_told : {X E : Type 0} (bytes : X → List ℕ) (r : Result X E) (lookups : Lookups) (idle : Option ℕ) (asked : Query) (trace : Trace) (packets : ℕ) (ending : InputEnd) (i j : ℕ) (form : Form) (a b : Option Outcome) (p q : Option Sending)
-    → asked ≡ Events i j form → a ≡ slice_get (outcomes_of (reverse trace.past)) i → b ≡ slice_get (outcomes_of (reverse trace.past)) j → p ≡ sent_at trace.past i → q ≡ sent_at trace.past j
-    → IfOk r (λ s. bytes s ≡ verdict_as form (explained lookups.slot (option_and_then (λ o. send_of o) a) (option_and_then (λ o. send_of o) b)) (left_drained lookups p q)) → IfOk r (λ s. bytes s ≡ answer_of lookups idle asked trace packets ending)
-line_told bytes r lookups idle asked trace packets ending i j form a b p q e f g k l h =
-    subst (λ (x : Query). IfOk r (λ s. bytes s ≡ answer_of lookups idle x trace packets ending)) (sym e)
-    (subst (λ (x : Option Send). IfOk r (λ s. bytes s ≡ verdict_as form (explained lookups.slot x (send_at (reverse trace.past) j)) (left_drained lookups (sent_at trace.past i) (sent_at trace.past j)))) (send_told (reverse trace.past) i a f)
-    (subst (λ (y : Option Send). IfOk r (λ s. bytes s ≡ verdict_as form (explained lookups.slot (option_and_then (λ o. send_of o) a) y) (left_drained lookups (sent_at trace.past i) (sent_at trace.past j)))) (send_told (reverse trace.past) j b g)
-    (subst (λ (x : Option Sending). IfOk r (λ s. bytes s ≡ verdict_as form (explained lookups.slot (option_and_then (λ o. send_of o) a) (option_and_then (λ o. send_of o) b)) (left_drained lookups x (sent_at trace.past j)))) k
-    (subst (λ (y : Option Sending). IfOk r (λ s. bytes s ≡ verdict_as form (explained lookups.slot (option_and_then (λ o. send_of o) a) (option_and_then (λ o. send_of o) b)) (left_drained lookups p y))) l h))))
+-- the text that says why two packets went where they went, by the outcomes of their events and by what they sent
+pub explanation_told : {X E : Type 0} (bytes : X → List ℕ) (r : Result X E) (lookups : Lookups) (idle : Option ℕ) (asked : Query) (trace : Trace) (packets : ℕ) (ending : InputEnd) (two : TwoEvents) (lines : List ℕ)
+    (a b : Option Outcome) (p q : Option Sending) → asked ≡ Events two → lines ≡ lines_of_two two trace.past
+    → a ≡ slice_get (outcomes_of (reverse trace.past)) two.one → b ≡ slice_get (outcomes_of (reverse trace.past)) two.other → p ≡ sent_at trace.past two.one → q ≡ sent_at trace.past two.other
+    → IfOk r (λ s. bytes s ≡ explanation_as two.form lines (explained lookups.slot (option_and_then (λ o. send_of o) a) (option_and_then (λ o. send_of o) b)) (left_drained lookups p q))
+    → IfOk r (λ s. bytes s ≡ answer_of lookups idle asked trace packets ending)
+explanation_told bytes r lookups idle asked trace packets ending two lines a b p q e l f g k m h =
+    subst (λ (x : Query). IfOk r (λ s. bytes s ≡ answer_of lookups idle x trace packets ending)) (sym e) (subst (λ (text : List ℕ). IfOk r (λ s. bytes s ≡ text)) same h)
+  where
+    told : List ℕ → Option Send → Option Send → Option Sending → Option Sending → List ℕ
+    told text x y v w = explanation_as two.form text (explained lookups.slot x y) (left_drained lookups v w)
+
+    same : told lines (option_and_then (λ o. send_of o) a) (option_and_then (λ o. send_of o) b) p q ≡ explanation_of lookups trace two
+    same =
+        ap (λ (text : List ℕ). told text (option_and_then (λ o. send_of o) a) (option_and_then (λ o. send_of o) b) p q) l
+        ∙ ap (λ (x : Option Send). told (lines_of_two two trace.past) x (option_and_then (λ o. send_of o) b) p q) (send_told (reverse trace.past) two.one a f)
+        ∙ ap (λ (y : Option Send). told (lines_of_two two trace.past) (send_at (reverse trace.past) two.one) y p q) (send_told (reverse trace.past) two.other b g)
+        ∙ ap (λ (v : Option Sending). told (lines_of_two two trace.past) (send_at (reverse trace.past) two.one) (send_at (reverse trace.past) two.other) v q) k
+        ∙ ap (λ (w : Option Sending). told (lines_of_two two trace.past) (send_at (reverse trace.past) two.one) (send_at (reverse trace.past) two.other) (sent_at trace.past two.one) w) m

@@ -11,21 +11,22 @@ use Rattle.event_trace.specs.declared.counts.Counts.{Counts}
 use Rattle.event_trace.specs.Counting.{CountsAre, totals_by}
 use Rattle.event_trace.proofs.Counted.{counted_turned, outcomes_turned}
 use Rattle.run_report.specs.declared.book.SplitBook.{SplitBook}
-use Rattle.run_report.specs.Books.{IsBookOf}
+use Rattle.run_report.specs.Books.{IsNotedBookOf, IsBookOf}
 use Rattle.run_report.specs.Splits.{sent_by, sent_at}
 use Rattle.run_report.specs.declared.sending.Sending.{Sending}
 use Rattle.simulate_scenario.specs.declared.notes.Notebook.{Notebook}
 use Rattle.simulate_scenario.specs.declared.asking.Query.{Query}
+use Rattle.simulate_scenario.specs.declared.asking.TwoEvents.{TwoEvents}
 use Rattle.simulate_scenario.specs.declared.asking.Wanted.{Wanted}
 use Rattle.simulate_scenario.specs.declared.asking.Query.TheVariants.{Report, Events}
-use Rattle.simulate_scenario.specs.Notebooks.{Lists, ListsIf, BookIf, ChangesIf, KeepsMore, KeepsTwo, AreOf}
+use Rattle.simulate_scenario.specs.Notebooks.{Lists, ListsIf, NotedIf, NotedChangesIf, BookIf, ChangesIf, KeepsMore, KeepsBooks, KeepsTwo, AreOf}
 use Rattle.json_lines.specs.declared.forms.Form.{Form}
 use Rattle.json_lines.specs.declared.forms.Form.TheVariants.{Plain, Json}
 use Rattle.json_lines.specs.Forms.{event_as, listing_as}
 use Rattle.json_lines.proofs.Listed.{listing_push}
-use Rattle.simulate_scenario.specs.Asked.{form_of, begun, is_plain, asked_shares, shares_in, keeps_splits, keeps_changes}
+use Rattle.simulate_scenario.specs.Asked.{begun, begun_for, event_if, lines_of_two, is_plain, asked_shares, shares_in, keeps_splits, keeps_changes}
 use Rattle.connection_changes.specs.declared.book.ChangeBook.{ChangeBook}
-use Rattle.connection_changes.specs.Books.{IsChangeBookOf}
+use Rattle.connection_changes.specs.Books.{IsNotedChangeBookOf, IsChangeBookOf}
 use Rattle.traffic_shares.specs.declared.books.ShareBooks.{ShareBooks}
 use Rattle.traffic_shares.specs.Books.{AreShareBooksOf}
 use Rattle.simulate_scenario.specs.Answers.{totals_in}
@@ -40,18 +41,18 @@ none_listed n Plain k l true = record { number = k; lines = l }
 none_listed n Json k l true = record { number = k; lines = l ∙ sym (append-nil (begun Json)) }
 none_listed n form k l false = l
 
-none_booked : (b : SplitBook) → IsBookOf [] b → (splits : Bool) → BookIf splits [] b
+none_booked : (b : SplitBook (Unit {0})) → IsNotedBookOf [] b → (splits : Bool) → NotedIf splits [] b
 none_booked b h true = h
 none_booked b h false = tt
 
-none_changed : (b : ChangeBook) → IsChangeBookOf [] b → (changes : Bool) → ChangesIf changes [] b
+none_changed : (b : ChangeBook) → IsNotedChangeBookOf [] b → (changes : Bool) → NotedChangesIf changes [] b
 none_changed b h true = h
 none_changed b h false = tt
 
-pub none_noted : (n : Notebook) (asked : Query) → CountsAre [] n.counts → n.number ≡ 0 → string_bytes n.lines ≡ begun (form_of asked) → IsBookOf [] n.book → IsChangeBookOf [] n.changes → AreShareBooksOf (shares_in asked) [] n.shares → n.one ≡ None → n.other ≡ None → n.first ≡ None → n.later ≡ None → AreOf asked [] n
+pub none_noted : (n : Notebook) (asked : Query) → CountsAre [] n.counts → n.number ≡ 0 → string_bytes n.lines ≡ begun_for asked → IsNotedBookOf [] n.book → IsNotedChangeBookOf [] n.changes → AreShareBooksOf (shares_in asked) [] n.shares → n.one ≡ None → n.other ≡ None → n.first ≡ None → n.later ≡ None → AreOf asked [] n
 none_noted n (Report wanted) c k l b d a o p q r =
     (c, (none_listed n wanted.form k l wanted.list, none_booked n.book b (keeps_splits (keeps_changes wanted.places wanted.summary) wanted.splits), none_changed n.changes d (keeps_changes wanted.places wanted.summary), a))
-none_noted n (Events i j form) c k l b d a o p q r = record { number = k; one_is = o; other_is = p; first_is = q; later_is = r }
+none_noted n (Events two) c k l b d a o p q r = record { number = k; lines = l; one_is = o; other_is = p; first_is = q; later_is = r }
 
 -- the lines are the same
 pub lists_same : (form : Form) (list : Bool) (past : List LogEntry) (n m : Notebook) → m.number ≡ n.number → m.lines ≡ n.lines → ListsIf form list past n → ListsIf form list past m
@@ -59,7 +60,7 @@ lists_same form true past n m e f l = record { number = e ∙ l.number; lines = 
 lists_same form false past n m e f l = ap string_bytes f ∙ l
 
 -- the book of splits is the record's where no changes are kept, and that of the changes where they are
-pub own_splits : (changes splits : Bool) (past : List LogEntry) (b : SplitBook) → changes ≡ false → splits ≡ true → BookIf (keeps_splits changes splits) past b → IsBookOf past b
+pub own_splits : (changes splits : Bool) (past : List LogEntry) (b : SplitBook (Unit {0})) → changes ≡ false → splits ≡ true → BookIf (keeps_splits changes splits) past b → IsBookOf past b
 own_splits false true past b e f h = h
 own_splits false false past b e f h = absurd cc
 own_splits true splits past b e f h = absurd cc
@@ -73,8 +74,8 @@ pub plain_more : (w : Wanted) (past : List LogEntry) (s : LogEntry) (n m : Noteb
 plain_more w past s n m plain e f g k = go w.list w.splits w.places w.backends w.nodes w.summary plain k
   where
     go : (l t p a b u : Bool) → not (l || t || p || a || b || u) ≡ true
-        → ListsIf w.form l past n × BookIf (keeps_splits (keeps_changes p u) t) past n.book × ChangesIf (keeps_changes p u) past n.changes × AreShareBooksOf (record { backends = a; nodes = b }) past n.shares
-        → ListsIf w.form l (s ∷ past) m × BookIf (keeps_splits (keeps_changes p u) t) (s ∷ past) m.book × ChangesIf (keeps_changes p u) (s ∷ past) m.changes × AreShareBooksOf (record { backends = a; nodes = b }) (s ∷ past) m.shares
+        → ListsIf w.form l past n × NotedIf (keeps_splits (keeps_changes p u) t) past n.book × NotedChangesIf (keeps_changes p u) past n.changes × AreShareBooksOf (record { backends = a; nodes = b }) past n.shares
+        → ListsIf w.form l (s ∷ past) m × NotedIf (keeps_splits (keeps_changes p u) t) (s ∷ past) m.book × NotedChangesIf (keeps_changes p u) (s ∷ past) m.changes × AreShareBooksOf (record { backends = a; nodes = b }) (s ∷ past) m.shares
     go false false false false false false h k = (ap string_bytes f ∙ k.0, tt, tt, record { these = ap (λ (x : ShareBooks). x.asked) g ∙ k.3.these; backends = tt; nodes = tt })
     go true t p a b u h k = absurd cc
     go false true p a b u h k = absurd cc
@@ -87,13 +88,13 @@ plain_more w past s n m plain e f g k = go w.list w.splits w.places w.backends w
 pub more_told : {E : Type 0} (r : Result (Unit {0}) E) (w : Wanted) (past : List LogEntry) (s : LogEntry) (n a b d f : Notebook) (splits changes : Bool) → KeepsMore w past n
     → splits ≡ keeps_splits (keeps_changes w.places w.summary) w.splits → changes ≡ keeps_changes w.places w.summary
     → (ListsIf w.form w.list past n → ListsIf w.form w.list (s ∷ past) a) → a.book ≡ n.book → a.changes ≡ n.changes → a.shares ≡ n.shares
-    → (BookIf splits past a.book → BookIf splits (s ∷ past) b.book) → b.number ≡ a.number → b.lines ≡ a.lines → b.changes ≡ a.changes → b.shares ≡ a.shares
-    → (ChangesIf changes past b.changes → ChangesIf changes (s ∷ past) d.changes) → d ≡ record b { changes = d.changes }
+    → (NotedIf splits past a.book → NotedIf splits (s ∷ past) b.book) → b.number ≡ a.number → b.lines ≡ a.lines → b.changes ≡ a.changes → b.shares ≡ a.shares
+    → (NotedChangesIf changes past b.changes → NotedChangesIf changes (s ∷ past) d.changes) → d ≡ record b { changes = d.changes }
     → (AreShareBooksOf (asked_shares w) past d.shares → OnOk r (AreShareBooksOf (asked_shares w) (s ∷ past) f.shares)) → f ≡ record d { shares = f.shares } → OnOk r (KeepsMore w (s ∷ past) f)
 more_told {E} r w past s n a b d f splits changes k splits_is changes_is lists a_book a_changes a_shares books b_number b_lines b_changes b_shares change d_is share f_is = on_ok_weaker r (λ shares. (listed, booked, changed, shares)) (share shares_before)
   where
-    before : ChangesIf changes past b.changes
-    before = subst (λ (x : ChangeBook). ChangesIf changes past x) (sym (b_changes ∙ a_changes)) (subst (λ (t : Bool). ChangesIf t past n.changes) (sym changes_is) k.2)
+    before : NotedChangesIf changes past b.changes
+    before = subst (λ (x : ChangeBook). NotedChangesIf changes past x) (sym (b_changes ∙ a_changes)) (subst (λ (t : Bool). NotedChangesIf t past n.changes) (sym changes_is) k.2)
 
     shares_before : AreShareBooksOf (asked_shares w) past d.shares
     shares_before = subst (λ (x : ShareBooks). AreShareBooksOf (asked_shares w) past x) (sym (ap (λ (x : Notebook). x.shares) d_is ∙ b_shares ∙ a_shares)) k.3
@@ -102,13 +103,13 @@ more_told {E} r w past s n a b d f splits changes k splits_is changes_is lists a
     listed = lists_same w.form w.list (s ∷ past) a f
         (ap (λ (x : Notebook). x.number) f_is ∙ ap (λ (x : Notebook). x.number) d_is ∙ b_number) (ap (λ (x : Notebook). x.lines) f_is ∙ ap (λ (x : Notebook). x.lines) d_is ∙ b_lines) (lists k.0)
 
-    booked : BookIf (keeps_splits (keeps_changes w.places w.summary) w.splits) (s ∷ past) f.book
-    booked = subst (λ (x : SplitBook). BookIf (keeps_splits (keeps_changes w.places w.summary) w.splits) (s ∷ past) x) (sym (ap (λ (x : Notebook). x.book) f_is ∙ ap (λ (x : Notebook). x.book) d_is))
-        (subst (λ (t : Bool). BookIf t (s ∷ past) b.book) splits_is
-        (books (subst (λ (x : SplitBook). BookIf splits past x) (sym a_book) (subst (λ (t : Bool). BookIf t past n.book) (sym splits_is) k.1))))
+    booked : NotedIf (keeps_splits (keeps_changes w.places w.summary) w.splits) (s ∷ past) f.book
+    booked = subst (λ (x : SplitBook (Unit {0})). NotedIf (keeps_splits (keeps_changes w.places w.summary) w.splits) (s ∷ past) x) (sym (ap (λ (x : Notebook). x.book) f_is ∙ ap (λ (x : Notebook). x.book) d_is))
+        (subst (λ (t : Bool). NotedIf t (s ∷ past) b.book) splits_is
+        (books (subst (λ (x : SplitBook (Unit {0})). NotedIf splits past x) (sym a_book) (subst (λ (t : Bool). NotedIf t past n.book) (sym splits_is) k.1))))
 
-    changed : ChangesIf (keeps_changes w.places w.summary) (s ∷ past) f.changes
-    changed = subst (λ (x : ChangeBook). ChangesIf (keeps_changes w.places w.summary) (s ∷ past) x) (sym (ap (λ (x : Notebook). x.changes) f_is)) (subst (λ (t : Bool). ChangesIf t (s ∷ past) d.changes) changes_is (change before))
+    changed : NotedChangesIf (keeps_changes w.places w.summary) (s ∷ past) f.changes
+    changed = subst (λ (x : ChangeBook). NotedChangesIf (keeps_changes w.places w.summary) (s ∷ past) x) (sym (ap (λ (x : Notebook). x.changes) f_is)) (subst (λ (t : Bool). NotedChangesIf t (s ∷ past) d.changes) changes_is (change before))
 
 -- the listing has one line more
 pub listing_more : (form : Form) (past : List LogEntry) (s : LogEntry) (number : ℕ) → number ≡ length past
@@ -165,17 +166,35 @@ sends_more past s number asked was e f =
     ap (λ k. if asked == k then sent_by k s.event s.outcome else was) e
     ∙ ap (λ (w : Option Sending). if asked == length past then sent_by (length past) s.event s.outcome else w) f
 
-pub keeps_more : (one other : ℕ) (past : List LogEntry) (s : LogEntry) (n m : Notebook) → KeepsTwo one other past n → m.number ≡ n.number + 1
-    → m.one ≡ (if n.number == one then Some s.outcome else n.one) → m.other ≡ (if n.number == other then Some s.outcome else n.other)
-    → m.first ≡ (if one == n.number then sent_by n.number s.event s.outcome else n.first) → m.later ≡ (if other == n.number then sent_by n.number s.event s.outcome else n.later)
-    → KeepsTwo one other (s ∷ past) m
-keeps_more one other past s n m k e f g h i = record {
+pub keeps_more : (two : TwoEvents) (past : List LogEntry) (s : LogEntry) (n m : Notebook) → KeepsTwo two past n → m.number ≡ n.number + 1 → string_bytes m.lines ≡ string_bytes n.lines ++ event_if two n.number s
+    → m.one ≡ (if n.number == two.one then Some s.outcome else n.one) → m.other ≡ (if n.number == two.other then Some s.outcome else n.other)
+    → m.first ≡ (if two.one == n.number then sent_by n.number s.event s.outcome else n.first) → m.later ≡ (if two.other == n.number then sent_by n.number s.event s.outcome else n.later)
+    → KeepsTwo two (s ∷ past) m
+keeps_more two past s n m k e l f g h i = record {
   number = omega (arith, e, k.number);
-  one_is = f ∙ kept_more past s n.number one n.one k.number k.one_is;
-  other_is = g ∙ kept_more past s n.number other n.other k.number k.other_is;
-  first_is = h ∙ sends_more past s n.number one n.first k.number k.first_is;
-  later_is = i ∙ sends_more past s n.number other n.later k.number k.later_is;
+  lines = l ∙ ap (λ (text : List ℕ). text ++ event_if two n.number s) k.lines ∙ ap (λ (j : ℕ). lines_of_two two past ++ event_if two j s) k.number;
+  one_is = f ∙ kept_more past s n.number two.one n.one k.number k.one_is;
+  other_is = g ∙ kept_more past s n.number two.other n.other k.number k.other_is;
+  first_is = h ∙ sends_more past s n.number two.one n.first k.number k.first_is;
+  later_is = i ∙ sends_more past s n.number two.other n.later k.number k.later_is;
 }
+
+-- the books answer what was noted
+pub settled : {E : Type 0} (r : Result (Unit {0}) E) (w : Wanted) (past : List LogEntry) (n a b : Notebook) (splits changes : Bool) → KeepsMore w past n
+    → splits ≡ keeps_splits (keeps_changes w.places w.summary) w.splits → changes ≡ keeps_changes w.places w.summary
+    → (NotedIf splits past n.book → BookIf splits past a.book) → a ≡ record n { book = a.book }
+    → (NotedChangesIf changes past a.changes → OnOk r (ChangesIf changes past b.changes)) → b ≡ record a { changes = b.changes } → OnOk r (KeepsBooks w past b)
+settled {E} r w past n a b splits changes k splits_is changes_is books a_is change b_is = on_ok_weaker r (λ changed. (booked, subst (λ (t : Bool). ChangesIf t past b.changes) changes_is changed, shares)) (change noted)
+  where
+    noted : NotedChangesIf changes past a.changes
+    noted = subst (λ (x : ChangeBook). NotedChangesIf changes past x) (sym (ap (λ (x : Notebook). x.changes) a_is)) (subst (λ (t : Bool). NotedChangesIf t past n.changes) (sym changes_is) k.2)
+
+    booked : BookIf (keeps_splits (keeps_changes w.places w.summary) w.splits) past b.book
+    booked = subst (λ (x : SplitBook (Unit {0})). BookIf (keeps_splits (keeps_changes w.places w.summary) w.splits) past x) (sym (ap (λ (x : Notebook). x.book) b_is))
+        (subst (λ (t : Bool). BookIf t past a.book) splits_is (books (subst (λ (t : Bool). NotedIf t past n.book) (sym splits_is) k.1)))
+
+    shares : AreShareBooksOf (asked_shares w) past b.shares
+    shares = subst (λ (x : ShareBooks). AreShareBooksOf (asked_shares w) past x) (sym (ap (λ (x : Notebook). x.shares) b_is ∙ ap (λ (x : Notebook). x.shares) a_is)) k.3
 
 -- the totals of a history, by the counts of its record
 pub totals_told : (past : List LogEntry) (c : Counts) → CountsAre (outcomes_of past) c → totals_by c ≡ totals_in (outcomes_of (reverse past))

@@ -22,11 +22,12 @@ use Rattle.run_report.specs.Causes.{Lookups}
 use Rattle.change_share.specs.declared.counts.ChangeCounts.{ChangeCounts}
 use Rattle.connection_changes.specs.Changes.{counts_of}
 use Rattle.json_lines.specs.declared.forms.Form.{Form}
-use Rattle.json_lines.specs.Forms.{listing_as, splits_as, places_as, report_as, shares_as, summary_as, verdict_as}
+use Rattle.json_lines.specs.Forms.{listing_as, splits_as, places_as, report_as, shares_as, summary_as, explanation_as}
 use Rattle.scenario.specs.declared.plan.Scenario.{Scenario}
 use Rattle.simulate_scenario.specs.Described.{cluster_in, choice_in, plan_in, lookups_in}
-use Rattle.simulate_scenario.specs.Asked.{begun, asked_shares, keeps_changes}
+use Rattle.simulate_scenario.specs.Asked.{begun, lines_of_two, asked_shares, keeps_changes}
 use Rattle.simulate_scenario.specs.declared.asking.Query.{Query}
+use Rattle.simulate_scenario.specs.declared.asking.TwoEvents.{TwoEvents}
 use Rattle.simulate_scenario.specs.declared.asking.Wanted.{Wanted}
 use Rattle.simulate_scenario.specs.declared.asking.Query.TheVariants.{Report, Events}
 
@@ -79,16 +80,16 @@ report_of lookups idle wanted trace packets ending = report_behind (listing_if w
 abbrev pub send_at : List LogEntry → ℕ → Option Send
 send_at history k = option_and_then (λ s. send_of s.outcome) (slice_get history k)
 
--- why the packets of two events went where they went
-abbrev pub line_of : Form → Lookups → Trace → ℕ → ℕ → List ℕ
-line_of form lookups trace one other =
-    verdict_as form (explained lookups.slot (send_at (reverse trace.past) one) (send_at (reverse trace.past) other))
-    (left_drained lookups (sent_at trace.past one) (sent_at trace.past other))
+-- why the packets of two events went where they went, behind the lines of these events, where they are asked for
+abbrev pub explanation_of : Lookups → Trace → TwoEvents → List ℕ
+explanation_of lookups trace two =
+    explanation_as two.form (lines_of_two two trace.past) (explained lookups.slot (send_at (reverse trace.past) two.one) (send_at (reverse trace.past) two.other))
+    (left_drained lookups (sent_at trace.past two.one) (sent_at trace.past two.other))
 
 -- the answer, by the scenario's idle limit
 abbrev pub answer_of : Lookups → Option ℕ → Query → Trace → ℕ → InputEnd → List ℕ
 answer_of lookups idle (Report wanted) trace packets ending = report_of lookups idle wanted trace packets ending
-answer_of lookups idle (Events one other form) trace packets ending = line_of form lookups trace one other
+answer_of lookups idle (Events two) trace packets ending = explanation_of lookups trace two
 
 -- how many connections there were, and how many of them changed their server, where the changes are kept
 abbrev pub counts_if : Bool → List LogEntry → Option ChangeCounts
@@ -98,7 +99,7 @@ counts_if false past = None
 -- the same by what is asked: a report with places, or with a summary, keeps them
 abbrev pub counts_for : Query → List LogEntry → Option ChangeCounts
 counts_for (Report wanted) past = counts_if (keeps_changes wanted.places wanted.summary) past
-counts_for (Events one other form) past = None
+counts_for (Events two) past = None
 
 -- the scenario ran over the whole input, the output got what was sent, and the text answers what was asked
 pub record Answers (cluster : Cluster) (choice : Choice) (plan : Planned) (lookups : Lookups) (idle : Option ℕ) (asked : Query) (input input' output output' : Tape) (text : List ℕ) : Type 0 where

@@ -1,20 +1,34 @@
 -- What is kept of a run's events for what is wanted of it.
-use Rattle.std.specs.Prelude.{ℕ, Bool, true, false, ◌||◌, not, List, codes}
+use Rattle.std.specs.Prelude.{ℕ, ◌==◌, Bool, true, false, ◌&&◌, ◌||◌, not, List, [], ◌∷◌, ◌++◌, length, codes, if◌then◌else◌}
+use Rattle.cluster_node.specs.declared.events.LogEntry.{LogEntry}
 use Rattle.traffic_shares.specs.declared.books.AskedShares.{AskedShares}
 use Rattle.json_lines.specs.declared.forms.Form.{Form}
-use Rattle.json_lines.specs.Forms.{head_as}
+use Rattle.json_lines.specs.Forms.{head_as, event_as}
 use Rattle.simulate_scenario.specs.declared.asking.Query.{Query}
 use Rattle.simulate_scenario.specs.declared.asking.Query.TheVariants.{Report, Events}
+use Rattle.simulate_scenario.specs.declared.asking.TwoEvents.{TwoEvents}
 use Rattle.simulate_scenario.specs.declared.asking.Wanted.{Wanted}
-
--- in which form the answer is
-abbrev pub form_of : Query → Form
-form_of (Report wanted) = wanted.form
-form_of (Events one other form) = form
 
 -- what a report begins with
 abbrev pub begun : Form → List ℕ
 begun form = head_as form (codes "simulate")
+
+-- what the lines of the events begin with
+abbrev pub begun_for : Query → List ℕ
+begun_for (Report wanted) = begun wanted.form
+begun_for (Events two) = []
+
+-- the line of the event of a number is asked for
+abbrev pub lists_event : TwoEvents → ℕ → Bool
+lists_event two k = two.list && (k == two.one || k == two.other)
+
+abbrev pub event_if : TwoEvents → ℕ → LogEntry → List ℕ
+event_if two k s = if lists_event two k then event_as two.form k s else []
+
+-- the lines of two events of a record, where they are asked for, in the order of the events
+abbrev pub lines_of_two : TwoEvents → List LogEntry → List ℕ
+lines_of_two two [] = []
+lines_of_two two (s ∷ past) = lines_of_two two past ++ event_if two (length past) s
 
 -- the same without a line for each event
 abbrev pub unlisted : Wanted → Wanted
@@ -30,7 +44,7 @@ asked_shares w = record { backends = w.backends; nodes = w.nodes }
 
 abbrev pub shares_in : Query → AskedShares
 shares_in (Report wanted) = asked_shares wanted
-shares_in (Events one other form) = record { backends = false; nodes = false }
+shares_in (Events two) = record { backends = false; nodes = false }
 
 -- the changes are kept: they are wanted with their places, or in a summary
 abbrev pub keeps_changes : Bool → Bool → Bool

@@ -11,7 +11,7 @@ ghost use Rattle.run_report.specs.Verdicts.{left_drained};
 ghost use Rattle.cluster_node.specs.declared.events.LogEntry.{LogEntry};
 ghost use Rattle.run_report.specs.Books.{IsBookOf};
 ghost use Rattle.connection_changes.specs.Books.{IsChangeBookOf};
-ghost use Rattle.json_lines.specs.Forms.{splits_as, places_as, summary_as, verdict_as};
+ghost use Rattle.json_lines.specs.Forms.{splits_as, places_as, summary_as, explanation_as};
 ghost use Rattle.run_report.specs.Causes.{Lookups, lookups_of};
 ghost use Rattle.event_trace.specs.Trace.{Trace};
 ghost use Rattle.pcap_file.specs.declared.format.InputEnd.{InputEnd};
@@ -81,11 +81,11 @@ fn push_places_of<S: Scheme, H: FlowHash>(
 }
 
 // The lines of the splits, and their counts.
-fn push_splits_of<S: Scheme, H: FlowHash>(
+fn push_splits_of<S: Scheme, H: FlowHash, T: Copy>(
     form: Form,
     text: &mut String,
     deployment: &Deployment<S, H>,
-    book: &SplitBook,
+    book: &SplitBook<T>,
 ) -> Result<(), AllocError>
     ensures { (past : List LogEntry) → IsBookOf past book.now →
         OnOk result (string_bytes text.new ≡ string_bytes text.old ++ splits_as form (lookups_of (H.plain deployment.now.setup.hash) deployment.now.setup.size deployment.now.catalogue) past) }
@@ -109,15 +109,21 @@ fn push_summary_of<S: Scheme, H: FlowHash>(
     form.push_summary(alloc, text, deployment.catalogue(), idle, changes)
 }
 
-// The book of the splits. Where changes are kept it is theirs.
-fn splits_in<'a>(wanted: Wanted, book: &'a SplitBook, changes: &'a ChangeBook) -> &'a SplitBook
+// The same by the book that is kept. Where changes are kept they have the splits too.
+fn push_kept_splits<S: Scheme, H: FlowHash>(
+    text: &mut String,
+    deployment: &Deployment<S, H>,
+    wanted: Wanted,
+    book: &SplitBook<()>,
+    changes: &ChangeBook,
+) -> Result<(), AllocError>
     ensures { (past : List LogEntry) → wanted.splits ≡ true → BookIf (keeps_splits (keeps_changes wanted.places wanted.summary) wanted.splits) past book.now → ChangesIf (keeps_changes wanted.places wanted.summary) past changes.now →
-        IsBookOf past result.now }
+        OnOk result (string_bytes text.new ≡ string_bytes text.old ++ splits_as wanted.form (lookups_of (H.plain deployment.now.setup.hash) deployment.now.setup.size deployment.now.catalogue) past) }
 {
     if wanted.keeps_changes() {
-        changes.splits()
+        push_splits_of(wanted.form, text, deployment, changes.splits())
     } else {
-        book
+        push_splits_of(wanted.form, text, deployment, book)
     }
 }
 
@@ -126,7 +132,7 @@ fn push_splits_if<S: Scheme, H: FlowHash>(
     text: &mut String,
     deployment: &Deployment<S, H>,
     wanted: Wanted,
-    book: &SplitBook,
+    book: &SplitBook<()>,
     changes: &ChangeBook,
 ) -> Result<(), AllocError>
     ensures { (trace : Trace) → BookIf (keeps_splits (keeps_changes wanted.places wanted.summary) wanted.splits) trace.past book.now → ChangesIf (keeps_changes wanted.places wanted.summary) trace.past changes.now →
@@ -135,12 +141,7 @@ fn push_splits_if<S: Scheme, H: FlowHash>(
     if wanted.places {
         push_places_of(wanted.form, text, deployment, changes)
     } else if wanted.splits {
-        push_splits_of(
-            wanted.form,
-            text,
-            deployment,
-            splits_in(wanted, book, changes),
-        )
+        push_kept_splits(text, deployment, wanted, book, changes)
     } else {
         Ok(())
     }
@@ -207,7 +208,8 @@ fn verdict<S: Scheme, H: FlowHash>(
     explain(deployment.setup(), deployment.catalogue(), &one, &other)
 }
 
-fn line<S: Scheme, H: FlowHash>(
+// The same as a text, behind some lines.
+fn explanation<S: Scheme, H: FlowHash>(
     alloc: Global,
     form: Form,
     deployment: &Deployment<S, H>,
@@ -217,11 +219,11 @@ fn line<S: Scheme, H: FlowHash>(
     requires other { S.STEADY ≡ true → IfSome notes.now.other (λ o. PickedSend (rules_of (λ s z. S.pick s z) (λ h. H.plain h) deployment.now) (send_of o)) }
     ensures { let lookups = lookups_of (H.plain deployment.now.setup.hash) deployment.now.setup.size deployment.now.catalogue in
         let one = option_and_then (λ o. send_of o) notes.now.one in let other = option_and_then (λ o. send_of o) notes.now.other in
-        IfOk result (λ s. string_bytes s ≡ verdict_as form (explained lookups.slot one other) (left_drained lookups notes.now.first notes.now.later)) }
+        IfOk result (λ s. string_bytes s ≡ explanation_as form (string_bytes notes.now.lines) (explained lookups.slot one other) (left_drained lookups notes.now.first notes.now.later)) }
 {
     let verdict = verdict(deployment, notes.one, notes.other);
     let drained = left_drained(deployment.catalogue(), notes.first, notes.later);
-    form.verdict(alloc, &verdict, drained)
+    form.explanation(alloc, notes.lines.as_str(), &verdict, drained)
 }
 
 /// How many connections changed their server, where the changes are kept.
@@ -278,14 +280,15 @@ impl Answering for Notebook {
     ) -> Result<Answer, AllocError> {
         match task.asked {
             Query::Report(wanted) => {
+                self.settle(wanted)?;
                 let counts = counts_if(wanted, &self.changes);
                 let lines = mem::replace(&mut self.lines, String::new(alloc));
                 let text = report(alloc, &task.deployment, played, self, lines, wanted)?;
                 Ok(Answer { text, counts })
             }
-            Query::Events { form, .. } => {
+            Query::Events(two) => {
                 task.deployment.send_by_picks();
-                let text = line(alloc, form, &task.deployment, self)?;
+                let text = explanation(alloc, two.form, &task.deployment, self)?;
                 let counts = None;
                 Ok(Answer { text, counts })
             }

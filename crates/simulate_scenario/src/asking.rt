@@ -3,6 +3,7 @@ ghost use Rattle.std.specs.Prelude.{◌≡◌};
 
 use change_share::ChangeCounts;
 use json_lines::Form;
+use std::alloc::AllocError;
 use traffic_shares::AskedShares;
 
 /// What comes before a report, and after it. With `list` a line for each event comes first. With `splits` there is then a line
@@ -80,25 +81,47 @@ impl Wanted {
     }
 }
 
+/// Two events of a run, counted from 0, the packets of which are explained. With `list` their lines come first, in the order of
+/// the run. An event that isn't there has none.
+#[derive(Clone, Copy, Debug, PartialEq, Eq)]
+pub struct TwoEvents {
+    pub one: u64,
+    pub other: u64,
+    pub list: bool,
+    pub form: Form,
+}
+
+impl TwoEvents {
+    ghost use Rattle.simulate_scenario.specs.Asked.{lists_event};
+
+    /// Whether the line of the event of a number is asked for.
+    pub(crate) fn lists(self, number: u64) -> bool
+        ensures { result ≡ lists_event self number }
+    {
+        self.list && (number == self.one || number == self.other)
+    }
+}
+
 /// What is asked of a scenario's run.
 #[derive(Clone, Copy, Debug, PartialEq, Eq)]
 pub enum Query {
     /// Its report, with what is wanted before it.
     Report(Wanted),
-    /// Why the packets of two events, counted from 0, went where they went.
-    Events { one: u64, other: u64, form: Form },
+    /// Why the packets of two events went where they went.
+    Events(TwoEvents),
 }
 
 impl Query {
-    ghost use Rattle.simulate_scenario.specs.Asked.{form_of, shares_in};
+    ghost use Rattle.std.specs.Prelude.{◌++◌, OnOk, string_bytes};
+    ghost use Rattle.simulate_scenario.specs.Asked.{begun_for, shares_in};
 
-    /// In which form the answer is.
-    pub(crate) fn form(&self) -> Form
-        ensures { result ≡ form_of self.now }
+    /// Puts what the lines of the events begin with after a text.
+    pub(crate) fn push_begun(&self, text: &mut String) -> Result<(), AllocError>
+        ensures { OnOk result (string_bytes text.new ≡ string_bytes text.old ++ begun_for self.now) }
     {
         match *self {
-            Query::Report(wanted) => wanted.form,
-            Query::Events { form, .. } => form,
+            Query::Report(wanted) => wanted.form.push_head(text, "simulate"),
+            Query::Events(_) => Ok(()),
         }
     }
 
@@ -108,7 +131,7 @@ impl Query {
     {
         match *self {
             Query::Report(wanted) => wanted.asked_shares(),
-            Query::Events { .. } => AskedShares {
+            Query::Events(_) => AskedShares {
                 backends: false,
                 nodes: false,
             },

@@ -9,6 +9,6 @@ mod paging;
 mod playing;
 
 pub use answering::is_cut;
-pub use asking::{Answer, Query, Wanted};
+pub use asking::{Answer, Query, TwoEvents, Wanted};
 pub use paging::Listing;
 pub use playing::{ListingGivenUp, play_listed, play_scenario};

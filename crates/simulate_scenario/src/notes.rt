@@ -1,5 +1,5 @@
 //! What is kept of a run's events for what is asked of it.
-ghost use Rattle.std.specs.Prelude.{◌≡◌, ◌==◌, ◌+◌, ◌∷◌, [], List, Option, Some, IfOk, OnOk, option_copied, if◌then◌else◌};
+ghost use Rattle.std.specs.Prelude.{◌≡◌, ◌==◌, ◌+◌, ◌++◌, ◌∷◌, [], List, Option, Some, IfOk, OnOk, option_copied, string_bytes, if◌then◌else◌};
 ghost use Rattle.cluster_node.specs.declared.events.Event.{Event};
 ghost use Rattle.simulate_scenario.specs.declared.asking.Query.{Query};
 ghost use Rattle.simulate_scenario.specs.declared.asking.Query.TheVariants.{Report};
@@ -7,10 +7,11 @@ ghost use Rattle.cluster_node.specs.declared.events.LogEntry.{LogEntry};
 ghost use Rattle.cluster_node.specs.declared.packets.Packet.{Packet};
 ghost use Rattle.event_trace.specs.Noting.{said_by};
 ghost use Rattle.run_report.specs.Splits.{sent_by};
+ghost use Rattle.simulate_scenario.specs.Asked.{event_if};
 ghost use Rattle.traffic_shares.specs.declared.books.AskedShares.{AskedShares};
 ghost use Rattle.traffic_shares.specs.Books.{AreShareBooksOf};
 
-use crate::asking::{Query, Wanted};
+use crate::asking::{Query, TwoEvents, Wanted};
 use cluster_node::{Event, Outcome, Packet};
 use connection_changes::ChangeBook;
 use connection_table::TableKey;
@@ -26,7 +27,7 @@ use traffic_shares::ShareBooks;
 pub(crate) struct Notebook {
     pub(crate) counts: Counts,
     pub(crate) lines: String,
-    pub(crate) book: SplitBook,
+    pub(crate) book: SplitBook<()>,
     pub(crate) changes: ChangeBook,
     pub(crate) shares: ShareBooks,
     pub(crate) number: u64,
@@ -70,15 +71,32 @@ fn kept_send(
     }
 }
 
+// The line of the event of a number, where it is asked for.
+fn push_event_if(
+    lines: &mut String,
+    number: u64,
+    two: TwoEvents,
+    event: &Event,
+    packet: Option<&Packet>,
+    outcome: &Outcome,
+) -> Result<(), AllocError>
+    ensures { OnOk result (string_bytes lines.new ≡ string_bytes lines.old ++ event_if two number (said_by event.now (option_copied packet.entry) outcome.now)) }
+{
+    if !two.lists(number) {
+        return Ok(());
+    }
+    two.form.push_event(lines, number, event, packet, outcome)
+}
+
 impl Notebook {
-    ghost use Rattle.simulate_scenario.specs.Notebooks.{Lists, ListsIf, BookIf, ChangesIf, KeepsMore, KeepsTwo, AreOf};
+    ghost use Rattle.simulate_scenario.specs.Notebooks.{Lists, ListsIf, NotedIf, NotedChangesIf, BookIf, ChangesIf, KeepsMore, KeepsBooks, KeepsTwo, AreOf};
 
     /// Nothing was noted, for what is asked. The books hash flows by the key.
     pub(crate) fn make(alloc: Global, key: TableKey, asked: &Query) -> Result<Notebook, AllocError>
         ensures { IfOk result (λ n. AreOf asked.now [] n) }
     {
         let mut lines = String::new(alloc);
-        asked.form().push_head(&mut lines, "simulate")?;
+        asked.push_begun(&mut lines)?;
         Ok(Notebook {
             counts: Counts::new(),
             lines,
@@ -139,7 +157,7 @@ impl Notebook {
     // An event goes into the book, where splits are asked for.
     #[inline(always)]
     fn book_if(&mut self, splits: bool, event: &Event, outcome: &Outcome) -> Result<(), AllocError>
-        ensures books { (past : List LogEntry) (packet : Option Packet) → BookIf splits past self.old.book → OnOk result (BookIf splits (said_by event.now packet outcome.now ∷ past) self.new.book) }
+        ensures books { (past : List LogEntry) (packet : Option Packet) → NotedIf splits past self.old.book → OnOk result (NotedIf splits (said_by event.now packet outcome.now ∷ past) self.new.book) }
         ensures lines { self.new.lines ≡ self.old.lines }
         ensures number { self.new.number ≡ self.old.number }
         ensures counts { self.new.counts ≡ self.old.counts }
@@ -147,7 +165,7 @@ impl Notebook {
         ensures shares { self.new.shares ≡ self.old.shares }
     {
         if splits {
-            self.book.note(event, outcome)
+            self.book.note(event, outcome, ())
         } else {
             Ok(())
         }
@@ -162,7 +180,7 @@ impl Notebook {
         packet: Option<&Packet>,
         outcome: &Outcome,
     ) -> Result<(), AllocError>
-        ensures changes { (past : List LogEntry) → ChangesIf changes past self.old.changes → OnOk result (ChangesIf changes (said_by event.now (option_copied packet.entry) outcome.now ∷ past) self.new.changes) }
+        ensures changes { (past : List LogEntry) → NotedChangesIf changes past self.old.changes → OnOk result (NotedChangesIf changes (said_by event.now (option_copied packet.entry) outcome.now ∷ past) self.new.changes) }
         ensures rest { self.new ≡ record self.old { changes = self.new.changes } }
     {
         if changes {
@@ -220,21 +238,51 @@ impl Notebook {
         self.more(wanted, event, packet, outcome)
     }
 
+    // The book of splits answers what was noted, where it is asked for.
+    fn settle_book_if(&mut self, splits: bool) -> Result<(), AllocError>
+        ensures books { (past : List LogEntry) → NotedIf splits past self.old.book → OnOk result (BookIf splits past self.new.book) }
+        ensures rest { self.new ≡ record self.old { book = self.new.book } }
+    {
+        if splits { self.book.settle() } else { Ok(()) }
+    }
+
+    // The same of the book of changes.
+    fn settle_changes_if(&mut self, changes: bool) -> Result<(), AllocError>
+        ensures books { (past : List LogEntry) → NotedChangesIf changes past self.old.changes → OnOk result (ChangesIf changes past self.new.changes) }
+        ensures rest { self.new ≡ record self.old { changes = self.new.changes } }
+    {
+        if changes {
+            self.changes.settle()
+        } else {
+            Ok(())
+        }
+    }
+
+    /// The books answer what was noted for a report. Where memory is refused nothing more is known of them.
+    pub(crate) fn settle(&mut self, wanted: Wanted) -> Result<(), AllocError>
+        ensures books { (past : List LogEntry) → KeepsMore wanted past self.old → OnOk result (KeepsBooks wanted past self.new) }
+        ensures rest { self.new ≡ record self.old { book = self.new.book; changes = self.new.changes } }
+    {
+        self.settle_book_if(wanted.keeps_splits())?;
+        self.settle_changes_if(wanted.keeps_changes())
+    }
+
     // What an event did, where it is one of the two that are asked for.
     fn keep(
         &mut self,
-        one: u64,
-        other: u64,
+        two: TwoEvents,
         event: &Event,
+        packet: Option<&Packet>,
         outcome: &Outcome,
     ) -> Result<(), AllocError>
-        ensures { (past : List LogEntry) (packet : Option Packet) → KeepsTwo one other past self.old →
-            OnOk result (KeepsTwo one other (said_by event.now packet outcome.now ∷ past) self.new) }
+        ensures { (past : List LogEntry) → KeepsTwo two past self.old →
+            OnOk result (KeepsTwo two (said_by event.now (option_copied packet.entry) outcome.now ∷ past) self.new) }
     {
-        self.first = kept_send(self.first, self.number, one, event, outcome);
-        self.later = kept_send(self.later, self.number, other, event, outcome);
-        self.one = kept(self.one, self.number, one, outcome);
-        self.other = kept(self.other, self.number, other, outcome);
+        push_event_if(&mut self.lines, self.number, two, event, packet, outcome)?;
+        self.first = kept_send(self.first, self.number, two.one, event, outcome);
+        self.later = kept_send(self.later, self.number, two.other, event, outcome);
+        self.one = kept(self.one, self.number, two.one, outcome);
+        self.other = kept(self.other, self.number, two.other, outcome);
         self.number = next(self.number)?;
         Ok(())
     }
@@ -257,7 +305,7 @@ impl Notes for Notebook {
     ) -> Result<(), AllocError> {
         match *asked {
             Query::Report(wanted) => self.report(wanted, event, packet, outcome),
-            Query::Events { one, other, .. } => self.keep(one, other, event, outcome),
+            Query::Events(two) => self.keep(two, event, packet, outcome),
         }
     }
 }

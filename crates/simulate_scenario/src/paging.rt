@@ -162,6 +162,7 @@ impl<P: Pages> Answering for PagedNotes<P> {
         played: &Played<NamedSpread>,
     ) -> Result<Answer, AllocError> {
         let wanted = task.asked.wanted;
+        self.kept.settle(task.asked.unlisted)?;
         let counts = counts_if(wanted, &self.kept.changes);
         let lines = mem::replace(&mut self.lines, String::new(alloc));
         let text = report(alloc, &task.deployment, played, &self.kept, lines, wanted)?;

@@ -28,6 +28,7 @@ pub struct ShareBooks {
 }
 
 // An event goes into a book, where it is asked for.
+#[inline(always)]
 fn note_if(
     asked: bool,
     book: &mut ShareBook,
@@ -62,6 +63,7 @@ impl ShareBooks {
 
     /// One event more, with the packet that it names where it is an arrival, and its outcome. Where memory is refused nothing
     /// more is known of the books.
+    #[inline(always)]
     pub fn note(
         &mut self,
         event: &Event,

@@ -60,6 +60,7 @@ complete -c maglev -n '__fish_seen_subcommand_from simulate' -l json -d 'print J
 complete -c maglev -n '__fish_seen_subcommand_from simulate' -l verbose -d 'say where a fault is and what was expected, or warn of what may not be meant'
 complete -c maglev -n '__fish_seen_subcommand_from simulate' -l help -d 'Print help'
 complete -c maglev -n '__fish_seen_subcommand_from explain' -F
+complete -c maglev -n '__fish_seen_subcommand_from explain' -l list -d 'print the two events and their outcomes first, as simulate --list does'
 complete -c maglev -n '__fish_seen_subcommand_from explain' -l cut -x -a 'pad' -d 'play a record that a snap length cut as it was, with zeros where bytes are missing [possible values: pad]'
 complete -c maglev -n '__fish_seen_subcommand_from explain' -l progress -d 'show on standard error from the beginning on how far INPUT is read, also where that is a file; a terminal shows it without this, a pipe never'
 complete -c maglev -n '__fish_seen_subcommand_from explain' -l json -d 'print JSON Lines: objects in place of lines, with the keys that docs/FORMATS.md lists'

@@ -1,4 +1,4 @@
-use Rattle.std.proofs.Common.{ap, ◌∙◌, map, arith, take}
+use Rattle.std.proofs.Common.{ap, ◌∙◌, map, arith}
 use Rattle.std.proofs.lemmas.List.{take_all}
 use Rattle.connection_changes.specs.Changes.{cause_in}
 use Rattle.connection_changes.proofs.Told.{causes_more}

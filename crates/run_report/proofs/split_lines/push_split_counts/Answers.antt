@@ -4,7 +4,7 @@ use Rattle.run_report.proofs.SplitWalks.{causes_add_up, counts_told}
 use Rattle.run_report.proofs.split_lines.push_split_counts.Goals as goal
 
 pub push_counts-requires : goal.push_counts-requires
-push_counts-requires c =
+push_counts-requires g c =
     let lookups : Lookups = lookups_of (λ bytes. 0) 1 c.args.catalogue.now in
     let whole : down_count lookups c.splits-splits.result.now + moved_count lookups c.splits-splits.result.now + drained_count lookups c.splits-splits.result.now ≡ length c.splits-splits.result.now = causes_add_up lookups c.splits-splits.result.now in
     let down : c.gone_of-gone.result.down ≡ down_count lookups c.splits-splits.result.now = c.gone_of-gone.ensures.down lookups refl refl in
@@ -12,7 +12,7 @@ push_counts-requires c =
     omega (arith, whole, down, drained)
 
 pub returns : goal.returns
-returns c = λ past lookups ups versions book.
+returns g c = λ past lookups ups versions book.
     counts_told lookups past c.push_counts.result c.splits-splits.result.now c.flows.result (length c.splits-splits.result.now) c.gone_of-gone.result.down c.gone_of-gone.result.drained c.does_anybody_drain-drains.result _ _
     (c.splits-splits.ensures past book) (c.flows.ensures past book) refl (c.gone_of-gone.ensures.down lookups ups versions) (c.gone_of-gone.ensures.drained lookups ups versions)
     (c.does_anybody_drain-drains.ensures ∙ ap does_anybody_drain (sym versions)) c.push_counts.ensures

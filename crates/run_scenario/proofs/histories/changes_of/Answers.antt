@@ -2,7 +2,7 @@ use Rattle.std.proofs.Common.{◌≡◌, ◌++◌, ◌∙◌, List, reverse, tak
 use Rattle.cluster_node.specs.declared.events.Event.{Event}
 use Rattle.cluster_node.specs.declared.events.LogEntry.{LogEntry}
 use Rattle.cluster_node.specs.declared.outcomes.Outcome.{Outcome}
-use Rattle.connection_changes.specs.Books.{IsChangeBookOf}
+use Rattle.connection_changes.specs.Books.{IsNotedChangeBookOf}
 use Rattle.run_scenario.specs.Runs.{said_with}
 use Rattle.run_scenario.specs.PrivateHistories.{said_whole}
 use Rattle.run_scenario.proofs.Whole.{whole_more}
@@ -14,5 +14,5 @@ loop-node-preserved c =
     let before = said_whole packets (take c.loop-node.node-index c.args.nodes.now) in
     let slices : reverse (said_with packets c.as_slice-events.result.now c.as_slice.result.now) ++ before ≡ reverse (said_with packets c.node-item.result.events.items c.node-item.result.outcomes.items) ++ before =
     ap (λ (es : List Event). reverse (said_with packets es c.as_slice.result.now) ++ before) c.as_slice-events.ensures.value ∙ ap (λ (os : List Outcome). reverse (said_with packets c.node-item.result.events.items os) ++ before) c.as_slice.ensures.value in
-    subst (λ (past : List LogEntry). IsChangeBookOf past c.note_node.new.book) (slices ∙ sym (whole_more packets c.args.nodes.now c.loop-node.node-index c.node-item.result c.loop-node-test.true c.node-item.is c.requires))
+    subst (λ (past : List LogEntry). IsNotedChangeBookOf past c.note_node.new.book) (slices ∙ sym (whole_more packets c.args.nodes.now c.loop-node.node-index c.node-item.result c.loop-node-test.true c.node-item.is c.requires))
     (c.in_ok-note_node.ensures before c.loop-node.invariant)

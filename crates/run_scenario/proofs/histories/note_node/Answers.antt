@@ -8,7 +8,7 @@ use Rattle.cluster_node.specs.declared.events.LogEntry.{LogEntry}
 use Rattle.cluster_node.specs.declared.outcomes.Outcome.{Outcome}
 use Rattle.cluster_core.specs.Runs.{packet_of}
 use Rattle.event_trace.specs.Noting.{said_by}
-use Rattle.connection_changes.specs.Books.{IsChangeBookOf}
+use Rattle.connection_changes.specs.Books.{IsNotedChangeBookOf}
 use Rattle.run_scenario.specs.Runs.{said_with}
 use Rattle.run_scenario.proofs.Whole.{event_more, event_end}
 use Rattle.run_scenario.proofs.histories.note_node.Goals as goal
@@ -23,13 +23,13 @@ pub loop-event-preserved : goal.loop-event-preserved
 loop-event-preserved c = λ first is.
     let was = c.loop-event.invariant first is in (
       record { event = c.in-Some.event.now; packet = packet_of c.args.packets.now c.in-Some.event.now; outcome = c.in-Some.outcome.now } ∷ was.0,
-      subst (λ (p : Option Packet). IsChangeBookOf (said_by c.in-Some.event.now p c.in-Some.outcome.now ∷ was.0) c.note.new.self) c.packet_at.ensures (c.in_ok-note.ensures was.0 was.1),
+      subst (λ (p : Option Packet). IsNotedChangeBookOf (said_by c.in-Some.event.now p c.in-Some.outcome.now ∷ was.0) c.note.new.self) c.packet_at.ensures (c.in_ok-note.ensures was.0 was.1),
       event_more c.args.packets.now was.0 _ _ _ _ _ _ _ c.in-Some.ensures.steps.0 c.in-Some.ensures.steps.1 was.2,
     )
 
 pub returns : goal.returns
 returns c = λ first is.
     let was = c.loop-event.invariant first is in
-    subst (λ (past : List LogEntry). IsChangeBookOf past c.loop-event.book)
+    subst (λ (past : List LogEntry). IsNotedChangeBookOf past c.loop-event.book)
     (event_end c.args.packets.now first was.0 _ _ _ (either_empty_from_Zip c.loop-event.event-iterator c.next.new.self c.next.result c.in-None.is c.next.ensures.steps) was.2)
     was.1

@@ -1,4 +1,4 @@
-use Rattle.std.proofs.Common.{◌≡◌, reverse, string_bytes, subst, sym, refl, None}
+use Rattle.std.proofs.Common.{◌≡◌, reverse, string_bytes, subst, sym, ap, refl, None}
 use Rattle.std.specs.Prelude.{IfOk}
 use Rattle.hash_laws.specs.Any.{plain_of}
 use Rattle.named_scheme.specs.Picking.{pick_of}
@@ -8,19 +8,34 @@ use Rattle.run_report.specs.Causes.{lookups_of}
 use Rattle.simulate_scenario.specs.declared.asking.Query.{Query}
 use Rattle.simulate_scenario.specs.Answers.{answer_of, counts_for}
 use Rattle.simulate_scenario.specs.Notebooks.{AreOf}
-use Rattle.simulate_scenario.proofs.Asks.{picked_if, line_told}
+use Rattle.simulate_scenario.specs.declared.notes.Notebook.{Notebook}
+use Rattle.event_trace.specs.declared.counts.Counts.{Counts}
+use Rattle.event_trace.specs.Counting.{CountsAre}
+use Rattle.simulate_scenario.proofs.Asks.{picked_if, explanation_told}
 use Rattle.simulate_scenario.proofs.answering.NotebookAnswering.answer.Goals as goal
 
-pub line-requires-clause-one : goal.line-requires-clause-one
-line-requires-clause-one c = λ steady.
+pub report-requires-clause-counts : goal.report-requires-clause-counts
+report-requires-clause-counts c =
+    let past = c.args.played.now.play.trace.past in
+    let h = subst (λ (a : Query). AreOf a past c.args.self.now) c.in-Report.is c.requires.notes in
+    subst (λ (x : Counts). CountsAre (outcomes_of past) x) (sym (ap (λ (n : Notebook). n.counts) c.in_ok-settle-in-Report.ensures.rest)) h.0
+
+pub report-requires-clause-books : goal.report-requires-clause-books
+report-requires-clause-books c =
+    let past = c.args.played.now.play.trace.past in
+    let h = subst (λ (a : Query). AreOf a past c.args.self.now) c.in-Report.is c.requires.notes in
+    c.in_ok-settle-in-Report.ensures.books past h.1
+
+pub explanation-requires-clause-one : goal.explanation-requires-clause-one
+explanation-requires-clause-one c = λ steady.
     let two = subst (λ (a : Query). AreOf a c.args.played.now.play.trace.past c.args.self.now) c.in-Events.is c.requires.notes in
-    picked_if (rules_of (λ s z. pick_of s z) (λ h. plain_of h) c.args.task.now.deployment) (outcomes_of (reverse c.args.played.now.play.trace.past)) c.in-Events.one c.args.self.now.one
+    picked_if (rules_of (λ s z. pick_of s z) (λ h. plain_of h) c.args.task.now.deployment) (outcomes_of (reverse c.args.played.now.play.trace.past)) c.in-Events.two.one c.args.self.now.one
     (c.send_by_picks.ensures steady c.args.played.now.play.trace.past c.requires.judged) two.one_is
 
-pub line-requires-clause-other : goal.line-requires-clause-other
-line-requires-clause-other c = λ steady.
+pub explanation-requires-clause-other : goal.explanation-requires-clause-other
+explanation-requires-clause-other c = λ steady.
     let two = subst (λ (a : Query). AreOf a c.args.played.now.play.trace.past c.args.self.now) c.in-Events.is c.requires.notes in
-    picked_if (rules_of (λ s z. pick_of s z) (λ h. plain_of h) c.args.task.now.deployment) (outcomes_of (reverse c.args.played.now.play.trace.past)) c.in-Events.other c.args.self.now.other
+    picked_if (rules_of (λ s z. pick_of s z) (λ h. plain_of h) c.args.task.now.deployment) (outcomes_of (reverse c.args.played.now.play.trace.past)) c.in-Events.two.other c.args.self.now.other
     (c.send_by_picks.ensures steady c.args.played.now.play.trace.past c.requires.judged) two.other_is
 
 pub returns-in_ok-text-in-Events : goal.returns-in_ok-text-in-Events
@@ -29,8 +44,8 @@ returns-in_ok-text-in-Events c =
     let lookups = lookups_of (plain_of task.deployment.setup.hash) task.deployment.setup.size task.deployment.catalogue in
     let played = c.args.played.now in
     let two = subst (λ (a : Query). AreOf a played.play.trace.past c.args.self.now) c.in-Events.is c.requires.notes in
-    let told = line_told string_bytes c.line.result lookups task.deployment.setup.idle task.asked played.play.trace played.packets played.ending c.in-Events.one c.in-Events.other c.in-Events.form
-    c.args.self.now.one c.args.self.now.other c.args.self.now.first c.args.self.now.later c.in-Events.is two.one_is two.other_is two.first_is two.later_is c.line.ensures in (
+    let told = explanation_told string_bytes c.explanation.result lookups task.deployment.setup.idle task.asked played.play.trace played.packets played.ending c.in-Events.two (string_bytes c.args.self.now.lines)
+    c.args.self.now.one c.args.self.now.other c.args.self.now.first c.args.self.now.later c.in-Events.is two.lines two.one_is two.other_is two.first_is two.later_is c.explanation.ensures in (
       subst (λ r. IfOk r (λ s. string_bytes s ≡ answer_of lookups task.deployment.setup.idle task.asked played.play.trace played.packets played.ending)) c.in_ok-text-in-Events.was told,
       subst (λ (a : Query). None ≡ counts_for a played.play.trace.past) (sym c.in-Events.is) refl,
     )
