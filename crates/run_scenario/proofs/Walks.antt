@@ -52,3 +52,9 @@ pub all_read : (link : Link) (check : Bool) (rs : List Record) → WereRead (pac
 all_read link check [] k p e = absurd (none-some p e)
 all_read link check (r ∷ rs) zero p e = subst (λ (o : Option Packet). WasRead o) e (was_read link r.bytes (time_of r) check)
 all_read link check (r ∷ rs) (suc k) p e = all_read link check rs k p e
+
+-- the packet of a record that is there
+pub packet_there : (link : Link) (check : Bool) (rs : List Record) (i : ℕ) (r : Record) (d : Packet) → slice_get rs i ≡ Some r → get_or (packets_of link check rs) i d ≡ packet_in link check r
+packet_there link check [] i r d e = absurd (none-some r e)
+packet_there link check (x ∷ rs) zero r d e = let same : x ≡ r = cc in ap (λ (y : Record). packet_in link check y) same
+packet_there link check (x ∷ rs) (suc i) r d e = packet_there link check rs i r d e
