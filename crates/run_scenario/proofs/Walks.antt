@@ -58,3 +58,6 @@ pub packet_there : (link : Link) (check : Bool) (rs : List Record) (i : ℕ) (r 
 packet_there link check [] i r d e = absurd (none-some r e)
 packet_there link check (x ∷ rs) zero r d e = let same : x ≡ r = cc in ap (λ (y : Record). packet_in link check y) same
 packet_there link check (x ∷ rs) (suc i) r d e = packet_there link check rs i r d e
+
+pub packet_among : (link : Link) (check : Bool) (rs : List Record) (ps : List Packet) (i : ℕ) (r : Record) (d : Packet) → ps ≡ packets_of link check rs → slice_get rs i ≡ Some r → get_or ps i d ≡ packet_in link check r
+packet_among link check rs ps i r d same here = ap (λ (l : List Packet). get_or l i d) same ∙ packet_there link check rs i r d here

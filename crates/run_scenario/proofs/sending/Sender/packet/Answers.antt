@@ -1,8 +1,5 @@
-use Rattle.std.proofs.Common.{◌≡◌, ℕ, List, length, ap, sym, ◌∙◌, arith}
-use Rattle.std.proofs.lemmas.List.{length-map}
-use Rattle.cluster_node.specs.declared.packets.Packet.{Packet}
-use Rattle.run_scenario.proofs.Walks.{packet_there}
+use Rattle.run_scenario.proofs.Walks.{packet_among}
 use Rattle.run_scenario.proofs.sending.Sender.packet.Goals as goal
 
 pub returns : goal.returns
-returns g c = ?
+returns g c = λ r here. packet_among _ _ _ _ _ r _ c.args.self.now.read here
