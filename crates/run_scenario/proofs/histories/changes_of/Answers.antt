@@ -1,8 +1,10 @@
-use Rattle.std.proofs.Common.{◌≡◌, ◌++◌, ◌∙◌, List, reverse, take, ap, sym, subst}
+use Rattle.std.proofs.Common.{◌≡◌, ◌++◌, ◌∙◌, List, reverse, take, ap, sym, subst, arith}
+use Rattle.std.proofs.lemmas.List.{take_all}
 use Rattle.cluster_node.specs.declared.events.Event.{Event}
 use Rattle.cluster_node.specs.declared.events.LogEntry.{LogEntry}
 use Rattle.cluster_node.specs.declared.outcomes.Outcome.{Outcome}
-use Rattle.connection_changes.specs.Books.{IsNotedChangeBookOf}
+use Rattle.connection_changes.specs.Books.{IsNotedChangeBookOf, IsChangeBookOf}
+use Rattle.thread_records.specs.declared.nodes.NodeRecord.{NodeRecord}
 use Rattle.run_scenario.specs.Runs.{said_with}
 use Rattle.run_scenario.specs.PrivateHistories.{said_whole}
 use Rattle.run_scenario.proofs.Whole.{whole_more}
@@ -16,3 +18,9 @@ loop-node-preserved c =
     ap (λ (es : List Event). reverse (said_with packets es c.as_slice.result.now) ++ before) c.as_slice-events.ensures.value ∙ ap (λ (os : List Outcome). reverse (said_with packets c.node-item.result.events.items os) ++ before) c.as_slice.ensures.value in
     subst (λ (past : List LogEntry). IsNotedChangeBookOf past c.note_node.new.book) (slices ∙ sym (whole_more packets c.args.nodes.now c.loop-node.node-index c.node-item.result c.loop-node-test.true c.node-item.is c.requires))
     (c.in_ok-note_node.ensures before c.loop-node.invariant)
+
+pub returns : goal.returns
+returns c =
+    let packets = c.args.packets.now in
+    subst (λ (ns : List NodeRecord). IsChangeBookOf (said_whole packets ns) c.settle.new.self) (take_all c.loop-node.node-index c.args.nodes.now (omega arith))
+    (c.in_ok-settle.ensures (said_whole packets (take c.loop-node.node-index c.args.nodes.now)) c.loop-node.invariant)
