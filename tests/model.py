@@ -417,6 +417,13 @@ class Run:
         sent.at = At(node, self.lives[node], worker, self.forwarders[node][worker].clock)
         return self.say(event, f"forward {'@'.join(backend)} from {origin}", sent)
 
+    def part_of(self, node):
+        """One node's part of the run: the events of that node, in their order, with their outcomes. All that is counted of the
+        capture's records stays."""
+        part = copy.copy(self)
+        part.events = [one for one in self.events if int(one[0].split(" ")[1]) == node]
+        return part
+
     # what is asked
 
     def sends(self):

@@ -99,6 +99,8 @@ def all_came(text):
 # What the model says of two packets of one flow at two nodes, simulated and on threads.
 TOLD = model.Run(APART.decode(), SPLIT["in.pcap"])
 PLACES, SUMMARY, RUN_PLACES, SHARES = TOLD.splits(True), TOLD.summary(), TOLD.on_threads().splits(True), TOLD.taken() + TOLD.taken(True)
+# One node's part of it.
+PART = TOLD.part_of(1)
 # The same as objects, and its fault: where memory for the object is refused nothing is said.
 ASKED = ["--list", "--where", "--per-backend", "--per-node", "--summary"]
 IN_OBJECTS = [(1, b"", b'{"type":"fault","fault":"Memory","detail":null}\n'), (1, b"", b"")]
@@ -148,6 +150,7 @@ CASES = [
     Case(["simulate", "s.toml", "in.pcap", "out.pcap"], REPORT, files=FILES, written={"out.pcap": SENT}),
     Case(["simulate", "--list", "s.toml", "in.pcap", "out.pcap"], EVENTS + REPORT, files=FILES, written={"out.pcap": SENT}),
     Case(["simulate", "--splits", "s.toml", "in.pcap", "out.pcap"], FLOW.format("3 5") + TWO, files=SPLIT),
+    Case(["simulate", "--node", "1", "--list", "s.toml", "in.pcap", "out.pcap"], PART.listing() + PART.report(), files=SPLIT, written={"out.pcap": PART.output()}),
     Case(["simulate", "--splits", "s.toml", "in.pcap", "out.pcap"], FLOW.format("3 7") + TWO, files=LATER),
     Case(["plan", "s.toml", "1", "2"], CHANGED, files=LATER),
     Case(["run", "s.toml", "in.pcap", "out.pcap"], TWO + "audit agrees\n", files=LATER, faults=[LOST]),

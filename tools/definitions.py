@@ -88,6 +88,16 @@ PROMISES = [
         [("maglev_cli", "running", "run")],
     ),
     (
+        "`simulate --node N`: one node's part of the run",
+        "`simulate_part` of `scenario_commands`, and the laws of `node_part`.",
+        [
+            ("scenario_commands", "parting", "simulate_part"),
+            ("node_part", "laws", "nodes_are_judged_alone"),
+            ("node_part", "laws", "parts_are_of_the_whole"),
+            ("node_part", "laws", "parts_send_their_own"),
+        ],
+    ),
+    (
         "`--cut pad`: the capture that is played in place of one whose records were cut",
         "`Padded::new` and the law `padded_is_whole` of `padded_capture`.",
         [("padded_capture", "padded", "new"), ("padded_capture", "laws", "padded_is_whole")],

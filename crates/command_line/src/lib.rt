@@ -28,7 +28,7 @@ Faults, and what to do:
   ReadScenario, Read           check the disk
   BadToml, BadFormat, BadKey   correct the scenario: docs/FORMATS.md has each key
   BadMember                    write NAME@ADDRESS or NAME@ADDRESS/down; from format 2 on also *W before /down, in format 3 also /drain for /down, and NAME alone for one of [servers]
-  BadNumber, NumberTaken       give each version a number of its own, from 1
+  BadNumber, NumberTaken       give each version a number of its own, from 1; with --node the scenario has no balancer N
   DoubleService, DoubleName    give each service its address, protocol and port, each member its name
   TooMany                      take fewer members than slots, or fewer services or versions
   BadStep N                    correct step N, counted from 0
@@ -414,6 +414,17 @@ fn fail_above<'a>(alloc: Global) -> Arg<'a> {
         .action(ArgAction::Set)
 }
 
+fn node<'a>(alloc: Global) -> Arg<'a> {
+    Arg::new(alloc, "node")
+        .long("node")
+        .value_name("N")
+        .help(
+            "play balancer N's part of the run alone: what it sends, and its lines and counts; the parts are joined as docs/SCALING.md says",
+        )
+        .action(ArgAction::Set)
+        .value_parser(value_parser!(u16))
+}
+
 fn list<'a>(alloc: Global) -> Arg<'a> {
     Arg::new(alloc, "list")
         .long("list")
@@ -486,6 +497,7 @@ fn simulate<'a>(alloc: Global) -> Result<Command<'a>, AllocError> {
         nodes(alloc),
         summary(alloc),
         fail_above(alloc),
+        node(alloc),
         cut(alloc),
         progress(alloc),
         json(alloc),

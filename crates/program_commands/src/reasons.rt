@@ -143,16 +143,21 @@ fn reason_by(alloc: Global, trouble: &Trouble, files: &Files<'_, '_>) -> Option<
             "scheme: expected \"maglev\", since the others have no table",
         ),
         CliFault::Capture(fault) => capture(alloc, fault, trouble, files),
-        CliFault::Pool(PoolFault::BadNumber) => bad_number(alloc, files.text, trouble.place),
+        CliFault::Pool(PoolFault::BadNumber) => bad_number(alloc, files, trouble.place),
         fault => words_of(alloc, files.text, scenario_fault(fault)?, trouble.place),
     }
 }
 
-// Where a version's number is 0, or else that a version which was asked for isn't there.
-fn bad_number(alloc: Global, text: &[u8], place: Option<Place>) -> Option<String> {
+// Where a version's number is 0, or else that a version or a balancer which was asked for isn't there. A command with INPUT
+// asks for no version.
+fn bad_number(alloc: Global, files: &Files<'_, '_>, place: Option<Place>) -> Option<String> {
     let fault = ScenarioFault::Pool(PoolFault::BadNumber);
-    match words_of(alloc, text, fault, place) {
+    match words_of(alloc, files.text, fault, place) {
         Some(words) => Some(words),
+        None if !files.paths.input.is_empty() => plain(
+            alloc,
+            "--node: expected the number of a balancer that the scenario has, counted from 0",
+        ),
         None => plain(
             alloc,
             "version: expected the number of one that the scenario has",

@@ -13,16 +13,17 @@ use command_faults::CliFault;
 use connection_table::TableKey;
 use json_lines::Form;
 use lazy_files::{OutputFile, ReportText, StandardOutput};
+use node_part::PartSetup;
 use pcap_file::{PcapFault, ToWrite};
 use report_advice::{advice_of, up_to_report};
 use rollout_order::order;
 use rollout_plan::plan_as;
 use scenario::{Played, read};
-use scenario_commands::simulate_listed;
+use scenario_commands::{simulate_listed, simulate_part};
 use scenario_faults::PlacedFault;
 use scenario_warnings::{warning_text, warnings};
 use shown_text::shown;
-use simulate_scenario::{Query, TwoEvents, Wanted};
+use simulate_scenario::{Listing, Query, TwoEvents, Wanted};
 use std::alloc::AllocError;
 use std::io::Write;
 
@@ -241,6 +242,7 @@ pub fn asks_summary(matches: &ArgMatches<'_>) -> bool {
 
 /// The command `simulate`.
 pub(crate) fn run_simulate(rt: &HostRuntime, matches: &ArgMatches<'_>) -> u8 {
+    let only = matches.get_one::<u16>("node");
     let wanted = Wanted {
         list: matches.get_flag("list"),
         splits: matches.get_flag("splits"),
@@ -256,7 +258,15 @@ pub(crate) fn run_simulate(rt: &HostRuntime, matches: &ArgMatches<'_>) -> u8 {
         Played::InTurn,
         wanted.list,
         |key, text, input, output, report| {
-            let done = simulate_listed(rt.alloc(), key, text, input, output, report, wanted);
+            let alloc = rt.alloc();
+            let done = match only {
+                None => simulate_listed(alloc, key, text, input, output, report, wanted),
+                Some(_) => {
+                    let pages = report;
+                    let part = PartSetup { only, whole: text };
+                    simulate_part(alloc, key, part, input, output, Listing { wanted, pages })
+                }
+            };
             done.map(|(counts, _)| counts)
         },
     )

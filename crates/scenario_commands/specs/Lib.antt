@@ -1,2 +1,3 @@
 pub mod Scenarios
 pub mod Listings
+pub mod Parts

@@ -2,7 +2,9 @@
 #![tactic(auto)]
 
 mod listing;
+mod parting;
 mod playing;
 
 pub use listing::simulate_listed;
+pub use parting::simulate_part;
 pub use playing::{answer_keyed, explain_run, run_fault, simulate, simulate_keyed};

@@ -16,8 +16,8 @@ use simulate_scenario::{Listing, ListingGivenUp, Wanted, play_listed};
 use std::alloc::Global;
 use text_pages::Streamed;
 
-// The fault of a listing that was given up: that of its device, where this refused a page.
-fn listing_fault<R: Sink + Drop>(given_up: ListingGivenUp<Streamed<R>>) -> CliFault
+/// The fault of a listing that was given up: that of its device, where this refused a page.
+pub(crate) fn listing_fault<R: Sink + Drop>(given_up: ListingGivenUp<Streamed<R>>) -> CliFault
     ensures { IsListingFault given_up.fault result }
 {
     match given_up.pages {

@@ -21,6 +21,7 @@ use Rattle.pcap_file.specs.Device.{Tape}
 use Rattle.simulation.specs.declared.fault.SimulationFault.{SimulationFault}
 use Rattle.simulation.specs.Plans.{Planned}
 use Rattle.simulation.specs.Simulated.{Stopped}
+use Rattle.node_part.specs.Parts.{part_of}
 use Rattle.simulate_scenario.specs.Told.{AnswersBy, IsAnswer}
 use Rattle.simulate_scenario.specs.declared.asking.Answer.{Answer}
 use Rattle.simulate_scenario.specs.declared.asking.Query.{Query}
@@ -50,14 +51,14 @@ described pick_of scheme s e = ap (λ (p : Pick). record {
   idle = s.idle;
 }) e
 
-pub answers : {S : Type 0} (pick_of : S → ℕ → Pick) (scheme : S) (s : Scenario) (r : Deployed S AnyHash) (plan : Planned) (holds : Lookups → Option ℕ → Trace → ℕ → InputEnd → Type 0) (i i' o o' : Tape)
+pub answers : {S : Type 0} (pick_of : S → ℕ → Pick) (scheme : S) (s : Scenario) (only : Option ℕ) (r : Deployed S AnyHash) (plan : Planned) (holds : Lookups → Option ℕ → Trace → ℕ → InputEnd → Type 0) (i i' o o' : Tape)
     → pick_of scheme s.size ≡ pick_by s.scheme (plain_of s.hash) s.size → r ≡ ruling_of scheme s → plan ≡ plan_in s
-    → AnswersBy holds (cluster_by (rules_of pick_of plain_of r)) (choice_by s.spread (plain_of r.setup.hash)) plan (lookups_of (plain_of r.setup.hash) r.setup.size r.catalogue) r.setup.idle i i' o o'
-    → AnswersBy holds (cluster_in s) (choice_in s) (plan_in s) (lookups_in s) s.idle i i' o o'
-answers {S} pick_of scheme s r plan holds i i' o o' e f g h =
-    subst (λ (rules : Rules). AnswersBy holds (cluster_by rules) (choice_in s) (plan_in s) (lookups_in s) s.idle i i' o o') (described pick_of scheme s e)
-    (subst (λ (q : Deployed S AnyHash). AnswersBy holds (cluster_by (rules_of pick_of plain_of q)) (choice_by s.spread (plain_of q.setup.hash)) (plan_in s) (lookups_of (plain_of q.setup.hash) q.setup.size q.catalogue) q.setup.idle i i' o o') f
-    (subst (λ (p : Planned). AnswersBy holds (cluster_by (rules_of pick_of plain_of r)) (choice_by s.spread (plain_of r.setup.hash)) p (lookups_of (plain_of r.setup.hash) r.setup.size r.catalogue) r.setup.idle i i' o o') g h))
+    → AnswersBy holds (part_of only (cluster_by (rules_of pick_of plain_of r))) (choice_by s.spread (plain_of r.setup.hash)) plan (lookups_of (plain_of r.setup.hash) r.setup.size r.catalogue) r.setup.idle i i' o o'
+    → AnswersBy holds (part_of only (cluster_in s)) (choice_in s) (plan_in s) (lookups_in s) s.idle i i' o o'
+answers {S} pick_of scheme s only r plan holds i i' o o' e f g h =
+    subst (λ (rules : Rules). AnswersBy holds (part_of only (cluster_by rules)) (choice_in s) (plan_in s) (lookups_in s) s.idle i i' o o') (described pick_of scheme s e)
+    (subst (λ (q : Deployed S AnyHash). AnswersBy holds (part_of only (cluster_by (rules_of pick_of plain_of q))) (choice_by s.spread (plain_of q.setup.hash)) (plan_in s) (lookups_of (plain_of q.setup.hash) q.setup.size q.catalogue) q.setup.idle i i' o o') f
+    (subst (λ (p : Planned). AnswersBy holds (part_of only (cluster_by (rules_of pick_of plain_of r))) (choice_by s.spread (plain_of r.setup.hash)) p (lookups_of (plain_of r.setup.hash) r.setup.size r.catalogue) r.setup.idle i i' o o') g h))
 
 -- an answer to what is asked, with the counts of its connections
 pub counted_answers : (cluster : Cluster) (choice : Choice) (plan : Planned) (lookups : Lookups) (idle : Option ℕ) (asked : Query) (a : Answer) (i i' o o' : Tape)
@@ -65,14 +66,14 @@ pub counted_answers : (cluster : Cluster) (choice : Choice) (plan : Planned) (lo
 counted_answers cluster choice plan lookups idle asked a i i' o o' h =
     (record { trace = h.trace; packets = h.packets; ending = h.ending; simulated = h.simulated; answer = h.answer.0 }, h.answer.1)
 
-pub stops : {S : Type 0} (pick_of : S → ℕ → Pick) (scheme : S) (s : Scenario) (r : Deployed S AnyHash) (plan : Planned) (i i' o o' : Tape) (fault : SimulationFault)
+pub stops : {S : Type 0} (pick_of : S → ℕ → Pick) (scheme : S) (s : Scenario) (only : Option ℕ) (r : Deployed S AnyHash) (plan : Planned) (i i' o o' : Tape) (fault : SimulationFault)
     → pick_of scheme s.size ≡ pick_by s.scheme (plain_of s.hash) s.size → r ≡ ruling_of scheme s → plan ≡ plan_in s
-    → Stopped (cluster_by (rules_of pick_of plain_of r)) (choice_by s.spread (plain_of r.setup.hash)) plan i i' o o' fault
-    → Stopped (cluster_in s) (choice_in s) (plan_in s) i i' o o' fault
-stops {S} pick_of scheme s r plan i i' o o' fault e f g h =
-    subst (λ (rules : Rules). Stopped (cluster_by rules) (choice_in s) (plan_in s) i i' o o' fault) (described pick_of scheme s e)
-    (subst (λ (q : Deployed S AnyHash). Stopped (cluster_by (rules_of pick_of plain_of q)) (choice_by s.spread (plain_of q.setup.hash)) (plan_in s) i i' o o' fault) f
-    (subst (λ (p : Planned). Stopped (cluster_by (rules_of pick_of plain_of r)) (choice_by s.spread (plain_of r.setup.hash)) p i i' o o' fault) g h))
+    → Stopped (part_of only (cluster_by (rules_of pick_of plain_of r))) (choice_by s.spread (plain_of r.setup.hash)) plan i i' o o' fault
+    → Stopped (part_of only (cluster_in s)) (choice_in s) (plan_in s) i i' o o' fault
+stops {S} pick_of scheme s only r plan i i' o o' fault e f g h =
+    subst (λ (rules : Rules). Stopped (part_of only (cluster_by rules)) (choice_in s) (plan_in s) i i' o o' fault) (described pick_of scheme s e)
+    (subst (λ (q : Deployed S AnyHash). Stopped (part_of only (cluster_by (rules_of pick_of plain_of q))) (choice_by s.spread (plain_of q.setup.hash)) (plan_in s) i i' o o' fault) f
+    (subst (λ (p : Planned). Stopped (part_of only (cluster_by (rules_of pick_of plain_of r))) (choice_by s.spread (plain_of r.setup.hash)) p i i' o o' fault) g h))
 
 pub planned_as : (s : Scenario) (ns : List ℕ) (steps : List TimedStep) → ns ≡ s.nodes.items → steps ≡ s.steps.items → record { nodes = ns; check = s.check; steps = steps } ≡ plan_in s
 planned_as s ns steps e f = ap (λ (l : List ℕ). record { nodes = l; check = s.check; steps = steps }) e ∙ ap (λ (l : List TimedStep). record { nodes = s.nodes.items; check = s.check; steps = l }) f

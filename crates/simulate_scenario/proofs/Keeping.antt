@@ -27,9 +27,9 @@ use Rattle.simulate_scenario.proofs.Runs.{judged}
 maglev_in : (s : Scenario) → is_table_size s.size ≡ true → AreSound s.catalogue → s.scheme ≡ Maglev → AreMaglevs (plain_of s.hash) s.size s.catalogue (rules_in s)
 maglev_in s listed sound is = record { listed = listed; sound = sound; pick = λ candidates x turn. ap (λ (kind : SchemeKind). pick_by kind (plain_of s.hash) s.size candidates x turn) is; ups = λ v x. refl }
 
-pub keeps : (s : Scenario) (choice : Choice) (plan : Planned) (i i' o o' : Tape) (c : Trace) (n : ℕ) (e : InputEnd) → is_table_size s.size ≡ true → AreSound s.catalogue → Simulated (cluster_in s) choice plan i i' o o' c n e → KeepsPromises s c
-keeps s choice plan i i' o o' c n e listed sound run =
-    let j : Judged (verdict (rules_in s)) c.past = judged (cluster_in s) choice plan i i' o o' c n e run in
+-- so does every history that was judged
+pub keeps_judged : (s : Scenario) (c : Trace) → is_table_size s.size ≡ true → AreSound s.catalogue → Judged (verdict (rules_in s)) c.past → KeepsPromises s c
+keeps_judged s c listed sound j =
     let k : Judged (verdict (rules_in s)) (reverse (reverse c.past)) = subst (λ (past : List LogEntry). Judged (verdict (rules_in s)) past) (sym (reverse-reverse c.past)) j in
     record {
       promises = histories_keep (rules_in s) (reverse c.past) k;
@@ -37,3 +37,6 @@ keeps s choice plan i i' o o' c n e listed sound run =
       splits = λ steady. follow_picks (rules_in s) c.past steady j;
       slots = λ is. follow_tables (plain_of s.hash) s.size s.catalogue (rules_in s) c.past (maglev_in s listed sound is) j;
     }
+
+pub keeps : (s : Scenario) (choice : Choice) (plan : Planned) (i i' o o' : Tape) (c : Trace) (n : ℕ) (e : InputEnd) → is_table_size s.size ≡ true → AreSound s.catalogue → Simulated (cluster_in s) choice plan i i' o o' c n e → KeepsPromises s c
+keeps s choice plan i i' o o' c n e listed sound run = keeps_judged s c listed sound (judged (cluster_in s) choice plan i i' o o' c n e run)

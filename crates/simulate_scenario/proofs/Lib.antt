@@ -4,3 +4,4 @@ pub mod Carries
 pub mod Keeping
 pub mod Noted
 pub mod Listed
+pub mod Parting

@@ -20,7 +20,7 @@ use Rattle.timed_steps.specs.Timed.{counted}
 use Rattle.simulation.specs.Sent.{time_of, packets_of}
 use Rattle.simulation.specs.Simulated.{trace_of, Simulated}
 
-trace_told : (cluster : Cluster) (choice : Choice) (plan : Planned) (link : _) (records : List Record) → Judged cluster.judge (trace_of cluster choice plan link records).past
+pub trace_told : (cluster : Cluster) (choice : Choice) (plan : Planned) (link : _) (records : List Record) → Judged cluster.judge (trace_of cluster choice plan link records).past
 unfolding trace_of
 trace_told cluster choice plan link records = run_told (world_of cluster choice (packets_of link plan.check records)) (counted (map time_of records) plan.steps) (start (length plan.nodes)) tt
 

@@ -5,3 +5,5 @@ pub mod Kept
 pub mod Notebooks
 pub mod Paging
 pub mod Told
+pub mod Parts
+pub mod Ends

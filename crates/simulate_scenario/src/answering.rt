@@ -21,6 +21,7 @@ ghost use Rattle.simulate_scenario.specs.Asked.{keeps_splits, keeps_changes};
 ghost use Rattle.simulate_scenario.specs.Notebooks.{BookIf, ChangesIf, KeepsBooks};
 
 use crate::asking::{Answer, Query, Wanted};
+use crate::ended::Ended;
 use crate::notes::Notebook;
 use change_share::ChangeCounts;
 use cluster_core::{Deployment, Verdict, explain};
@@ -30,12 +31,9 @@ use event_trace::{Counts, Notes, Task};
 use hash_laws::{AnyHash, FlowHash};
 use json_lines::Form;
 use named_scheme::NamedScheme;
-use named_spread::NamedSpread;
 use pcap_file::InputEnd;
 use run_report::{SplitBook, left_drained};
 use selection::Scheme;
-use simulation::Played;
-use spreader::Spread;
 use std::alloc::{AllocError, Global};
 use std::mem;
 
@@ -49,20 +47,19 @@ pub fn is_cut(ending: InputEnd) -> bool
     }
 }
 
-fn plain_report<P: Spread>(
+fn plain_report(
     alloc: Global,
     form: Form,
-    played: &Played<P>,
+    ended: &Ended,
     counts: &Counts,
 ) -> Result<String, AllocError>
-    requires read { played.now.play.trace.read ≤ played.now.packets }
-    requires balance { IsBalanced (reverse played.now.play.trace.past) }
-    requires counts { CountsAre (outcomes_of played.now.play.trace.past) counts.now }
-    ensures { IfOk result (λ s. string_bytes s ≡ plain_report form played.now.play.trace played.now.packets played.now.ending) }
+    requires balance { IsBalanced (reverse ended.now.trace.past) }
+    requires counts { CountsAre (outcomes_of ended.now.trace.past) counts.now }
+    ensures { IfOk result (λ s. string_bytes s ≡ plain_report form ended.now.trace ended.now.packets ended.now.ending) }
 {
-    let tally = played.play.tally(played.packets);
     let totals = counts.totals();
-    form.report(alloc, tally, &totals, is_cut(played.ending))
+    let tally = ended.tally();
+    form.report(alloc, tally, &totals, is_cut(ended.ending()))
 }
 
 // The lines of the changes, and their counts.
@@ -165,22 +162,21 @@ fn push_summary_if<S: Scheme, H: FlowHash>(
 }
 
 /// The report of a run, behind some lines.
-pub(crate) fn report<S: Scheme, H: FlowHash, P: Spread>(
+pub(crate) fn report<S: Scheme, H: FlowHash>(
     alloc: Global,
     deployment: &Deployment<S, H>,
-    played: &Played<P>,
+    ended: &Ended,
     notes: &Notebook,
     lines: String,
     wanted: Wanted,
 ) -> Result<String, AllocError>
-    requires read { played.now.play.trace.read ≤ played.now.packets }
-    requires balance { IsBalanced (reverse played.now.play.trace.past) }
-    requires counts { CountsAre (outcomes_of played.now.play.trace.past) notes.now.counts }
-    requires books { KeepsBooks wanted played.now.play.trace.past notes.now }
+    requires balance { IsBalanced (reverse ended.now.trace.past) }
+    requires counts { CountsAre (outcomes_of ended.now.trace.past) notes.now.counts }
+    requires books { KeepsBooks wanted ended.now.trace.past notes.now }
     ensures { IfOk result (λ s. string_bytes s ≡ report_behind (string_bytes lines) (lookups_of (H.plain deployment.now.setup.hash) deployment.now.setup.size deployment.now.catalogue) deployment.now.setup.idle
-        wanted played.now.play.trace played.now.packets played.now.ending) }
+        wanted ended.now.trace ended.now.packets ended.now.ending) }
 {
-    let report = plain_report(alloc, wanted.form, played, &notes.counts)?;
+    let report = plain_report(alloc, wanted.form, ended, &notes.counts)?;
     let mut text = lines;
     push_splits_if(&mut text, deployment, wanted, &notes.book, &notes.changes)?;
     text.push_str(report.as_str())?;
@@ -256,14 +252,13 @@ pub(crate) trait Answering: Notes {
         &mut self,
         alloc: Global,
         task: &Task<NamedScheme, AnyHash, Self::Query>,
-        played: &Played<NamedSpread>,
+        ended: &Ended,
     ) -> Result<Answer, AllocError>
-        requires read { played.now.play.trace.read ≤ played.now.packets }
-        requires balance { IsBalanced (reverse played.now.play.trace.past) }
-        requires judged { Judged (cluster_of (λ s z. pick_of s z) (λ h. plain_of h) task.now.deployment).judge played.now.play.trace.past }
-        requires notes { Self.are_of task.now.asked played.now.play.trace.past self.old }
-        ensures { let d = task.now.deployment in let lookups = lookups_of (plain_of d.setup.hash) d.setup.size d.catalogue in let r = played.now in
-            IfOk result (λ a. is_answered task.now.asked self.new a lookups d.setup.idle r.play.trace r.packets r.ending) };
+        requires balance { IsBalanced (reverse ended.now.trace.past) }
+        requires judged { Judged (cluster_of (λ s z. pick_of s z) (λ h. plain_of h) task.now.deployment).judge ended.now.trace.past }
+        requires notes { Self.are_of task.now.asked ended.now.trace.past self.old }
+        ensures { let d = task.now.deployment in let lookups = lookups_of (plain_of d.setup.hash) d.setup.size d.catalogue in let r = ended.now in
+            IfOk result (λ a. is_answered task.now.asked self.new a lookups d.setup.idle r.trace r.packets r.ending) };
 }
 
 impl Answering for Notebook {
@@ -276,14 +271,14 @@ impl Answering for Notebook {
         &mut self,
         alloc: Global,
         task: &Task<NamedScheme, AnyHash, Query>,
-        played: &Played<NamedSpread>,
+        ended: &Ended,
     ) -> Result<Answer, AllocError> {
         match task.asked {
             Query::Report(wanted) => {
                 self.settle(wanted)?;
                 let counts = counts_if(wanted, &self.changes);
                 let lines = mem::replace(&mut self.lines, String::new(alloc));
-                let text = report(alloc, &task.deployment, played, self, lines, wanted)?;
+                let text = report(alloc, &task.deployment, ended, self, lines, wanted)?;
                 Ok(Answer { text, counts })
             }
             Query::Events(two) => {

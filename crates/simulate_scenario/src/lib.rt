@@ -4,6 +4,7 @@
 
 mod answering;
 mod asking;
+mod ended;
 mod notes;
 mod paging;
 mod playing;
@@ -11,4 +12,4 @@ mod playing;
 pub use answering::is_cut;
 pub use asking::{Answer, Query, TwoEvents, Wanted};
 pub use paging::Listing;
-pub use playing::{ListingGivenUp, play_listed, play_scenario};
+pub use playing::{ListingGivenUp, play_listed, play_part, play_scenario};

@@ -9,6 +9,7 @@ ghost use Rattle.simulate_scenario.specs.Paging.{ArePaged, NumbersIf, lines_if};
 
 use crate::answering::{Answering, Asking, counts_if, report};
 use crate::asking::{Answer, Query, Wanted};
+use crate::ended::Ended;
 use crate::notes::{Notebook, next};
 use cluster_node::{Event, Outcome, Packet};
 use connection_table::TableKey;
@@ -17,8 +18,6 @@ use ghost_log::Log;
 use hash_laws::AnyHash;
 use json_lines::Form;
 use named_scheme::NamedScheme;
-use named_spread::NamedSpread;
-use simulation::Played;
 use std::alloc::{AllocError, Global};
 use std::mem;
 use text_pages::Pages;
@@ -159,13 +158,13 @@ impl<P: Pages> Answering for PagedNotes<P> {
         &mut self,
         alloc: Global,
         task: &Task<NamedScheme, AnyHash, Paged<P>>,
-        played: &Played<NamedSpread>,
+        ended: &Ended,
     ) -> Result<Answer, AllocError> {
         let wanted = task.asked.wanted;
         self.kept.settle(task.asked.unlisted)?;
         let counts = counts_if(wanted, &self.kept.changes);
         let lines = mem::replace(&mut self.lines, String::new(alloc));
-        let text = report(alloc, &task.deployment, played, &self.kept, lines, wanted)?;
+        let text = report(alloc, &task.deployment, ended, &self.kept, lines, wanted)?;
         Ok(Answer { text, counts })
     }
 }

@@ -1,5 +1,5 @@
 //! A scenario is played.
-ghost use Rattle.std.specs.Prelude.{◌≡◌, ◌≤◌, [], ℕ, List, IfOk, IfErr, string_bytes, length, reverse};
+ghost use Rattle.std.specs.Prelude.{◌≡◌, ◌≤◌, [], ◌∷◌, ℕ, List, IfOk, IfErr, string_bytes, length, reverse};
 ghost use Rattle.hash_laws.specs.Any.{plain_of};
 ghost use Rattle.event_trace.specs.Steps.{below};
 ghost use Rattle.cluster_core.specs.Deployed.{cluster_of};
@@ -10,13 +10,16 @@ ghost use Rattle.simulate_scenario.specs.Described.{StoppedIn, cluster_in, choic
 ghost use Rattle.named_scheme.specs.Picking.{pick_of};
 ghost use Rattle.named_spread.specs.Choosing.{choice_by, choice_of, live_of};
 ghost use Rattle.simulate_scenario.specs.Answers.{AnswersIn, CountedIn};
-ghost use Rattle.simulate_scenario.specs.Told.{AnswersBy, ToldIn};
+ghost use Rattle.simulate_scenario.specs.Told.{AnswersBy, IsToldAnswer, ToldIn};
 ghost use Rattle.simulation.specs.declared.fault.SimulationFault.TheVariants as SimulationFault;
 ghost use Rattle.simulate_scenario.specs.Kept.{KeepsPromises};
+ghost use Rattle.node_part.specs.Parts.{part_of, part_trace};
+ghost use Rattle.simulate_scenario.specs.Parts.{PartToldIn, PartStoppedIn, PartKeeps};
 ghost use Rattle.simulate_scenario.specs.declared.asking.Query.TheVariants.{Report};
 
 use crate::answering::{Answering, Asking};
 use crate::asking::{Answer, Query};
+use crate::ended::Ended;
 use crate::notes::Notebook;
 use crate::paging::{Listing, PagedNotes, asking_paged};
 use cluster_core::{Deployment, Setup};
@@ -25,6 +28,7 @@ use event_trace::{Balancers, Task};
 use hash_laws::AnyHash;
 use named_scheme::{NamedScheme, scheme_of};
 use named_spread::{NamedSpread, spread_of};
+use node_part::{NodePart, PartSetup};
 use pcap_file::Source;
 use scenario::{Scenario, SpreadKind};
 use simulation::{Outlet, Plan, RunContext, SimulationFault, play_capture};
@@ -50,36 +54,41 @@ impl<N> GivenUp<N> {
     }
 }
 
-// Plays the steps with this spreader, and answers.
+// Plays the steps of a part with this spreader, and answers.
 fn play_with<N: Answering, I: Source, O: Outlet>(
-    run: &RunContext<'_, Task<NamedScheme, AnyHash, N::Query>>,
+    run: &RunContext<'_, PartSetup<Task<NamedScheme, AnyHash, N::Query>>>,
     notes: N,
     spread: NamedSpread,
     input: &mut I,
     output: &mut O,
 ) -> Result<(Answer, N), GivenUp<N>>
-    requires fresh { N.are_of run.now.setup.now.asked [] notes }
+    requires fresh { N.are_of run.now.setup.now.whole.asked [] notes }
     requires live { live_of spread ≡ below (length run.now.plan.nodes.now) }
     requires nodes { length run.now.plan.nodes.now ≤ 64 }
     requires steps { length run.now.plan.steps.now ≤ 100000 }
-    requires cluster { length run.now.setup.now.deployment.setup.nodes ≡ length run.now.plan.nodes.now }
-    requires workers { run.now.setup.now.deployment.setup.workers ≤ 16 }
-    ensures ok { let d = run.now.setup.now.deployment in let k = cluster_of (λ s z. pick_of s z) (λ h. plain_of h) d in
+    requires cluster { length run.now.setup.now.whole.deployment.setup.nodes ≡ length run.now.plan.nodes.now }
+    requires workers { run.now.setup.now.whole.deployment.setup.workers ≤ 16 }
+    ensures ok { let part = run.now.setup.now in let d = part.whole.deployment in let k = cluster_of (λ s z. pick_of s z) (λ h. plain_of h) d in
         let lookups = lookups_of (plain_of d.setup.hash) d.setup.size d.catalogue in
-        IfOk result (λ r. AnswersBy (N.is_answered run.now.setup.now.asked r.1 r.0) k (choice_of spread) (planned run.now.plan) lookups d.setup.idle
+        IfOk result (λ r. AnswersBy (λ l i t p e. N.is_answered part.whole.asked r.1 r.0 l i (part_trace part.only t) p e)
+        (part_of part.only k) (choice_of spread) (planned run.now.plan) lookups d.setup.idle
         (I.tape input.old) (I.tape input.new) (O.tape output.old) (O.tape output.new)) }
-    ensures stopped { let d = run.now.setup.now.deployment in let k = cluster_of (λ s z. pick_of s z) (λ h. plain_of h) d in
-        IfErr result (λ g. Stopped k (choice_of spread) (planned run.now.plan) (I.tape input.old) (I.tape input.new) (O.tape output.old) (O.tape output.new) g.fault) }
+    ensures stopped { let part = run.now.setup.now in let k = cluster_of (λ s z. pick_of s z) (λ h. plain_of h) part.whole.deployment in
+        IfErr result (λ g. Stopped (part_of part.only k) (choice_of spread) (planned run.now.plan)
+        (I.tape input.old) (I.tape input.new) (O.tape output.old) (O.tape output.new) g.fault) }
 {
-    let task = run.setup;
+    let part = run.setup;
+    let task = &part.whole;
     let deployment = &task.deployment;
-    let Ok(mut balancers) = Balancers::<NamedScheme, AnyHash, PlaceTable, N>::make(
+    let Ok(balancers) = Balancers::<NamedScheme, AnyHash, PlaceTable, N>::make(
         run.alloc, deployment, notes,
     ) else {
         return Err(GivenUp::of_memory());
     };
+    let mut core = NodePart::new(balancers);
     deployment.keep_order();
-    let outcome = play_capture(run, &mut balancers, spread, input, output);
+    let outcome = play_capture(run, &mut core, spread, input, output);
+    let balancers = core.into_core();
     balancers.keep_balance(deployment);
     let (_, mut notes) = balancers.into_parts();
     let played = match outcome {
@@ -89,7 +98,8 @@ fn play_with<N: Answering, I: Source, O: Outlet>(
             return Err(GivenUp { fault, notes });
         }
     };
-    match notes.answer(run.alloc, task, &played) {
+    let ended = Ended::of(&played, part.only);
+    match notes.answer(run.alloc, task, &ended) {
         Ok(answer) => Ok((answer, notes)),
         Err(_) => {
             let notes = Some(notes);
@@ -103,37 +113,38 @@ fn play_with<N: Answering, I: Source, O: Outlet>(
 
 // Plays with the spreader that the scenario names.
 fn play_over<N: Answering, I: Source, O: Outlet>(
-    run: &RunContext<'_, Task<NamedScheme, AnyHash, N::Query>>,
+    run: &RunContext<'_, PartSetup<Task<NamedScheme, AnyHash, N::Query>>>,
     notes: N,
     spread: SpreadKind,
     input: &mut I,
     output: &mut O,
 ) -> Result<(Answer, N), GivenUp<N>>
-    requires fresh { N.are_of run.now.setup.now.asked [] notes }
+    requires fresh { N.are_of run.now.setup.now.whole.asked [] notes }
     requires nodes { length run.now.plan.nodes.now ≤ 64 }
     requires steps { length run.now.plan.steps.now ≤ 100000 }
-    requires cluster { length run.now.setup.now.deployment.setup.nodes ≡ length run.now.plan.nodes.now }
-    requires workers { run.now.setup.now.deployment.setup.workers ≤ 16 }
-    ensures ok { let d = run.now.setup.now.deployment in let k = cluster_of (λ s z. pick_of s z) (λ h. plain_of h) d in
+    requires cluster { length run.now.setup.now.whole.deployment.setup.nodes ≡ length run.now.plan.nodes.now }
+    requires workers { run.now.setup.now.whole.deployment.setup.workers ≤ 16 }
+    ensures ok { let part = run.now.setup.now in let d = part.whole.deployment in let k = cluster_of (λ s z. pick_of s z) (λ h. plain_of h) d in
         let lookups = lookups_of (plain_of d.setup.hash) d.setup.size d.catalogue in
-        IfOk result (λ r. AnswersBy (N.is_answered run.now.setup.now.asked r.1 r.0) k (choice_by spread (plain_of d.setup.hash)) (planned run.now.plan) lookups d.setup.idle
+        IfOk result (λ r. AnswersBy (λ l i t p e. N.is_answered part.whole.asked r.1 r.0 l i (part_trace part.only t) p e)
+        (part_of part.only k) (choice_by spread (plain_of d.setup.hash)) (planned run.now.plan) lookups d.setup.idle
         (I.tape input.old) (I.tape input.new) (O.tape output.old) (O.tape output.new)) }
-    ensures stopped { let d = run.now.setup.now.deployment in let k = cluster_of (λ s z. pick_of s z) (λ h. plain_of h) d in
-        IfErr result (λ g. Stopped k (choice_by spread (plain_of d.setup.hash)) (planned run.now.plan)
+    ensures stopped { let part = run.now.setup.now in let d = part.whole.deployment in let k = cluster_of (λ s z. pick_of s z) (λ h. plain_of h) d in
+        IfErr result (λ g. Stopped (part_of part.only k) (choice_by spread (plain_of d.setup.hash)) (planned run.now.plan)
         (I.tape input.old) (I.tape input.new) (O.tape output.old) (O.tape output.new) g.fault) }
 {
-    let hash = run.setup.deployment.setup().hash();
+    let hash = run.setup.whole.deployment.setup().hash();
     let Ok(spread) = spread_of(run.alloc, spread, hash, run.plan.nodes.len() as u16) else {
         return Err(GivenUp::of_memory());
     };
     play_with(run, notes, spread, input, output)
 }
 
-// Plays with the scheme that the scenario names.
+// Plays a part with the scheme that the scenario names.
 fn play_named<N: Answering, I: Source, O: Outlet>(
     alloc: Global,
     key: TableKey,
-    scenario: Scenario,
+    part: PartSetup<Scenario>,
     asking: Asking<N::Query, N>,
     input: &mut I,
     output: &mut O,
@@ -141,10 +152,14 @@ fn play_named<N: Answering, I: Source, O: Outlet>(
 where
     N::Query: Drop,
     requires fresh { N.are_of asking.asked [] asking.notes }
-    ensures ok { IfOk result (λ r. AnswersBy (N.is_answered asking.asked r.1 r.0) (cluster_in scenario) (choice_in scenario) (plan_in scenario) (lookups_in scenario) scenario.idle
+    ensures ok { let s = part.whole in
+        IfOk result (λ r. AnswersBy (λ l i t p e. N.is_answered asking.asked r.1 r.0 l i (part_trace part.only t) p e)
+        (part_of part.only (cluster_in s)) (choice_in s) (plan_in s) (lookups_in s) s.idle
         (I.tape input.old) (I.tape input.new) (O.tape output.old) (O.tape output.new)) }
-    ensures stopped { IfErr result (λ g. StoppedIn scenario (I.tape input.old) (I.tape input.new) (O.tape output.old) (O.tape output.new) g.fault) }
+    ensures stopped { let s = part.whole in IfErr result (λ g. Stopped (part_of part.only (cluster_in s)) (choice_in s) (plan_in s)
+        (I.tape input.old) (I.tape input.new) (O.tape output.old) (O.tape output.new) g.fault) }
 {
+    let PartSetup { only, whole } = part;
     let Scenario {
         size,
         hash,
@@ -158,7 +173,7 @@ where
         nodes,
         catalogue,
         steps,
-    } = scenario;
+    } = whole;
     let scheme = scheme_of(kind, hash);
     let Ok(setup) = Setup::new(hash, scheme, size, nodes, workers, capacity, idle) else {
         unreachable!()
@@ -167,16 +182,17 @@ where
         unreachable!()
     };
     let Asking { asked, notes } = asking;
-    let task = Task { deployment, asked };
+    let whole = Task { deployment, asked };
+    let setup = PartSetup { only, whole };
     let plan = Plan {
-        nodes: task.deployment.setup().nodes(),
+        nodes: setup.whole.deployment.setup().nodes(),
         check,
         steps: steps.as_slice(),
     };
     let run = RunContext {
         alloc,
         plan,
-        setup: &task,
+        setup: &setup,
     };
     match play_over(&run, notes, spread, input, output) {
         Ok(answered) => Ok(answered),
@@ -219,7 +235,11 @@ pub fn play_scenario<I: Source, O: Outlet>(
         return Err(SimulationFault::Memory);
     };
     let asking = Asking { asked, notes };
-    match play_named(alloc, key, scenario, asking, input, output) {
+    let part = PartSetup {
+        only: None,
+        whole: scenario,
+    };
+    match play_named(alloc, key, part, asking, input, output) {
         Ok((answer, _)) => Ok(answer),
         Err(given_up) => Err(given_up.fault),
     }
@@ -239,6 +259,38 @@ fn pages_of<P: Pages>(given_up: GivenUp<PagedNotes<P>>) -> ListingGivenUp<P>
     ListingGivenUp {
         fault: given_up.fault,
         pages: given_up.notes.map(PagedNotes::into_pages),
+    }
+}
+
+// Plays a part for a report whose listing goes to pages as the run goes.
+fn play_paged<P: Pages, I: Source, O: Outlet>(
+    alloc: Global,
+    key: TableKey,
+    part: PartSetup<Scenario>,
+    listing: Listing<P>,
+    input: &mut I,
+    output: &mut O,
+) -> Result<(Answer, P), ListingGivenUp<P>>
+    ensures ok { let s = part.whole in
+        IfOk result (λ r. AnswersBy (λ l i t p e.
+        IsToldAnswer (λ first pages text whole. P.told first pages text whole) listing.wanted (listing.pages ∷ []) r.1 r.0 l i (part_trace part.only t) p e)
+        (part_of part.only (cluster_in s)) (choice_in s) (plan_in s) (lookups_in s) s.idle
+        (I.tape input.old) (I.tape input.new) (O.tape output.old) (O.tape output.new)) }
+    ensures stopped { let s = part.whole in IfErr result (λ g. Stopped (part_of part.only (cluster_in s)) (choice_in s) (plan_in s)
+        (I.tape input.old) (I.tape input.new) (O.tape output.old) (O.tape output.new) g.fault) }
+{
+    let asking = match asking_paged(alloc, key, listing) {
+        Ok(asking) => asking,
+        Err(_) => {
+            return Err(ListingGivenUp {
+                fault: SimulationFault::Memory,
+                pages: None,
+            });
+        }
+    };
+    match play_named(alloc, key, part, asking, input, output) {
+        Ok((answer, notes)) => Ok((answer, notes.into_pages())),
+        Err(given_up) => Err(pages_of(given_up)),
     }
 }
 
@@ -262,17 +314,41 @@ pub fn play_listed<P: Pages, I: Source, O: Outlet>(
 {
     let _slots = scenario.size.slots();
     scenario.catalogue.keeps_doubles_out();
-    let asking = match asking_paged(alloc, key, listing) {
-        Ok(asking) => asking,
-        Err(_) => {
-            return Err(ListingGivenUp {
-                fault: SimulationFault::Memory,
-                pages: None,
-            });
-        }
+    let part = PartSetup {
+        only: None,
+        whole: scenario,
     };
-    match play_named(alloc, key, scenario, asking, input, output) {
-        Ok((answer, notes)) => Ok((answer, notes.into_pages())),
-        Err(given_up) => Err(pages_of(given_up)),
+    match play_paged(alloc, key, part, listing, input, output) {
+        Ok(told) => Ok(told),
+        Err(given_up) => Err(given_up),
+    }
+}
+
+/// One node's part of the same run: the same steps and the same choices of the spreader, but only that node's events are
+/// judged and told. Its sends, its events and their outcomes are those of the whole run; events are numbered from 0 within the
+/// part. What is said of the capture's records is the whole run's. Where no node is named all are played.
+///
+/// By the clause `kept` the whole run, of which this is the part, keeps the promises.
+pub fn play_part<P: Pages, I: Source, O: Outlet>(
+    alloc: Global,
+    key: TableKey,
+    part: PartSetup<Scenario>,
+    listing: Listing<P>,
+    input: &mut I,
+    output: &mut O,
+) -> Result<(Answer, P), ListingGivenUp<P>>
+    ensures ok { IfOk result (λ r. PartToldIn part.only part.whole listing.wanted (λ text whole. P.told listing.pages r.1 text whole)
+        (I.tape input.old) (I.tape input.new) (O.tape output.old) (O.tape output.new) (string_bytes r.0.text) r.0.counts) }
+    ensures kept { IfOk result (λ r. PartKeeps part.only part.whole (I.tape input.old) (I.tape input.new) (O.tape output.old) (O.tape output.new)) }
+    ensures stopped { IfErr result (λ g.
+        PartStoppedIn part.only part.whole (I.tape input.old) (I.tape input.new) (O.tape output.old) (O.tape output.new) g.fault) }
+{
+    let PartSetup { only, whole } = part;
+    let _slots = whole.size.slots();
+    whole.catalogue.keeps_doubles_out();
+    let part = PartSetup { only, whole };
+    match play_paged(alloc, key, part, listing, input, output) {
+        Ok(told) => Ok(told),
+        Err(given_up) => Err(given_up),
     }
 }

@@ -7,7 +7,7 @@ use Rattle.simulate_scenario.proofs.answering.report.Goals as goal
 
 pub returns : goal.returns
 returns g c =
-    let trace = c.args.played.now.play.trace in
+    let trace = c.args.ended.now.trace in
     let w = c.args.wanted in
     let d = c.args.deployment.now in
     let lookups = lookups_of (g.H.FlowHash.plain d.setup.hash) d.setup.size d.catalogue in

@@ -1,0 +1,5 @@
+pub mod Parts
+pub mod Cores
+pub mod Orders
+pub mod Wholes
+pub mod Ends

@@ -1,0 +1,109 @@
+#!/usr/bin/env python3
+"""join.py SCENARIO OUTPUT PART..: joins the parts that `maglev simulate --json --list --node N` wrote, one of each node.
+
+PART is the name of two files without their ends: PART.pcap is what the node sent, and PART.jsonl what was printed. OUTPUT gets
+the capture that one process writes over all nodes, to the byte, and standard output the report that it prints. Both rest on
+this: a record that is delivered once is sent once at most, and the whole run sends in the order of the records. So a scenario
+whose steps deliver a record again (`again`), or later than its turn (`hold`, `drain`), is refused.
+"""
+import heapq
+import json
+import pathlib
+import struct
+import sys
+import tomllib
+
+# A capture's header has 24 bytes, and a record's 16, of which the third word is how many bytes come behind it.
+HEAD, RECORD = 24, 16
+# What each process counts of the whole capture, and what it counts of its own node.
+SHARED = ["packets", "lost", "unrouted", "skipped", "left"]
+OWN = ["received", "forwarded", "waiting", "refused"]
+
+
+class Unjoinable(Exception):
+    """The parts can't be joined, for this reason."""
+
+
+def order_is_kept(scenario):
+    """Refuses a scenario of which the records' order isn't that of the run."""
+    for number, step in enumerate(tomllib.loads(scenario.read_text())["steps"]):
+        word = step.split(" ")[0]
+        if word in ("again", "hold", "drain"):
+            raise Unjoinable(f"step {number}, {word!r}: its packets don't come in the order of their records")
+
+
+def objects_of(path):
+    """The objects of a file, one a line."""
+    with open(path, encoding="utf-8") as lines:
+        for line in lines:
+            yield json.loads(line)
+
+
+def records_of(path):
+    """The records of a capture that the program wrote, each with its header."""
+    with open(path, "rb") as capture:
+        capture.read(HEAD)
+        while head := capture.read(RECORD):
+            yield head + capture.read(struct.unpack_from("<I", head, 8)[0])
+
+
+def sent_of(part):
+    """The record that each sent packet came in, with what was sent of it."""
+    forwards = (one["record"] for one in objects_of(f"{part}.jsonl") if one.get("outcome") == "forward")
+    return zip(forwards, records_of(f"{part}.pcap"), strict=True)
+
+
+def join_captures(parts, output):
+    """Writes what all nodes sent, in the order of the records that it came in."""
+    with open(output, "wb") as joined:
+        joined.write(pathlib.Path(f"{parts[0]}.pcap").read_bytes()[:HEAD])
+        for _, record in heapq.merge(*map(sent_of, parts), key=lambda one: one[0]):
+            joined.write(record)
+
+
+def report_of(part):
+    """The object of a part's report."""
+    found = [one for one in objects_of(f"{part}.jsonl") if one["type"] == "report"]
+    if len(found) != 1:
+        raise Unjoinable(f"{part}.jsonl has {len(found)} reports")
+    return found[0]
+
+
+def join_reports(reports):
+    """The report of the whole run: what was counted of the capture once, and the sums of what each node counted."""
+    first = reports[0]
+    for word in (*SHARED, "cut"):
+        if any(one[word] != first[word] for one in reports):
+            raise Unjoinable(f"the parts are of several runs: they differ in {word!r}")
+    joined = {"type": "report"} | {word: first[word] for word in SHARED} | {"cut": first["cut"]}
+    joined |= {word: sum(one[word] for one in reports) for word in OWN[:2]}
+    joined |= {"dropped": {cause: sum(one["dropped"][cause] for one in reports) for cause in first["dropped"]}}
+    return joined | {word: sum(one[word] for one in reports) for word in OWN[2:]}
+
+
+def text_of(report):
+    """A report as `simulate` prints it without `--json`."""
+    lines = [f"{word} {report[word]}" for word in SHARED] + [f"cut {'yes' if report['cut'] else 'no'}"]
+    lines += [f"{word} {report[word]}" for word in OWN[:2]]
+    lines += [f"drop {cause} {count}" for cause, count in report["dropped"].items() if count]
+    return "".join(line + "\n" for line in [*lines, *(f"{word} {report[word]}" for word in OWN[2:])])
+
+
+def join(scenario, output, parts):
+    """Joins the parts, and gives the text of the whole run's report."""
+    order_is_kept(pathlib.Path(scenario))
+    join_captures(parts, output)
+    return text_of(join_reports([report_of(part) for part in parts]))
+
+
+def main():
+    if len(sys.argv) < 4:
+        sys.exit(f"usage: {sys.argv[0]} SCENARIO OUTPUT PART..")
+    try:
+        sys.stdout.write(join(sys.argv[1], sys.argv[2], sys.argv[3:]))
+    except (Unjoinable, OSError, ValueError) as why:
+        sys.exit(f"error: {why}")
+
+
+if __name__ == "__main__":
+    main()
