@@ -82,26 +82,44 @@ impl RecordCount {
     }
 
     // Takes what is there of a record's bytes from the front, and answers how many.
-    #[inline(always)]
     fn take_bytes(&mut self, bytes: &[u8]) -> usize {
         let taken = self.left.min(bytes.len() as u64);
         self.left = self.left.saturating_sub(taken);
         taken as usize
     }
 
-    // Takes bytes from the front, and answers how many: a record whose header is whole, or a part.
-    #[inline(always)]
-    fn take(&mut self, bytes: &[u8]) -> usize {
-        if self.left > 0 {
-            return self.take_bytes(bytes);
+    // How many records have whole headers, one behind the other from the front on, and how long these records are.
+    fn whole_records(&self, bytes: &[u8]) -> (u64, usize) {
+        let (mut records, mut length) = (0u64, 0usize);
+        for _ in 0..bytes.len() {
+            let Some(header) = bytes.get(length..length.wrapping_add(RECORD_HEADER)) else {
+                break;
+            };
+            records = records.wrapping_add(1);
+            let captured = self.length_in(header) as usize;
+            length = length.wrapping_add(RECORD_HEADER).wrapping_add(captured);
         }
-        let is_next = self.held == 0 && self.whole == RECORD_HEADER;
-        if !is_next || bytes.len() < RECORD_HEADER {
-            return self.take_header(bytes);
-        }
-        self.records = self.records.saturating_add(1);
-        self.left = (RECORD_HEADER as u64).saturating_add(u64::from(self.length_in(bytes)));
+        (records, length)
+    }
+
+    // Takes the records whose headers are whole from the front, and answers how many bytes.
+    fn take_records(&mut self, bytes: &[u8]) -> usize {
+        let (records, length) = self.whole_records(bytes);
+        self.records = self.records.saturating_add(records);
+        self.left = length as u64;
         self.take_bytes(bytes)
+    }
+
+    // Takes bytes from the front, and answers how many: records whose headers are whole, or a part of one.
+    fn take(&mut self, bytes: &[u8]) -> usize {
+        let is_next = self.held == 0 && self.whole == RECORD_HEADER;
+        if self.left > 0 {
+            self.take_bytes(bytes)
+        } else if is_next && bytes.len() >= RECORD_HEADER {
+            self.take_records(bytes)
+        } else {
+            self.take_header(bytes)
+        }
     }
 
     /// More bytes go by.

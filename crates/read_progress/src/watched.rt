@@ -189,14 +189,16 @@ impl<R> Watched<'_, R> {
 }
 
 impl<R: Read> Read for Watched<'_, R> {
-    #[inline(never)]
+    #[inline(always)]
     fn read(&mut self, buf: &mut [u8]) -> io::Result<usize> {
-        let read = self.reader.read(buf);
-        if let Ok(length) = &read
-            && self.progress.is_some()
-        {
-            self.note(buf.get(..*length).unwrap_or(&[]));
+        match self.reader.read(buf) {
+            Ok(length) => {
+                if self.progress.is_some() {
+                    self.note(buf.get(..length).unwrap_or(&[]));
+                }
+                Ok(length)
+            }
+            Err(error) => Err(error),
         }
-        read
     }
 }
