@@ -8,3 +8,10 @@ pub mod Audited
 pub mod Known
 pub mod OneByOne
 pub mod Stripped
+pub mod Planned
+pub mod Offered
+pub mod Below
+pub mod Gathered
+pub mod Firsts
+pub mod Sending
+pub mod FirstRuns
