@@ -23,6 +23,7 @@ use thread_records::Command;
 
 mod gates;
 mod held;
+mod shared;
 mod stop;
 
 const VIP: u32 = 0xc000_0201;

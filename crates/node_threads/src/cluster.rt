@@ -432,9 +432,9 @@ where
 /// The runs of all nodes of a cluster at once, as in [`run_cluster`], without the one history of all of them. That is a copy
 /// of all events and outcomes, which is made on one thread: who goes over the nodes' records one after another needs none.
 ///
-/// A version that was prepared for all nodes costs a driver that installs it neither time nor memory. Any other is prepared by
-/// each driver for itself, as `run_cluster` has it. Which of the two it is no answer tells: what the workers used is compared with
-/// the catalogue either way.
+/// A version that was prepared for all nodes costs a driver that installs it neither time nor memory: what it takes is the
+/// caller's, until the caller lets it go. Any other is prepared by each driver for itself, as `run_cluster` has it. Which of the
+/// two it is no answer tells: what the workers used is compared with the catalogue either way.
 ///
 /// Where the rings are paced a driver waits at the ring of a packet's home worker while that is full. So no packet is lost to
 /// a full ring, and each that is steered goes to its home worker (`paced`). Whether the waiting ends no contract says. A

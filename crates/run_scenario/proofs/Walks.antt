@@ -52,3 +52,12 @@ pub all_read : (link : Link) (check : Bool) (rs : List Record) → WereRead (pac
 all_read link check [] k p e = absurd (none-some p e)
 all_read link check (r ∷ rs) zero p e = subst (λ (o : Option Packet). WasRead o) e (was_read link r.bytes (time_of r) check)
 all_read link check (r ∷ rs) (suc k) p e = all_read link check rs k p e
+
+-- the packet of a record that is there
+pub packet_there : (link : Link) (check : Bool) (rs : List Record) (i : ℕ) (r : Record) (d : Packet) → slice_get rs i ≡ Some r → get_or (packets_of link check rs) i d ≡ packet_in link check r
+packet_there link check [] i r d e = absurd (none-some r e)
+packet_there link check (x ∷ rs) zero r d e = let same : x ≡ r = cc in ap (λ (y : Record). packet_in link check y) same
+packet_there link check (x ∷ rs) (suc i) r d e = packet_there link check rs i r d e
+
+pub packet_among : (link : Link) (check : Bool) (rs : List Record) (ps : List Packet) (i : ℕ) (r : Record) (d : Packet) → ps ≡ packets_of link check rs → slice_get rs i ≡ Some r → get_or ps i d ≡ packet_in link check r
+packet_among link check rs ps i r d same here = ap (λ (l : List Packet). get_or l i d) same ∙ packet_there link check rs i r d here

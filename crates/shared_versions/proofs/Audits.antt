@@ -1,5 +1,5 @@
 -- One more audit.
-use Rattle.std.proofs.Common.{◌≡◌, ◌↔◌, ◌<◌, ◌++◌, ◌∷◌, [], ℕ, Bool, true, false, List, length, refl, sym, subst, ◌∙◌, arith, rules}
+use Rattle.std.proofs.Common.{◌≡◌, ◌↔◌, ◌<◌, ◌++◌, ◌∷◌, [], ℕ, Bool, true, false, List, length, refl, arith, rules}
 use Rattle.std.specs.Prelude.{Result, Ok, Err, All, IsTrue, IfOk, slice_index_or}
 use Rattle.shared_versions.specs.PrivateAudits.{IsGiven}
 use Rattle.std.proofs.lemmas.List.Elements.{All-nil, All-cons, All-head, All-tail, All-push}

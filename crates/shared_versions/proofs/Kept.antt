@@ -1,7 +1,6 @@
 -- A replay over versions that were prepared before stands for its record.
-use Rattle.std.proofs.Common.{◌≡◌, ℕ, ◌+◌, ◌<◌, zero, suc, Bool, true, false, cond, List, [], ◌∷◌, length, replicate, get_or, Option, Some, None, refl, sym, ap, ◌∙◌, subst, arith}
-use Rattle.std.specs.Prelude.{◌==◌, ◌||◌, not, is_some}
-use Rattle.std.specs.List.{list_all}
+use Rattle.std.proofs.Common.{◌≡◌, ℕ, ◌<◌, zero, suc, Bool, Bor, option_copied, Result, Ok, Err, true, false, cond, List, [], ◌∷◌, length, replicate, get_or, Option, Some, None, refl, sym, ap, ◌∙◌, subst, arith}
+use Rattle.std.specs.Prelude.{◌==◌, ◌||◌, not, is_some, OnOk, OnErr}
 use Rattle.std.specs.Option.{option_and_then}
 use Rattle.std.proofs.lemmas.Bool.{false≢true, true≢false, eqb-true, eq-eqb, ne_eqb, and_parts}
 use Rattle.five_tuple.specs.declared.Flow.{Flow}
@@ -16,7 +15,6 @@ use Rattle.cluster_node.specs.NodeView.{NodeView}
 use Rattle.cluster_node.specs.Record.{prepared_at, fresh, IsPrepared}
 use Rattle.cluster_node.specs.declared.events.Event.{Event}
 use Rattle.cluster_node.specs.declared.events.Event.TheVariants.{Install, Arrive, Serve, Restart}
-use Rattle.cluster_core.specs.RunView.{RunView}
 use Rattle.cluster_core.specs.Runs.{AreGood, RunStands}
 use Rattle.cluster_core.specs.Setups.{Fixed, rules_for}
 use Rattle.cluster_core.proofs.Nodes.{run_none}
@@ -97,3 +95,13 @@ pub each_held : {S : Type 0} (pools : Pools) (versions : List (Readied S)) (even
 each_held pools versions [] i d lt all = absurd (omega (arith, lt))
 each_held pools versions (e ∷ es) zero d lt all = (and_parts (is_held pools versions e) (are_held pools versions es) all).0
 each_held pools versions (e ∷ es) (suc i) d lt all = each_held pools versions es i d (omega (arith, lt)) (and_parts (is_held pools versions e) (are_held pools versions es) all).1
+
+-- whether there is one doesn't depend on who owns it
+pub some_copied : {X : Type 0} (o : Option (Bor X)) → is_some o ≡ is_some (option_copied o)
+some_copied None = refl
+some_copied (Some x) = refl
+
+-- what a version that was put in front leaves good
+pub good_after : {S E : Type 0} (pick_of : S → ℕ → Pick) (rules : Rules) (r : Result (Unit {0}) E) (new : Readied S) (had after : List (Readied S)) → OnOk r (after ≡ new ∷ had) → OnErr r (after ≡ had) → AreGood pick_of rules had → AreGood pick_of rules (new ∷ had) → AreGood pick_of rules after
+good_after pick_of rules (Ok x) new had after ok err good more = subst (λ (l : List (Readied _)). AreGood pick_of rules l) (sym ok) more
+good_after pick_of rules (Err e) new had after ok err good more = subst (λ (l : List (Readied _)). AreGood pick_of rules l) (sym err) good

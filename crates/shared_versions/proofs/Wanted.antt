@@ -1,8 +1,9 @@
 -- Which versions are prepared, as commands come one by one.
-use Rattle.std.proofs.Common.{◌≡◌, ℕ, ◌+◌, ◌<◌, Bool, true, false, cond, List, [], ◌∷◌, ◌++◌, length, map, take, get_or, find, Option, Some, None, refl, sym, ap, ◌∙◌, subst, arith}
-use Rattle.std.specs.Prelude.{◌==◌, ◌||◌, is_some, option_map, option_or}
+use Rattle.std.proofs.Common.{◌≡◌, ◌≢◌, ◌≤◌, ℕ, zero, suc, ◌+◌, ◌<◌, Bool, Bor, option_copied, drop, true, false, cond, List, [], ◌∷◌, ◌++◌, length, map, take, get_or, Option, Some, None, refl, sym, ap, ◌∙◌, subst, arith}
+use Rattle.std.specs.Prelude.{◌==◌, ◌||◌, is_some, option_map}
+use Rattle.std.specs.Option.{option_or}
 use Rattle.std.specs.List.{list_any}
-use Rattle.std.proofs.lemmas.Bool.{false≢true, true≢false, eqb-true}
+use Rattle.std.proofs.lemmas.Bool.{false≢true, true≢false, eqb-true, eq-eqb, ne_eqb}
 use Rattle.std.proofs.lemmas.List.{take_more, map-append}
 use Rattle.std.proofs.lemmas.List.Folds.{list_any-append, find-append}
 use Rattle.pool_versions.specs.declared.service.Version.{Version}
@@ -10,17 +11,7 @@ use Rattle.pool_versions.specs.Pool.{Pools, version_at}
 use Rattle.selection.specs.Readied.{Readied, readied_version}
 use Rattle.cluster_node.specs.Record.{prepared_at}
 use Rattle.thread_records.specs.declared.command.Command.{Command}
-use Rattle.thread_records.specs.declared.command.Command.TheVariants.{Publish, Offer, Restart, Stop}
 use Rattle.shared_versions.specs.Installed.{installs, is_installed, prepared_where, AreWanted}
-
--- the first that passes among what is made of some
-pub find_map : {X Y : Type 0} (f : X → Y) (p : Y → Bool) (xs : List X) → option_map f (find (λ x. p (f x)) xs) ≡ find p (map f xs)
-find_map f p [] = refl
-find_map f p (x ∷ xs) = go (p (f x))
-  where
-    go : (b : Bool) → option_map f (cond b (Some x) (find (λ y. p (f y)) xs)) ≡ cond b (Some (f x)) (find p (map f xs))
-    go true = refl
-    go false = find_map f p xs
 
 -- the version of a number has that number
 pub numbered : (n : ℕ) (vs : List Version) (v : Version) → version_at n vs ≡ Some v → v.number ≡ n
@@ -103,3 +94,55 @@ installs_more wanted cs i c lt n =
     ∙ ap (λ (b : Bool). wanted n || b)
     (ap (λ (b : Bool). list_any (installs n) (take i cs) || b) (sym (or_false (installs n one)))
     ∙ sym (list_any-append (installs n) (take i cs) (one ∷ [])) ∙ ap (λ (l : List Command). list_any (installs n) l) (sym (take_more cs i c lt)))
+
+drop_get : {X : Type 0} (xs : List X) (i : ℕ) (x : X) → i < length xs → drop i xs ≡ get_or xs i x ∷ drop (i + 1) xs
+drop_get [] i d h = absurd (omega (arith, h))
+drop_get (x ∷ xs) zero d h = refl
+drop_get (x ∷ xs) (suc i) d h =
+    let e : suc i + 1 ≡ suc (i + 1) = omega arith in
+    subst (λ (m : ℕ). drop i xs ≡ get_or xs i d ∷ drop m (x ∷ xs)) (sym e) (drop_get xs i d (omega (arith, h)))
+
+drop_none : {X : Type 0} (xs : List X) (i : ℕ) → length xs ≤ i → drop i xs ≡ []
+drop_none [] zero h = refl
+drop_none [] (suc i) h = refl
+drop_none (x ∷ xs) zero h = absurd (omega (arith, h))
+drop_none (x ∷ xs) (suc i) h = drop_none xs i (omega (arith, h))
+
+-- a walk for the first of a number: none of those before is
+module _ {X S : Type 0} (f : X → Readied S) (n : ℕ) (xs : List X) (i : ℕ) where
+  abbrev pub IsBehind : Type 0
+  IsBehind = prepared_at n (map f (drop i xs)) ≡ prepared_at n (map f xs)
+
+  step : (x : X) → i < length xs → x ≡ get_or xs i x → prepared_at n (map f (drop i xs)) ≡ cond ((f x).number == n) (Some (f x)) (prepared_at n (map f (drop (i + 1) xs)))
+  step x lt is = ap (λ (l : List X). prepared_at n (map f l)) (drop_get xs i x lt ∙ ap (λ (y : X). y ∷ drop (i + 1) xs) (sym is))
+
+  pub first_here : (x : X) → i < length xs → x ≡ get_or xs i x → (f x).number ≡ n → IsBehind → Some (f x) ≡ prepared_at n (map f xs)
+  first_here x lt is here so = sym (step x lt is ∙ ap (λ (b : Bool). cond b (Some (f x)) (prepared_at n (map f (drop (i + 1) xs)))) (eq-eqb (f x).number n here)) ∙ so
+
+  pub first_later : (x : X) → i < length xs → x ≡ get_or xs i x → (f x).number ≢ n → IsBehind → prepared_at n (map f (drop (i + 1) xs)) ≡ prepared_at n (map f xs)
+  first_later x lt is other so = sym (step x lt is ∙ ap (λ (b : Bool). cond b (Some (f x)) (prepared_at n (map f (drop (i + 1) xs)))) (ne_eqb (f x).number n other)) ∙ so
+
+  pub first_none : length xs ≤ i → IsBehind → None ≡ prepared_at n (map f xs)
+  first_none low so = ap (λ (l : List X). prepared_at n (map f l)) (sym (drop_none xs i low)) ∙ so
+
+-- whether there is one doesn't depend on who owns it
+pub some_same : {X S : Type 0} (f : X → Readied S) (o : Option (Bor X)) → is_some o ≡ is_some (option_map f (option_copied o))
+some_same f None = refl
+some_same f (Some x) = refl
+
+-- what the lists of some nodes install, and one more
+pub installed_more : {X : Type 0} (items : X → List Command) (vs : List X) (i : ℕ) (v : X) → i < length vs → v ≡ get_or vs i v → (n : ℕ) → (is_installed (map items (take i vs)) n || list_any (installs n) (items v)) ≡ is_installed (map items (take (i + 1) vs)) n
+installed_more {X} items vs i v lt is n =
+    let test : List Command → Bool = λ cs. list_any (installs n) cs in
+    ap (λ (b : Bool). is_installed (map items (take i vs)) n || b) (sym (or_false (test (items v))))
+    ∙ sym (list_any-append test (map items (take i vs)) (items v ∷ []))
+    ∙ ap (λ (l : List (List Command)). list_any test l) (sym (ap (map items) (take_more vs i v lt ∙ ap (λ (w : X). take i vs ++ w ∷ []) (sym is)) ∙ map-append items (take i vs) (v ∷ [])))
+
+-- nothing more is wanted
+pub nothing_more : (wanted : ℕ → Bool) → (n : ℕ) → wanted n ≡ (wanted n || false)
+nothing_more wanted n = sym (or_false (wanted n))
+
+-- one command more was taken
+pub wanted_taken : {S : Type 0} (scheme : S) (size : ℕ) (pools : Pools) (wanted : ℕ → Bool) (cs : List Command) (i : ℕ) (d : Command) (vs : List (Readied S)) → i < length cs → AreWanted scheme size pools (λ n. (wanted n || list_any (installs n) (take i cs)) || installs n (get_or cs i d)) vs
+    → AreWanted scheme size pools (λ n. wanted n || list_any (installs n) (take (i + 1) cs)) vs
+wanted_taken scheme size pools wanted cs i d vs lt had = wanted_same scheme size pools (λ n. (wanted n || list_any (installs n) (take i cs)) || installs n (get_or cs i d)) (λ n. wanted n || list_any (installs n) (take (i + 1) cs)) vs (installs_more wanted cs i d lt) had

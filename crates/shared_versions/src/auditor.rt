@@ -51,12 +51,19 @@ impl<S: Scheme, H: FlowHash> fmt::Debug for Auditor<'_, S, H> {
     }
 }
 
+// Whether two outcomes are the same.
+fn is_same(one: &Outcome, other: &Outcome) -> bool
+    ensures { IsTrue result ↔ (one.now ≡ other.now) }
+{
+    *one == *other
+}
+
 // Whether the outcome at a place is this one.
 fn is_at(outcomes: &[Outcome], at: usize, outcome: &Outcome) -> bool
     ensures { IsTrue result ↔ (slice_get outcomes.now at ≡ Some outcome.now) }
 {
     match outcomes.get(at) {
-        Some(other) => *other == *outcome,
+        Some(other) => is_same(other, outcome),
         None => false,
     }
 }
@@ -66,9 +73,10 @@ fn is_held<S: Scheme>(catalogue: &Catalogue, versions: &PreparedVersions<S>, eve
     ensures { result ≡ is_held catalogue.now versions.now event.now }
 {
     match *event {
-        Event::Install { version, .. } => {
-            catalogue.get(version).is_none() || versions.find(version).is_some()
-        }
+        Event::Install { version, .. } => match catalogue.get(version) {
+            None => true,
+            Some(_) => versions.find(version).is_some(),
+        },
         _ => true,
     }
 }
@@ -93,17 +101,17 @@ fn agrees_over<S: Scheme, H: FlowHash, T: ConnTable>(
     setup: &Setup<S, H>,
     catalogue: &Catalogue,
     versions: &PreparedVersions<S>,
-    record: &NodeRecord,
+    node: &NodeRecord,
     packets: &[Packet],
 ) -> Result<bool, AllocError>
     requires good { AreGood (λ s z. S.pick s z) (rules_for (λ s z. S.pick s z) (λ h. H.plain h) setup.now catalogue.now) versions.now }
-    requires held { are_held catalogue.now versions.now record.now.events.items ≡ true }
+    requires held { are_held catalogue.now versions.now node.now.events.items ≡ true }
     requires read { (k : ℕ) (p : Packet) → slice_get packets.now k ≡ Some p → WasRead (Some p) }
     ensures { let rules = rules_for (λ s z. S.pick s z) (λ h. H.plain h) setup.now catalogue.now in
-        IfOk result (λ b. IsTrue b ↔ (record.now.outcomes.items ≡ verdicts rules [] packets.now record.now.events.items)) }
+        IfOk result (λ b. IsTrue b ↔ (node.now.outcomes.items ≡ verdicts rules [] packets.now node.now.events.items)) }
 {
-    let events = record.events.as_slice();
-    let outcomes = record.outcomes.as_slice();
+    let events = node.events.as_slice();
+    let outcomes = node.outcomes.as_slice();
     let mut replay: Replay<'_, S, T> = Replay::make(alloc, setup, catalogue, versions)?;
     let many = events.len();
     let mut agree = many == outcomes.len();
@@ -177,22 +185,22 @@ impl<'e, S: Scheme, H: FlowHash> Auditor<'e, S, H> {
     pub fn agrees<T: ConnTable>(
         &self,
         alloc: Global,
-        record: &NodeRecord,
+        node: &NodeRecord,
         packets: &[Packet],
     ) -> Result<bool, AllocError>
         requires read { (k : ℕ) (p : Packet) → slice_get packets.now k ≡ Some p → WasRead (Some p) }
         ensures { let rules = rules_of (λ s z. S.pick s z) (λ h. H.plain h) self.now in
-            IfOk result (λ b. IsTrue b ↔ (record.now.outcomes.items ≡ verdicts rules [] packets.now record.now.events.items)) }
+            IfOk result (λ b. IsTrue b ↔ (node.now.outcomes.items ≡ verdicts rules [] packets.now node.now.events.items)) }
     {
         let Auditor {
             setup,
             catalogue,
             versions,
         } = self;
-        if are_held(catalogue, versions, record.events.as_slice()) {
-            agrees_over::<S, H, T>(alloc, setup, catalogue, versions, record, packets)
+        if are_held(catalogue, versions, node.events.as_slice()) {
+            agrees_over::<S, H, T>(alloc, setup, catalogue, versions, node, packets)
         } else {
-            record.audit::<S, H, T>(alloc, setup, catalogue, packets)
+            node.audit::<S, H, T>(alloc, setup, catalogue, packets)
         }
     }
 }

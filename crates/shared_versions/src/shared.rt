@@ -1,5 +1,5 @@
 //! Prepared versions that several threads take.
-ghost use Rattle.std.specs.Prelude.{◌≡◌, ◌++◌, ◌∷◌, ◌==◌, ◌||◌, [], ℕ, Bool, map, IfOk, OnOk, find, option_map, option_copied};
+ghost use Rattle.std.specs.Prelude.{◌≡◌, ◌++◌, ◌∷◌, ◌==◌, ◌||◌, [], ℕ, Bool, map, IfOk, OnOk, option_map, option_copied};
 ghost use Rattle.std.specs.Arc.{arc_value};
 ghost use Rattle.std.specs.List.{list_any};
 ghost use Rattle.cluster_core.specs.Setups.{Fixed};
@@ -81,9 +81,14 @@ impl<S: Scheme> fmt::Debug for SharedVersions<S> {
 
 // The first version of a number.
 fn first_of<S: Scheme>(versions: &[Shared<S>], number: u32) -> Option<&Shared<S>>
-    ensures { option_copied result ≡ find (λ p. (arc_value p).number == number) versions.now }
+    ensures { option_map arc_value (option_copied result) ≡ prepared_at number (map arc_value versions.now) }
 {
-    versions.iter().find(|version| version.number() == number)
+    for version in versions {
+        if version.number() == number {
+            return Some(version);
+        }
+    }
+    None
 }
 
 impl<S: Scheme> SharedVersions<S> {
@@ -140,6 +145,26 @@ impl<S: Scheme> SharedVersions<S> {
         }
     }
 
+    // The version that a command installs is there afterwards.
+    fn take<H: FlowHash>(
+        &mut self,
+        alloc: Global,
+        setup: &Setup<S, H>,
+        catalogue: &Catalogue,
+        store: &mut TableStore<S>,
+        command: &Command,
+    ) -> Result<(), AllocError>
+        ensures { (wanted : ℕ → Bool) → AreWanted setup.now.scheme setup.now.size catalogue.now wanted self.old →
+            OnOk result (AreWanted setup.now.scheme setup.now.size catalogue.now (λ n. wanted n || installs n command.now) self.new) }
+    {
+        match *command {
+            Command::Publish(number) => self.add(alloc, setup, catalogue, store, number),
+            Command::Offer(_) => Ok(()),
+            Command::Restart => Ok(()),
+            Command::Stop => Ok(()),
+        }
+    }
+
     // The versions that some commands install are there afterwards.
     fn add_all<H: FlowHash>(
         &mut self,
@@ -153,9 +178,7 @@ impl<S: Scheme> SharedVersions<S> {
             OnOk result (AreWanted setup.now.scheme setup.now.size catalogue.now (λ n. wanted n || list_any (installs n) commands.now) self.new) }
     {
         for command in commands {
-            if let Command::Publish(number) = *command {
-                self.add(alloc, setup, catalogue, store, number)?;
-            }
+            self.take(alloc, setup, catalogue, store, command)?;
         }
         Ok(())
     }

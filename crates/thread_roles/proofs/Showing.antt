@@ -4,6 +4,8 @@ use Rattle.std.specs.Prelude.{Result, Ok, Err, IfErr, IsErrAnd, if◌then◌else
 use Rattle.std.proofs.lemmas.Bool.{eqb-true}
 use Rattle.pool_versions.specs.Pool.{version_at}
 use Rattle.pool_versions.specs.declared.service.Version.{Version}
+use Rattle.selection.specs.Readied.{Readied}
+use Rattle.cluster_node.specs.Record.{prepared_at}
 
 -- the version of a number has that number
 pub numbered : (n : ℕ) (vs : List Version) (v : Version) → version_at n vs ≡ Some v → v.number ≡ n
@@ -18,3 +20,12 @@ numbered n (x ∷ xs) v e = one (x.number == n) refl (numbered n xs v) e
 pub passed_on : {T E : Type 0} (r : Result T E) (e : E) (P : E → Type 0) → IsErrAnd r (λ f. f ≡ e) → P e → IfErr r P
 passed_on (Ok x) e P is h = absurd is
 passed_on (Err f) e P is h = subst P (sym is) h
+
+-- so has what was prepared of a number
+pub prepared_number : {S : Type 0} (n : ℕ) (ps : List (Readied S)) (p : Readied S) → Some p ≡ prepared_at n ps → p.number ≡ n
+prepared_number n [] p e = absurd (cc)
+prepared_number {S} n (q ∷ qs) p e = one (q.number == n) refl (prepared_number n qs p) e
+  where
+    one : (b : Bool) → (q.number == n) ≡ b → (Some p ≡ prepared_at n qs → p.number ≡ n) → Some p ≡ (if b then Some q else prepared_at n qs) → p.number ≡ n
+    one true t rest f = let same : p ≡ q = cc in ap (λ (u : Readied S). u.number) same ∙ eqb-true q.number n t
+    one false t rest f = rest f

@@ -3,6 +3,7 @@ use Rattle.std.specs.Prelude.{All, IfOk, IsTrue}
 use Rattle.hash_laws.specs.Any.{plain_of}
 use Rattle.forwarder.specs.Serving.{Pick}
 use Rattle.named_scheme.specs.Picking.{pick_of}
+use Rattle.cluster_core.specs.Deployed.{Deployed, rules_of}
 use Rattle.cluster_core.specs.Runs.{verdicts}
 use Rattle.cluster_core.specs.Setups.{rules_for}
 use Rattle.cluster_node.specs.Rules.{Rules}
@@ -25,8 +26,10 @@ returns-clause-audit g c =
     let rules : Rules = rules_for (λ s z. pick_of s z) (λ h. plain_of h) c.keyed-setup.result c.args.task.now.scenario.now.catalogue in
     let Agrees : NodeRecord → Type 0 = λ r. r.outcomes.items ≡ verdicts rules [] c.args.task.now.packets.now r.events.items in
     let told = all_told rules c.args.task.now.packets.now c.args.task.now.scenario.now.ring 0 (map (λ l. l.items) c.args.task.now.commands.now) c.in_ok-run.run'.nodes.items c.in_ok-run.ensures.runs in
+    let audit : IfOk c.judged-agrees.result.0 (λ b. IsTrue b ↔ All Agrees c.as_slice-3.result.now) =
+    subst (λ (d : Deployed _ _). IfOk c.judged-agrees.result.0 (λ b. IsTrue b ↔ All (λ r. r.outcomes.items ≡ verdicts (rules_of (λ s z. pick_of s z) (λ h. plain_of h) d) [] c.args.task.now.packets.now r.events.items) c.as_slice-3.result.now)) c.in_ok-auditor.ensures c.judged-agrees.ensures.audit in
     let judged : IsTrue c.in_ok-agrees.field-0 ↔ All Agrees c.as_slice-3.result.now =
-    subst (λ r. IfOk r (λ b. IsTrue b ↔ All Agrees c.as_slice-3.result.now)) c.in_ok-agrees.was c.judged-agrees.ensures.audit in
+    subst (λ r. IfOk r (λ b. IsTrue b ↔ All Agrees c.as_slice-3.result.now)) c.in_ok-agrees.was audit in
     judged.1 (subst (λ (ns : List NodeRecord). All Agrees ns) (sym c.as_slice-3.ensures.value) told)
 
 pub returns-clause-runs : goal.returns-clause-runs

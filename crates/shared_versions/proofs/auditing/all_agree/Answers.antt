@@ -1,5 +1,4 @@
 use Rattle.std.proofs.Common.{rules}
-use Rattle.std.specs.Prelude.{Ok}
 use Rattle.std.proofs.lemmas.List.Elements.{All-push}
 use Rattle.shared_versions.specs.PrivateAudits.{IsGiven}
 use Rattle.shared_versions.proofs.Audits.{agrees_more, differs_more}

@@ -1,5 +1,5 @@
 use Rattle.std.proofs.Common.{◌≡◌, [], rules}
-use Rattle.cluster_core.specs.Setups.{rules_for}
+use Rattle.cluster_core.specs.Deployed.{rules_of}
 use Rattle.cluster_core.specs.Runs.{verdicts}
 use Rattle.thread_records.specs.declared.nodes.NodeRecord.{NodeRecord}
 use Rattle.shared_versions.proofs.Audits.{agreed_of}
@@ -7,5 +7,5 @@ use Rattle.shared_versions.proofs.auditing.audit_nodes.Goals as goal
 
 pub returns : goal.returns
 returns g c =
-    let Agrees : NodeRecord → Type 0 = λ r. r.outcomes.items ≡ verdicts (rules_for (λ s z. g.S.Scheme.pick s z) (λ h. g.H.FlowHash.plain h) c.args.setup.now c.args.catalogue.now) [] c.args.packets.now r.events.items in
+    let Agrees : NodeRecord → Type 0 = λ r. r.outcomes.items ≡ verdicts (rules_of (λ s z. g.S.Scheme.pick s z) (λ h. g.H.FlowHash.plain h) c.args.auditor.now) [] c.args.packets.now r.events.items in
     agreed_of Agrees c.args.nodes.now c.in_ok-audits.audits.items c.all_agree.result (search rules) (λ i a d in'. (c.in_ok-audits.ensures.each i a in').1.met d) c.all_agree.ensures.given c.all_agree.ensures.agree
