@@ -1,9 +1,7 @@
 -- What the nodes of a cluster send are packets that were offered.
-use Rattle.std.proofs.Common.{◌≡◌, ◌<◌, ℕ, zero, suc, ◌+◌, Bool, true, false, List, [], ◌∷◌, ◌++◌, length, map, Option, Some, None, refl, sym, ap, ◌∙◌, subst, arith}
-use Rattle.std.specs.Prelude.{◌==◌, ◌||◌, ◌%◌, if◌then◌else◌, nat_lt, slice_get, slice_index_or}
+use Rattle.std.proofs.Common.{◌≡◌, ◌<◌, ℕ, zero, suc, Bool, true, false, List, [], ◌∷◌, ◌++◌, Option, Some, None, refl, sym, ◌∙◌, subst}
+use Rattle.std.specs.Prelude.{◌==◌, ◌||◌, ◌%◌, if◌then◌else◌, nat_lt, slice_get}
 use Rattle.std.specs.List.{list_any}
-use Rattle.std.proofs.lemmas.Bool.{eq-eqb}
-use Rattle.std.proofs.lemmas.Option.{slice_get_within, get_or_from_slice_get}
 use Rattle.five_tuple.specs.declared.Flow.{Flow}
 use Rattle.forwarder.specs.declared.Choice.{Choice}
 use Rattle.forwarder.specs.declared.Choice.TheVariants as choices
@@ -12,7 +10,6 @@ use Rattle.steering.specs.declared.Placed.TheVariants as placings
 use Rattle.steering.specs.Steering.{home_of, place_for}
 use Rattle.cluster_node.specs.Rules.{Rules}
 use Rattle.cluster_node.specs.declared.serving.Item.{Item}
-use Rattle.cluster_node.specs.declared.serving.Taken.{Taken}
 use Rattle.cluster_node.specs.declared.serving.Taken.TheVariants as takings
 use Rattle.cluster_node.specs.declared.packets.Packet.{Packet}
 use Rattle.cluster_node.specs.declared.packets.Packet.TheVariants.{Good, Bad}
@@ -24,7 +21,7 @@ use Rattle.cluster_node.specs.declared.outcomes.Outcome.TheVariants.{Installed, 
 use Rattle.cluster_node.specs.declared.outcomes.Reason.TheVariants.{NoNode, NoWorker, UnknownVersion, NotNewer}
 use Rattle.cluster_node.specs.declared.outcomes.Cause.TheVariants.{NoVersion}
 use Rattle.cluster_node.specs.Book.{Line, put, took, placed, taken_count, next_item, greatest_used, taken_of, told_next}
-use Rattle.cluster_node.specs.Record.{accepted, placed_line, arrived_line, line_by, lines_of, of_taken, of_choice, install_verdict, steered, arrive_verdict, by_queue, serve_verdict, node_verdict, installed_of, newest_of, refusals_of}
+use Rattle.cluster_node.specs.Record.{accepted, placed_line, arrived_line, line_by, lines_of, of_taken, of_choice, steered, arrive_verdict, by_queue, serve_verdict, node_verdict, installed_of, newest_of, refusals_of}
 use Rattle.cluster_node.specs.Records.{node_of, of_node}
 use Rattle.cluster_core.specs.Runs.{verdict, verdicts, packet_of, say}
 

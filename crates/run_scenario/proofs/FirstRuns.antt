@@ -1,5 +1,5 @@
 -- A run over the first records of a capture, where the steps read no others, is a run over all of them.
-use Rattle.std.proofs.Common.{◌≡◌, ◌≤◌, ◌<◌, ◌⊎◌, inl, inr, ℕ, zero, suc, ◌+◌, Bool, true, false, List, [], ◌∷◌, ◌++◌, length, map, take, reverse, Option, refl, sym, ap, ◌∙◌, subst, arith, length-append}
+use Rattle.std.proofs.Common.{◌≡◌, ◌≤◌, ◌<◌, ◌⊎◌, inl, inr, ℕ, zero, suc, ◌+◌, Bool, true, false, List, [], ◌∷◌, ◌++◌, length, take, reverse, Option, refl, sym, ap, ◌∙◌, subst, arith, length-append}
 use Rattle.std.specs.Prelude.{All, slice_get}
 use Rattle.std.proofs.lemmas.List.{length-map}
 use Rattle.ip_headers.specs.declared.Link.{Link}
@@ -8,10 +8,7 @@ use Rattle.pool_versions.specs.declared.backend.Backend.{Backend}
 use Rattle.cluster_node.specs.Rules.{Rules}
 use Rattle.cluster_node.specs.declared.packets.Packet.{Packet}
 use Rattle.cluster_node.specs.declared.events.LogEntry.{LogEntry}
-use Rattle.spreader.specs.Choices.{Choice}
-use Rattle.event_trace.specs.Trace.{Trace}
 use Rattle.event_trace.specs.Tally.{tally_of}
-use Rattle.event_trace.specs.declared.play.Tally.{Tally}
 use Rattle.event_trace.specs.declared.steps.ScenarioStep.{ScenarioStep}
 use Rattle.driver_commands.specs.Orders.{plan_of, orders_of, IsThere}
 use Rattle.thread_records.specs.declared.command.Command.{Command}
@@ -22,16 +19,16 @@ use Rattle.json_lines.specs.declared.forms.Form.{Form}
 use Rattle.json_lines.specs.Forms.{places_as, summary_as}
 use Rattle.scenario.specs.declared.plan.Scenario.{Scenario}
 use Rattle.simulate_scenario.specs.Described.{choice_in, plan_in, lookups_in}
-use Rattle.simulation.specs.Sent.{Sending, packets_of, sent_at}
+use Rattle.simulation.specs.Sent.{sent_at}
 use Rattle.simulation.specs.Simulated.{traffic_of}
 use Rattle.run_scenario.specs.Firsts.{kept_for, with_others, IsSplit}
 use Rattle.run_scenario.specs.Runs.{packets_in, steps_in, commands_in, tally_in}
 use Rattle.run_scenario.specs.Sends.{sent_by_nodes}
 use Rattle.run_scenario.specs.PrivateHistories.{said_whole, splits_over, summary_over}
 use Rattle.run_scenario.proofs.Planned.{reads_all}
-use Rattle.run_scenario.proofs.Offered.{NameAlike, seen_first, runs_same}
-use Rattle.run_scenario.proofs.Firsts.{ReadFirst, read_first, packets_first, plan_first, orders_first, offered_first, tally_first}
-use Rattle.run_scenario.proofs.Sending.{said_alike, nodes_alike}
+use Rattle.run_scenario.proofs.Offered.{NameAlike, runs_same}
+use Rattle.run_scenario.proofs.Prefixes.{ReadFirst, read_first, packets_first, plan_first, orders_first, offered_first, tally_first}
+use Rattle.run_scenario.proofs.Alike.{said_alike, nodes_alike}
 
 in_front : (xs ys : List Record) (k : ℕ) → k < length xs → slice_get xs k ≡ slice_get (xs ++ ys) k
 in_front [] ys k h = absurd (omega (arith, h))

@@ -1,11 +1,10 @@
 -- What was gathered of the workers are packets that were offered.
-use Rattle.std.proofs.Common.{◌≡◌, ◌<◌, ℕ, ◌+◌, Bool, true, false, List, [], ◌∷◌, ◌++◌, length, map, refl, sym, ap, ◌∙◌, subst}
-use Rattle.std.specs.Prelude.{◌==◌, if◌then◌else◌}
+use Rattle.std.proofs.Common.{ℕ, Bool, true, false, List, [], ◌∷◌, ◌++◌, refl, sym, subst}
+use Rattle.std.specs.Prelude.{if◌then◌else◌}
 use Rattle.std.proofs.lemmas.Bool.{eq-eqb}
-use Rattle.std.specs.Global.{Vec}
 use Rattle.cluster_node.specs.declared.outcomes.Outcome.{Outcome}
 use Rattle.cluster_node.specs.declared.outcomes.Outcome.TheVariants.{Installed, Placed, Forward, Dropped, Restarted, Refused}
-use Rattle.thread_records.specs.Merges.{sent_by, sends_of, IsMerge, lives_from, lives_of, AreMerges}
+use Rattle.thread_records.specs.Merges.{sent_by, sends_of, lives_from, lives_of, AreMerges}
 use Rattle.run_scenario.proofs.Below.{IsBelow, AreBelow}
 
 abbrev pub ListsBelow : ℕ → List (List Outcome) → Type 0
@@ -29,11 +28,11 @@ module _ (m : ℕ) where
   -- what one worker sent, among others
   sends_below : (w : ℕ) (os : List Outcome) → AreBelow m os → AreBelow m (sends_of w os)
   sends_below w [] h = tt
-  sends_below w (o ∷ os) h = go (sent_by w o)
+  sends_below w (o ∷ os) h = go (sent_by w o) (sends_below w os h.1)
     where
-      go : (b : Bool) → AreBelow m (if b then o ∷ sends_of w os else sends_of w os)
-      go true = (h.0, sends_below w os h.1)
-      go false = sends_below w os h.1
+      go : (b : Bool) → AreBelow m (sends_of w os) → AreBelow m (if b then o ∷ sends_of w os else sends_of w os)
+      go true rest = (h.0, rest)
+      go false rest = rest
 
   behind_below : (w : ℕ) (o : Outcome) (os : List Outcome) → AreBelow m (sends_of w (o ∷ os)) → AreBelow m (sends_of w os)
   behind_below w o os h = go (sent_by w o) h

@@ -12,6 +12,7 @@ pub mod Planned
 pub mod Offered
 pub mod Below
 pub mod Gathered
-pub mod Firsts
-pub mod Sending
+pub mod Prefixes
+pub mod Alike
 pub mod FirstRuns
+pub mod Sparings

@@ -1,5 +1,5 @@
 -- A run over the first records of a capture, which offers no others, is a run over all of them.
-use Rattle.std.proofs.Common.{◌≡◌, ◌≤◌, ◌<◌, ℕ, zero, suc, ◌+◌, Bool, true, false, List, [], ◌∷◌, ◌++◌, length, map, take, reverse, Option, Some, None, refl, sym, ap, ◌∙◌, subst, arith}
+use Rattle.std.proofs.Common.{◌≡◌, ◌<◌, ℕ, zero, suc, ◌+◌, List, [], ◌∷◌, ◌++◌, length, map, take, Option, refl, sym, ap, ◌∙◌, subst, arith}
 use Rattle.std.specs.Prelude.{All, slice_get}
 use Rattle.std.proofs.lemmas.List.Elements.{All-head, All-tail, All-cons, All-nil}
 use Rattle.cluster_node.specs.Rules.{Rules}
@@ -13,9 +13,9 @@ use Rattle.cluster_core.specs.Runs.{verdict, verdicts, packet_of, say}
 use Rattle.thread_records.specs.declared.command.Command.{Command}
 use Rattle.thread_records.specs.declared.command.Command.TheVariants as commands
 use Rattle.thread_records.specs.declared.nodes.NodeRecord.{NodeRecord}
-use Rattle.thread_records.specs.Histories.{said_on, record_of, past_of, commands_of, ServesAreAccepted, MarksAreDue, NoneWaits}
+use Rattle.thread_records.specs.Histories.{said_on, past_of, commands_of, ServesAreAccepted, MarksAreDue, NoneWaits}
 use Rattle.thread_records.specs.Losses.{as_written}
-use Rattle.thread_records.specs.Joins.{all_events, all_outcomes}
+use Rattle.thread_records.specs.Joins.{all_events}
 use Rattle.thread_records.specs.Runs.{IsRunOf, AreRuns}
 use Rattle.driver_commands.specs.Orders.{IsThere}
 

@@ -49,8 +49,11 @@ impl FirstRecords {
         ensures ok { OnOk result (self.new ≡ record self.old { all = self.old.all ++ packet frame.now ∷ [] }) }
         ensures err { OnErr result (self.new ≡ self.old) }
     {
-        if self.others == 0 && self.kept.len() < self.limit {
-            return self.kept.push(frame);
+        if self.kept.len() < self.limit {
+            return match self.kept.push(frame) {
+                Ok(()) => Ok(()),
+                Err(refusal) => Err(refusal),
+            };
         }
         let Some(others) = self.others.checked_add(1) else {
             return Err(AllocError);
@@ -62,7 +65,7 @@ impl FirstRecords {
 
     /// Those that are kept, and how many others there are.
     pub(crate) fn split(self) -> (Records, usize)
-        ensures { IsSplit self.entry.limit self.entry.all result.0 result.1 }
+        ensures { IsSplit self.limit self.all result.0 result.1 }
     {
         let FirstRecords { kept, others, .. } = self;
         (kept, others)

@@ -11,6 +11,7 @@ mod reading;
 mod records;
 mod report;
 mod running;
+mod sender;
 mod sending;
 mod shares;
 mod threads;

@@ -45,16 +45,16 @@ totals_of-totals-requires-clause-settled g c =
     all_settled (rules_in s) c.as_slice-2.result.now s.ring 0 commands nodes within (subst (λ (ps : List Packet). AreRead ps) (sym c.as_slice-2.ensures.value) c.in_ok-packets.ensures.read) runs
 
 pub with_others-tally-requires-clause-packets : goal.with_others-tally-requires-clause-packets
-with_others-tally-requires-clause-packets g c κs within =
+with_others-tally-requires-clause-packets g c =
     let slice : length c.as_slice.result.now ≡ length c.in_ok-packets.packets.items = ap (λ (l : List Packet). length l) c.as_slice.ensures.value in
     let all : c.in_ok-orders.orders.tally.packets ≡ length c.as_slice.result.now = ap (λ (t : Tally). t.packets) c.in_ok-orders.ensures.tally in
-    omega (arith, slice, all, c.in_ok-packets.ensures.count, c.requires)
+    omega (arith, slice, all, c.in_ok-packets.ensures.count, c.requires.few)
 
 pub with_others-tally-requires-clause-left : goal.with_others-tally-requires-clause-left
-with_others-tally-requires-clause-left g c κs within =
+with_others-tally-requires-clause-left g c =
     let slice : length c.as_slice.result.now ≡ length c.in_ok-packets.packets.items = ap (λ (l : List Packet). length l) c.as_slice.ensures.value in
     let rest = ap (λ (t : Tally). t.left) c.in_ok-orders.ensures.tally in
-    omega (arith, slice, rest, c.in_ok-packets.ensures.count, c.requires)
+    omega (arith, slice, rest, c.in_ok-packets.ensures.count, c.requires.few)
 
 pub returns-clause-over : goal.returns-clause-over
 returns-clause-over g c = λ all split.
@@ -71,17 +71,17 @@ returns-clause-over g c = λ all split.
     let are : c.as_slice-2.result.now ≡ packets_in s link kept = c.as_slice-2.ensures.value ∙ read in
     let told : commands ≡ commands_in s link all =
     ap (λ l. map (λ k. k.items) l) c.as_slice-3.ensures.value ∙ c.in_ok-orders.ensures.commands ∙ ap (λ (l : List Packet). orders_of (choice_in s) l (steps_in s kept) (length s.nodes.items)) first
-    ∙ same_commands s link kept all others c.requires split in
+    ∙ same_commands s link kept all others c.requires.few split in
     let few_runs : AreRuns (rules_in s) (packets_in s link kept) s.ring 0 (commands_in s link all) run.nodes.items =
     subst (λ (ps : List Packet). AreRuns (rules_in s) ps s.ring 0 (commands_in s link all) run.nodes.items) are
     (subst (λ (cs : List (List Command)). AreRuns (rules_in s) c.as_slice-2.result.now s.ring 0 cs run.nodes.items) told c.in_ok-audited.ensures.runs) in
-    let runs : AreRuns (rules_in s) (packets_in s link all) s.ring 0 (commands_in s link all) run.nodes.items = same_runs s link kept all others c.requires split (rules_in s) s.ring run.nodes.items few_runs in
-    let said : said_whole (packets_in s link kept) run.nodes.items ≡ said_whole (packets_in s link all) run.nodes.items = same_said s link kept all others c.requires split (rules_in s) s.ring run.nodes.items few_runs in
+    let runs : AreRuns (rules_in s) (packets_in s link all) s.ring 0 (commands_in s link all) run.nodes.items = same_runs s link kept all others c.requires.few split (rules_in s) s.ring run.nodes.items few_runs in
+    let said : said_whole (packets_in s link kept) run.nodes.items ≡ said_whole (packets_in s link all) run.nodes.items = same_said s link kept all others c.requires.few split (rules_in s) s.ring run.nodes.items few_runs in
     let even : AreEven run.nodes.items = are_even (rules_in s) (packets_in s link all) s.ring 0 (commands_in s link all) run.nodes.items runs in
     let few = c.in_ok-audited.ensures.few in
     let tally : c.with_others-tally.result ≡ tally_in s link all =
     c.with_others-tally.ensures ∙ ap (λ (t : Tally). with_others others t) (c.in_ok-orders.ensures.tally ∙ tally_is s link kept c.as_slice.result.now first)
-    ∙ same_tally s link kept all others c.requires split in
+    ∙ same_tally s link kept all others c.requires.few split in
     record {
       history = history_of run even few;
       run = record { runs = runs; joins = joins (rules_in s) (packets_in s link all) s.ring (commands_in s link all) run even few runs };
@@ -108,7 +108,7 @@ returns-clause-over g c = λ all split.
           (c.as_str-4.ensures.value ∙ c.in_ok-audited.ensures.told.behind ∙ ap (λ (ps : List Packet). summary_over o.form o.summary s ps run.nodes.items) are
           ∙ summary_said o.form o.summary s (packets_in s link kept) (packets_in s link all) run.nodes.items said ∙ same_summary o.form o.summary s (packets_in s link all) run even few);
       counted = c.in_ok-audited.ensures.told.counts ∙ ap (λ (ps : List Packet). counts_over o ps run.nodes.items) are
-      ∙ ap (λ (l : List LogEntry). counts_if (keeps_changes o.places o.summary) l) said ∙ same_counts o s link all run even few;
+          ∙ ap (λ (l : List LogEntry). counts_if (keeps_changes o.places o.summary) l) said ∙ same_counts o s link all run even few;
     }
 
 pub returns-clause-sends : goal.returns-clause-sends
@@ -123,8 +123,8 @@ returns-clause-sends g c = λ all split.
     let are : c.as_slice-2.result.now ≡ packets_in s link kept = c.as_slice-2.ensures.value ∙ read in
     let told : commands ≡ commands_in s link all =
     ap (λ l. map (λ k. k.items) l) c.as_slice-3.ensures.value ∙ c.in_ok-orders.ensures.commands ∙ ap (λ (l : List Packet). orders_of (choice_in s) l (steps_in s kept) (length s.nodes.items)) first
-    ∙ same_commands s link kept all others c.requires split in
+    ∙ same_commands s link kept all others c.requires.few split in
     let few_runs : AreRuns (rules_in s) (packets_in s link kept) s.ring 0 (commands_in s link all) c.in_ok-audited.audited.run.nodes.items =
     subst (λ (ps : List Packet). AreRuns (rules_in s) ps s.ring 0 (commands_in s link all) c.in_ok-audited.audited.run.nodes.items) are
     (subst (λ (cs : List (List Command)). AreRuns (rules_in s) c.as_slice-2.result.now s.ring 0 cs c.in_ok-audited.audited.run.nodes.items) told c.in_ok-audited.ensures.runs) in
-    same_sent s link kept all others c.requires split (rules_in s) s.ring c.in_ok-audited.audited.run.nodes.items few_runs
+    same_sent s link kept all others c.requires.few split (rules_in s) s.ring c.in_ok-audited.audited.run.nodes.items few_runs

@@ -10,8 +10,8 @@ use Rattle.run_scenario.proofs.Ruled.{keeps}
 use Rattle.run_scenario.proofs.InWords.{same_sends}
 use Rattle.run_scenario.proofs.running.run_scenario.Goals as goal
 
-pub run_over-done-requires : goal.run_over-done-requires
-run_over-done-requires g c κs within =
+pub run_over-requires-clause-few : goal.run_over-requires-clause-few
+run_over-requires-clause-few g c =
     let whole = c.in_ok-captured.ensures.whole in
     let many : length whole.0 ≡ length c.in_ok-captured.captured.records + length whole.3.rest = ap (λ (l : List Record). length l) whole.3.is ∙ length-append c.in_ok-captured.captured.records whole.3.rest in
     omega (arith, many, whole.2, whole.3.count)

@@ -1,11 +1,9 @@
 -- What the nodes sent, where no step reads another record than the first ones, is what was sent of all records.
-use Rattle.std.proofs.Common.{◌≡◌, ◌<◌, ℕ, zero, suc, ◌+◌, List, [], ◌∷◌, ◌++◌, length, map, take, reverse, refl, sym, ap, ◌∙◌, subst, arith, Option}
+use Rattle.std.proofs.Common.{◌≡◌, ◌<◌, ℕ, ◌+◌, List, [], ◌∷◌, ◌++◌, map, refl, sym, ap, ◌∙◌, subst, Option}
 use Rattle.std.specs.Prelude.{All, slice_get}
 use Rattle.std.specs.Global.{Vec}
-use Rattle.std.specs.List.{flat_map}
 use Rattle.std.proofs.lemmas.List.Elements.{All-head, All-tail}
 use Rattle.pool_versions.specs.declared.backend.Backend.{Backend}
-use Rattle.pcap_file.specs.Format.{Record}
 use Rattle.cluster_node.specs.Rules.{Rules}
 use Rattle.cluster_node.specs.declared.packets.Packet.{Packet}
 use Rattle.cluster_node.specs.declared.events.Event.{Event}
@@ -18,7 +16,7 @@ use Rattle.thread_records.specs.declared.command.Command.{Command}
 use Rattle.thread_records.specs.declared.command.Command.TheVariants as commands
 use Rattle.thread_records.specs.declared.nodes.NodeRecord.{NodeRecord}
 use Rattle.thread_records.specs.Histories.{commands_of}
-use Rattle.thread_records.specs.Runs.{IsRunOf, AreRuns}
+use Rattle.thread_records.specs.Runs.{AreRuns}
 use Rattle.driver_commands.specs.Orders.{IsThere}
 use Rattle.simulation.specs.Sent.{Traffic, Sending, sent_by, sent_at}
 use Rattle.run_scenario.specs.Runs.{said_with}

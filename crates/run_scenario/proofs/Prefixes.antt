@@ -1,18 +1,18 @@
 -- What is told of the first records of a capture, where the steps read no others, is told of all.
-use Rattle.std.proofs.Common.{◌≡◌, ◌≤◌, ◌<◌, ◌⊎◌, inl, inr, ℕ, zero, suc, ◌+◌, ◌-◌, ◌^◌, Bool, true, false, List, [], ◌∷◌, ◌++◌, length, map, take, reverse, Option, Some, None, refl, sym, ap, ◌∙◌, subst, arith, take_at, append-nil, length-append}
-use Rattle.std.specs.Prelude.{All, slice_get, slice_index_or, nat_lt, if◌then◌else◌}
+use Rattle.std.proofs.Common.{◌≡◌, ◌≤◌, ◌<◌, ◌⊎◌, inl, inr, ℕ, ◌+◌, ◌-◌, ◌^◌, Bool, true, false, List, [], ◌∷◌, ◌++◌, length, map, take, get_or, refl, sym, ap, ◌∙◌, arith, take_at, append-nil}
+use Rattle.std.specs.Prelude.{All, slice_index_or, nat_lt, if◌then◌else◌}
 use Rattle.std.specs.List.{list_any, sum_by}
-use Rattle.std.proofs.lemmas.List.{length-map, map-append, map-id}
-use Rattle.std.proofs.lemmas.Bool.{false≢true}
+use Rattle.std.proofs.lemmas.List.{length-map, map-append, map-id, take_more}
+use Rattle.std.proofs.lemmas.Bool.{lt-ltb, le-ltb}
+use Rattle.std.proofs.lemmas.List.Sums.{sum_by-append, sum_by-take-drop, sum_by-cons}
 use Rattle.ip_headers.specs.declared.Link.{Link}
 use Rattle.pcap_file.specs.Format.{Record}
 use Rattle.cluster_node.specs.declared.packets.Packet.{Packet}
 use Rattle.spreader.specs.Choices.{Choice}
 use Rattle.event_trace.specs.declared.steps.ScenarioStep.{ScenarioStep}
 use Rattle.event_trace.specs.Trace.{Trace}
-use Rattle.event_trace.specs.Steps.{world_of, below, run, start}
+use Rattle.event_trace.specs.Steps.{world_of, below, start}
 use Rattle.event_trace.specs.Tally.{tally_of}
-use Rattle.event_trace.specs.declared.play.Tally.{Tally}
 use Rattle.event_trace.proofs.Adding.{traces_add_up}
 use Rattle.timed_steps.specs.declared.TimedStep.{TimedStep}
 use Rattle.timed_steps.specs.declared.TimedStep.TheVariants.{Counted, Until}
@@ -38,13 +38,13 @@ few_read ss k low h = go (nat_lt (sum_by may_read ss) (2 ^ 64)) h
 
 no_until : (ss : List TimedStep) → sum_by may_read ss ≤ 1000000000 → list_any is_until ss ≡ false
 no_until [] h = refl
-no_until (Counted s ∷ ss) h = no_until ss (omega (arith, h))
-no_until (Until end ∷ ss) h = absurd (omega (arith, h))
+no_until (Counted s ∷ ss) h = no_until ss (omega (arith, h, sum_by-cons may_read (Counted s) ss))
+no_until (Until end ∷ ss) h = absurd (omega (arith, h, sum_by-cons may_read (Until end) ss))
 
 reads_counted : (first : ℕ) (left : List ℕ) (ss : List TimedStep) → sum_by may_read ss ≤ 1000000000 → reads_all (counted_from first left ss) ≡ sum_by may_read ss
 reads_counted first left [] h = refl
-reads_counted first left (Counted s ∷ ss) h = ap (λ (n : ℕ). reads s + n) (reads_counted first _ ss (omega (arith, h)))
-reads_counted first left (Until end ∷ ss) h = absurd (omega (arith, h))
+reads_counted first left (Counted s ∷ ss) h = ap (λ (n : ℕ). reads s + n) (reads_counted first _ ss (omega (arith, h, sum_by-cons may_read (Counted s) ss))) ∙ sym (sum_by-cons may_read (Counted s) ss)
+reads_counted first left (Until end ∷ ss) h = absurd (omega (arith, h, sum_by-cons may_read (Until end) ss))
 
 -- the steps are the same over the first records, and read no others
 pub record ReadFirst (ss : List TimedStep) (kept all : List Record) : Type 0 where
@@ -108,3 +108,17 @@ tally_first choice few all nodes others ss many same =
     ap (λ (n : ℕ). record { packets = n; lost = c.lost; unrouted = c.unrouted; skipped = c.skipped; left = (length few - c.read) + others }) (sym many)
     ∙ ap (λ (n : ℕ). record { packets = length all; lost = c.lost; unrouted = c.unrouted; skipped = c.skipped; left = n }) left
     ∙ ap (λ (d : Trace). tally_of (length all) d) same
+
+-- how many the steps so far may read, and one step more
+pub total_more : (ss : List TimedStep) (i : ℕ) (s : TimedStep) → i < length ss → s ≡ get_or ss i s → sum_by may_read (take i ss) + may_read s ≡ sum_by may_read (take (i + 1) ss)
+total_more ss i s lt is =
+    let one : sum_by may_read (s ∷ []) ≡ may_read s = omega (arith, sum_by-cons may_read s []) in
+    let both : sum_by may_read (take i ss ++ s ∷ []) ≡ sum_by may_read (take i ss) + sum_by may_read (s ∷ []) = sum_by-append may_read (take i ss) (s ∷ []) in
+    let front : take (i + 1) ss ≡ take i ss ++ s ∷ [] = take_more ss i s lt ∙ ap (λ (t : TimedStep). take i ss ++ t ∷ []) (sym is) in
+    omega (arith, one, both, ap (λ (l : List TimedStep). sum_by may_read l) front)
+
+pub kept_whole : (ss : List TimedStep) → sum_by may_read ss < 2 ^ 64 → sum_by may_read ss ≡ kept_for ss
+kept_whole ss low = ap (λ (b : Bool). if b then sum_by may_read ss else 2 ^ 64 - 1) (sym (lt-ltb (sum_by may_read ss) (2 ^ 64) low))
+
+pub kept_over : (ss : List TimedStep) (i : ℕ) → 2 ^ 64 ≤ sum_by may_read (take i ss) → 2 ^ 64 - 1 ≡ kept_for ss
+kept_over ss i high = ap (λ (b : Bool). if b then sum_by may_read ss else 2 ^ 64 - 1) (sym (le-ltb (sum_by may_read ss) (2 ^ 64) (omega (arith, high, sum_by-take-drop may_read ss i))))
