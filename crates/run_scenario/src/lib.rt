@@ -4,6 +4,7 @@
 
 mod blocks;
 mod failure;
+mod firsts;
 mod histories;
 mod orders;
 mod reading;
