@@ -80,9 +80,8 @@ START = {
     "pick of 65,537 slots": 4713,
     "compare of 65,537 slots": 5196,
 }
-# What must be enough for a run of 600,000 flows with room for 1,000,000.
-ROOM = "simulate, 600,000 flows and room for 1,000,000"
-ROOM_LIMIT = 100_000
+# What must be enough for a run of 600,000 flows with room for 1,000,000, and for one whose steps take ten records of many.
+ENOUGH = {"simulate, 600,000 flows and room for 1,000,000": 100_000, "run, ten of 270 MB of records": 80_000}
 
 
 @dataclasses.dataclass
@@ -161,9 +160,11 @@ def large_rows(folder):
         for one_arena in [False, True]:
             name = f"run, {count * BYTES // 1_000_000} MB of records{', one arena' if one_arena else ''}"
             rows.append(Row(name, ["run", folder / "run.toml", capture, "/dev/null"], sure=5, one_arena=one_arena))
+    write_scenario(folder / "ten.toml", 1000, 10)
+    rows.append(Row("run, ten of 270 MB of records", ["run", folder / "ten.toml", folder / f"{LONG}.pcap", "/dev/null"]))
     write_wide(folder / "wide.pcap")
     # Some more flows than there are entries, so that the table is full and the oldest make room.
-    for name, capacity in [("simulate, a table of 65,537 fills", 65_537), ("simulate, a table of 524,289 fills", 524_289), (ROOM, 1_000_000)]:
+    for name, capacity in [("simulate, a table of 65,537 fills", 65_537), ("simulate, a table of 524,289 fills", 524_289), (next(iter(ENOUGH)), 1_000_000)]:
         write_scenario(folder / f"{capacity}.toml", capacity, capacity + capacity // 16)
         rows.append(Row(name, ["simulate", folder / f"{capacity}.toml", folder / "wide.pcap", "/dev/null"]))
     return rows
@@ -226,10 +227,11 @@ def judge(row, program):
     ample = row.answer(program)
     check(f"{row.name}: without a limit", ample[:2] == (0, b""), repr(ample)[:300])
     holds = enough(row, program, ample, TURNS if row.threads() else 1)
-    if row.name == ROOM:
-        is_enough = holds(ROOM_LIMIT)
-        check(row.name, is_enough, f"{ROOM_LIMIT} kB aren't enough")
-        print(f"{row.name}: {ROOM_LIMIT} kB are {'' if is_enough else 'not '}enough")
+    if row.name in ENOUGH:
+        limit = ENOUGH[row.name]
+        is_enough = holds(limit)
+        check(row.name, is_enough, f"{limit} kB aren't enough")
+        print(f"{row.name}: {limit} kB are {'' if is_enough else 'not '}enough")
         return
     start = START[row.name]
     most = int(BOUND * start)
@@ -252,7 +254,7 @@ def main(words):
         for row in [*large_rows(pathlib.Path(name)), *small_rows()]:
             if not words:
                 judge(row, program)
-            elif row.name != ROOM:
+            elif row.name not in ENOUGH:
                 print_least(row, program)
     return 0 if words else told(harness.passed, harness.failed)
 

@@ -8,3 +8,11 @@ pub mod Audited
 pub mod Known
 pub mod OneByOne
 pub mod Stripped
+pub mod Planned
+pub mod Offered
+pub mod Below
+pub mod Gathered
+pub mod Prefixes
+pub mod Alike
+pub mod FirstRuns
+pub mod Sparings

@@ -1,5 +1,6 @@
 pub mod Sends
 pub mod Inputs
+pub mod Firsts
 pub mod Runs
 pub mod Kept
 pub mod PrivateFailures

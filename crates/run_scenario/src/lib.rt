@@ -4,12 +4,14 @@
 
 mod blocks;
 mod failure;
+mod firsts;
 mod histories;
 mod orders;
 mod reading;
 mod records;
 mod report;
 mod running;
+mod sender;
 mod sending;
 mod shares;
 mod threads;

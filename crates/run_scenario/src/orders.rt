@@ -8,6 +8,7 @@ ghost use Rattle.cluster_core.specs.Cluster.{WereRead};
 ghost use Rattle.event_trace.specs.Tally.{tally_of};
 ghost use Rattle.driver_commands.specs.Orders.{plan_of, orders_of};
 ghost use Rattle.simulate_scenario.specs.Described.{choice_in};
+ghost use Rattle.run_scenario.specs.Firsts.{may_read, kept_for};
 ghost use Rattle.run_scenario.specs.Runs.{steps_in};
 
 use crate::records::Records;
@@ -18,6 +19,33 @@ use named_spread::spread_of;
 use scenario::Scenario;
 use std::alloc::{AllocError, Global};
 use timed_steps::{TimedStep, counted, has_until};
+
+// How many records a step may read.
+fn may_read(step: &TimedStep) -> usize
+    ensures { result ≡ may_read step.now }
+{
+    match step {
+        TimedStep::Counted(ScenarioStep::Take(count) | ScenarioStep::Lose(count)) => {
+            *count as usize
+        }
+        TimedStep::Counted(_) => 0,
+        TimedStep::Until(_) => usize::MAX,
+    }
+}
+
+/// How many of a capture's first records are kept for some steps: as many as they may read. Where one is by time that is all.
+pub(crate) fn kept_for(steps: &[TimedStep]) -> usize
+    ensures { result ≡ kept_for steps.now }
+{
+    let mut total: usize = 0;
+    for step in steps {
+        match total.checked_add(may_read(step)) {
+            Some(more) => total = more,
+            None => return usize::MAX,
+        }
+    }
+    total
+}
 
 // When each record came, in microseconds.
 fn times_of(alloc: Global, records: &Records) -> Result<Vec<u64>, AllocError>

@@ -1,23 +1,26 @@
-//! A capture is read whole.
-ghost use Rattle.std.specs.Prelude.{◌≡◌, ◌≤◌, IfOk, IfErr, OnOk, length};
+//! A capture is read to its end, and its first records are kept.
+ghost use Rattle.std.specs.Prelude.{◌≡◌, ◌≤◌, List, IfOk, IfErr, OnOk, length};
 ghost use Rattle.pcap_file.specs.Device.{Unfailed};
-ghost use Rattle.pcap_file.specs.Format.{max_records};
+ghost use Rattle.pcap_file.specs.Format.{Record, max_records};
 ghost use Rattle.pcap_file.specs.Text.{IsTold, AllRefused};
 ghost use Rattle.cluster_core.specs.Cluster.{WereRead};
 ghost use Rattle.simulation.specs.Sent.{packets_of};
+ghost use Rattle.run_scenario.specs.Firsts.{IsSplit};
 ghost use Rattle.run_scenario.specs.Inputs.{IsReadWhole, ReadingFails};
 
+use crate::firsts::FirstRecords;
 use crate::records::Records;
 use cluster_node::Packet;
 use pcap_file::{Ending, Frame, Head, InputEnd, PcapFault, Source, read_record_into, read_start};
 use simulation::{SimulationFault, Wire};
 use std::alloc::{AllocError, Global};
 
-/// A capture's header, its records, and whether it ends inside a further one.
+/// A capture's header, its first records, how many others it has, and whether it ends inside a further one.
 #[derive(Drop)]
 pub(crate) struct Captured {
     pub(crate) head: Head,
     pub(crate) records: Records,
+    pub(crate) others: usize,
     pub(crate) ending: InputEnd,
 }
 
@@ -26,13 +29,15 @@ fn read_records<I: Source>(
     alloc: Global,
     input: &mut I,
     head: Head,
-) -> Result<(Records, InputEnd), PcapFault>
-    ensures few { IfOk result (λ all. length all.0 ≤ max_records) }
-    ensures told { IfOk result (λ all. IsTold head (I.tape input.old).bytes all.0 all.1) }
+    limit: usize,
+) -> Result<(FirstRecords, InputEnd), PcapFault>
+    ensures limit { IfOk result (λ all. all.0.limit ≡ limit) }
+    ensures few { IfOk result (λ all. length all.0.all ≤ max_records) }
+    ensures told { IfOk result (λ all. IsTold head (I.tape input.old).bytes all.0.all all.1) }
     ensures unfailed { OnOk result (Unfailed (I.tape input.old) (I.tape input.new)) }
     ensures refused { IfErr result (AllRefused head (I.tape input.old) (I.tape input.new)) }
 {
-    let mut records = Records::new(alloc);
+    let mut records = FirstRecords::new(alloc, limit);
     let mut next = Frame::empty(alloc);
     let mut given = 0;
     loop {
@@ -50,25 +55,30 @@ fn read_records<I: Source>(
     }
 }
 
-/// Reads a capture to its end.
+/// Reads a capture to its end. At most so many records are kept, and of the others their count.
 pub(crate) fn read_whole<I: Source>(
     alloc: Global,
     input: &mut I,
+    limit: usize,
 ) -> Result<Captured, SimulationFault>
-    ensures whole { IfOk result (λ c. IsReadWhole (I.tape input.old) (I.tape input.new) c.head c.records c.ending) }
-    ensures few { IfOk result (λ c. length c.records ≤ max_records) }
+    ensures whole { IfOk result (λ c. (all : List Record) × IsReadWhole (I.tape input.old) (I.tape input.new) c.head all c.ending
+        × (length all ≤ max_records) × IsSplit limit all c.records c.others) }
     ensures fails { IfErr result (λ fault. ReadingFails fault (I.tape input.old) (I.tape input.new)) }
 {
     let head = match read_start(input) {
         Ok(head) => head,
         Err(fault) => return Err(SimulationFault::Capture(fault)),
     };
-    match read_records(alloc, input, head) {
-        Ok((records, ending)) => Ok(Captured {
-            head,
-            records,
-            ending,
-        }),
+    match read_records(alloc, input, head, limit) {
+        Ok((all, ending)) => {
+            let (records, others) = all.split();
+            Ok(Captured {
+                head,
+                records,
+                others,
+                ending,
+            })
+        }
         Err(fault) => Err(SimulationFault::Capture(fault)),
     }
 }

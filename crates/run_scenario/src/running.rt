@@ -1,8 +1,12 @@
 //! A scenario's cluster runs on threads over a capture.
-ghost use Rattle.std.specs.Prelude.{◌≡◌, ◌≤◌, true, length, IfOk, IfErr, string_bytes};
-ghost use Rattle.pcap_file.specs.Format.{max_records};
+ghost use Rattle.std.specs.Prelude.{◌≡◌, ◌≤◌, ◌<◌, ◌+◌, ◌^◌, true, List, length, IfOk, IfErr, string_bytes};
+ghost use Rattle.pcap_file.specs.Format.{Record, max_records};
 ghost use Rattle.simulation.specs.Sent.{packets_of};
 ghost use Rattle.thread_records.specs.Paced.{NoneRefused};
+ghost use Rattle.simulation.specs.Simulated.{traffic_of};
+ghost use Rattle.simulate_scenario.specs.Described.{plan_in};
+ghost use Rattle.run_scenario.specs.Firsts.{IsSplit, kept_for, with_others};
+ghost use Rattle.run_scenario.specs.Sends.{sent_by_nodes};
 ghost use Rattle.run_scenario.specs.Runs.{Ran, Halted, counts_in};
 ghost use Rattle.run_scenario.specs.Kept.{KeepsPromises};
 ghost use Rattle.run_scenario.specs.PrivateFailures.{IsOfThreads};
@@ -10,13 +14,15 @@ ghost use Rattle.run_scenario.specs.PrivateHistories.{RanOver};
 
 use crate::failure::RunFailure;
 use crate::histories::{Told, totals_of};
-use crate::orders::orders_of;
+use crate::orders::{kept_for, orders_of};
 use crate::reading::{Captured, packets_of, read_whole};
 use crate::report::audited_report;
-use crate::sending::{Sender, write_capture};
+use crate::sender::Sender;
+use crate::sending::write_capture;
 use crate::threads::{Audited, Task, run_named};
 use cluster_node::Packet;
 use connection_table::TableKey;
+use event_trace::Tally;
 use ip_headers::Link;
 use json_lines::Form;
 use pcap_file::{Sink, Source};
@@ -96,6 +102,19 @@ fn wire_of(scenario: &Scenario, link: Link) -> Wire<'_>
     }
 }
 
+// What becomes of the records, with those that no step reads.
+fn with_others(tally: Tally, others: usize) -> Tally
+    requires packets { tally.packets + others < 2 ^ 32 }
+    requires left { tally.left + others < 2 ^ 32 }
+    ensures { result ≡ with_others others tally }
+{
+    Tally {
+        packets: tally.packets + others as u32,
+        left: tally.left + others as u32,
+        ..tally
+    }
+}
+
 // Runs the cluster over a capture that was read.
 fn run_over<R: Threads + Wait + Sync>(
     rt: &R,
@@ -105,9 +124,13 @@ fn run_over<R: Threads + Wait + Sync>(
     captured: &Captured,
     options: RunOptions,
 ) -> Result<Done, RunFailure>
-    requires few { length captured.now.records ≤ max_records }
+    requires few { length captured.now.records + captured.now.others ≤ max_records }
     ensures packets { IfOk result (λ d. d.packets.items ≡ packets_of captured.now.head.link scenario.now.check captured.now.records) }
-    ensures over { IfOk result (λ d. RanOver scenario.now options captured.now.head.link captured.now.records captured.now.ending d.nodes.items (string_bytes d.answer.text) d.answer.counts) }
+    ensures over { (all : List Record) → IsSplit (kept_for scenario.now.steps.items) all captured.now.records captured.now.others →
+        IfOk result (λ d. RanOver scenario.now options captured.now.head.link all captured.now.ending d.nodes.items (string_bytes d.answer.text) d.answer.counts) }
+    ensures sends { (all : List Record) → IsSplit (kept_for scenario.now.steps.items) all captured.now.records captured.now.others →
+        IfOk result (λ d. sent_by_nodes (traffic_of (plan_in scenario.now) captured.now.head.link captured.now.records) d.nodes.items
+        ≡ sent_by_nodes (traffic_of (plan_in scenario.now) captured.now.head.link all) d.nodes.items) }
     ensures paced { options.paced ≡ true → IfOk result (λ d. NoneRefused d.nodes.items) }
     ensures stopped { IfErr result IsOfThreads }
 {
@@ -131,7 +154,8 @@ fn run_over<R: Threads + Wait + Sync>(
     } = told;
     let totals = totals_of(&run);
     let form = options.form;
-    let report = audited_report(alloc, form, orders.tally, &totals, captured.ending, agrees)?;
+    let tally = with_others(orders.tally, captured.others);
+    let report = audited_report(alloc, form, tally, &totals, captured.ending, agrees)?;
     let mut text = String::new(alloc);
     form.push_head(&mut text, "run")?;
     text.push_str(before.as_str())?;
@@ -193,7 +217,7 @@ pub fn run_scenario<R: Threads + Wait + Sync, I: Source, O: Sink>(
     let scenario = &scenario.scenario;
     let _slots = scenario.size.slots();
     scenario.catalogue.keeps_doubles_out();
-    let captured = read_whole(alloc, input)?;
+    let captured = read_whole(alloc, input, kept_for(scenario.steps.as_slice()))?;
     let done = run_over(rt, alloc, key, scenario, &captured, options)?;
     let wire = wire_of(scenario, captured.head.link);
     let nodes = done.nodes.as_slice();

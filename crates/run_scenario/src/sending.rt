@@ -1,38 +1,20 @@
 //! What the nodes sent is written.
-ghost use Rattle.std.specs.Prelude.{◌≡◌, ◌<◌, length, OnOk, IfErr, Some, slice_get};
+ghost use Rattle.std.specs.Prelude.{OnOk, IfErr};
 ghost use Rattle.std.specs.Io.KnownBytes.{Appends};
 ghost use Rattle.pcap_file.specs.Device.{Unfailed};
-ghost use Rattle.pcap_file.specs.Format.{Record};
-ghost use Rattle.simulation.specs.Sent.{packet_in, packets_of, sent_by, capture_text, Wrote, WroteUntil};
+ghost use Rattle.simulation.specs.Sent.{sent_by, capture_text, Wrote, WroteUntil};
 ghost use Rattle.simulation.specs.Simulated.{IsOfRun, CaptureUntil};
 ghost use Rattle.run_scenario.specs.PrivateSends.{traffic_by};
 ghost use Rattle.run_scenario.specs.Sends.{sent_of, sent_by_lives, sent_by_nodes};
 
-use crate::records::Records;
-use cluster_node::{Outcome, Packet};
+use crate::sender::Sender;
+use cluster_node::Outcome;
 use pcap_file::{Sink, write_head};
-use simulation::{SimulationFault, Wire};
+use simulation::SimulationFault;
 use std::alloc::Global;
 use thread_records::NodeRecord;
 
-/// The records of which packets are sent, the packets that they were read as, and how they are sent.
-#[derive(Clone, Copy)]
-pub(crate) struct Sender<'a> {
-    pub(crate) wire: Wire<'a>,
-    pub(crate) records: &'a Records,
-    pub(crate) packets: &'a [Packet],
-    pub(crate) ghost read: { packets.now ≡ packets_of wire.link wire.check records.now },
-}
-
 impl Sender<'_> {
-    // The packet of a record.
-    fn packet(&self, at: usize) -> &Packet
-        requires { at < length self.now.records.now }
-        ensures { (r : Record) → slice_get self.now.records.now at ≡ Some r → result.now ≡ packet_in self.now.wire.link self.now.wire.check r }
-    {
-        &self.packets[at]
-    }
-
     // Sends the packet that an outcome sends. The datagram is wrapped in the room, which is used again.
     #[tactic(auto, unfolding(simulation::specs::Sent::sent_by))]
     fn send_outcome<O: Sink>(

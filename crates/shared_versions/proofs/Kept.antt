@@ -19,7 +19,7 @@ use Rattle.cluster_core.specs.Runs.{AreGood, RunStands}
 use Rattle.cluster_core.specs.Setups.{Fixed, rules_for}
 use Rattle.cluster_core.proofs.Nodes.{run_none}
 use Rattle.cluster_core.proofs.Preparing.{MorePrepared, NewIsPrepared, none_more}
-use Rattle.shared_versions.specs.Held.{is_held, are_held}
+use Rattle.shared_versions.specs.PrivateHeld.{is_held, are_held}
 use Rattle.shared_versions.proofs.Wanted.{numbered}
 
 -- nothing is prepared

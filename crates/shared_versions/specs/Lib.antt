@@ -1,3 +1,3 @@
 pub mod Installed
-pub mod Held
+pub mod PrivateHeld
 pub mod PrivateAudits

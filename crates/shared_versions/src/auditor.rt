@@ -5,7 +5,7 @@ ghost use Rattle.cluster_node.specs.Records.{WasRead};
 ghost use Rattle.cluster_core.specs.Deployed.{Deployed, rules_of};
 ghost use Rattle.cluster_core.specs.Setups.{Fixed, rules_for};
 ghost use Rattle.cluster_core.specs.Runs.{AreGood, verdicts};
-ghost use Rattle.shared_versions.specs.Held.{is_held, are_held};
+ghost use Rattle.shared_versions.specs.PrivateHeld.{is_held, are_held};
 
 use crate::replay::Replay;
 use crate::shared::SharedVersions;

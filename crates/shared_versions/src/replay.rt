@@ -7,7 +7,7 @@ ghost use Rattle.cluster_node.specs.Records.{WasRead, node_of};
 ghost use Rattle.cluster_core.specs.Setups.{Fixed, rules_for};
 ghost use Rattle.cluster_core.specs.RunView.{RunView};
 ghost use Rattle.cluster_core.specs.Runs.{AreGood, RunStands, RunGoes, is_known_in};
-ghost use Rattle.shared_versions.specs.Held.{is_held};
+ghost use Rattle.shared_versions.specs.PrivateHeld.{is_held};
 
 use cluster_core::Setup;
 use cluster_node::{Event, Node, Outcome, Packet, Reason};

@@ -6,11 +6,12 @@ use Rattle.run_scenario.proofs.reading.read_records.Given as goal
 
 abbrev pub invariant-loop-records : goal.invariant-loop-records
 invariant-loop-records g l = record {
-  few : length l.records ≤ max_records;
-  given : l.given ≡ length l.records;
-  passed : Passed l.head (g.I.Source.tape l.initial.input).bytes l.records (g.I.Source.tape l.input).bytes;
+  limit : l.records.limit ≡ l.limit;
+  few : length l.records.all ≤ max_records;
+  given : l.given ≡ length l.records.all;
+  passed : Passed l.head (g.I.Source.tape l.initial.input).bytes l.records.all (g.I.Source.tape l.input).bytes;
   unfailed : Unfailed (g.I.Source.tape l.initial.input) (g.I.Source.tape l.input);
-  called : CallsAtMost (calls_for l.records) (g.I.Source.tape l.initial.input) (g.I.Source.tape l.input);
+  called : CallsAtMost (calls_for l.records.all) (g.I.Source.tape l.initial.input) (g.I.Source.tape l.input);
 }
 
 abbrev pub decreases-loop-records : goal.decreases-loop-records

@@ -10,7 +10,7 @@ use Rattle.cluster_core.specs.Setups.{rules_for}
 use Rattle.cluster_core.specs.Runs.{verdicts}
 use Rattle.cluster_core.proofs.Nodes.{kept_first, kept_more, kept_whole}
 use Rattle.thread_records.proofs.Audits.{agrees_first, agrees_more, agrees_all}
-use Rattle.shared_versions.specs.Held.{is_held, are_held}
+use Rattle.shared_versions.specs.PrivateHeld.{is_held, are_held}
 use Rattle.shared_versions.proofs.Kept.{each_held}
 use Rattle.shared_versions.proofs.auditor.agrees_over.Goals as goal
 

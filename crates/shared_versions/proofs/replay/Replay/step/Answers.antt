@@ -8,7 +8,7 @@ use Rattle.cluster_core.specs.RunView.{RunView}
 use Rattle.cluster_core.specs.Runs.{RunStands, RunGoes, newest_at}
 use Rattle.cluster_core.proofs.Preparing.{is_known}
 use Rattle.cluster_core.proofs.Nodes.{no_node, result_said}
-use Rattle.shared_versions.specs.Held.{is_held}
+use Rattle.shared_versions.specs.PrivateHeld.{is_held}
 use Rattle.shared_versions.proofs.Kept.{held_more}
 use Rattle.shared_versions.proofs.replay.Replay.step.Goals as goal
 

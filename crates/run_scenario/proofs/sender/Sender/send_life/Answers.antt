@@ -3,7 +3,7 @@ use Rattle.simulation.specs.Sent.{sent_by}
 use Rattle.run_scenario.specs.PrivateSends.{traffic_by}
 use Rattle.simulation.proofs.Exits.{at_exit}
 use Rattle.run_scenario.proofs.Walks.{wrote_more, cut_at, wrote_all}
-use Rattle.run_scenario.proofs.sending.Sender.send_life.Goals as goal
+use Rattle.run_scenario.proofs.sender.Sender.send_life.Goals as goal
 
 pub loop-outcome-preserved : goal.loop-outcome-preserved
 loop-outcome-preserved g c =

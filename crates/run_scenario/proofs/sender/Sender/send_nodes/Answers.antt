@@ -5,7 +5,7 @@ use Rattle.run_scenario.specs.PrivateSends.{traffic_by}
 use Rattle.run_scenario.specs.Sends.{sent_by_lives}
 use Rattle.simulation.proofs.Exits.{at_exit}
 use Rattle.run_scenario.proofs.Walks.{wrote_more, cut_at, wrote_all}
-use Rattle.run_scenario.proofs.sending.Sender.send_nodes.Goals as goal
+use Rattle.run_scenario.proofs.sender.Sender.send_nodes.Goals as goal
 
 pub loop-node-preserved : goal.loop-node-preserved
 loop-node-preserved g c =
