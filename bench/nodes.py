@@ -1,0 +1,59 @@
+#!/usr/bin/env python3
+"""nodes.py [PACKETS [TURNS]]: times four processes, each of which plays one balancer's part of a run, beside one process that plays
+all four: 10,000,000 packets of 100,000 clients (many_clients.py), 100 servers, seven turns each. It compares what they sent, and
+prints the medians in seconds and the parts' over the whole's. Run it on four processors that do nothing else.
+"""
+import os
+import pathlib
+import statistics
+import subprocess
+import sys
+import tempfile
+import time
+
+HERE = pathlib.Path(__file__).resolve().parent
+PROGRAM = os.environ.get("MAGLEV_PROGRAM", str(HERE.parent / "bin" / "maglev"))
+NODES = range(4)
+
+
+def scenario():
+    """Four balancers of one worker, and one version of 100 servers."""
+    members = ", ".join(f'"s{number:03}@10.1.0.{number + 1}"' for number in range(100))
+    nodes = ", ".join(f'"10.9.0.{node + 1}"' for node in NODES)
+    text = 'format = 3\nsize = 65537\nhash = "fnv"\nscheme = "maglev"\nspread = "hash"\nworkers = 1\ncapacity = 65536\n'
+    text += f'nodes = [{nodes}]\nsteps = ["install * 1", "take *"]\n[[versions]]\nnumber = 1\n[[versions.services]]\n'
+    return text + f'vip = "192.0.2.1"\nproto = "tcp"\nport = 80\nmembers = [{members}]\n'
+
+
+def timed(commands):
+    """The seconds until all of these commands ended, side by side."""
+    start = time.monotonic()
+    running = [subprocess.Popen(command, stdout=subprocess.DEVNULL) for command in commands]
+    if any([one.wait() for one in running]):
+        sys.exit("a run failed")
+    return time.monotonic() - start
+
+
+def records(folder, name):
+    """How many bytes of records a capture has."""
+    return (folder / name).stat().st_size - 24
+
+
+def main():
+    packets, turns = (sys.argv[1:] + ["10000000", "7"][len(sys.argv) - 1 :])[:2]
+    with tempfile.TemporaryDirectory() as made:
+        folder = pathlib.Path(made)
+        (folder / "s.toml").write_text(scenario())
+        subprocess.run([sys.executable, HERE / "many_clients.py", folder / "in.pcap", packets, "100000"], check=True)
+        play = [PROGRAM, "simulate", folder / "s.toml", folder / "in.pcap"]
+        one = [[*play, folder / "whole.pcap"]]
+        four = [[*play, "--node", str(node), folder / f"part-{node}.pcap"] for node in NODES]
+        seconds = [(timed(one), timed(four)) for _ in range(int(turns))]
+        if records(folder, "whole.pcap") != sum(records(folder, f"part-{node}.pcap") for node in NODES):
+            sys.exit("the parts don't send what the whole sends")
+    whole, parts = (statistics.median(took) for took in zip(*seconds))
+    print(f"whole {whole:.2f} s, four parts {parts:.2f} s, {parts / whole:.2f}")
+
+
+if __name__ == "__main__":
+    main()
