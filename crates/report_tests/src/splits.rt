@@ -222,19 +222,20 @@ fn causes(rt: HostRuntime) {
     }
 }
 
-// A book that keeps a number beside each send, of so many servings of two flows. The flow of the even ones changes its backend
-// at each, and the other never.
+// What a serving of two flows did. The flow of the even ones changes its backend at each, and the other never.
+fn outcome_at(rt: &impl Abort, number: u32) -> Outcome {
+    match number % 4 {
+        0 => forward(1006, backend(rt, b"A", 0x0a08_0001), 1),
+        2 => forward(1006, backend(rt, b"C", 0x0a08_0003), 1),
+        _ => forward(1000, backend(rt, b"A", 0x0a08_0001), 1),
+    }
+}
+
+// A book that keeps a number beside each send, of so many of these servings.
 fn book_with_numbers(rt: &impl Abort, alloc: Global, servings: u32) -> SplitBook<u32> {
     let mut book = SplitBook::new(alloc, TableKey::fixed());
-    let a = backend(rt, b"A", 0x0a08_0001);
-    let c = backend(rt, b"C", 0x0a08_0003);
     for number in 0..servings {
-        let to = if number % 4 == 0 { a } else { c };
-        let outcome = if number % 2 == 0 {
-            forward(1006, to, 1)
-        } else {
-            forward(1000, a, 1)
-        };
+        let outcome = outcome_at(rt, number);
         book.note(&serve(1), &outcome, number).expect(rt, "memory");
     }
     book.settle().expect(rt, "memory");
@@ -248,7 +249,7 @@ fn many_sends(rt: HostRuntime) {
     holds(&rt, book.flows() == 2, "two flows");
     holds(&rt, book.splits().len() == 1499, "all splits");
     for (place, beside) in book.besides().iter().enumerate() {
-        let first = 2 * place as u64;
+        let first = (place as u64).wrapping_mul(2);
         holds(&rt, u64::from(beside.first) == first, "beside the first");
         holds(
             &rt,
@@ -257,7 +258,8 @@ fn many_sends(rt: HostRuntime) {
         );
     }
     for (place, split) in book.splits().iter().enumerate() {
-        holds(&rt, split.first.number == 2 * place as u64, "the first");
+        let first = (place as u64).wrapping_mul(2);
+        holds(&rt, split.first.number == first, "the first");
     }
 }
 
