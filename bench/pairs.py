@@ -33,15 +33,20 @@ class Job:
     by_threads: bool = False
 
 
-def scenario(steps, members, nodes=1, workers=1, services=1, **more):
-    """A scenario of a version for each list of member words, which each of its services has. A key given by name is one more."""
+def scenario(steps, members, nodes=1, workers=1, **more):
+    """A scenario of a service in a version for each list of member words. A key given by name is one more."""
+    return scenario_of(steps, ([words] for words in members), nodes, workers, **more)
+
+
+def scenario_of(steps, versions, nodes=1, workers=1, **more):
+    """The same where a version has a service for each list of member words that it has."""
     keys = {"format": 2, "size": 65537, "hash": '"fnv"', "scheme": '"maglev"', "spread": '"hash"'}
     keys |= {"capacity": 65536, "ring": 65536, "workers": workers, "nodes": [f"10.9.0.{at + 1}" for at in range(nodes)]}
     keys |= {"steps": steps, **more}
     text = "".join(f"{key} = {value}\n" for key, value in keys.items())
-    for number, words in enumerate(members, 1):
+    for number, services in enumerate(versions, 1):
         text += f"[[versions]]\nnumber = {number}\n"
-        for at in range(services):
+        for at, words in enumerate(services):
             vip = f"192.0.{2 + at // 256}.{1 + at % 256}"
             text += f'[[versions.services]]\nvip = "{vip}"\nproto = "tcp"\nport = 80\nmembers = {words}\n'
     return text
