@@ -47,27 +47,23 @@ pub(crate) fn next(number: u64) -> Result<u64, AllocError>
     }
 }
 
-// What is kept of an event, of which there was nothing before: its outcome, where it has the number that is asked for.
-fn kept(was: Option<Outcome>, number: u64, asked: u64, outcome: &Outcome) -> Option<Outcome>
-    ensures { result ≡ (if number == asked then Some outcome.now else was) }
+// An event's outcome is kept, where it has the number that is asked for.
+#[inline(always)]
+fn keep_outcome(place: &mut Option<Outcome>, number: u64, asked: u64, outcome: &Outcome)
+    ensures { place.new ≡ (if number == asked then Some outcome.now else place.old) }
 {
-    if number == asked { Some(*outcome) } else { was }
+    if number == asked {
+        *place = Some(*outcome);
+    }
 }
 
 // The same of what was sent.
-fn kept_send(
-    was: Option<Sending>,
-    number: u64,
-    asked: u64,
-    event: &Event,
-    outcome: &Outcome,
-) -> Option<Sending>
-    ensures { result ≡ (if asked == number then sent_by number event.now outcome.now else was) }
+#[inline(always)]
+fn keep_send(place: &mut Option<Sending>, number: u64, asked: u64, event: &Event, outcome: &Outcome)
+    ensures { place.new ≡ (if asked == number then sent_by number event.now outcome.now else place.old) }
 {
     if asked == number {
-        sent_by(number, event, outcome)
-    } else {
-        was
+        *place = sent_by(number, event, outcome);
     }
 }
 
@@ -279,10 +275,11 @@ impl Notebook {
             OnOk result (KeepsTwo two (said_by event.now (option_copied packet.entry) outcome.now ∷ past) self.new) }
     {
         push_event_if(&mut self.lines, self.number, two, event, packet, outcome)?;
-        self.first = kept_send(self.first, self.number, two.one, event, outcome);
-        self.later = kept_send(self.later, self.number, two.other, event, outcome);
-        self.one = kept(self.one, self.number, two.one, outcome);
-        self.other = kept(self.other, self.number, two.other, outcome);
+        let number = self.number;
+        keep_send(&mut self.first, number, two.one, event, outcome);
+        keep_send(&mut self.later, number, two.other, event, outcome);
+        keep_outcome(&mut self.one, number, two.one, outcome);
+        keep_outcome(&mut self.other, number, two.other, outcome);
         self.number = next(self.number)?;
         Ok(())
     }
