@@ -26,24 +26,29 @@ fn capture(rt: &impl Abort, alloc: Global, is_big: bool) -> Vec<u8> {
     bytes
 }
 
-// The records that are counted where the bytes come in pieces of a length.
-fn counted(bytes: &[u8], length: usize) -> u64 {
+// The records that are counted where the bytes come in pieces of one byte and so many more.
+fn counted(bytes: &[u8], more: u8) -> u64 {
     let mut count = RecordCount::new();
-    for piece in bytes.chunks(length) {
+    for piece in bytes.chunks(usize::from(more) + 1) {
         count.note(piece);
     }
     count.records()
+}
+
+// So many bytes of the front.
+fn front(bytes: &Vec<u8>, length: usize) -> &[u8] {
+    bytes.get(..length).unwrap_or(&[])
 }
 
 #[test]
 fn records_are_counted_in_pieces_of_any_length(rt: HostRuntime) {
     for is_big in [false, true] {
         let bytes = capture(&rt, rt.alloc(), is_big);
-        for length in [1, 2, 7, 16, 24, 25, 64, 1000] {
-            assert_eq!(&rt; counted(bytes.as_slice(), length), 3);
+        for more in [0, 1, 6, 15, 23, 24, 63, 255] {
+            assert_eq!(&rt; counted(bytes.as_slice(), more), 3);
         }
-        assert_eq!(&rt; counted(&bytes.as_slice()[..24 + 15], 4), 0);
-        assert_eq!(&rt; counted(&bytes.as_slice()[..24 + 16], 4), 1);
+        assert_eq!(&rt; counted(front(&bytes, 24 + 15), 3), 0);
+        assert_eq!(&rt; counted(front(&bytes, 24 + 16), 3), 1);
     }
 }
 
