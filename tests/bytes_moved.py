@@ -17,9 +17,10 @@ import tempfile
 import model
 from harness import TOP, check, run_tests
 
-# What a packet may copy beside its datagram in a tunnel, and what the program may copy beside its input.
+# What a packet may copy beside its datagram in a tunnel, and what a command may copy over a capture without records: most of it
+# while the command line's options are made.
 A_PACKET = 1_000
-THE_PROGRAM = 500_000
+NO_PACKETS = 600_000
 SCENARIO = """format = 1
 size = 7
 hash = "fnv"
@@ -62,17 +63,22 @@ def copied(folder, command):
 def held_to_bound(count, length, again):
     """Some records of a length are taken, and then come again some times, by both commands."""
     steps = ["install 0 1", "install 1 1", f"take {count}"] + [f"again {k % count}" for k in range(again)]
-    capture = model.written([(1, k, datagram(k).ljust(length, b"\0")) for k in range(count)])
-    bound = 2 * count * length + (count + again) * (64 + A_PACKET) + THE_PROGRAM
+    records = [(1, k, datagram(k).ljust(length, b"\0")) for k in range(count)]
+    bound = 2 * count * length + (count + again) * (64 + A_PACKET)
     for command in ("run", "simulate"):
         with tempfile.TemporaryDirectory() as made:
             folder = pathlib.Path(made)
             (folder / "s.toml").write_text(SCENARIO.format(steps=", ".join(f'"{step}"' for step in steps)))
-            (folder / "in.pcap").write_bytes(capture)
+            (folder / "in.pcap").write_bytes(model.written([]))
+            before, _ = copied(folder, command)
+            (folder / "in.pcap").write_bytes(model.written(records))
             moved, report = copied(folder, command)
             name = f"{command}, {count} records of {length} bytes, {again} again"
             check(f"{name}: forwarded", f"\nforwarded {count + again}\n" in report, report)
-            check(f"{name}: copied", moved is not None and moved <= bound, f"{moved} bytes, and at most {bound} are wanted")
+            holds = None not in (moved, before) and moved - before <= bound
+            check(f"{name}: copied", holds, f"{moved} bytes, {before} without records, and at most {bound} more are wanted")
+            if again == 0:
+                check(f"{name}: copied without records", before is not None and before <= NO_PACKETS, f"{before} bytes")
 
 
 def test_bytes_moved():
