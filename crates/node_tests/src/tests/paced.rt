@@ -9,6 +9,7 @@ use five_tuple::Flow;
 use hash_laws::SumHash;
 use node_threads::{Gate, NodesRun, RingRules, RunFault, run_each};
 use selection::Maglev;
+use shared_versions::SharedVersions;
 use stats_book::Stats;
 use std::alloc::{AllocError, Global};
 use std::process::Abort;
@@ -90,8 +91,9 @@ fn paced<T: ConnTable + Send, R: Abort + Threads + Wait + Sync>(
         places: 1,
         paced: true,
     };
+    let prepared = SharedVersions::none(alloc);
     run_each::<_, _, T, _, _>(
-        rt, alloc, &setup, &catalogue, &packets, &lists, rings, &Slow,
+        rt, alloc, &setup, &catalogue, &prepared, &packets, &lists, rings, &Slow,
     )
 }
 

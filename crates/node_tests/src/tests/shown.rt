@@ -1,7 +1,8 @@
 //! The version that is shown, and the number that a worker reads on the board.
 use super::{Sums, holds, setup, version};
 use hash_laws::SumHash;
-use thread_roles::{Current, prepare_after};
+use shared_versions::prepare_after;
+use thread_roles::Current;
 
 // Where version 2 is shown already, a worker that read 1 finds nothing to serve under, and neither does one that read 3.
 #[test]
