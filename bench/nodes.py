@@ -11,18 +11,17 @@ import sys
 import tempfile
 import time
 
+from pairs import scenario
+
 HERE = pathlib.Path(__file__).resolve().parent
 PROGRAM = os.environ.get("MAGLEV_PROGRAM", str(HERE.parent / "bin" / "maglev"))
 NODES = range(4)
 
 
-def scenario():
-    """Four balancers of one worker, and one version of 100 servers."""
-    members = ", ".join(f'"s{number:03}@10.1.0.{number + 1}"' for number in range(100))
-    nodes = ", ".join(f'"10.9.0.{node + 1}"' for node in NODES)
-    text = 'format = 3\nsize = 65537\nhash = "fnv"\nscheme = "maglev"\nspread = "hash"\nworkers = 1\ncapacity = 65536\n'
-    text += f'nodes = [{nodes}]\nsteps = ["install * 1", "take *"]\n[[versions]]\nnumber = 1\n[[versions.services]]\n'
-    return text + f'vip = "192.0.2.1"\nproto = "tcp"\nport = 80\nmembers = [{members}]\n'
+def text():
+    """A scenario of four balancers of one worker, and one version of 100 servers."""
+    members = [f"s{number:03}@10.1.0.{number + 1}" for number in range(100)]
+    return scenario(["install * 1", "take *"], [members], nodes=len(NODES), format=3)
 
 
 def timed(commands):
@@ -43,7 +42,7 @@ def main():
     packets, turns = (sys.argv[1:] + ["10000000", "7"][len(sys.argv) - 1 :])[:2]
     with tempfile.TemporaryDirectory() as made:
         folder = pathlib.Path(made)
-        (folder / "s.toml").write_text(scenario())
+        (folder / "s.toml").write_text(text())
         subprocess.run([sys.executable, HERE / "many_clients.py", folder / "in.pcap", packets, "100000"], check=True)
         play = [PROGRAM, "simulate", folder / "s.toml", folder / "in.pcap"]
         one = [[*play, folder / "whole.pcap"]]

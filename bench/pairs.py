@@ -5,6 +5,7 @@ import os
 import pathlib
 import random
 import signal
+import struct
 import subprocess
 import sys
 import tempfile
@@ -14,10 +15,12 @@ from collections.abc import Iterable
 from turns import HEAD, Failure, row, seed_of, sides
 
 sys.path.insert(0, str(pathlib.Path(__file__).resolve().parent.parent / "examples"))
-from make_capture import write  # noqa: E402
+from make_capture import checksum, write  # noqa: E402
 
 # The words of a command over a scenario and a capture, in whose place OUTPUT stands what is written.
 PLAYED = ("scenario.toml", "input.pcap", "OUTPUT")
+# The bytes of Ethernet before a datagram.
+ETHERNET = 14
 
 
 @dataclasses.dataclass
@@ -31,6 +34,20 @@ class Job:
     frames: Iterable[tuple[int, bytes]] | None = None
     kept: bool = False
     by_threads: bool = False
+
+
+def headed(data, words):
+    """A frame with other words in its IPv4 header, each by its place, and the checksum made anew."""
+    head = bytearray(data[ETHERNET:ETHERNET + 20])
+    for place, word in {**words, 10: 0}.items():
+        struct.pack_into(">H", head, place, word)
+    struct.pack_into(">H", head, 10, checksum(bytes(head)))
+    return data[:ETHERNET] + bytes(head) + data[ETHERNET + 20:]
+
+
+def longer(length):
+    """What makes a frame's datagram so many bytes long."""
+    return lambda data, number: headed(data, {2: length}) + bytes(length - 40)
 
 
 def scenario(steps, members, nodes=1, workers=1, **more):

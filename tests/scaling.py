@@ -55,15 +55,7 @@ def whole(folder, *words):
 
 def steps_in_order(source, nodes, workers):
     """Steps of every kind but those after which a packet isn't sent in the order of the records."""
-    steps = [f"install {node} 1" for node in range(nodes) if source.random() < 0.9]
-    for _ in range(source.randrange(30)):
-        node = source.randrange(nodes)
-        live = " ".join(str(one) for one in source.sample(range(nodes), source.randrange(nodes + 1)))
-        full = " ".join(str(worker) for worker in source.sample(range(workers), source.randrange(workers + 1)))
-        take = f"take {source.randrange(9)}"
-        kinds = [take, take, take, f"install {node} {source.randrange(6)}", f"lose {source.randrange(3)}", f"live {live}".strip()]
-        steps.append(source.choice([*kinds, f"full {node} {full}".strip(), f"restart {node}"]))
-    return steps
+    return [step for step in rows.random_steps(source, nodes, workers) if step.split(" ")[0] not in ("again", "hold", "drain")]
 
 
 def case(seed):

@@ -39,6 +39,12 @@ def objects_of(path):
             yield json.loads(line)
 
 
+def head_of(path):
+    """The header of a capture."""
+    with open(path, "rb") as capture:
+        return capture.read(HEAD)
+
+
 def records_of(path):
     """The records of a capture that the program wrote, each with its header."""
     with open(path, "rb") as capture:
@@ -56,7 +62,7 @@ def sent_of(part):
 def join_captures(parts, output):
     """Writes what all nodes sent, in the order of the records that it came in."""
     with open(output, "wb") as joined:
-        joined.write(pathlib.Path(f"{parts[0]}.pcap").read_bytes()[:HEAD])
+        joined.write(head_of(f"{parts[0]}.pcap"))
         for _, record in heapq.merge(*map(sent_of, parts), key=lambda one: one[0]):
             joined.write(record)
 
