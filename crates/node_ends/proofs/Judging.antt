@@ -9,7 +9,11 @@ use Rattle.thread_records.specs.Journals.{JournalView}
 use Rattle.thread_records.specs.declared.command.Command.{Command}
 use Rattle.thread_roles.specs.Going.{stops}
 use Rattle.thread_roles.specs.declared.fault.RunFault.{RunFault}
-use Rattle.node_ends.specs.Judged.{JudgesEnd}
+use Rattle.thread_records.specs.declared.journal.closing.LifeFault.{LifeFault}
+use Rattle.thread_records.specs.declared.journal.closing.LifeFault.TheVariants as lives
+use Rattle.thread_records.specs.Ends.{all_handled, JudgesLife}
+use Rattle.thread_roles.specs.Faults.{run_fault}
+use Rattle.node_ends.specs.Judged.{AreOfCluster, JudgesEnd}
 
 -- behind the end of the commands there is no stop
 pub stops_past : (cs : List Command) (at : ℕ) → length cs ≤ at → not (stops (slice_get cs at)) ≡ true
@@ -35,3 +39,9 @@ module _ {S H : Type 0} (eq : S → S → Bool) (setup : Fixed S H) (pools : Poo
   judged_whole b d j ws us vs same one two told =
       subst (λ (l : List (WorkView S)). JudgesEnd {A = Unit {0}} eq setup pools d j l (Ok tt)) (one ∙ two)
       (subst (λ (c : Bool). JudgesEnd {A = Unit {0}} eq setup pools c j ws (Ok tt)) same told)
+
+  -- a fault of a life whose workers are the cluster's
+  pub judged_fault : (d : Bool) (j : JournalView) (ws : List (WorkView S)) (fault : LifeFault) (f : RunFault) → f ≡ run_fault fault → AreOfCluster eq setup pools ws → JudgesLife {A = Unit {0}} d j (all_handled ws) (Err fault) → JudgesEnd {A = Unit {0}} eq setup pools d j ws (Err f)
+  judged_fault d j ws lives.Foreign f is own told = subst (λ (x : RunFault). JudgesEnd {A = Unit {0}} eq setup pools d j ws (Err x)) (sym is) (λ all. told)
+  judged_fault d j ws lives.RingLost f is own told = subst (λ (x : RunFault). JudgesEnd {A = Unit {0}} eq setup pools d j ws (Err x)) (sym is) (own, told)
+  judged_fault d j ws lives.Memory f is own told = subst (λ (x : RunFault). JudgesEnd {A = Unit {0}} eq setup pools d j ws (Err x)) (sym is) tt

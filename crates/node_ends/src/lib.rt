@@ -28,7 +28,53 @@ use stats_book::Names;
 use std::alloc::{AllocError, Global};
 use std::sync::Wait;
 use thread_records::{Journal, WorkerRecord, are_of};
-use thread_roles::{NodePlan, Progress, RunFault, ThreadShares, WorkerRun, fault_of, stops_at};
+use thread_roles::{
+    NodePlan, Progress, RunFault, Serving, ThreadShares, WorkerRun, fault_of, stops_at,
+};
+
+// The number of each worker's first serving in the history, where so many events are before the servings.
+fn firsts_of<S: Scheme, T: ConnTable, B: Names>(
+    alloc: Global,
+    before: usize,
+    runs: &[WorkerRun<S, T, B>],
+) -> Result<Vec<usize>, AllocError> {
+    let mut firsts = Vec::with_capacity(alloc, runs.len())?;
+    let mut first = before;
+    for run in runs {
+        firsts.push(first)?;
+        first = first.wrapping_add(run.record.handled().len());
+    }
+    Ok(firsts)
+}
+
+// The number of a serving in the history. That of a worker which isn't there is the greatest.
+fn number_of(firsts: &[usize], serving: Serving) -> Result<u32, AllocError> {
+    let Some(first) = firsts.get(serving.worker as usize) else {
+        return Ok(u32::MAX);
+    };
+    match u32::try_from(first.wrapping_add(serving.number as usize)) {
+        Ok(number) => Ok(number),
+        Err(_) => Err(AllocError),
+    }
+}
+
+/// What was gathered of a life's workers, by the numbers that their servings get in the history once the life ends. A number that is
+/// wrong is found when the run ends, since what was sent is compared with the history there.
+pub fn numbered<S: Scheme, T: ConnTable, B: Names>(
+    alloc: Global,
+    driven: &Progress<S, B>,
+    runs: &[WorkerRun<S, T, B>],
+    sent: Vec<Serving>,
+) -> Result<Vec<u32>, AllocError>
+    ensures { IfOk result (λ v. length v.items ≡ length sent.items) }
+{
+    let firsts = firsts_of(alloc, driven.journal.events().len(), runs)?;
+    let mut numbers = Vec::with_capacity(alloc, sent.len())?;
+    for serving in &sent {
+        numbers.push(number_of(firsts.as_slice(), *serving)?)?;
+    }
+    Ok(numbers)
+}
 
 // What the workers counted is added to their driver's tally, and their records are kept.
 fn muster<S: Scheme, T: ConnTable, B: Names>(
@@ -57,13 +103,13 @@ fn muster<S: Scheme, T: ConnTable, B: Names>(
 fn compare<S: Scheme, H: FlowHash, T: ConnTable>(
     setup: &Setup<S, H>,
     catalogue: &Catalogue,
-    workers: &[WorkerRecord<S, T>],
+    workers: &Vec<WorkerRecord<S, T>>,
 ) -> Result<(), RunFault>
-    ensures of { OnOk result (All (λ w. IsOf (λ s z. S.pick s z) (rules_for (λ s z. S.pick s z) (λ h. H.plain h) setup.now catalogue.now) w) workers.now) }
-    ensures own { OnOk result (AreOfCluster (λ a b. S.eq a b) setup.now catalogue.now workers.now) }
-    ensures foreign { IfErr result (λ fault. (fault ≡ Foreign) × (AreOfCluster (λ a b. S.eq a b) setup.now catalogue.now workers.now → ⊥)) }
+    ensures of { OnOk result (All (λ w. IsOf (λ s z. S.pick s z) (rules_for (λ s z. S.pick s z) (λ h. H.plain h) setup.now catalogue.now) w) workers.now.items) }
+    ensures own { OnOk result (AreOfCluster (λ a b. S.eq a b) setup.now catalogue.now workers.now.items) }
+    ensures foreign { IfErr result (λ fault. (fault ≡ Foreign) × (AreOfCluster (λ a b. S.eq a b) setup.now catalogue.now workers.now.items → ⊥)) }
 {
-    if !are_of(setup, catalogue, workers) {
+    if !are_of(setup, catalogue, workers.as_slice()) {
         return Err(RunFault::Foreign);
     }
     Ok(())
@@ -75,17 +121,17 @@ fn end_life<S: Scheme, H: FlowHash, T: ConnTable>(
     journal: &mut Journal,
     setup: &Setup<S, H>,
     catalogue: &Catalogue,
-    workers: &[WorkerRecord<S, T>],
+    workers: Vec<WorkerRecord<S, T>>,
     drained: bool,
 ) -> Result<u64, RunFault>
     ensures going { let rules = rules_for (λ s z. S.pick s z) (λ h. H.plain h) setup.now catalogue.now in
         (packets : List Packet) (cs : List Command) (n : ℕ) (places : ℕ) → Going rules packets cs n places journal.old → OnOk result (Going rules packets (cs ++ ending drained ∷ []) n places journal.new) }
-    ensures judged { JudgesEnd (λ a b. S.eq a b) setup.now catalogue.now drained journal.old workers.now result }
+    ensures judged { JudgesEnd (λ a b. S.eq a b) setup.now catalogue.now drained journal.old workers.items result }
     ensures newest { OnOk result (journal.new.newest ≡ journal.old.newest) }
     ensures unmarked { AreUnmarked journal.old.events → OnOk result (AreUnmarked journal.new.events) }
-    ensures counts { (lost : Bool) (shares : Counted) → Counts lost shares (journal.old.outcomes ++ served_from journal.old.node 0 (all_handled workers.now)) → IfOk result (λ left. Counts lost (with_lost left shares) journal.new.outcomes) }
+    ensures counts { (lost : Bool) (shares : Counted) → Counts lost shares (journal.old.outcomes ++ served_from journal.old.node 0 (all_handled workers.items)) → IfOk result (λ left. Counts lost (with_lost left shares) journal.new.outcomes) }
 {
-    compare(setup, catalogue, workers)?;
+    compare(setup, catalogue, &workers)?;
     match journal.end_life(workers, drained) {
         Ok(left) => Ok(left),
         Err(fault) => Err(fault_of(fault)),
@@ -97,16 +143,16 @@ fn end<S: Scheme, H: FlowHash, T: ConnTable>(
     journal: &mut Journal,
     setup: &Setup<S, H>,
     catalogue: &Catalogue,
-    workers: &[WorkerRecord<S, T>],
+    workers: Vec<WorkerRecord<S, T>>,
 ) -> Result<(), RunFault>
     ensures ended { let rules = rules_for (λ s z. S.pick s z) (λ h. H.plain h) setup.now catalogue.now in
         (packets : List Packet) → Drives rules packets journal.old → OnOk result (Tells rules packets journal.new × NoneWaits (past_of rules packets journal.new.node journal.new.events)) }
     ensures served { OnOk result (IsServed journal.old journal.new) }
     ensures unmarked { AreUnmarked journal.old.events → OnOk result (AreUnmarked journal.new.events) }
-    ensures judged { JudgesEnd (λ a b. S.eq a b) setup.now catalogue.now true journal.old workers.now result }
-    ensures counts { (lost : Bool) (shares : Counted) → Counts lost shares (journal.old.outcomes ++ served_from journal.old.node 0 (all_handled workers.now)) → OnOk result (Counts lost shares journal.new.outcomes) }
+    ensures judged { JudgesEnd (λ a b. S.eq a b) setup.now catalogue.now true journal.old workers.items result }
+    ensures counts { (lost : Bool) (shares : Counted) → Counts lost shares (journal.old.outcomes ++ served_from journal.old.node 0 (all_handled workers.items)) → OnOk result (Counts lost shares journal.new.outcomes) }
 {
-    compare(setup, catalogue, workers)?;
+    compare(setup, catalogue, &workers)?;
     match journal.end(workers, true) {
         Ok(()) => Ok(()),
         Err(fault) => Err(fault_of(fault)),
@@ -147,8 +193,7 @@ pub fn end_driven<S: Scheme, H: FlowHash, T: ConnTable, G, B: Names, R: Wait>(
     let workers = muster(alloc, &mut tally, runs)?;
     if at < plan.commands.len() {
         let drained = !stops_at(plan.commands, at);
-        let records = workers.as_slice();
-        let lost = end_life(&mut journal, plan.setup, plan.catalogue, records, drained)?;
+        let lost = end_life(&mut journal, plan.setup, plan.catalogue, workers, drained)?;
         tally.lose(rt, plan.book, lost);
         return Ok(Progress {
             journal,
@@ -157,7 +202,7 @@ pub fn end_driven<S: Scheme, H: FlowHash, T: ConnTable, G, B: Names, R: Wait>(
             tally,
         });
     }
-    end(&mut journal, plan.setup, plan.catalogue, workers.as_slice())?;
+    end(&mut journal, plan.setup, plan.catalogue, workers)?;
     Ok(Progress {
         journal,
         newest,

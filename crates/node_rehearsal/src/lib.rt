@@ -73,24 +73,14 @@ fn knows(catalogue: &Catalogue, number: u32) -> bool
     catalogue.get(number).is_some()
 }
 
-// What a worker sent.
-fn gather(
-    sent: &mut Vec<Outcome>,
-    node: u16,
-    worker: u16,
-    handled: &[Handled],
-) -> Result<(), AllocError> {
+// What a worker sent, by the numbers of its servings' events, of which the first has this one.
+fn gather(sent: &mut Vec<u32>, first: usize, handled: &[Handled]) -> Result<(), AllocError> {
+    let mut number = u32::try_from(first).unwrap_or(u32::MAX);
     for one in handled {
-        if let Choice::Forward { backend, origin } = one.choice {
-            sent.push(Outcome::Forward {
-                node,
-                worker,
-                packet: one.item.packet,
-                flow: one.item.flow,
-                backend,
-                origin,
-            })?;
+        if let Choice::Forward { .. } = one.choice {
+            sent.push(number)?;
         }
+        number = number.wrapping_add(1);
     }
     Ok(())
 }
@@ -128,19 +118,19 @@ fn serve_all<S: Scheme, H: FlowHash, T: ConnTable>(
 
 fn gather_all<S: Scheme, T: ConnTable>(
     alloc: Global,
-    node: u16,
+    events: usize,
     workers: &[WorkerRecord<S, T>],
-) -> Result<Vec<Outcome>, AllocError> {
+) -> Result<Vec<u32>, AllocError> {
     let mut sent = Vec::new(alloc);
-    let mut number = 0u16;
+    let mut first = events;
     for worker in workers {
-        gather(&mut sent, node, number, worker.handled())?;
-        number = number.wrapping_add(1);
+        gather(&mut sent, first, worker.handled())?;
+        first = first.wrapping_add(worker.handled().len());
     }
     Ok(sent)
 }
 
-fn keep(lists: &mut Vec<Vec<Outcome>>, list: Vec<Outcome>) -> Result<(), AllocError> {
+fn keep(lists: &mut Vec<Vec<u32>>, list: Vec<u32>) -> Result<(), AllocError> {
     match lists.push(list) {
         Ok(()) => Ok(()),
         Err(_) => Err(AllocError),
@@ -237,9 +227,8 @@ fn restart<S: Scheme, H: FlowHash, T: ConnTable>(
     catalogue: &Catalogue,
     newest: &Option<Shared<S>>,
     queue: &Queues,
-    node: u16,
     drained: bool,
-) -> Result<Vec<Outcome>, LifeFault>
+) -> Result<Vec<u32>, LifeFault>
     ensures going { let rules = rules_for (λ s z. S.pick s z) (λ h. H.plain h) setup.now catalogue.now in
         (packets : List Packet) (cs : List Command) → Going rules packets cs journal.old → OnOk result (Going rules packets (cs ++ ending drained ∷ []) journal.new) }
     ensures kept { OnOk result ((journal.new.node ≡ journal.old.node) × (journal.new.ring ≡ journal.old.ring)) }
@@ -249,12 +238,11 @@ fn restart<S: Scheme, H: FlowHash, T: ConnTable>(
     } else {
         serve_none(alloc, setup)?
     };
-    let records = workers.as_slice();
-    let sent = gather_all(alloc, node, records)?;
-    if !are_of(setup, catalogue, records) {
+    let sent = gather_all(alloc, journal.events().len(), workers.as_slice())?;
+    if !are_of(setup, catalogue, workers.as_slice()) {
         return Err(LifeFault::Foreign);
     }
-    match journal.end_life(records, drained) {
+    match journal.end_life(workers, drained) {
         Ok(_) => Ok(sent),
         Err(fault) => Err(fault),
     }
@@ -268,19 +256,17 @@ fn end<S: Scheme, H: FlowHash, T: ConnTable>(
     catalogue: &Catalogue,
     newest: &Option<Shared<S>>,
     queue: &Queues,
-    node: u16,
-) -> Result<Vec<Outcome>, LifeFault>
+) -> Result<Vec<u32>, LifeFault>
     ensures ended { let rules = rules_for (λ s z. S.pick s z) (λ h. H.plain h) setup.now catalogue.now in
         (packets : List Packet) → Drives rules packets journal.old → OnOk result (Tells rules packets journal.new × NoneWaits (past_of rules packets journal.new.node journal.new.events)) }
     ensures served { OnOk result (IsServed journal.old journal.new) }
 {
     let workers: Vec<WorkerRecord<S, T>> = serve_all(alloc, setup, newest, queue)?;
-    let records = workers.as_slice();
-    let sent = gather_all(alloc, node, records)?;
-    if !are_of(setup, catalogue, records) {
+    let sent = gather_all(alloc, journal.events().len(), workers.as_slice())?;
+    if !are_of(setup, catalogue, workers.as_slice()) {
         return Err(LifeFault::Foreign);
     }
-    match journal.end(records, true) {
+    match journal.end(workers, true) {
         Ok(_) => Ok(sent),
         Err(fault) => Err(fault),
     }
@@ -322,7 +308,6 @@ pub fn rehearse<S: Scheme, H: FlowHash, T: ConnTable>(
                     catalogue,
                     &newest,
                     &queue,
-                    node,
                     drained,
                 )?;
                 keep(&mut sent, list)?;
@@ -330,7 +315,10 @@ pub fn rehearse<S: Scheme, H: FlowHash, T: ConnTable>(
             }
         }
     }
-    let list = end::<S, H, T>(alloc, &mut journal, setup, catalogue, &newest, &queue, node)?;
+    let list = end::<S, H, T>(alloc, &mut journal, setup, catalogue, &newest, &queue)?;
     keep(&mut sent, list)?;
-    journal.finish(sent)
+    match journal.finish(sent)?.open(alloc) {
+        Ok(record) => Ok(record),
+        Err(_) => Err(LifeFault::Memory),
+    }
 }

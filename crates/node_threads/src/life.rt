@@ -8,10 +8,9 @@ ghost use Rattle.thread_roles.specs.declared.fault.RunFault.TheVariants.{Memory}
 ghost use Rattle.node_threads.specs.Told.{LifeTells};
 
 use crate::begun::Begun;
-use cluster_node::Outcome;
 use connection_table::ConnTable;
 use hash_laws::FlowHash;
-use node_ends::end_driven;
+use node_ends::{end_driven, numbered};
 use node_rings::Laid;
 use selection::Scheme;
 use stats_book::Names;
@@ -20,8 +19,8 @@ use std::sync::Wait;
 use std::thread::{JoinHandle, PromisedHandle, Scope, Threads};
 use std::{fmt, thread};
 use thread_roles::{
-    CountsOwn, Desk, Gate, Inputs, NodePlan, Outfit, Progress, RunFault, Stage, WorkerRun, drive,
-    gather, stops_at, work,
+    CountsOwn, Desk, Gate, Inputs, NodePlan, Outfit, Progress, RunFault, Serving, Stage, WorkerRun,
+    drive, gather, stops_at, work,
 };
 
 // What a worker's thread answers: what it did, or why it did not do all.
@@ -32,8 +31,8 @@ type Answer<S, T, B> = Result<WorkerRun<S, T, B>, RunFault>;
 pub struct LifeRun<S: Scheme, B: Names> {
     /// How far the node got.
     pub progress: Progress<S, B>,
-    /// What was sent, as the mux gathered it.
-    pub sent: Vec<Outcome>,
+    /// What was sent, as the mux gathered it, by the numbers of events.
+    pub sent: Vec<u32>,
 }
 
 impl<S: Scheme, B: Names> fmt::Debug for LifeRun<S, B> {
@@ -213,7 +212,7 @@ fn told_first<P: Drop>(driven: Result<P, RunFault>, fault: RunFault) -> RunFault
 #[derive(Drop)]
 struct Crew<S: Scheme, T: ConnTable, B: Names> {
     handles: Vec<PromisedHandle<Answer<S, T, B>, CountsOwn>>,
-    mux: JoinHandle<Result<Vec<Outcome>, AllocError>>,
+    mux: JoinHandle<Result<Vec<Serving>, AllocError>>,
     inputs: Inputs,
 }
 
@@ -257,7 +256,9 @@ fn drive_crew<
     match runs {
         Err(fault) => Err(told_first(driven, fault)),
         Ok(runs) => {
-            let progress = end_driven(rt, alloc, plan, from, driven?, runs)?;
+            let driven = driven?;
+            let sent = numbered(alloc, &driven, runs.as_slice(), sent)?;
+            let progress = end_driven(rt, alloc, plan, from, driven, runs)?;
             Ok(LifeRun { progress, sent })
         }
     }

@@ -2,7 +2,6 @@
 use Rattle.std.proofs.Common.{◌≡◌, ℕ, List, [], ◌∷◌, ◌++◌, length, map, reverse, Option, None, refl, ap, sym, ◌∙◌}
 use Rattle.std.proofs.lemmas.List.{length-map, map-append, reverse-append}
 use Rattle.std.proofs.Math.Path.{fun_ext}
-use Rattle.std.specs.List.{flat_map}
 use Rattle.five_tuple.specs.declared.Flow.{Flow}
 use Rattle.cluster_node.specs.declared.packets.Packet.{Packet}
 use Rattle.cluster_node.specs.declared.events.Event.{Event}
@@ -16,7 +15,7 @@ use Rattle.run_report.specs.Texts.{text_of, splits_text}
 use Rattle.json_lines.specs.declared.forms.Form.{Form}
 use Rattle.json_lines.specs.declared.forms.Form.TheVariants.{Plain, Json}
 use Rattle.json_lines.specs.Forms.{splits_as}
-use Rattle.json_lines.specs.Splits.{split_json, counts_json, splits_json}
+use Rattle.json_lines.specs.Splits.{told_json, splits_json}
 use Rattle.thread_records.specs.declared.nodes.NodeRecord.{NodeRecord}
 use Rattle.thread_records.specs.Joins.{all_events, all_outcomes}
 use Rattle.run_scenario.specs.Runs.{said_with}
@@ -70,10 +69,9 @@ whole_stripped packets nodes =
 
 -- the splits' objects, by the flows and the splits
 abbrev json_of : Lookups → List Flow → List Split → List ℕ
-json_of lookups xs ps = flat_map (split_json lookups) ps ++ counts_json lookups (length xs) ps
+json_of lookups xs ps = told_json lookups (length xs) ps
 
 same_json : (lookups : Lookups) (packets : List Packet) (nodes : List NodeRecord) → splits_json lookups (said_whole packets nodes) ≡ splits_json lookups (said_by nodes)
-unfolding splits_json
 same_json lookups packets nodes =
     let whole = said_whole packets nodes in
     ap (λ (xs : List Flow). json_of lookups xs (splits_of whole)) (sym (flows_stripped whole))

@@ -1,9 +1,10 @@
 -- The end of a life: what the workers handled, beside what was placed on them, and what is written of it.
-use Rattle.std.proofs.Common.{◌≡◌, ℕ, ◌+◌, ◌-◌, ◌<◌, ◌≤◌, ◌%◌, ◌^◌, Bool, true, false, List, [], ◌∷◌, ◌++◌, length, map, take, drop, get_or, suc, zero, Some, refl, sym, ap, ◌∙◌, subst, arith}
-use Rattle.std.specs.Prelude.{◌==◌, slice_get}
+use Rattle.std.proofs.Common.{◌≡◌, ℕ, ◌+◌, ◌-◌, ◌<◌, ◌≤◌, ◌%◌, ◌^◌, Bool, true, false, List, [], ◌∷◌, ◌++◌, length, map, take, drop, get_or, suc, zero, reverse, Some, refl, sym, ap, ◌∙◌, subst, arith}
+use Rattle.std.specs.Prelude.{◌==◌, All, slice_get}
 use Rattle.std.specs.List.{list_any, list_all}
 use Rattle.std.proofs.lemmas.Bool.{and_parts, true≢false}
-use Rattle.std.proofs.lemmas.List.{take_all, take_more, length-map, length-take-le, get_or-map}
+use Rattle.std.proofs.lemmas.List.{take_all, length-map, get_or-map, append-nil, append_assoc, reverse-append}
+use Rattle.std.proofs.lemmas.List.Elements.{All-same, All-head, All-tail}
 use Rattle.std.proofs.lemmas.List.Folds.{list_all-map}
 use Rattle.std.proofs.Math.Nat.{mod-add-mod}
 use Rattle.cluster_node.specs.declared.serving.Item.{Item}
@@ -153,17 +154,6 @@ module _ (rules : Rules) (packets : List Packet) (j : JournalView) where
       placed_is (js ∷ iss) zero is lt h = sym h
       placed_is (js ∷ iss) (suc w) is lt h = placed_is iss w is (omega arith) h
 
--- how many packets were left, worker by worker
-pub left_more : (iss : List (List Item)) (hss : List (List Handled)) (n : ℕ) → n < length iss → n < length hss → left_over (take (n + 1) iss) (take (n + 1) hss) ≡ left_over (take n iss) (take n hss) + (length (placed_on iss n) - length (handled_by hss n))
-left_more [] hss n a b = absurd (omega arith)
-left_more (is ∷ iss) [] n a b = absurd (omega arith)
-left_more (is ∷ iss) (hs ∷ hss) zero a b = let e : (length is - length hs) + 0 ≡ 0 + (length is - length hs) = omega arith in e
-left_more (is ∷ iss) (hs ∷ hss) (suc n) a b =
-    let s : suc n + 1 ≡ suc (n + 1) = omega arith in
-    let e : left_over (take (n + 1) iss) (take (n + 1) hss) ≡ left_over (take n iss) (take n hss) + (length (placed_on iss n) - length (handled_by hss n)) = left_more iss hss n (omega arith) (omega arith) in
-    let f : (length is - length hs) + left_over (take (n + 1) iss) (take (n + 1) hss) ≡ (length is - length hs) + left_over (take n iss) (take n hss) + (length (placed_on iss n) - length (handled_by hss n)) = omega arith in
-    ap (λ (k : ℕ). left_over (take k (is ∷ iss)) (take k (hs ∷ hss))) s ∙ f
-
 left_none : (iss : List (List Item)) (hss : List (List Handled)) → length hss ≡ length iss → ((w : ℕ) → w < length iss → ServesPlaced true (placed_on iss w) (handled_by hss w)) → left_over iss hss ≡ 0
 left_none [] hss n e = refl
 left_none (is ∷ iss) [] n e = absurd (omega arith)
@@ -205,34 +195,63 @@ module _ (rules : Rules) (packets : List Packet) (j : JournalView) (drained : Bo
       let e : left_over j.placed hss ≡ left_over j.placed hss % 2 ^ 64 = omega arith in
       subst (λ (n : ℕ). Drives rules packets (with_restart n Closed)) e (closes_restart rules packets rules.workers (left_over j.placed hss) [] Closed all_closed refl refl)
 
--- one more step of the functions that write
-pub serves_step : (w : ℕ) (hs : List Handled) (i : ℕ) (h : Handled) (j k after : JournalView) → i < length hs → h ≡ get_or hs i h → k ≡ with_serves w (take i hs) j → after ≡ with_serve w h k → after ≡ with_serves w (take (i + 1) hs) j
-serves_step w hs i h j k after lt is e f =
-    f
-    ∙ ap (λ (v : JournalView). with_serve w h v) e
-    ∙ sym (serves_push w (take i hs) h j)
-    ∙ ap (λ (l : List Handled). with_serves w l j) (sym (take_more hs i h lt ∙ ap (λ (g : Handled). take i hs ++ g ∷ []) (sym is)))
+-- one more step of the functions that write: of a worker's servings, of which the last is taken out of what is still turned round
+pub serves_step : (w : ℕ) (hs done old new rest : List Handled) (one : Handled) (j k after : JournalView) → hs ≡ done ++ reverse old → old ≡ new ++ one ∷ [] → rest ≡ new → k ≡ with_serves w done j → after ≡ with_serve w one k
+    → (hs ≡ (done ++ one ∷ []) ++ reverse rest) × (after ≡ with_serves w (done ++ one ∷ []) j)
+serves_step w hs done old new rest one j k after all popped same e f = (
+  all
+      ∙ ap (λ (l : List Handled). done ++ reverse l) popped
+      ∙ ap (λ (l : List Handled). done ++ l) (reverse-append new (one ∷ []))
+      ∙ sym (append_assoc done (one ∷ []) (reverse new))
+      ∙ ap (λ (l : List Handled). (done ++ one ∷ []) ++ reverse l) (sym same),
+  f ∙ ap (λ (v : JournalView). with_serve w one v) e ∙ sym (serves_push w done one j),
+)
 
-pub all_serves_step : (hss : List (List Handled)) (i : ℕ) (hs : List Handled) (j k after : JournalView) → i < length hss → hs ≡ handled_by hss i → k ≡ with_all_serves 0 (take i hss) j → after ≡ with_serves i hs k → after ≡ with_all_serves 0 (take (i + 1) hss) j
-all_serves_step hss i hs j k after lt is e f =
-    let count : length (take i hss) ≡ i = length-take-le i hss (omega arith) in
-    let z : i ≡ 0 + length (take i hss) = omega arith in
-    f
-    ∙ ap (λ (v : JournalView). with_serves i hs v) e
-    ∙ ap (λ (n : ℕ). with_serves n hs (with_all_serves 0 (take i hss) j)) z
-    ∙ sym (all_serves_push 0 (take i hss) hs j)
-    ∙ ap (λ (l : List (List Handled)). with_all_serves 0 l j) (sym (take_more hss i [] lt ∙ ap (λ (gs : List Handled). take i hss ++ gs ∷ []) (sym is)))
+pub serves_all_done : (w : ℕ) (hs done old new : List Handled) (j k : JournalView) → hs ≡ done ++ reverse old → old ≡ [] → k ≡ with_serves w done j → k ≡ with_serves w hs j
+serves_all_done w hs done old new j k all none e = e ∙ ap (λ (l : List Handled). with_serves w l j) (sym (all ∙ ap (λ (l : List Handled). done ++ reverse l) none ∙ append-nil done))
 
-pub left_step : (iss : List (List Item)) (hss : List (List Handled)) (i left waiting : ℕ) → i < length iss → i < length hss → left ≡ left_over (take i iss) (take i hss) % 2 ^ 64 → waiting ≡ length (placed_on iss i) - length (handled_by hss i) → (left + waiting) % 2 ^ 64 ≡ left_over (take (i + 1) iss) (take (i + 1) hss) % 2 ^ 64
-left_step iss hss i left waiting a b e f =
-    let n : ℕ = left_over (take i iss) (take i hss) in
+pub is_none : {X : Type 0} (xs : List X) → length xs ≡ 0 → xs ≡ []
+is_none [] e = refl
+is_none (x ∷ xs) e = absurd (omega arith)
+
+-- what holds of all holds of one of them
+pub all_middle : {X : Type 0} (P : X → Type 0) (xs ys all : List X) (x : X) → xs ++ x ∷ ys ≡ all → All P all → P x
+all_middle {X} P xs ys all x e h = go xs (All-same P (xs ++ x ∷ ys) all e h)
+  where
+    go : (zs : List X) → All P (zs ++ x ∷ ys) → P x
+    go [] k = All-head P x ys k
+    go (z ∷ zs) k = go zs (All-tail P z (zs ++ x ∷ ys) k)
+
+-- the servings of one worker more
+pub all_serves_step : (hss : List (List Handled)) (hs : List Handled) (n : ℕ) (j k after : JournalView) → n ≡ length hss → k ≡ with_all_serves 0 hss j → after ≡ with_serves n hs k → after ≡ with_all_serves 0 (hss ++ hs ∷ []) j
+all_serves_step hss hs n j k after count e f =
+    let z : n ≡ 0 + length hss = omega (arith, count) in
+    f
+    ∙ ap (λ (v : JournalView). with_serves n hs v) e
+    ∙ ap (λ (m : ℕ). with_serves m hs (with_all_serves 0 hss j)) z
+    ∙ sym (all_serves_push 0 hss hs j)
+
+left_push : (iss : List (List Item)) (hss : List (List Handled)) (hs : List Handled) → length hss < length iss → left_over (take (length hss + 1) iss) (hss ++ hs ∷ []) ≡ left_over (take (length hss) iss) hss + (length (placed_on iss (length hss)) - length hs)
+left_push [] hss hs a = absurd (omega arith)
+left_push (is ∷ iss) [] hs a = let e : (length is - length hs) + 0 ≡ 0 + (length is - length hs) = omega arith in e
+left_push (is ∷ iss) (gs ∷ hss) hs a =
+    let s : length (gs ∷ hss) + 1 ≡ suc (length hss + 1) = omega arith in
+    let e : left_over (take (length hss + 1) iss) (hss ++ hs ∷ []) ≡ left_over (take (length hss) iss) hss + (length (placed_on iss (length hss)) - length hs) = left_push iss hss hs (omega arith) in
+    let f : (length is - length gs) + left_over (take (length hss + 1) iss) (hss ++ hs ∷ []) ≡ (length is - length gs) + left_over (take (length hss) iss) hss + (length (placed_on iss (length hss)) - length hs) = omega arith in
+    ap (λ (k : ℕ). left_over (take k (is ∷ iss)) (gs ∷ hss ++ hs ∷ [])) s ∙ f
+
+pub left_step : (iss : List (List Item)) (hss : List (List Handled)) (hs : List Handled) (i left waiting : ℕ) → i ≡ length hss → i < length iss → left ≡ left_over (take i iss) hss % 2 ^ 64 → waiting ≡ length (placed_on iss i) - length hs
+    → (left + waiting) % 2 ^ 64 ≡ left_over (take (i + 1) iss) (hss ++ hs ∷ []) % 2 ^ 64
+left_step iss hss hs i left waiting count a e f =
+    let n : ℕ = left_over (take i iss) hss in
+    let more : left_over (take (i + 1) iss) (hss ++ hs ∷ []) ≡ n + (length (placed_on iss i) - length hs) = subst (λ (k : ℕ). left_over (take (k + 1) iss) (hss ++ hs ∷ []) ≡ left_over (take k iss) hss + (length (placed_on iss k) - length hs)) (sym count) (left_push iss hss hs (omega (arith, count, a))) in
     ap (λ (k : ℕ). (k + waiting) % 2 ^ 64) e
     ∙ mod-add-mod n (2 ^ 64) waiting
     ∙ ap (λ (k : ℕ). (n + k) % 2 ^ 64) f
-    ∙ ap (λ (k : ℕ). k % 2 ^ 64) (sym (left_more iss hss i a b))
+    ∙ ap (λ (k : ℕ). k % 2 ^ 64) (sym more)
 
-pub placed_kept : (hss : List (List Handled)) (i : ℕ) (j k : JournalView) → k ≡ with_all_serves 0 (take i hss) j → k.placed ≡ j.placed
-placed_kept hss i j k e = ap (λ (v : JournalView). v.placed) e ∙ (all_serves_served 0 (take i hss) j).placed
+pub placed_kept : (hss : List (List Handled)) (j k : JournalView) → k ≡ with_all_serves 0 hss j → k.placed ≡ j.placed
+placed_kept hss j k e = ap (λ (v : JournalView). v.placed) e ∙ (all_serves_served 0 hss j).placed
 
 -- what a worker's record at a place says
 pub handled_at : {S : Type 0} (ws : List (WorkView S)) (i : ℕ) (one : WorkView S) (hs : List Handled) → i < length ws → one ≡ get_or ws i one → hs ≡ one.handled → hs ≡ handled_by (all_handled ws) i

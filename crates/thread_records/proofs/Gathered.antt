@@ -1,12 +1,14 @@
 -- Merges, place by place.
-use Rattle.std.proofs.Common.{◌≡◌, ℕ, ◌+◌, ◌-◌, ◌<◌, ◌≤◌, Bool, true, false, List, [], ◌∷◌, ◌++◌, length, map, take, drop, get_or, Option, Some, None, refl, sym, ap, ◌∙◌, subst, arith}
+use Rattle.std.proofs.Common.{◌≡◌, ℕ, zero, suc, ◌+◌, ◌-◌, ◌<◌, ◌≤◌, Bool, true, false, List, [], ◌∷◌, ◌++◌, length, map, take, drop, get_or, Option, Some, None, refl, sym, ap, ◌∙◌, subst, arith}
 use Rattle.std.specs.Prelude.{nat_lt, if◌then◌else◌, slice_range, MatchOption, is_some, not}
 use Rattle.std.proofs.lemmas.Bool.{and_parts, ne_eqb, ltb-true, ltb-false, lt-ltb, and_from, true≢false, false≢true}
-use Rattle.std.proofs.lemmas.List.{take_more, drop_more, length-drop, get_or-drop, append-nil, append_assoc, append_cancel_left, take-append-drop, drop_all, take_all}
-use Rattle.std.proofs.lemmas.List.Folds.{list_all_more}
+use Rattle.std.proofs.lemmas.List.{take_more, drop_more, length-drop, get_or-drop, get_or-map, append-nil, append_assoc, append_cancel_left, take-append-drop, drop_all, take_all}
+use Rattle.std.proofs.lemmas.List.Folds.{list_all_more, list_all-map}
 use Rattle.cluster_node.specs.declared.outcomes.Outcome.{Outcome}
 use Rattle.cluster_node.specs.declared.outcomes.Outcome.TheVariants.{Installed, Placed, Forward, Dropped, Restarted, Refused}
-use Rattle.thread_records.specs.Merges.{sent_by, sends_of, all_sends, from_one_of, all_from, is_restart, IsMerge, lives_from, AreMerges}
+use Rattle.std.specs.List.{list_all}
+use Rattle.thread_records.specs.Lean.{send_of}
+use Rattle.thread_records.specs.Merges.{is_send, sent_by, sends_of, all_sends, from_one_of, all_from, is_restart, IsMerge, lives_from, AreMerges}
 
 pub sends_push : (w : ℕ) (os : List Outcome) (o : Outcome) (b : Bool) → sent_by w o ≡ b → sends_of w (os ++ o ∷ []) ≡ (if b then sends_of w os ++ o ∷ [] else sends_of w os)
 sends_push w [] o true e = ap (λ (c : Bool). if c then o ∷ [] else []) e
@@ -66,6 +68,36 @@ merge_of n sent life only a b each = record { only = only; each = λ w. go w (na
     go : (w : ℕ) (c : Bool) → nat_lt w n ≡ c → sends_of w sent ≡ sends_of w life
     go w true e = each w (ltb-true w n e)
     go w false e = let h : n ≤ w = ltb-false w n e in none_of n w sent h a ∙ sym (none_of n w life h b)
+
+-- what is sent by the numbers of events
+pub sends_numbered : (os : List Outcome) (ns : List ℕ) → all_sends (map (λ n. send_of os n) ns) ≡ list_all (λ n. is_send (send_of os n)) ns
+sends_numbered os ns = list_all-map is_send (λ n. send_of os n) ns
+
+pub number_at : (os : List Outcome) (ns : List ℕ) (i d : ℕ) (o : Outcome) → i < length ns → o ≡ send_of os (get_or ns i d) → o ≡ get_or (map (λ k. send_of os k) ns) i o
+number_at os ns i d o lt e = e ∙ sym (get_or-map (λ k. send_of os k) ns i d o lt)
+
+from_event : (n : ℕ) (os : List Outcome) (k : ℕ) → all_from n os ≡ true → from_one_of n (send_of os k) ≡ true
+from_event n [] k h = refl
+from_event n (o ∷ os) zero h = (and_parts (from_one_of n o) (all_from n os) h).0
+from_event n (o ∷ os) (suc k) h = from_event n os k (and_parts (from_one_of n o) (all_from n os) h).1
+
+-- of a history's workers are the events of these numbers, and those of a part of it
+pub from_numbers : (n : ℕ) (os : List Outcome) (ns : List ℕ) → all_from n os ≡ true → all_from n (map (λ k. send_of os k) ns) ≡ true
+from_numbers n os [] h = refl
+from_numbers n os (k ∷ ns) h = and_from _ _ (from_event n os k h) (from_numbers n os ns h)
+
+from_drop : (n i : ℕ) (os : List Outcome) → all_from n os ≡ true → all_from n (drop i os) ≡ true
+from_drop n zero os h = h
+from_drop n (suc i) [] h = refl
+from_drop n (suc i) (o ∷ os) h = from_drop n i os (and_parts (from_one_of n o) (all_from n os) h).1
+
+from_take : (n i : ℕ) (os : List Outcome) → all_from n os ≡ true → all_from n (take i os) ≡ true
+from_take n zero os h = refl
+from_take n (suc i) [] h = refl
+from_take n (suc i) (o ∷ os) h = let p = and_parts (from_one_of n o) (all_from n os) h in and_from _ _ p.0 (from_take n i os p.1)
+
+pub from_range : (n i j : ℕ) (os : List Outcome) → all_from n os ≡ true → all_from n (slice_range os i j) ≡ true
+from_range n i j os h = from_take n (j - i) (drop i os) (from_drop n i os h)
 
 sends_append : (w : ℕ) (xs ys : List Outcome) → sends_of w (xs ++ ys) ≡ sends_of w xs ++ sends_of w ys
 sends_append w [] ys = refl

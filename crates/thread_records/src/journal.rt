@@ -11,12 +11,13 @@ ghost use Rattle.thread_records.specs.Losses.{as_written, drained_lives, losses,
 ghost use Rattle.cluster_core.specs.OutcomeCounts.{is_arrival};
 ghost use Rattle.thread_records.specs.Arrivals.{ArrivesAs};
 ghost use Rattle.thread_records.specs.Histories.{commands_of, past_of, NoneWaits};
+ghost use Rattle.thread_records.specs.Lean.{sends_told};
 ghost use Rattle.thread_records.specs.Runs.{IsRunOf};
 ghost use Rattle.thread_records.specs.Ends.{JudgesRun};
 ghost use Rattle.thread_records.specs.Journals.{JournalView, fresh_journal, put_on, placed_on, Tells, Drives, with_event, with_install, Attempt, IsAttempt, with_placing, no_marks};
 
+use crate::lean::LeanRecord;
 use crate::merging::merged;
-use crate::nodes::NodeRecord;
 use crate::rings::{Rings, steer};
 use cluster_node::{Cause, Event, Item, Outcome, Packet, Reason};
 use five_tuple::Flow;
@@ -314,11 +315,11 @@ impl Journal {
         self.early
     }
 
-    /// The run of the node, with what was gathered of its workers in each life. The only fault is RingLost. A ring refused a
-    /// packet before it had taken as many as it has places, or a life's list isn't a merge of what its workers sent.
-    pub fn finish(self, sent: Vec<Vec<Outcome>>) -> Result<NodeRecord, LifeFault>
-        ensures judged { JudgesRun self (map (λ v. v.items) sent.items) result }
-        ensures is { IfOk result (λ r. (r.events.items ≡ self.events) × (r.outcomes.items ≡ self.outcomes) × (r.sent ≡ sent)) }
+    /// The run of the node, with what was gathered of its workers in each life, by the numbers of events. The only fault is RingLost. A
+    /// ring refused a packet before it had taken as many as it has places, or a life's list isn't a merge of what its workers sent.
+    pub fn finish(self, sent: Vec<Vec<u32>>) -> Result<LeanRecord, LifeFault>
+        ensures judged { JudgesRun self (sends_told self.outcomes sent.items) result }
+        ensures is { IfOk result (λ r. (r.events.items ≡ self.events) × (r.outcomes.items ≡ self.outcomes) × (map (λ v. v.items) r.sent.items ≡ sends_told self.outcomes sent.items)) }
         ensures run { (rules : Rules) (packets : List Packet) (cs : List Command) → Tells rules packets self → NoneWaits (past_of rules packets self.node self.events) →
             commands_of self.events ≡ map as_written cs → KeepDrained (drained_lives cs) (losses self.outcomes) →
             IfOk result (λ r. IsRunOf rules packets self.node self.ring cs r) }
@@ -334,10 +335,6 @@ impl Journal {
         if !merged(sent.as_slice(), outcomes.as_slice()) {
             return Err(LifeFault::RingLost);
         }
-        Ok(NodeRecord {
-            events,
-            outcomes,
-            sent,
-        })
+        Ok(LeanRecord::of(events, outcomes, sent))
     }
 }

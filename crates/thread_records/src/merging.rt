@@ -1,8 +1,11 @@
-//! Whether what was gathered of the workers is a merge of what they sent.
+//! Whether what was gathered of the workers is a merge of what they sent. What was sent is given by the numbers of events.
 ghost use Rattle.std.specs.Prelude.{◌≡◌, ◌≤◌, ◌<◌, ◌+◌, ◌-◌, ◌∷◌, ◌↔◌, [], ℕ, Bool, true, length, map, take, drop, IsTrue, IfSome, None, MatchOption, slice_index_or};
+ghost use Rattle.std.specs.List.{list_all};
 ghost use Rattle.cluster_node.specs.declared.outcomes.Outcome.{Outcome};
-ghost use Rattle.thread_records.specs.Merges.{sent_by, sends_of, is_send, all_sends, from_one_of, all_from, is_restart, IsMerge, lives_of, AreMerges};
+ghost use Rattle.thread_records.specs.Lean.{send_of, sends_told};
+ghost use Rattle.thread_records.specs.Merges.{sent_by, sends_of, is_send, from_one_of, all_from, is_restart, IsMerge, lives_of, AreMerges};
 
+use crate::lean::send_of;
 use cluster_node::Outcome;
 
 fn is_sent_by(one: &Outcome, number: u16) -> bool
@@ -31,14 +34,12 @@ fn sender_limit(one: &Outcome) -> u32
     }
 }
 
-// A number above those of all workers that sent one of these, and no less than the least.
-fn senders(list: &[Outcome], least: u32) -> u32
-    requires { least ≤ 65536 }
+// A number above those of all workers that sent one of these.
+fn senders(list: &[Outcome]) -> u32
     ensures from { all_from result list.now ≡ true }
-    ensures more { least ≤ result }
     ensures limit { result ≤ 65536 }
 {
-    let mut limit = least;
+    let mut limit: u32 = 0;
     for one in list {
         limit = limit.max(sender_limit(one));
     }
@@ -51,11 +52,12 @@ fn is_restart(one: &Outcome) -> bool
     matches!(*one, Outcome::Restarted { .. })
 }
 
-// Whether there is nothing but packets that were sent.
-fn all_sent(list: &[Outcome]) -> bool
-    ensures { result ≡ all_sends list.now }
+// Whether these events are nothing but sendings.
+fn all_sent(outcomes: &[Outcome], sent: &[u32]) -> bool
+    ensures { result ≡ list_all (λ n. is_send (send_of outcomes.now n)) sent.now }
 {
-    list.iter().all(|one| is_sent(one))
+    sent.iter()
+        .all(|number| is_sent(&send_of(outcomes, *number)))
 }
 
 // The next packet that a worker sent, from a place on.
@@ -79,17 +81,18 @@ pub(crate) fn is_same(one: &Outcome, other: &Outcome) -> bool
     *one == *other
 }
 
-// Whether a worker sent the same in both lists.
-fn same_sends(one: &[Outcome], other: &[Outcome], worker: u16) -> bool
-    ensures { IsTrue result ↔ (sends_of worker one.now ≡ sends_of worker other.now) }
+// Whether a worker sent the same in both lists, of which the first has numbers of events.
+fn same_sends(outcomes: &[Outcome], sent: &[u32], life: &[Outcome], worker: u16) -> bool
+    ensures { IsTrue result ↔ (sends_of worker (map (λ n. send_of outcomes.now n) sent.now) ≡ sends_of worker life.now) }
 {
     let mut at = 0;
-    for sent in one {
-        if is_sent_by(sent, worker) {
-            match next_of(other, at, worker) {
+    for number in sent {
+        let one = send_of(outcomes, *number);
+        if is_sent_by(&one, worker) {
+            match next_of(life, at, worker) {
                 None => return false,
                 Some(place) => {
-                    if !is_same(&other[place], sent) {
+                    if !is_same(&life[place], &one) {
                         return false;
                     }
                     at = place + 1;
@@ -97,25 +100,29 @@ fn same_sends(one: &[Outcome], other: &[Outcome], worker: u16) -> bool
             }
         }
     }
-    next_of(other, at, worker).is_none()
+    next_of(life, at, worker).is_none()
 }
 
 // Whether a list is a merge of what the workers sent in a life.
-fn is_merge(sent: &[Outcome], life: &[Outcome]) -> bool
-    ensures { IsTrue result ↔ IsMerge sent.now life.now }
+fn is_merge(outcomes: &[Outcome], sent: &[u32], life: &[Outcome], workers: u32) -> bool
+    requires limit { workers ≤ 65536 }
+    requires from { all_from workers outcomes.now ≡ true }
+    requires own { all_from workers life.now ≡ true }
+    ensures { IsTrue result ↔ IsMerge (map (λ n. send_of outcomes.now n) sent.now) life.now }
 {
-    for worker in 0..senders(life, senders(sent, 0)) {
-        if !same_sends(sent, life, worker as u16) {
+    for worker in 0..workers {
+        if !same_sends(outcomes, sent, life, worker as u16) {
             return false;
         }
     }
-    all_sent(sent)
+    all_sent(outcomes, sent)
 }
 
 // Whether these lists are merges of what the workers sent in each life.
-pub(crate) fn merged(sent: &[Vec<Outcome>], outcomes: &[Outcome]) -> bool
-    ensures { IsTrue result ↔ AreMerges (map (λ v. v.items) sent.now) (lives_of outcomes.now) }
+pub(crate) fn merged(sent: &[Vec<u32>], outcomes: &[Outcome]) -> bool
+    ensures { IsTrue result ↔ AreMerges (sends_told outcomes.now sent.now) (lives_of outcomes.now) }
 {
+    let workers = senders(outcomes);
     let mut start = 0;
     let mut life = 0;
     for at in 0..outcomes.len() {
@@ -123,7 +130,12 @@ pub(crate) fn merged(sent: &[Vec<Outcome>], outcomes: &[Outcome]) -> bool
             if life >= sent.len() {
                 return false;
             }
-            if !is_merge(sent[life].as_slice(), &outcomes[start..at]) {
+            if !is_merge(
+                outcomes,
+                sent[life].as_slice(),
+                &outcomes[start..at],
+                workers,
+            ) {
                 return false;
             }
             life += 1;
@@ -133,5 +145,5 @@ pub(crate) fn merged(sent: &[Vec<Outcome>], outcomes: &[Outcome]) -> bool
     if life + 1 != sent.len() {
         return false;
     }
-    is_merge(sent[life].as_slice(), &outcomes[start..])
+    is_merge(outcomes, sent[life].as_slice(), &outcomes[start..], workers)
 }

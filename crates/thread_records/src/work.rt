@@ -174,6 +174,15 @@ impl<S: Scheme, T: ConnTable> WorkerRecord<S, T> {
         self.handled.as_slice()
     }
 
+    /// The same as a list that is the caller's. The rest of the record goes.
+    pub fn into_handled(self) -> Vec<Handled>
+        ensures handled { result.items ≡ self.handled }
+        ensures worked { Worked (λ s z. S.pick s z) self }
+    {
+        let WorkerRecord { handled, .. } = self;
+        handled
+    }
+
     // Whether its table has the cluster's capacity and idle limit.
     #[tactic(auto, using(crate::proofs::Kept::one_limit, crate::proofs::Kept::same_limit))]
     fn has_limits<H: FlowHash>(&self, setup: &Setup<S, H>) -> bool

@@ -2,8 +2,8 @@
 use Rattle.std.specs.Prelude.{ℕ, ◌+◌, List, [], ◌∷◌}
 use Rattle.rtrb.specs.declared.consumer.Consumer.{Consumer}
 use Rattle.rtrb.specs.Ring.{received}
-use Rattle.cluster_node.specs.declared.outcomes.Outcome.{Outcome}
 use Rattle.thread_roles.specs.declared.ring.Output.{Output}
+use Rattle.thread_roles.specs.declared.ring.Serving.{Serving}
 use Rattle.thread_roles.specs.declared.ring.Output.TheVariants.{Send, Close}
 
 -- the weights of the items, added up
@@ -11,14 +11,14 @@ abbrev pub weigh : {X : Type 0} → (X → ℕ) → List X → ℕ
 weigh f [] = 0
 weigh f (x ∷ xs) = f x + weigh f xs
 
--- a packet that is sent weighs what its outcome does, and a closing mark nothing
-abbrev pub weight_of : (Outcome → ℕ) → Output → ℕ
-weight_of h (Send o) = h o
+-- a packet that is sent weighs what its serving does, and a closing mark nothing
+abbrev pub weight_of : (Serving → ℕ) → Output → ℕ
+weight_of h (Send s) = h s
 weight_of h Close = 0
 
 -- a closing mark weighs one
 abbrev pub closing : Output → ℕ
-closing (Send o) = 0
+closing (Send s) = 0
 closing Close = 1
 
 -- the weight of all that was taken out of these rings

@@ -23,6 +23,6 @@ pub use mux::gather;
 pub use plan::{NodePlan, NodeTask, Progress};
 pub use post::{Desk, Post};
 pub use promise::{CountsOwn, WorkerRun};
-pub use ring::{Inputs, Message, Output, PacedInputs};
+pub use ring::{Inputs, Message, Output, PacedInputs, Serving};
 pub use tally::{Part, ThreadShares};
 pub use working::{Outfit, work};

@@ -2,7 +2,7 @@
 ghost use Rattle.std.specs.Prelude.{◌≡◌, ◌++◌, ◌∷◌, [], map};
 ghost use Rattle.rtrb.specs.Ring.{sent};
 
-use cluster_node::{Item, Outcome};
+use cluster_node::Item;
 use rtrb::{Producer, PushError};
 use std::fmt;
 use std::hint::spin_loop;
@@ -20,11 +20,20 @@ pub enum Message {
     Close,
 }
 
+/// A serving of a life: by which worker, and its number among the worker's servings.
+#[derive(Clone, Copy, Debug, PartialEq, Eq)]
+pub struct Serving {
+    /// The worker's number.
+    pub worker: u16,
+    /// How many packets the worker served before.
+    pub number: u32,
+}
+
 /// What a worker pushes to the mux.
 #[derive(Clone, Copy, Debug)]
 pub enum Output {
-    /// A packet that is sent on.
-    Send(Outcome),
+    /// A packet that is sent on, by its serving.
+    Send(Serving),
     /// The worker's last word.
     Close,
 }

@@ -9,9 +9,9 @@ use crate::gate::Gate;
 use crate::plan::NodePlan;
 use crate::post::Post;
 use crate::promise::WorkerRun;
-use crate::ring::{Idle, Message, Output, push_waiting};
+use crate::ring::{Idle, Message, Output, Serving, push_waiting};
 use crate::tally::{Part, ThreadShares};
-use cluster_node::{Item, Outcome};
+use cluster_node::Item;
 use connection_table::ConnTable;
 use forwarder::{Choice, Served};
 use hash_laws::FlowHash;
@@ -75,25 +75,12 @@ fn serve_one<S: Scheme, T: ConnTable, R: Wait>(
     unreachable!()
 }
 
-// Sends the packet on, if it goes anywhere.
-fn send_on<R: Wait>(
-    rt: &R,
-    out: &mut Producer<Output>,
-    node: u16,
-    worker: u16,
-    item: &Item,
-    served: &Served,
-) {
-    if let Choice::Forward { backend, origin } = served.choice {
-        let sent = Outcome::Forward {
-            node,
-            worker,
-            packet: item.packet,
-            flow: item.flow,
-            backend,
-            origin,
-        };
-        push_waiting(rt, out, Output::Send(sent));
+// Sends a packet on, if it goes anywhere: by the number of its serving in the life. One that is too large for that is found when the
+// run ends.
+fn send_on<R: Wait>(rt: &R, out: &mut Producer<Output>, worker: u16, nth: u64, served: &Served) {
+    if let Choice::Forward { .. } = served.choice {
+        let number = u32::try_from(nth).unwrap_or(u32::MAX);
+        push_waiting(rt, out, Output::Send(Serving { worker, number }));
     }
 }
 
@@ -114,7 +101,7 @@ fn serve_gated<S: Scheme, H: FlowHash, T: ConnTable, G: Gate, B: Names, R: Wait>
     let WorkerRun { record, tally } = run;
     match serve_one(rt, &mut ends.post, record, item) {
         Ok(served) => {
-            send_on(rt, &mut ends.out, plan.node, ends.number, item, &served);
+            send_on(rt, &mut ends.out, ends.number, nth, &served);
             let stats = tally.serve_one(rt, plan.book, served.choice);
             plan.gate.counted(plan.node, ends.number, stats);
             plan.gate.after(plan.node, ends.number, nth);

@@ -1,6 +1,7 @@
 //! How lives end: records that don't fit, lives that aren't drained, and what was gathered.
 use super::journals::{
-    Act, Node, Reply, does, empty_queues, fresh_node, handles, same_told, setup_of, shared, told,
+    Act, Node, Reply, does, empty_queues, fresh_node, fresh_workers, handles, same_told, setup_of,
+    shared, told,
 };
 use super::{Row, Sums, catalogue, flow, forward, good, holds, packets, version};
 use backend_names::TableSize;
@@ -9,6 +10,7 @@ use connection_table::{PlaceTable, PlainTable};
 use hash_laws::{AnyHash, SumHash};
 use selection::{Maglev, PreparedVersion};
 use std::alloc::Global;
+use std::mem;
 use std::process::Abort;
 use thread_records::{Journal, LifeFault, Rings, WorkerRecord, are_of};
 
@@ -167,11 +169,13 @@ fn fault_after(rt: &impl Abort, alloc: Global, life: &Life, drained: bool) -> Op
     places(rt, &mut node, life.placed);
     handles_all(rt, &mut node, life.handled);
     let before = node.journal.events().len();
-    let fault = node
-        .journal
-        .end_life(node.workers.as_slice(), drained)
-        .err();
-    let is_kept = node.journal.events().len() == before;
+    let Node {
+        mut journal,
+        workers,
+        ..
+    } = node;
+    let fault = journal.end_life(workers, drained).err();
+    let is_kept = journal.events().len() == before;
     holds(rt, fault.is_none() || is_kept, "nothing is written");
     fault
 }
@@ -289,11 +293,9 @@ fn is_last(rt: &impl Abort, outcomes: &[Outcome], wanted: Reply) {
     same_told(rt, told(last), wanted, 0);
 }
 
-// What was sent in two lives: in the first nothing.
-fn sent_later(rt: &impl Abort, alloc: Global) -> Vec<Vec<Outcome>> {
-    let list = [forward(rt, 0, 0, 1000, 0, 1)]
-        .to_vec(alloc)
-        .expect(rt, "memory");
+// What was sent in two lives, by the numbers of events: in the first nothing, and then that of the sixth event.
+fn sent_later(rt: &impl Abort, alloc: Global) -> Vec<Vec<u32>> {
+    let list = [5].to_vec(alloc).expect(rt, "memory");
     let mut sent = Vec::new(alloc);
     sent.push(Vec::new(alloc)).expect(rt, "memory");
     sent.push(list).expect(rt, "memory");
@@ -307,16 +309,20 @@ fn a_life_that_is_not_drained(rt: HostRuntime) {
     let setup = setup_of(&rt, rt.alloc(), Maglev { hash: SumHash }, 1, 2);
     let mut node = fresh_node::<Sums, PlainTable>(&rt, rt.alloc(), &setup, 16);
     does(&rt, &mut node, &TWO_PLACED);
+    let workers = fresh_workers(&rt, rt.alloc(), &setup);
+    let ended = mem::replace(&mut node.workers, workers);
     node.journal
-        .end_life(node.workers.as_slice(), false)
+        .end_life(ended, false)
         .expect(&rt, "records that fit");
     is_last(&rt, node.journal.outcomes(), ("restarted", 2, 0));
     node.queues = empty_queues(&rt, rt.alloc(), 1, 16);
     does(&rt, &mut node, &ONE_SERVED);
-    node.journal
-        .end(node.workers.as_slice(), true)
-        .expect(&rt, "records that fit");
-    let Node { journal, .. } = node;
+    let Node {
+        mut journal,
+        workers,
+        ..
+    } = node;
+    journal.end(workers, true).expect(&rt, "records that fit");
     let fault = journal.finish(sent_later(&rt, rt.alloc())).err();
     same_fault(&rt, fault, None, 0);
 }
@@ -329,42 +335,43 @@ static TWO_SERVED: [(Act, Reply); 5] = [
     (Act::Serve(0, 1), ("forward", 2, 1)),
 ];
 
-// Of the two packets that were sent, these, in this order.
-fn gathered(rt: &impl Abort, alloc: Global, places: &[usize]) -> Vec<Vec<Outcome>> {
-    let all = [forward(rt, 0, 0, 1000, 0, 1), forward(rt, 0, 1, 1001, 1, 1)];
-    let mut list = Vec::new(alloc);
-    for at in places {
-        let one = all.get(*at).expect(rt, "an outcome");
-        list.push(*one).expect(rt, "memory");
-    }
+// What was gathered in a life, by the numbers of events.
+fn gathered(rt: &impl Abort, alloc: Global, numbers: &[u32]) -> Vec<Vec<u32>> {
+    let list = numbers.to_vec(alloc).expect(rt, "memory");
     let mut sent = Vec::new(alloc);
     sent.push(list).expect(rt, "memory");
     sent
 }
 
 // The fault of a run of one life in which two packets were sent, and these were gathered.
-fn finished(rt: &impl Abort, alloc: Global, places: &[usize]) -> Option<LifeFault> {
+fn finished(rt: &impl Abort, alloc: Global, numbers: &[u32]) -> Option<LifeFault> {
     let setup = setup_of(rt, alloc, Maglev { hash: SumHash }, 1, 2);
     let mut node = fresh_node::<Sums, PlaceTable>(rt, alloc, &setup, 16);
     does(rt, &mut node, &TWO_SERVED);
-    node.journal
-        .end(node.workers.as_slice(), true)
-        .expect(rt, "records that fit");
-    let Node { journal, .. } = node;
-    journal.finish(gathered(rt, alloc, places)).err()
+    let Node {
+        mut journal,
+        workers,
+        ..
+    } = node;
+    journal.end(workers, true).expect(rt, "records that fit");
+    journal.finish(gathered(rt, alloc, numbers)).err()
 }
 
-static GATHERED: [(&[usize], Option<LifeFault>); 4] = [
-    (&[0, 1], None),
-    (&[1, 0], LOST),
-    (&[0], LOST),
-    (&[0, 1, 1], LOST),
+// The servings are the events 3 and 4. The event 2 sends nothing, and there is none of a greater number.
+static GATHERED: [(&[u32], Option<LifeFault>); 7] = [
+    (&[3, 4], None),
+    (&[4, 3], LOST),
+    (&[3], LOST),
+    (&[3, 4, 4], LOST),
+    (&[2, 3], LOST),
+    (&[2, 3, 4], LOST),
+    (&[3, 4, 5], LOST),
 ];
 
 #[test]
 fn what_was_gathered_is_a_merge(rt: HostRuntime) {
-    for (at, (places, fault)) in GATHERED.iter().enumerate() {
-        let found = finished(&rt, rt.alloc(), places);
+    for (at, (numbers, fault)) in GATHERED.iter().enumerate() {
+        let found = finished(&rt, rt.alloc(), numbers);
         same_fault(&rt, found, *fault, at);
     }
 }

@@ -105,7 +105,7 @@ fn prepared<S: Scheme>(
 }
 
 // Workers that have handled nothing.
-fn fresh_workers<S: Scheme, T: ConnTable>(
+pub(super) fn fresh_workers<S: Scheme, T: ConnTable>(
     rt: &impl Abort,
     alloc: Global,
     setup: &Setup<S, SumHash>,
@@ -304,17 +304,14 @@ fn plays<S: Scheme, T: ConnTable>(rt: &impl Abort, alloc: Global, scheme: S, exa
     let setup = setup_of(rt, alloc, scheme, example.workers, 2);
     let mut node = fresh_node::<S, T>(rt, alloc, &setup, example.ring);
     does(rt, &mut node, example.steps);
-    node.journal
-        .end(node.workers.as_slice(), false)
-        .expect(rt, "records that fit");
-    holds(rt, !node.journal.refused_early(), "no ring was lost");
-    replays(
-        rt,
-        alloc,
-        &setup,
-        node.journal.events(),
-        node.journal.outcomes(),
-    );
+    let Node {
+        mut journal,
+        workers,
+        ..
+    } = node;
+    journal.end(workers, false).expect(rt, "records that fit");
+    holds(rt, !journal.refused_early(), "no ring was lost");
+    replays(rt, alloc, &setup, journal.events(), journal.outcomes());
 }
 
 const FIRST: u32 = 0;

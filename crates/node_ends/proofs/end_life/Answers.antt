@@ -10,7 +10,7 @@ use Rattle.thread_records.proofs.Paced.{unmarked_ended}
 use Rattle.node_ends.proofs.end_life.Goals as goal
 
 pub returns-in-Ok-clause-unmarked : goal.returns-in-Ok-clause-unmarked
-returns-in-Ok-clause-unmarked g c = λ had. subst (λ (j : JournalView). AreUnmarked j.events) (sym c.in-Ok.ensures.after) (unmarked_ended (all_handled c.args.workers.now) c.args.journal.now had)
+returns-in-Ok-clause-unmarked g c = λ had. subst (λ (j : JournalView). AreUnmarked j.events) (sym c.in-Ok.ensures.after) (unmarked_ended (all_handled c.args.workers.items) c.args.journal.now had)
 
 pub returns-in-Ok-clause-going : goal.returns-in-Ok-clause-going
 returns-in-Ok-clause-going g c = λ packets cs n places going.
@@ -18,4 +18,4 @@ returns-in-Ok-clause-going g c = λ packets cs n places going.
     goes_ended rules packets cs n places c.args.drained c.in-Ok.left c.args.journal.now c.end_life.new.self going (c.in-Ok.ensures.drives rules packets going.drives c.in_ok-compare.ensures.of) c.in-Ok.ensures.command c.in-Ok.ensures.lost.0 c.in-Ok.ensures.lost.1 c.in-Ok.ensures.kept.0 c.in-Ok.ensures.kept.1
 
 pub returns-in-Ok-clause-counts : goal.returns-in-Ok-clause-counts
-returns-in-Ok-clause-counts g c = λ lost shares had. counts_ended c.end_life.new.self c.args.journal.now (all_handled c.args.workers.now) c.in-Ok.left lost shares c.in-Ok.ensures.after c.in-Ok.ensures.left had
+returns-in-Ok-clause-counts g c = λ lost shares had. counts_ended c.end_life.new.self c.args.journal.now (all_handled c.args.workers.items) c.in-Ok.left lost shares c.in-Ok.ensures.after c.in-Ok.ensures.left had

@@ -5,6 +5,8 @@ use Rattle.thread_records.specs.declared.command.Command.TheVariants.{Publish, O
 use Rattle.thread_records.specs.Losses.{drained_lives, losses, KeepDrained}
 use Rattle.thread_records.specs.Histories.{commands_of}
 use Rattle.thread_records.specs.Journals.{JournalView}
+use Rattle.std.specs.Prelude.{Ok}
+use Rattle.thread_records.proofs.Leans.{same_is_run}
 use Rattle.node_rehearsal.specs.PrivateGoing.{Going}
 use Rattle.node_rehearsal.proofs.Goes.{is_ending, obeyed_more, obeyed_all, same_run}
 use Rattle.node_rehearsal.proofs.rehearse.Goals as goal
@@ -43,14 +45,14 @@ loop-command-preserved g c =
       }
     ]
 
-pub returns : goal.returns
-returns g c =
+pub returns-in-Ok : goal.returns-in-Ok
+returns-in-Ok g c =
     let rules : Rules = rules_for (λ s z. g.S.Scheme.pick s z) (λ h. g.H.FlowHash.plain h) c.args.setup.now c.args.catalogue.now in
     let had = c.loop-command.invariant in
     let ended = c.in_ok-list.ensures.ended c.args.packets.now had.going.drives in
     let served = c.in_ok-list.ensures.served in
     let all : length c.args.commands.now ≤ c.loop-command.command-index = omega (arith, c.loop-command-test.false) in
     let obeyed = obeyed_all rules c.args.packets.now c.args.commands.now c.loop-command.command-index c.loop-command.journal all had.going in
-    same_run rules c.args.packets.now c.end.new.journal.node c.args.node c.end.new.journal.ring c.args.ring c.args.commands.now c.finish.result
+    same_run {E = Unit {0}} rules c.args.packets.now c.end.new.journal.node c.args.node c.end.new.journal.ring c.args.ring c.args.commands.now (Ok c.in-Ok.record)
     (served.node ∙ had.node) (served.ring ∙ had.ring)
-    (c.finish.ensures.run rules c.args.packets.now c.args.commands.now ended.0 ended.1 (served.commands ∙ obeyed.obeyed) (subst (λ (ls : List ℕ). KeepDrained (drained_lives c.args.commands.now) ls) (sym served.lost) obeyed.kept))
+    (same_is_run rules c.args.packets.now c.end.new.journal.node c.end.new.journal.ring c.args.commands.now c.in-Ok.record c.in_ok-finish.field-0 c.in-Ok.ensures (c.in_ok-finish.ensures.run rules c.args.packets.now c.args.commands.now ended.0 ended.1 (served.commands ∙ obeyed.obeyed) (subst (λ (ls : List ℕ). KeepDrained (drained_lives c.args.commands.now) ls) (sym served.lost) obeyed.kept)))

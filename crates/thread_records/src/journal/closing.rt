@@ -46,6 +46,9 @@ impl From<AllocError> for LifeFault {
     }
 }
 
+// How many servings are written before their memory is given back.
+const GIVEN_BACK: usize = 65_536;
+
 fn has(versions: &[u32], version: u32) -> bool
     ensures { result ≡ list_any (λ u. u == version) versions.now }
 {
@@ -201,12 +204,17 @@ impl Journal {
         }
     }
 
-    // Writes the servings of a worker.
-    fn write_serves(&mut self, worker: u16, handled: &[Handled]) -> Result<(), AllocError>
-        ensures { OnOk result (self.new ≡ with_serves worker handled.now self.old) }
+    // Writes the servings of a worker. What is written is given back meanwhile, so that a long life isn't held twice.
+    fn write_serves(&mut self, worker: u16, handled: Vec<Handled>) -> Result<(), AllocError>
+        ensures { OnOk result (self.new ≡ with_serves worker handled.items self.old) }
     {
-        for one in handled {
-            self.write_serve(worker, one)?;
+        let mut rest = handled;
+        rest.reverse();
+        while let Some(one) = rest.pop() {
+            self.write_serve(worker, &one)?;
+            if rest.len().is_multiple_of(GIVEN_BACK) {
+                rest.shrink_to_fit();
+            }
         }
         Ok(())
     }
@@ -222,19 +230,21 @@ impl Journal {
     // Writes the servings of all workers, one worker after another, and answers how many packets were left.
     fn write_all_serves<S: Scheme, T: ConnTable>(
         &mut self,
-        workers: &[WorkerRecord<S, T>],
+        workers: Vec<WorkerRecord<S, T>>,
     ) -> Result<u64, AllocError>
-        requires all { length workers.now ≡ length self.old.placed }
-        requires few { length workers.now ≤ 16 }
-        ensures after { OnOk result (self.new ≡ with_all_serves 0 (all_handled workers.now) self.old) }
-        ensures left { IfOk result (λ left. left ≡ left_over self.old.placed (all_handled workers.now) % 2 ^ 64) }
-        ensures fit { (rules : Rules) → All (λ w. IsOf (λ s z. S.pick s z) rules w) workers.now → OnOk result (AllFitIn rules (all_handled workers.now)) }
+        requires all { length workers.items ≡ length self.old.placed }
+        requires few { length workers.items ≤ 16 }
+        ensures after { OnOk result (self.new ≡ with_all_serves 0 (all_handled workers.items) self.old) }
+        ensures left { IfOk result (λ left. left ≡ left_over self.old.placed (all_handled workers.items) % 2 ^ 64) }
+        ensures fit { (rules : Rules) → All (λ w. IsOf (λ s z. S.pick s z) rules w) workers.items → OnOk result (AllFitIn rules (all_handled workers.items)) }
     {
         let mut left: u64 = 0;
-        for at in 0..workers.len() {
-            let handled = workers[at].handled();
-            left = left.wrapping_add(self.left_of(at as u16, handled.len()) as u64);
-            self.write_serves(at as u16, handled)?;
+        let mut number = 0u16;
+        for worker in workers {
+            let handled = worker.into_handled();
+            left = left.wrapping_add(self.left_of(number, handled.len()) as u64);
+            self.write_serves(number, handled)?;
+            number = number.wrapping_add(1);
         }
         Ok(left)
     }
@@ -258,17 +268,17 @@ impl Journal {
     // The servings of a life, and how many packets were left.
     fn close_life<S: Scheme, T: ConnTable>(
         &mut self,
-        workers: &[WorkerRecord<S, T>],
+        workers: Vec<WorkerRecord<S, T>>,
         drained: bool,
     ) -> Result<u64, LifeFault>
-        ensures judged { JudgesLife drained self.old (all_handled workers.now) result }
+        ensures judged { JudgesLife drained self.old (all_handled workers.items) result }
         ensures unchanged { IfErr result (λ fault. UnlessMemory fault (self.new ≡ self.old)) }
-        ensures after { OnOk result (self.new ≡ with_all_serves 0 (all_handled workers.now) self.old) }
-        ensures left { IfOk result (λ left. left ≡ left_over self.old.placed (all_handled workers.now) % 2 ^ 64) }
+        ensures after { OnOk result (self.new ≡ with_all_serves 0 (all_handled workers.items) self.old) }
+        ensures left { IfOk result (λ left. left ≡ left_over self.old.placed (all_handled workers.items) % 2 ^ 64) }
         ensures few { OnOk result (length self.new.events < 2 ^ 64) }
-        ensures fit { (rules : Rules) → All (λ w. IsOf (λ s z. S.pick s z) rules w) workers.now → OnOk result (AllFitIn rules (all_handled workers.now)) }
+        ensures fit { (rules : Rules) → All (λ w. IsOf (λ s z. S.pick s z) rules w) workers.items → OnOk result (AllFitIn rules (all_handled workers.items)) }
     {
-        if let Some(fault) = self.fault_of(workers, drained) {
+        if let Some(fault) = self.fault_of(workers.as_slice(), drained) {
             return Err(fault);
         }
         let _few = self.workers();
@@ -290,17 +300,17 @@ impl Journal {
     /// two nothing is changed. The answer is the number of packets that were placed and not handled.
     pub fn end_life<S: Scheme, T: ConnTable>(
         &mut self,
-        workers: &[WorkerRecord<S, T>],
+        workers: Vec<WorkerRecord<S, T>>,
         drained: bool,
     ) -> Result<u64, LifeFault>
-        ensures judged { JudgesLife drained self.old (all_handled workers.now) result }
+        ensures judged { JudgesLife drained self.old (all_handled workers.items) result }
         ensures unchanged { IfErr result (λ fault. UnlessMemory fault (self.new ≡ self.old)) }
-        ensures after { OnOk result (self.new ≡ with_life_ended (all_handled workers.now) self.old) }
-        ensures drives { (rules : Rules) (packets : List Packet) → Drives rules packets self.old → All (λ w. IsOf (λ s z. S.pick s z) rules w) workers.now → OnOk result (Drives rules packets self.new) }
+        ensures after { OnOk result (self.new ≡ with_life_ended (all_handled workers.items) self.old) }
+        ensures drives { (rules : Rules) (packets : List Packet) → Drives rules packets self.old → All (λ w. IsOf (λ s z. S.pick s z) rules w) workers.items → OnOk result (Drives rules packets self.new) }
         ensures command { OnOk result (commands_of self.new.events ≡ commands_of self.old.events ++ Restart ∷ []) }
         ensures kept { OnOk result ((self.new.node ≡ self.old.node) × (self.new.ring ≡ self.old.ring)) }
         ensures newest { OnOk result (self.new.newest ≡ self.old.newest) }
-        ensures left { IfOk result (λ left. left ≡ left_over self.old.placed (all_handled workers.now) % 2 ^ 64) }
+        ensures left { IfOk result (λ left. left ≡ left_over self.old.placed (all_handled workers.items) % 2 ^ 64) }
         ensures lost { IfOk result (λ left. (losses self.new.outcomes ≡ losses self.old.outcomes ++ left ∷ []) × LosesNone drained left) }
     {
         let left = self.close_life(workers, drained)?;
@@ -314,14 +324,14 @@ impl Journal {
     /// `end_life`.
     pub fn end<S: Scheme, T: ConnTable>(
         &mut self,
-        workers: &[WorkerRecord<S, T>],
+        workers: Vec<WorkerRecord<S, T>>,
         drained: bool,
     ) -> Result<(), LifeFault>
-        ensures judged { JudgesLife drained self.old (all_handled workers.now) result }
+        ensures judged { JudgesLife drained self.old (all_handled workers.items) result }
         ensures unchanged { IfErr result (λ fault. UnlessMemory fault (self.new ≡ self.old)) }
-        ensures after { OnOk result (self.new ≡ with_all_serves 0 (all_handled workers.now) self.old) }
-        ensures tells { (rules : Rules) (packets : List Packet) → Drives rules packets self.old → All (λ w. IsOf (λ s z. S.pick s z) rules w) workers.now → OnOk result (Tells rules packets self.new) }
-        ensures drained { (rules : Rules) (packets : List Packet) → Drives rules packets self.old → All (λ w. IsOf (λ s z. S.pick s z) rules w) workers.now → IsTrue drained → OnOk result (NoneWaits (past_of rules packets self.new.node self.new.events)) }
+        ensures after { OnOk result (self.new ≡ with_all_serves 0 (all_handled workers.items) self.old) }
+        ensures tells { (rules : Rules) (packets : List Packet) → Drives rules packets self.old → All (λ w. IsOf (λ s z. S.pick s z) rules w) workers.items → OnOk result (Tells rules packets self.new) }
+        ensures drained { (rules : Rules) (packets : List Packet) → Drives rules packets self.old → All (λ w. IsOf (λ s z. S.pick s z) rules w) workers.items → IsTrue drained → OnOk result (NoneWaits (past_of rules packets self.new.node self.new.events)) }
         ensures served { OnOk result (IsServed self.old self.new) }
     {
         match self.close_life(workers, drained) {

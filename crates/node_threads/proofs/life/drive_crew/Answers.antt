@@ -29,7 +29,7 @@ returns-in_err-progress-in-Ok g c =
     let asked : Asked _ _ = asked_by plan.setup.now plan.catalogue.now plan.packets.now plan.node plan.ring plan.paced plan.commands.now in
     let told : LifeTells (λ x y. g.S.PartialEq.eq x y) (rules_for (λ s z. g.S.Scheme.pick s z) (λ h. g.H.FlowHash.plain h) c.args.life.asked.setup c.args.life.asked.catalogue) c.args.life.asked c.args.life.start e
     = subst (λ (v : LifeView _ _). LifeTells (λ x y. g.S.PartialEq.eq x y) (rules_for (λ s z. g.S.Scheme.pick s z) (λ h. g.H.FlowHash.plain h) v.asked.setup v.asked.catalogue) v.asked v.start e) (sym (sym c.open-life.ensures.life ∙ c.parts-progress.ensures.view))
-    (end_tells (λ x y. g.S.PartialEq.eq x y) (rules_for (λ s z. g.S.Scheme.pick s z) (λ h. g.H.FlowHash.plain h) asked.setup asked.catalogue) asked c.parts-progress.result.1.at c.in_ok-driven-in-Ok.field-0.at c.in_ok-driven-in-Ok.field-0.journal _ c.end_driven.result e c.in_err-progress-in-Ok.was (IfOk-at_ok _ c.in_ok-driven-in-Ok.was c.drive-driven.ensures.driven) c.end_driven.ensures.judged) in
+    (end_tells (λ x y. g.S.PartialEq.eq x y) (rules_for (λ s z. g.S.Scheme.pick s z) (λ h. g.H.FlowHash.plain h) asked.setup asked.catalogue) asked c.parts-progress.result.1.at c.in_ok-driven-in-Ok.driven.at c.in_ok-driven-in-Ok.driven.journal _ c.end_driven.result e c.in_err-progress-in-Ok.was (IfOk-at_ok _ c.in_ok-driven-in-Ok.was c.drive-driven.ensures.driven) c.end_driven.ensures.judged) in
     match_exit _ _ c.from_residual-in_err-progress-in-Ok.result e c.from_residual-in_err-progress-in-Ok.ensures.1 told
 
 pub returns : goal.returns
@@ -41,3 +41,6 @@ returns g c =
       counts = λ read. c.in_ok-progress-in-Ok.ensures.counts read;
       unmarked = λ paced. c.in_ok-progress-in-Ok.ensures.unmarked (IfOk-at_ok _ c.in_ok-driven-in-Ok.was (c.drive-driven.ensures.unmarked paced (c.parts-progress.ensures.begins.unmarked paced)));
     })
+
+pub returns-in_err-sent-in-Ok : goal.returns-in_err-sent-in-Ok
+returns-in_err-sent-in-Ok g c = match_exit _ _ c.from_residual-in_err-sent-in-Ok.result Memory c.from_residual-in_err-sent-in-Ok.ensures.1 (refusal_tells (λ x y. g.S.PartialEq.eq x y) (rules_for (λ s z. g.S.Scheme.pick s z) (λ h. g.H.FlowHash.plain h) c.args.life.asked.setup c.args.life.asked.catalogue) c.args.life.asked c.args.life.start Memory tt)

@@ -1,4 +1,5 @@
 use Rattle.std.proofs.Common.{◌≤◌, length, map}
+use Rattle.thread_records.specs.Lean.{send_of, sends_told}
 use Rattle.thread_records.specs.Merges.{lives_of, AreMerges}
 use Rattle.thread_records.proofs.Gathered.{AreMergesFrom}
 use Rattle.thread_records.proofs.merging.merged.Given as goal
@@ -7,6 +8,6 @@ abbrev pub invariant-loop-at : goal.invariant-loop-at
 invariant-loop-at l = record {
   places : l.start ≤ l.at;
   lives : l.life ≤ length l.sent;
-  rest : AreMergesFrom (λ v. v.items) l.sent l.outcomes l.life l.start l.at → AreMerges (map (λ v. v.items) l.sent) (lives_of l.outcomes);
-  whole : AreMerges (map (λ v. v.items) l.sent) (lives_of l.outcomes) → AreMergesFrom (λ v. v.items) l.sent l.outcomes l.life l.start l.at;
+  rest : AreMergesFrom (λ v. map (λ n. send_of l.outcomes n) v.items) l.sent l.outcomes l.life l.start l.at → AreMerges (sends_told l.outcomes l.sent) (lives_of l.outcomes);
+  whole : AreMerges (sends_told l.outcomes l.sent) (lives_of l.outcomes) → AreMergesFrom (λ v. map (λ n. send_of l.outcomes n) v.items) l.sent l.outcomes l.life l.start l.at;
 }

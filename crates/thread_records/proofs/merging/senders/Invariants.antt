@@ -5,6 +5,5 @@ use Rattle.thread_records.proofs.merging.senders.Given as goal
 abbrev pub invariant-loop-one : goal.invariant-loop-one
 invariant-loop-one l = record {
   from : all_from l.limit (take l.one-index l.list) ≡ true;
-  more : l.least ≤ l.limit;
   limit : l.limit ≤ 65536;
 }

@@ -1,6 +1,10 @@
-use Rattle.std.proofs.Common.{◌≡◌, take}
+use Rattle.std.proofs.Common.{◌≡◌, ◌++◌, List, reverse, vec_len}
+use Rattle.thread_records.specs.declared.step.Handled.{Handled}
 use Rattle.thread_records.specs.Ends.{with_serves}
 use Rattle.thread_records.proofs.journal.Journal.write_serves.Given as goal
 
 abbrev pub invariant-loop-one : goal.invariant-loop-one
-invariant-loop-one l = l.self ≡ with_serves l.worker (take l.one-index l.handled) l.fn.self
+invariant-loop-one l = (done : List Handled) × (l.fn.handled.items ≡ done ++ reverse l.rest.items) × (l.self ≡ with_serves l.worker done l.fn.self)
+
+abbrev pub decreases-loop-one : goal.decreases-loop-one
+decreases-loop-one l = vec_len l.rest

@@ -1,0 +1,123 @@
+//! A node's record as it is kept.
+ghost use Rattle.std.specs.Prelude.{◌≡◌, map, IfOk};
+ghost use Rattle.thread_records.specs.Lean.{send_of, sends_told, SameLists};
+
+use crate::nodes::NodeRecord;
+use cluster_node::{Event, Outcome};
+use std::alloc::{AllocError, Global};
+use std::fmt;
+use std::marker::Model;
+
+/// What a node did. A packet that was sent stands here by the number of its serving's event, and its outcome once, as that of the
+/// event. Contracts see the [`NodeRecord`] that is meant.
+#[derive(Drop)]
+pub struct LeanRecord {
+    events: Vec<Event>,
+    outcomes: Vec<Outcome>,
+    sent: Vec<Vec<u32>>,
+}
+
+impl Model for LeanRecord {
+    ghost use Rattle.thread_records.specs.declared.nodes.NodeRecord.{NodeRecord};
+    ghost use Rattle.thread_records.specs.Lean.{record_meant};
+
+    ghost Value = { NodeRecord };
+
+    ghost view = { λ l. record_meant l.events l.outcomes l.sent };
+}
+
+impl fmt::Debug for LeanRecord {
+    fn fmt<W: fmt::Write>(&self, f: &mut fmt::Formatter<W>) -> fmt::Result {
+        f.debug_struct("LeanRecord")
+            .field("events", &self.events)
+            .field("outcomes", &self.outcomes)
+            .field("sent", &self.sent)
+            .finish()
+    }
+}
+
+/// What the event of a number sent. Where there is no such event the outcome is one that sends nothing.
+pub(crate) fn send_of(outcomes: &[Outcome], number: u32) -> Outcome
+    ensures { result ≡ send_of outcomes.now number }
+{
+    match outcomes.get(number as usize) {
+        Some(outcome) => *outcome,
+        None => Outcome::Installed,
+    }
+}
+
+// What was sent in a life.
+fn opened_life(
+    alloc: Global,
+    outcomes: &[Outcome],
+    life: &[u32],
+) -> Result<Vec<Outcome>, AllocError>
+    ensures { IfOk result (λ v. v.items ≡ map (λ n. send_of outcomes.now n) life.now) }
+{
+    let mut list = Vec::with_capacity(alloc, life.len())?;
+    for number in life {
+        list.push(send_of(outcomes, *number))?;
+    }
+    Ok(list)
+}
+
+// What was sent in each life.
+fn opened(
+    alloc: Global,
+    outcomes: &[Outcome],
+    sent: &[Vec<u32>],
+) -> Result<Vec<Vec<Outcome>>, AllocError>
+    ensures { IfOk result (λ v. map (λ l. l.items) v.items ≡ sends_told outcomes.now sent.now) }
+{
+    let mut lists = Vec::with_capacity(alloc, sent.len())?;
+    for life in sent {
+        lists.push(opened_life(alloc, outcomes, life.as_slice())?)?;
+    }
+    Ok(lists)
+}
+
+impl LeanRecord {
+    // The record of these lists.
+    pub(crate) fn of(events: Vec<Event>, outcomes: Vec<Outcome>, sent: Vec<Vec<u32>>) -> LeanRecord
+        ensures events { result.events ≡ events }
+        ensures outcomes { result.outcomes ≡ outcomes }
+        ensures sent { map (λ v. v.items) result.sent.items ≡ sends_told outcomes.items sent.items }
+    {
+        LeanRecord {
+            events,
+            outcomes,
+            sent,
+        }
+    }
+
+    /// The node's events: in each life the driver's steps, then the servings of worker 0, 1 and so on, then the restart.
+    pub fn events(&self) -> &[Event]
+        ensures { result.now ≡ self.now.events.items }
+    {
+        self.events.as_slice()
+    }
+
+    /// The outcome of each event.
+    pub fn outcomes(&self) -> &[Outcome]
+        ensures { result.now ≡ self.now.outcomes.items }
+    {
+        self.outcomes.as_slice()
+    }
+
+    /// The same record with its lists written out.
+    pub fn open(self, alloc: Global) -> Result<NodeRecord, AllocError>
+        ensures { IfOk result (λ r. SameLists r self) }
+    {
+        let LeanRecord {
+            events,
+            outcomes,
+            sent,
+        } = self;
+        let sent = opened(alloc, outcomes.as_slice(), sent.as_slice())?;
+        Ok(NodeRecord {
+            events,
+            outcomes,
+            sent,
+        })
+    }
+}
