@@ -1,5 +1,5 @@
 #!/usr/bin/env python3
-"""Tests of what is shown while a capture is read: how far it is, on a terminal that this makes, and never in a pipe.
+"""Tests of what is shown while a capture is read or written: how far it is, on a terminal that this makes, and never in a pipe.
 
 What stands on the terminal is worked out from the bytes that it got, as a terminal does it. The last line is 'N passed, N failed'.
 """
@@ -26,6 +26,10 @@ COMMANDS = {
 # What a status says, of a file that has a length and of another.
 SHARED = re.compile(r"(\d+) packets, (\d+) % of INPUT, (\d+) a second, (?:\d+ h )?(?:\d+ min ?)?(?:\d+ s )?left")
 PLAIN = re.compile(r"(\d+) packets, (\d+) a second")
+# What a status says of what `run` writes.
+SENT = re.compile(r"(\d+) packets sent, (\d+) a second")
+# What is said behind the reading.
+BEHIND = {"simulate": "", "run": ", the balancers run", "explain": "", "scenario": ""}
 CLEARED = "\r\x1b[K"
 
 
@@ -105,8 +109,9 @@ def test_from_the_beginning_on():
             found = statuses(asked[2], SHARED)
             check(f"{name}, the share", found == [(whole, 100, found[0][2] if found else 0)], repr(asked))
             check(f"{name}, no trace", screen(asked[2]) == screen(quiet[2]) and asked[2].count(CLEARED) >= 2, repr(asked))
-            read = f"{whole} packets, INPUT is read" in asked[2]
+            read = f"{CLEARED}{whole} packets, INPUT is read{BEHIND[name]}{CLEARED}" in asked[2]
             check(f"{name}, at the end", read == (name in ("simulate", "run")), repr(asked))
+            check(f"{name}, what is written", len(statuses(asked[2], SENT)) == (name == "run"), repr(asked))
 
 
 def test_standard_input():
@@ -162,6 +167,41 @@ def test_a_file_that_is_written_slowly():
         check("a slow reader: no trace", screen(shown)[-1] == "", repr(screen(shown)[-2:]))
 
 
+def test_what_run_writes():
+    """`run` writes when its threads are done, and shows how many packets it has written and how fast: from half a second on, at most
+    five times a second, and nothing of it stays. A pipe gets none of it."""
+    with tempfile.TemporaryDirectory() as made:
+        folder = pathlib.Path(made)
+        example(folder)
+        (folder / "in.pcap").write_bytes(many(60_000))
+        text = (folder / "s.toml").read_text()
+        steps = 'steps = ["install 0 1", "install 1 1", "take 60000"]\n'
+        (folder / "s.toml").write_text(re.sub(r"(?ms)^steps = .*?\]\n", steps, text))
+        words = ["run", "--pace", "s.toml", "in.pcap", "out.pcap"]
+        plain = subprocess.run([PROGRAM, *words], cwd=folder, capture_output=True, check=False)
+        piped = subprocess.run([PROGRAM, words[0], "--progress", *words[1:]], cwd=folder, capture_output=True, check=False)
+        check("what run writes: a pipe", piped.stderr == plain.stderr == b"" and piped.returncode == 0, repr(piped.stderr[:300]))
+        written = model.read_capture((folder / "out.pcap").read_bytes())[1]
+        (folder / "out.pcap").unlink()
+        os.mkfifo(folder / "out.pcap")
+        terminal = Terminal(words, folder)
+        sent = b""
+        with (folder / "out.pcap").open("rb", buffering=0) as pipe:
+            while piece := pipe.read(65536):
+                sent += piece
+                time.sleep(0.03)
+        status, out, shown = terminal.ended()
+        check("what run writes: the run", (status, out) == (0, plain.stdout) and len(model.read_capture(sent)[1]) == len(written), f"{status} {out!r}")
+        found = [packets for packets, _ in statuses(shown, SENT)]
+        check("what run writes: it goes up", len(found) >= 3 and found == sorted(set(found)) and found[-1] <= len(written), repr(found))
+        times = [at for at, piece in terminal.pieces if "sent" in piece]
+        most = max((sum(at <= other < at + 1 for other in times) for at in times), default=0)
+        check("what run writes: at most five a second", 0 < most <= 5, repr(times))
+        read = shown[: shown.rfind("INPUT") + 1]  # empty where the reading was too short to be shown
+        check("what run writes: behind the reading", "sent" not in read, repr(shown[:500]))
+        check("what run writes: no trace", screen(shown)[-1] == "", repr(screen(shown)[-2:]))
+
+
 def test_pipes_and_files():
     """A pipe gets nothing of it, asked or not. A file gets a line where INPUT is read, if that is asked for."""
     for name, words in COMMANDS.items():
@@ -172,7 +212,7 @@ def test_pipes_and_files():
             plain = subprocess.run([PROGRAM, *words], cwd=folder, capture_output=True, check=False)
             piped = subprocess.run([PROGRAM, *asked], cwd=folder, capture_output=True, check=False)
             check(f"{name}, into a pipe", piped.stderr == plain.stderr and piped.stdout == plain.stdout, repr(piped))
-            for line, form in [("", words), ("packets, INPUT is read\n", asked)]:
+            for line, form in [("", words), (f"packets, INPUT is read{BEHIND[name]}\n", asked)]:
                 with (folder / "log").open("wb") as log:
                     done = subprocess.run([PROGRAM, *form], cwd=folder, stdout=subprocess.PIPE, stderr=log, check=False)
                 text = (folder / "log").read_text()

@@ -1,19 +1,24 @@
-//! Files and standard streams that are opened at the first call, and remember what the system refused them.
+//! Files and standard streams that are opened at the first call, and remember what the system refused them. An input is a device.
 #![tactic(auto)]
 
-ghost use Rattle.std.specs.Prelude.{◌≡◌};
-ghost use Rattle.std.specs.Io.{ReadsAtMost, WritesAtMost};
+mod ahead;
 
-use read_progress::{Showing, Watched};
+ghost use Rattle.std.specs.Prelude.{◌≡◌, ◌<◌, ◌^◌, Ok, OnOk, MatchResult};
+ghost use Rattle.std.specs.Io.{ReadsAtMost, WritesAtMost};
+ghost use Rattle.pcap_file.specs.Device.{failures_after, interruptions_after};
+
+use crate::ahead::{Ahead, PIECE};
+use pcap_file::{CallCounts, DeviceFault, Source};
+use read_progress::{Showing, Watched, WatchedWriter};
 use std::alloc::Global;
 use std::fs::{File, metadata};
 use std::io;
-use std::io::{BufReader, BufWriter, ErrorKind, Printer, Read, Stdin, Write};
+use std::io::{BufWriter, ErrorKind, Printer, Read, Stdin, Write};
 use std::os::fd::AsRawFd;
 use std::os::unix::fs::{FileTypeExt, MetadataExt};
 use thiserror::Error;
 
-/// The bytes that a file's buffer holds.
+/// The bytes that an output's buffer holds.
 const BUFFER: usize = 65_536;
 
 /// The descriptor of standard error, the last of the standard streams.
@@ -199,16 +204,28 @@ pub fn is_standard_output(rt: &HostRuntime, path: &str) -> bool {
 // What an input is read from.
 #[derive(Drop)]
 enum Reader<'a> {
-    File(BufReader<Watched<'a, File>>),
-    Standard(BufReader<Watched<'a, Stdin>>),
+    File(Watched<'a, File>),
+    Standard(Watched<'a, Stdin>),
 }
 
-/// An input that is opened at the first read. It may show how far it is.
+impl Read for Reader<'_> {
+    #[inline(always)]
+    fn read(&mut self, buf: &mut [u8]) -> io::Result<usize> {
+        match self {
+            Reader::File(reader) => reader.read(buf),
+            Reader::Standard(reader) => reader.read(buf),
+        }
+    }
+}
+
+/// An input that is opened at the first read, and read a piece at a time. It may show how far it is.
 #[derive(Drop)]
 pub struct InputFile<'a> {
     rt: &'a HostRuntime,
     path: &'a str,
     showing: Option<Showing>,
+    ahead: Ahead,
+    counts: CallCounts,
     reader: Option<Reader<'a>>,
     head: FirstBytes,
     refusal: Option<Refusal>,
@@ -221,51 +238,48 @@ impl<'a> InputFile<'a> {
             rt,
             path,
             showing,
+            ahead: Ahead::new(rt.alloc()),
+            counts: CallCounts::none(),
             reader: None,
             head: FirstBytes::empty(),
             refusal: None,
         }
     }
 
-    // Standard input, which has no length of its own.
-    fn open_standard(&self) -> io::Result<Reader<'a>> {
-        let watched = Watched::new(self.rt, self.rt.stdin(), self.showing, None);
-        let reader = BufReader::with_capacity(self.rt.alloc(), BUFFER, watched)?;
-        Ok(Reader::Standard(reader))
+    // The bytes that it has, where that is to be shown.
+    fn length(&self) -> Option<u64> {
+        match self.showing {
+            Some(_) => length_of(self.rt, self.path),
+            None => None,
+        }
     }
 
+    // Standard input has no length of its own.
     fn open(&self) -> io::Result<Reader<'a>> {
         if is_standard(self.path) {
-            return self.open_standard();
+            let watched = Watched::new(self.rt, self.rt.stdin(), self.showing, None);
+            return Ok(Reader::Standard(watched));
         }
         let file = File::open(self.rt, self.path)?;
-        let length = length_of(self.rt, self.path);
-        let watched = Watched::new(self.rt, file, self.showing, length);
-        let reader = BufReader::with_capacity(self.rt.alloc(), BUFFER, watched)?;
-        Ok(Reader::File(reader))
+        let watched = Watched::new(self.rt, file, self.showing, self.length());
+        Ok(Reader::File(watched))
     }
 
     /// Takes from a terminal what is shown of how far it is.
     pub fn clear(&mut self) {
         match &mut self.reader {
-            Some(Reader::File(reader)) => reader.get_mut().clear(),
-            Some(Reader::Standard(reader)) => reader.get_mut().clear(),
+            Some(Reader::File(reader)) => reader.clear(),
+            Some(Reader::Standard(reader)) => reader.clear(),
             None => {}
         }
     }
 
     fn opened(&mut self) -> io::Result<()> {
-        match self.open() {
-            Ok(reader) => {
-                self.reader = Some(reader);
-                self.refusal = None;
-                Ok(())
-            }
-            Err(error) => {
-                self.refusal = Some(Refusal::of(&error));
-                Err(error)
-            }
-        }
+        let reader = self.open()?;
+        self.ahead = Ahead::with_room(self.rt.alloc())?;
+        self.reader = Some(reader);
+        self.refusal = None;
+        Ok(())
     }
 
     /// What opening the file was refused with, if it was.
@@ -286,57 +300,137 @@ impl<'a> InputFile<'a> {
         self.head
     }
 
-    #[inline(always)]
+    // Opens the file where it isn't open yet.
+    fn open_once(&mut self) -> io::Result<()> {
+        if self.reader.is_some() {
+            return Ok(());
+        }
+        let opened = self.opened();
+        noted(opened, &mut self.refusal)
+    }
+
+    // Reads into a place itself.
+    fn read_into(&mut self, buf: &mut [u8]) -> io::Result<usize>
+        ensures { ReadsAtMost result buf.new }
+    {
+        let Some(reader) = &mut self.reader else {
+            return Ok(0);
+        };
+        let read = reader.read(buf);
+        if let Ok(count) = &read {
+            self.head.note(buf.get(..*count).unwrap_or(&[]));
+        }
+        noted(read, &mut self.refusal)
+    }
+
+    // Reads the next piece.
+    fn read_piece(&mut self) -> io::Result<()> {
+        let Some(reader) = &mut self.reader else {
+            return Ok(());
+        };
+        let read = reader.read(self.ahead.room());
+        let count = noted(read, &mut self.refusal)?;
+        self.ahead.hold(count);
+        self.head.note(self.ahead.waiting());
+        Ok(())
+    }
+
+    // Reads where fewer bytes are ahead than there is room for. What isn't smaller than a piece is read by itself.
     fn read_on(&mut self, buf: &mut [u8]) -> io::Result<usize>
         ensures { ReadsAtMost result buf.new }
     {
-        match &mut self.reader {
-            Some(Reader::File(reader)) => reader.read(buf),
-            Some(Reader::Standard(reader)) => reader.read(buf),
-            None => Ok(0),
+        self.open_once()?;
+        if !self.ahead.has(1) {
+            if buf.len() >= PIECE {
+                return self.read_into(buf);
+            }
+            self.read_piece()?;
         }
+        Ok(self.ahead.give(buf))
+    }
+
+    // The same, as a device answers it.
+    #[inline(never)]
+    fn read_counted(&mut self, buf: &mut [u8]) -> Result<usize, DeviceFault>
+        ensures bound { ReadsAtMost result buf.new }
+        ensures failures { self.new.counts.failures ≡ failures_after self.old.counts.failures result }
+        ensures few { self.new.counts.failures < 2 ^ 64 }
+        ensures interruptions { self.new.counts.interruptions ≡ interruptions_after self.old.counts.interruptions result }
+        ensures calls { self.new.counts.calls ≡ self.old.counts.calls }
+    {
+        let mut counts = self.counts;
+        let read = self.read_on(buf);
+        let read = counted(&mut counts, read);
+        self.counts = counts;
+        read
     }
 }
 
-impl Read for InputFile<'_> {
+// What a device answers in the place of a file.
+fn counted(counts: &mut CallCounts, read: io::Result<usize>) -> Result<usize, DeviceFault>
+    ensures count { MatchResult read (λ n. result ≡ Ok n) (λ _. OnOk result ⊥) }
+    ensures failures { counts.new.failures ≡ failures_after counts.old.failures result }
+    ensures few { counts.new.failures < 2 ^ 64 }
+    ensures interruptions { counts.new.interruptions ≡ interruptions_after counts.old.interruptions result }
+    ensures calls { counts.new.calls ≡ counts.old.calls }
+{
+    match read {
+        Ok(count) => {
+            let _failures = counts.failures;
+            Ok(count)
+        }
+        Err(error) => Err(counts.fault(error.kind() == ErrorKind::Interrupted)),
+    }
+}
+
+impl Source for InputFile<'_> {
+    ghost use Rattle.std.specs.Prelude.{None};
+    ghost use Rattle.pcap_file.specs.Host.{taped};
+
+    ghost tape = { λ f. taped None f.counts };
+
     #[inline(always)]
-    fn read(&mut self, buf: &mut [u8]) -> io::Result<usize> {
-        if self.reader.is_none() {
-            self.opened()?;
+    fn read(&mut self, buf: &mut [u8]) -> Result<usize, DeviceFault> {
+        self.counts.call();
+        if self.ahead.has(buf.len()) {
+            return Ok(self.ahead.give(buf));
         }
-        let read = self.read_on(buf);
-        if let Ok(length) = &read {
-            self.head.note(buf.get(..*length).unwrap_or(&[]));
-        }
-        noted(read, &mut self.refusal)
+        self.read_counted(buf)
     }
 }
 
 // What an output is written to.
 #[derive(Drop)]
 enum Writer<'a> {
-    File(BufWriter<File>),
-    Standard(BufWriter<Printer<'a, HostRuntime>>),
+    File(BufWriter<WatchedWriter<'a, File>>),
+    Standard(BufWriter<WatchedWriter<'a, Printer<'a, HostRuntime>>>),
 }
 
 /// An output that is made, or emptied, at the first write. It is refused where it is one of the files that are read, whatever
-/// each of them is called: standard input and standard output may be files too.
+/// each of them is called: standard input and standard output may be files too. It may show how far it is.
 #[derive(Drop)]
 pub struct OutputFile<'a> {
     rt: &'a HostRuntime,
     path: &'a str,
     read: [&'a str; 2],
+    showing: Option<Showing>,
     writer: Option<Writer<'a>>,
     refusal: Option<Refusal>,
 }
 
 impl<'a> OutputFile<'a> {
-    /// The file of this path, not opened yet, beside the paths of files that are read.
-    pub fn new(rt: &'a HostRuntime, path: &'a str, read: [&'a str; 2]) -> OutputFile<'a> {
+    /// The file of this path, not opened yet, beside the paths of files that are read. How far it is, is shown so.
+    pub fn new(
+        rt: &'a HostRuntime,
+        path: &'a str,
+        read: [&'a str; 2],
+        showing: Option<Showing>,
+    ) -> OutputFile<'a> {
         OutputFile {
             rt,
             path,
             read,
+            showing,
             writer: None,
             refusal: None,
         }
@@ -358,11 +452,14 @@ impl<'a> OutputFile<'a> {
             return Err(io::Error::from(ErrorKind::InvalidInput));
         }
         if is_standard(self.path) {
-            let writer = BufWriter::with_capacity(alloc, BUFFER, io::writer(self.rt))?;
+            let watched = WatchedWriter::new(self.rt, io::writer(self.rt), self.showing);
+            let writer = BufWriter::with_capacity(alloc, BUFFER, watched)?;
             return Ok(Writer::Standard(writer));
         }
         let file = File::create(self.rt, self.path)?;
-        Ok(Writer::File(BufWriter::with_capacity(alloc, BUFFER, file)?))
+        let watched = WatchedWriter::new(self.rt, file, self.showing);
+        let writer = BufWriter::with_capacity(alloc, BUFFER, watched)?;
+        Ok(Writer::File(writer))
     }
 
     fn opened(&mut self) -> io::Result<()> {
@@ -390,6 +487,15 @@ impl<'a> OutputFile<'a> {
     /// What the system answered at the last refusal.
     pub fn refusal(&self) -> Option<Refusal> {
         self.refusal
+    }
+
+    /// Takes from a terminal what is shown of how far it is.
+    pub fn clear(&mut self) {
+        match &mut self.writer {
+            Some(Writer::File(writer)) => writer.get_mut().clear(),
+            Some(Writer::Standard(writer)) => writer.get_mut().clear(),
+            None => {}
+        }
     }
 
     #[inline(always)]
@@ -538,14 +644,22 @@ impl<'a> ReportText<'a> {
         noted(printed, &mut self.refusal)
     }
 
+    // Lets go of what comes before the end of the text. Where memory is refused nothing is kept.
+    fn shorten(&mut self) {
+        let from = self.text.len().saturating_sub(END);
+        let end = Vec::from_slice(self.rt.alloc(), self.text.get(from..).unwrap_or(&[]));
+        self.text = end.unwrap_or(Vec::new(self.rt.alloc()));
+    }
+
     // Keeps the end of the text, with what was printed now. Where memory is refused nothing is kept of what came before.
     fn keep_end(&mut self, bytes: &[u8]) {
-        if self.text.len().saturating_add(bytes.len()) > 2 * END {
-            let from = self.text.len().saturating_sub(END);
-            let end = Vec::from_slice(self.rt.alloc(), self.text.get(from..).unwrap_or(&[]));
-            self.text = end.unwrap_or(Vec::new(self.rt.alloc()));
+        if bytes.len() >= END {
+            self.text.clear();
+        } else if self.text.len().saturating_add(bytes.len()) > 2 * END {
+            self.shorten();
         }
-        if self.text.write(bytes).is_err() {
+        let from = bytes.len().saturating_sub(END);
+        if self.text.write(bytes.get(from..).unwrap_or(&[])).is_err() {
             self.text.clear();
         }
     }

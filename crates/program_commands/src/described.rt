@@ -32,7 +32,7 @@ where
         Err(trouble) => Err(trouble),
     };
     let voice = Voice::of(rt, matches);
-    ended(rt, voice, paths, Played::InTurn, text, &outcome)
+    ended(rt, voice, paths, Played::NotAtAll, text, &outcome)
 }
 
 /// The command `table` over a scenario.

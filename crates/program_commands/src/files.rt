@@ -5,6 +5,7 @@ ghost use Rattle.command_faults.specs.declared.fault.CliFault.TheVariants.{NoRan
 use crate::reasons::Trouble;
 use change_share::ChangeCounts;
 use command_faults::CliFault;
+use connection_starts::Ordinals;
 use connection_table::TableKey;
 use lazy_files::{
     FileFault, InputFile, OutputFile, Refusal, ReportText, StandardOutput, is_standard,
@@ -12,8 +13,8 @@ use lazy_files::{
 };
 use padded_capture::{CaptureSource, Padded};
 use pcap_file::{Frame, FromRead, PcapFault, ToWrite, read_record_into, read_start};
-use read_progress::Showing;
-use scenario_commands::answer_keyed;
+use read_progress::{AtEnd, Showing};
+use scenario_commands::{answer_keyed, ordinals_in};
 use scenario_faults::PlacedFault;
 use scenario_sketch::sketch;
 use simulate_scenario::Query;
@@ -23,11 +24,11 @@ use std::io::{BufReader, ErrorKind, Read, Write};
 use std::random::RandomSource;
 
 /// INPUT's device, which may pad what a snap length cut.
-pub type CaptureFile<'x> = CaptureSource<FromRead<InputFile<'x>>>;
+pub type CaptureFile<'x> = CaptureSource<InputFile<'x>>;
 
 // INPUT, with or without zeros where bytes are missing.
 fn capture_file<'x>(rt: &'x HostRuntime, path: &'x str, reading: ReadingManner) -> CaptureFile<'x> {
-    let input = FromRead::new(InputFile::new(rt, path, reading.showing));
+    let input = InputFile::new(rt, path, reading.showing);
     if reading.is_padded {
         CaptureSource::Padded(Padded::new(input))
     } else {
@@ -173,8 +174,10 @@ fn finished<'x>(
     report: ReportText<'x>,
     outcome: Result<Option<ChangeCounts>, PlacedFault>,
 ) -> Result<Printed<'x>, Trouble> {
+    let written = flushed(&mut output);
     input.clear();
-    let stopped = match (flushed(&mut output), outcome) {
+    output.clear();
+    let stopped = match (written, outcome) {
         (Err(fault), _) => PlacedFault { fault, place: None },
         (Ok(()), Ok(counts)) => {
             if !report.is_printed() {
@@ -206,6 +209,14 @@ pub(crate) struct Manner {
 }
 
 impl Manner {
+    // How it is shown how far the writing is. Where the capture is written as it is read, the reading shows it.
+    fn writing(self) -> Option<Showing> {
+        match self.reading.showing {
+            Some(showing) if showing.at_end == AtEnd::Running => Some(showing),
+            _ => None,
+        }
+    }
+
     // Where the report goes.
     fn report<'x>(self, rt: &'x HostRuntime, output: &str) -> ReportText<'x> {
         if self.is_streamed {
@@ -239,17 +250,40 @@ where
 {
     let key = table_key(rt)?;
     let mut input = capture_file(rt, files.input, manner.reading);
-    let mut output = ToWrite::new(OutputFile::new(rt, files.output, files.read()));
+    let file = OutputFile::new(rt, files.output, files.read(), manner.writing());
+    let mut output = ToWrite::new(file);
     let mut report = ToWrite::new(manner.report(rt, files.output));
     let outcome = play(key, text, &mut input, &mut output, &mut report);
     finished(
         rt,
         files,
-        input.into_inner().into_inner(),
+        input.into_inner(),
         output.into_inner(),
         report.into_inner(),
         outcome,
     )
+}
+
+/// The ordinals of the records of INPUT, which is read whole for them.
+pub(crate) fn ordinals_of(
+    rt: &HostRuntime,
+    path: &str,
+    reading: ReadingManner,
+    key: TableKey,
+    text: &[u8],
+    idle: Option<u64>,
+) -> Result<Ordinals, PlacedFault> {
+    let mut input = capture_file(rt, path, reading);
+    let found = ordinals_in(rt.alloc(), key, text, idle, &mut input);
+    let mut input = input.into_inner();
+    input.clear();
+    match found {
+        Ok(ordinals) => Ok(ordinals),
+        Err(PlacedFault { fault, place }) => {
+            let fault = of_input(fault, &input);
+            Err(PlacedFault { fault, place })
+        }
+    }
 }
 
 /// What became of a command that printed on standard output.
@@ -296,11 +330,7 @@ pub(crate) fn explain_files(
     let mut input = capture_file(rt, files.input, reading);
     let mut report = ToWrite::new(StandardOutput::new(rt));
     let outcome = answer_keyed(rt.alloc(), key, text, asked, &mut input, &mut report);
-    outcome_over(
-        outcome,
-        input.into_inner().into_inner(),
-        &report.into_inner(),
-    )
+    outcome_over(outcome, input.into_inner(), &report.into_inner())
 }
 
 /// The command `scenario` over a file.
@@ -314,7 +344,7 @@ pub(crate) fn sketch_file(
     let mut out = ToWrite::new(StandardOutput::new(rt));
     let outcome = sketch(rt.alloc(), key, &mut input, &mut out);
     let outcome = outcome.map_err(|fault| PlacedFault { fault, place: None });
-    outcome_over(outcome, input.into_inner().into_inner(), &out.into_inner())
+    outcome_over(outcome, input.into_inner(), &out.into_inner())
 }
 
 /// How many whole records are before the one at which reading a capture stops. Standard input can't be read again.

@@ -1,7 +1,7 @@
 //! The commands that play a scenario on one thread, from what the command line says, and the end of each command over files.
 use crate::files::{
-    CaptureFile, Manner, Paths, Printed, ReadingManner, between_files, explain_files, outcome_of,
-    read_scenario, records_before, sketch_file,
+    CaptureFile, Manner, Paths, Printed, ReadingManner, between_files, explain_files, ordinals_of,
+    outcome_of, read_scenario, records_before, sketch_file,
 };
 use crate::reasons::{Files, Trouble, reason};
 use crate::showing::showing_of;
@@ -12,18 +12,19 @@ use clap::ArgMatches;
 use command_faults::CliFault;
 use connection_table::TableKey;
 use json_lines::Form;
-use lazy_files::{OutputFile, ReportText, StandardOutput};
+use lazy_files::{OutputFile, ReportText, StandardOutput, is_pipe, is_standard};
 use node_part::PartSetup;
 use pcap_file::{PcapFault, ToWrite};
+use read_progress::AtEnd;
 use report_advice::{advice_of, up_to_report};
 use rollout_order::order;
 use rollout_plan::plan_as;
 use scenario::{Played, read};
-use scenario_commands::{simulate_listed, simulate_part};
+use scenario_commands::{simulate_listed, simulate_part, simulate_turned};
 use scenario_faults::PlacedFault;
 use scenario_warnings::{warning_text, warnings};
 use shown_text::shown;
-use simulate_scenario::{Listing, Query, TwoEvents, Wanted};
+use simulate_scenario::{Listing, Query, TurnedListing, TwoEvents, Wanted};
 use std::alloc::AllocError;
 use std::io::Write;
 
@@ -41,11 +42,11 @@ fn reading_of(
     rt: &HostRuntime,
     matches: &ArgMatches<'_>,
     prints: bool,
-    stays: bool,
+    at_end: AtEnd,
 ) -> ReadingManner {
     ReadingManner {
         is_padded: matches.get_str("cut").is_some(),
-        showing: showing_of(rt, matches, prints, stays),
+        showing: showing_of(rt, matches, prints, at_end),
     }
 }
 
@@ -209,8 +210,12 @@ where
     };
     let (text, read) = read_scenario(rt, paths.scenario);
     let text = text.as_slice();
+    let at_end = match played {
+        Played::OnThreads => AtEnd::Running,
+        _ => AtEnd::Read,
+    };
     let manner = Manner {
-        reading: reading_of(rt, matches, is_streamed, true),
+        reading: reading_of(rt, matches, is_streamed, at_end),
         is_streamed,
     };
     let done = match read {
@@ -240,10 +245,63 @@ pub fn asks_summary(matches: &ArgMatches<'_>) -> bool {
     matches.get_flag("summary") || matches.get_str("fail-above").is_some()
 }
 
-/// The command `simulate`.
-pub(crate) fn run_simulate(rt: &HostRuntime, matches: &ArgMatches<'_>) -> u8 {
-    let only = matches.get_one::<u16>("node");
-    let wanted = Wanted {
+// Whether flows that begin again are other connections, and after which time without a segment a SYN begins one again too.
+#[derive(Clone, Copy)]
+enum Starting {
+    Never,
+    Again(Option<u64>),
+}
+
+// The digits of a word as a number.
+fn number_of(word: &str) -> Option<u64> {
+    if !word.bytes().all(|byte| byte.is_ascii_digit()) {
+        return None;
+    }
+    word.parse::<u64>().ok()
+}
+
+// The microseconds of a word that names seconds, with up to six places behind a point.
+fn micros_of(word: &str) -> Option<u64> {
+    let (seconds, part) = match word.split_once('.') {
+        Some((seconds, part)) => (seconds, part),
+        None => (word, "0"),
+    };
+    if part.len() > 6 {
+        return None;
+    }
+    let mut micros = number_of(part)?;
+    for _ in part.len()..6 {
+        micros = micros.checked_mul(10)?;
+    }
+    number_of(seconds)?
+        .checked_mul(1_000_000)?
+        .checked_add(micros)
+}
+
+// What the command line says of flows that begin again. The error is of a time that isn't one.
+fn starting_of(matches: &ArgMatches<'_>) -> Result<Starting, ()> {
+    match matches.get_str("syn-after") {
+        Some(word) => match micros_of(word) {
+            Some(micros) => Ok(Starting::Again(Some(micros))),
+            None => Err(()),
+        },
+        None if matches.get_flag("syn") => Ok(Starting::Again(None)),
+        None => Ok(Starting::Never),
+    }
+}
+
+// Whether INPUT can't be read twice, though it has to be.
+fn lacks_second_reading(rt: &HostRuntime, matches: &ArgMatches<'_>, starting: Starting) -> bool {
+    let input = matches.get_str("input").unwrap_or("");
+    match starting {
+        Starting::Never => false,
+        Starting::Again(_) => is_standard(input) || is_pipe(rt, input),
+    }
+}
+
+// What is wanted of a run.
+fn wanted_of(matches: &ArgMatches<'_>) -> Wanted {
+    Wanted {
         list: matches.get_flag("list"),
         splits: matches.get_flag("splits"),
         places: matches.get_flag("where"),
@@ -251,7 +309,39 @@ pub(crate) fn run_simulate(rt: &HostRuntime, matches: &ArgMatches<'_>) -> u8 {
         nodes: matches.get_flag("per-node"),
         summary: asks_summary(matches),
         form: form_of(matches),
-    };
+    }
+}
+
+// The command `simulate`, where flows that begin again are other connections.
+fn run_turned(rt: &HostRuntime, matches: &ArgMatches<'_>, idle: Option<u64>) -> u8 {
+    let only = matches.get_one::<u16>("node");
+    let wanted = wanted_of(matches);
+    let path = matches.get_str("input").unwrap_or("");
+    let reading = reading_of(rt, matches, wanted.list, AtEnd::Gone);
+    between_captures(
+        rt,
+        matches,
+        Played::InTurn,
+        wanted.list,
+        |key, text, input, output, report| {
+            let ordinals = match ordinals_of(rt, path, reading, key, text, idle) {
+                Ok(ordinals) => ordinals,
+                Err(stopped) => return Err(stopped),
+            };
+            let pages = report;
+            let listing = Listing { wanted, pages };
+            let report = TurnedListing { listing, ordinals };
+            let part = PartSetup { only, whole: text };
+            let done = simulate_turned(rt.alloc(), key, part, input, output, report);
+            done.map(|(counts, _)| counts)
+        },
+    )
+}
+
+// The command `simulate`, where each flow is one connection.
+fn run_plain(rt: &HostRuntime, matches: &ArgMatches<'_>) -> u8 {
+    let only = matches.get_one::<u16>("node");
+    let wanted = wanted_of(matches);
     between_captures(
         rt,
         matches,
@@ -270,6 +360,28 @@ pub(crate) fn run_simulate(rt: &HostRuntime, matches: &ArgMatches<'_>) -> u8 {
             done.map(|(counts, _)| counts)
         },
     )
+}
+
+/// The command `simulate`.
+pub(crate) fn run_simulate(rt: &HostRuntime, matches: &ArgMatches<'_>) -> u8 {
+    let Ok(starting) = starting_of(matches) else {
+        let _ = writeln!(
+            rt.stderr(),
+            "error: --syn-after wants seconds, with up to six places, as 60 or 0.5"
+        );
+        return USAGE;
+    };
+    if lacks_second_reading(rt, matches, starting) {
+        let _ = writeln!(
+            rt.stderr(),
+            "error: --syn reads INPUT twice, so that it can be neither - nor a pipe"
+        );
+        return USAGE;
+    }
+    match starting {
+        Starting::Never => run_plain(rt, matches),
+        Starting::Again(idle) => run_turned(rt, matches, idle),
+    }
 }
 
 /// The command `explain`.
@@ -291,7 +403,7 @@ pub(crate) fn run_explain(rt: &HostRuntime, matches: &ArgMatches<'_>) -> u8 {
     };
     let (text, read) = read_scenario(rt, paths.scenario);
     let text = text.as_slice();
-    let reading = reading_of(rt, matches, false, false);
+    let reading = reading_of(rt, matches, false, AtEnd::Gone);
     let outcome = match read {
         Ok(()) => explain_files(rt, &paths, reading, text, asked),
         Err(trouble) => Err(trouble),
@@ -368,7 +480,7 @@ pub(crate) fn run_plan(rt: &HostRuntime, matches: &ArgMatches<'_>) -> u8 {
         Err(trouble) => Err(trouble),
     };
     let voice = Voice::of(rt, matches);
-    ended(rt, voice, paths, Played::InTurn, text, &outcome)
+    ended(rt, voice, paths, Played::NotAtAll, text, &outcome)
 }
 
 /// The command `scenario`.
@@ -381,7 +493,7 @@ pub(crate) fn run_sketch(rt: &HostRuntime, matches: &ArgMatches<'_>) -> u8 {
         input,
         output: "standard output",
     };
-    let reading = reading_of(rt, matches, false, false);
+    let reading = reading_of(rt, matches, false, AtEnd::Gone);
     let outcome = sketch_file(rt, input, reading);
     let voice = Voice::of(rt, matches);
     ended(rt, voice, paths, Played::InTurn, b"", &outcome)

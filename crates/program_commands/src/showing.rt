@@ -1,7 +1,7 @@
 //! Where it is shown how far a command has read its capture.
 use clap::ArgMatches;
 use lazy_files::is_pipe;
-use read_progress::{Place, Showing};
+use read_progress::{AtEnd, Place, Showing};
 use std::io::IsTerminal;
 
 // Where it is shown: on a terminal, or, where that is asked for, in a file. A pipe gets nothing of it.
@@ -15,13 +15,12 @@ fn place_of(rt: &HostRuntime, is_asked: bool) -> Option<Place> {
     }
 }
 
-/// How a command shows how far it has read. Where it `prints` lines on a terminal meanwhile, nothing is shown. With `stays`
-/// it is shown until the command ends, and else until the capture is read.
+/// How a command shows how far it is. Where it `prints` lines on a terminal meanwhile, nothing is shown.
 pub(crate) fn showing_of(
     rt: &HostRuntime,
     matches: &ArgMatches<'_>,
     prints: bool,
-    stays: bool,
+    at_end: AtEnd,
 ) -> Option<Showing> {
     if prints && rt.stdout().is_terminal() {
         return None;
@@ -31,6 +30,6 @@ pub(crate) fn showing_of(
     Some(Showing {
         place,
         is_eager,
-        stays,
+        at_end,
     })
 }

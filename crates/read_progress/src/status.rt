@@ -20,22 +20,27 @@ fn scaled(of: u64, by: u64, whole: u64) -> u64 {
     }
 }
 
-impl Reading {
-    // The milliseconds that it took.
-    fn millis(&self) -> u64 {
-        u64::try_from(self.taken.as_millis()).unwrap_or(u64::MAX)
-    }
+// The milliseconds of a time.
+fn millis(taken: Duration) -> u64 {
+    u64::try_from(taken.as_millis()).unwrap_or(u64::MAX)
+}
 
+// So many packets in a time, as packets of a second.
+fn rate(packets: u64, taken: Duration) -> u64 {
+    scaled(packets, 1000, millis(taken))
+}
+
+impl Reading {
     // The packets of a second, so far.
     fn rate(&self) -> u64 {
-        scaled(self.packets, 1000, self.millis())
+        rate(self.packets, self.taken)
     }
 
     // How many of a hundred bytes were read, and the seconds that the others will take.
     fn rest(&self) -> Option<(u64, u64)> {
         let whole = self.whole.filter(|whole| *whole > 0)?;
         let left = whole.saturating_sub(self.bytes);
-        let seconds = scaled(self.millis(), left, self.bytes) / 1000;
+        let seconds = scaled(millis(self.taken), left, self.bytes) / 1000;
         Some((scaled(self.bytes, 100, whole).min(100), seconds))
     }
 }
@@ -63,4 +68,14 @@ pub fn status_text(alloc: Global, reading: &Reading) -> Result<String, AllocErro
             format!(in alloc; "{packets} packets, {share} % of INPUT, {rate} a second, {left} left")
         }
     }
+}
+
+/// A writing in words: the packets so far, and how many in a second.
+pub(crate) fn sent_text(
+    alloc: Global,
+    packets: u64,
+    taken: Duration,
+) -> Result<String, AllocError> {
+    let rate = rate(packets, taken);
+    format!(in alloc; "{packets} packets sent, {rate} a second")
 }

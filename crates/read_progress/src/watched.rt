@@ -1,12 +1,12 @@
-//! A reader whose progress is shown.
+//! A reader and a writer whose progress is shown.
 use crate::counting::RecordCount;
-use crate::status::{Reading, status_text};
+use crate::status::{Reading, sent_text, status_text};
 use std::alloc::AllocError;
 use std::io;
 use std::io::{Read, Write};
 use std::time::{Duration, Instant};
 
-/// Where it is shown how far a reading is.
+/// Where it is shown how far a reading or a writing is.
 #[derive(Clone, Copy, Debug, PartialEq, Eq)]
 pub enum Place {
     /// On one line of a terminal, which is written again four times a second.
@@ -15,14 +15,24 @@ pub enum Place {
     Lines,
 }
 
-/// How it is shown how far a reading is.
+/// What a line says at the end of a reading.
+#[derive(Clone, Copy, Debug, PartialEq, Eq)]
+pub enum AtEnd {
+    /// Nothing: it goes.
+    Gone,
+    /// That INPUT is read. It stays until it is cleared.
+    Read,
+    /// The same, and that the balancers run now.
+    Running,
+}
+
+/// How it is shown how far a reading or a writing is.
 #[derive(Clone, Copy, Debug, PartialEq, Eq)]
 pub struct Showing {
     pub place: Place,
     /// The line is there from the first bytes on, and not from half a second on.
     pub is_eager: bool,
-    /// At the end of the reading the line says so, and stays until it is cleared. Else it goes there.
-    pub stays: bool,
+    pub at_end: AtEnd,
 }
 
 impl Showing {
@@ -51,12 +61,20 @@ impl Showing {
 /// What a terminal gets to begin its line again: the cursor goes to its start, and what stands there is cleared (ECMA-48, EL).
 const CLEARED: &str = "\r\u{1b}[K";
 
-// What is shown of a reading, and when.
+// What goes on.
+#[derive(Clone, Copy)]
+enum Going {
+    // A reading of so many bytes, where that is known.
+    Reading(Option<u64>),
+    Writing,
+}
+
+// What is shown of a reading or a writing, and when.
 #[derive(Drop)]
 struct Progress<'a> {
     rt: &'a HostRuntime,
     showing: Showing,
-    whole: Option<u64>,
+    going: Going,
     start: Instant,
     due: Duration,
     bytes: u64,
@@ -66,13 +84,13 @@ struct Progress<'a> {
 }
 
 impl<'a> Progress<'a> {
-    // Of a reading that begins now. Where there is no clock there is none.
-    fn new(rt: &'a HostRuntime, showing: Showing, whole: Option<u64>) -> Option<Progress<'a>> {
+    // Of what begins now. Where there is no clock there is none.
+    fn new(rt: &'a HostRuntime, showing: Showing, going: Going) -> Option<Progress<'a>> {
         let start = Instant::now(rt).ok()?;
         Some(Progress {
             rt,
             showing,
-            whole,
+            going,
             start,
             due: showing.delay(),
             bytes: 0,
@@ -95,15 +113,26 @@ impl<'a> Progress<'a> {
         Ok(())
     }
 
+    // How far it is, in words.
+    fn text(&self, taken: Duration) -> Result<String, AllocError> {
+        let (alloc, packets) = (self.rt.alloc(), self.records.records());
+        match self.going {
+            Going::Writing => sent_text(alloc, packets, taken),
+            Going::Reading(whole) => {
+                let reading = Reading {
+                    packets,
+                    bytes: self.bytes,
+                    whole,
+                    taken,
+                };
+                status_text(alloc, &reading)
+            }
+        }
+    }
+
     // Shows how far it is.
     fn show(&mut self, taken: Duration) {
-        let reading = Reading {
-            packets: self.records.records(),
-            bytes: self.bytes,
-            whole: self.whole,
-            taken,
-        };
-        if let Ok(text) = status_text(self.rt.alloc(), &reading) {
+        if let Ok(text) = self.text(taken) {
             let _ = self.put(text.as_str());
         }
         self.due = taken.saturating_add(self.showing.pause());
@@ -115,16 +144,21 @@ impl<'a> Progress<'a> {
             return;
         }
         self.is_over = true;
-        if self.showing.is_line() && !(self.is_shown && self.showing.stays) {
+        let stays = self.is_shown && self.showing.at_end != AtEnd::Gone;
+        if self.showing.is_line() && !stays {
             return self.clear();
         }
         let records = self.records.records();
-        if let Ok(text) = format!(in self.rt.alloc(); "{records} packets, INPUT is read") {
+        let behind = match self.showing.at_end {
+            AtEnd::Running => ", the balancers run",
+            _ => "",
+        };
+        if let Ok(text) = format!(in self.rt.alloc(); "{records} packets, INPUT is read{behind}") {
             let _ = self.put(text.as_str());
         }
     }
 
-    // Bytes were read.
+    // Bytes were read, or written.
     fn note(&mut self, bytes: &[u8]) {
         self.records.note(bytes);
         self.bytes = self.bytes.saturating_add(bytes.len() as u64);
@@ -161,7 +195,7 @@ impl<'a, R> Watched<'a, R> {
     ) -> Watched<'a, R> {
         Watched {
             reader,
-            progress: showing.and_then(|showing| Progress::new(rt, showing, whole)),
+            progress: showing.and_then(|showing| Progress::new(rt, showing, Going::Reading(whole))),
         }
     }
 
@@ -200,5 +234,49 @@ impl<R: Read> Read for Watched<'_, R> {
             }
             Err(error) => Err(error),
         }
+    }
+}
+
+/// A writer of a capture that may show how many packets were written.
+#[derive(Drop)]
+pub struct WatchedWriter<'a, W> {
+    writer: W,
+    progress: Option<Progress<'a>>,
+}
+
+impl<'a, W> WatchedWriter<'a, W> {
+    /// A writer to which nothing is written yet. Without a way to show it nothing is shown.
+    pub fn new(rt: &'a HostRuntime, writer: W, showing: Option<Showing>) -> WatchedWriter<'a, W> {
+        WatchedWriter {
+            writer,
+            progress: showing.and_then(|showing| Progress::new(rt, showing, Going::Writing)),
+        }
+    }
+
+    /// Takes what is shown from a terminal, and shows nothing more.
+    pub fn clear(&mut self) {
+        if let Some(progress) = &mut self.progress {
+            progress.clear();
+        }
+        self.progress = None;
+    }
+}
+
+impl<W: Write> Write for WatchedWriter<'_, W> {
+    #[inline(always)]
+    fn write(&mut self, buf: &[u8]) -> io::Result<usize> {
+        match self.writer.write(buf) {
+            Ok(length) => {
+                if let Some(progress) = &mut self.progress {
+                    progress.note(buf.get(..length).unwrap_or(&[]));
+                }
+                Ok(length)
+            }
+            Err(error) => Err(error),
+        }
+    }
+
+    fn flush(&mut self) -> io::Result<()> {
+        self.writer.flush()
     }
 }
