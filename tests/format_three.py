@@ -462,6 +462,28 @@ def breaks_off(name, text, fault, command="simulate"):
     (rows.breaks_off if command == "run" else stops)(name, text, HEAD, fault, None)
 
 
+def test_words_of_double_names():
+    """Where a version by difference gives a name that the service has, `-v` names the word that gives it again."""
+    expected = "expected a name that no earlier member of the service has\n"
+    other = SERVICE.replace("80", "81")
+    for name, versions, path, word in [
+        ("one that the base has", version(2, "base = 1", 'add = ["D@10.8.0.4", "A@10.8.0.9"]'), "versions[1].add[1]", "A@10.8.0.9"),
+        ("one that the version adds twice", version(2, "base = 1", 'add = ["D@10.8.0.4*2", "D@10.8.0.5"]'), "versions[1].add[1]", "D@10.8.0.5"),
+        ("one that comes back twice", version(2, "base = 1", 'remove = ["A"]', 'add = ["A@10.8.0.9", "B@10.8.0.9"]'), "versions[1].add[1]", "B@10.8.0.9"),
+        ("one of the service", version(2, "base = 1") + service('add = ["E@10.8.0.5", "C@10.8.0.9"]'), "versions[1].services[0].add[1]", "C@10.8.0.9"),
+        ("one that the version gives first", version(2, "base = 1", 'add = ["E@10.8.0.5"]') + service('add = ["E@10.8.0.9/down"]'), "versions[1].services[0].add[0]", "E@10.8.0.9/down"),
+        ("one of a service written out", version(2, "base = 1", 'add = ["D@10.8.0.4"]') + service('members = ["D@10.8.0.9", "D@10.8.0.8"]'), "versions[1].services[0].members[1]", "D@10.8.0.8"),
+        ("one of a service that comes", version(2, "base = 1") + f'[[versions.services]]\n{other}members = ["A@10.8.0.1", "A@10.8.0.2"]\n', "versions[1].services[0].members[1]", "A@10.8.0.2"),
+        ("one of a base's base", version(2, "base = 1", 'add = ["D@10.8.0.4"]') + version(3, "base = 2", 'remove = ["B"]') + version(4, "base = 3", 'add = ["B@10.8.0.2", "D@10.8.0.9"]'), "versions[3].add[1]", "D@10.8.0.9"),
+        ("one of the second service", version(2, "base = 1") + f'[[versions.services]]\n{other}members = ["F@10.8.0.6"]\n' + version(3, "base = 2", 'add = ["F@10.8.0.9"]'), "versions[2].add[0]", "F@10.8.0.9"),
+    ]:
+        text = written_as(FIRST_VERSION + versions)
+        key, item = path[:-1].rsplit("[", 1)
+        number, line = max((at for at in enumerate(text.splitlines(), 1) if at[1].startswith(key.rsplit(".", 1)[1] + " =") and f'"{word}"' in at[1]), default=(0, ""))
+        check(f"{name}: the row", model.tomllib.loads(line)[key.rsplit(".", 1)[1]][int(item)] == word, line)
+        rows.says(name, text, HEAD, "DoubleName", f'{path}, line {number}: found "{word}", {expected}')
+
+
 def test_refusals():
     good = scenario(["install 0 1", "take 1"])
     for step in NO_STEPS + ["stop *", "stop 0", "stop * *"]:

@@ -1,7 +1,7 @@
 -- Which text `plan --order` writes for a scenario's text.
 use Rattle.std.specs.Prelude.{◌≡◌, ℕ, List, Some}
 use Rattle.pool_versions.specs.declared.service.Version.{Version}
-use Rattle.scenario.specs.declared.playing.Played.TheVariants.{InTurn}
+use Rattle.scenario.specs.declared.playing.Played.TheVariants.{NotAtAll}
 use Rattle.scenario.specs.declared.plan.Scenario.{Scenario}
 use Rattle.scenario.specs.Meaning.{Means}
 use Rattle.json_lines.specs.declared.forms.Form.{Form}
@@ -24,5 +24,5 @@ pub record ShowsOrders (form : Form) (s : Scenario) (from to : ℕ) (text : List
 -- the same of the scenario that a text means
 pub record IsOrderPlan (form : Form) (scenario : List ℕ) (from to : ℕ) (text : List ℕ) : Type 0 where
   pub meant : Scenario
-  pub means : Means InTurn scenario meant
+  pub means : Means NotAtAll scenario meant
   pub shows : ShowsOrders form meant from to text

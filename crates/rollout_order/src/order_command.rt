@@ -1,6 +1,6 @@
 //! The command `plan --order`.
 ghost use Rattle.std.specs.Prelude.{◌≡◌, ◌≢◌, Some, string_bytes, IfOk, OnOk, IfErr};
-ghost use Rattle.scenario.specs.declared.playing.Played.TheVariants.{InTurn};
+ghost use Rattle.scenario.specs.declared.playing.Played.TheVariants.{NotAtAll};
 ghost use Rattle.scenario_faults.specs.Refusals.{IsPlaced};
 ghost use Rattle.command_faults.specs.Printing.{Prints, BreaksOff};
 ghost use Rattle.rollout_plan.specs.Plans.{AskedFails, PlanFails, has_versions};
@@ -13,7 +13,7 @@ use json_lines::Form;
 use pcap_file::Sink;
 use rollout_plan::{rule_of, version_of};
 use scenario::Scenario;
-use scenario_faults::{PlacedFault, scenario_in};
+use scenario_faults::{PlacedFault, unplayed_scenario_in};
 use std::alloc::Global;
 
 // The text of the orders from one version of a scenario to another.
@@ -44,10 +44,10 @@ fn text_for(
 ) -> Result<String, PlacedFault>
     ensures text { IfOk result (λ s. IsOrderPlan form scenario.now from to (string_bytes s)) }
     ensures fault { IfErr result (λ r. PlanFails r.fault scenario.now from (Some to)) }
-    ensures place { IfErr result (IsPlaced InTurn scenario.now) }
+    ensures place { IfErr result (IsPlaced NotAtAll scenario.now) }
     ensures unwritten { IfErr result (λ r. r.fault ≢ CliFault.Write) }
 {
-    let scenario = match scenario_in(alloc, scenario) {
+    let scenario = match unplayed_scenario_in(alloc, scenario) {
         Ok(scenario) => scenario,
         Err(stopped) => return Err(stopped),
     };
@@ -76,7 +76,7 @@ pub fn order<S: Sink>(
     ensures broken { IfErr result (λ r. r.fault ≡ CliFault.Write → BreaksOff (IsOrderPlan form scenario.now from to) (S.tape out.old) (S.tape out.new)) }
     ensures silent { IfErr result (λ r. r.fault ≢ CliFault.Write → out.new ≡ out.old) }
     ensures fault { IfErr result (λ r. PlanFails r.fault scenario.now from (Some to)) }
-    ensures place { IfErr result (IsPlaced InTurn scenario.now) }
+    ensures place { IfErr result (IsPlaced NotAtAll scenario.now) }
 {
     let text = match text_for(alloc, form, scenario, from, to) {
         Ok(text) => text,

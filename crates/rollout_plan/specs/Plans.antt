@@ -3,7 +3,7 @@ use Rattle.std.specs.Prelude.{◌≡◌, ◌⊎◌, ℕ, Bool, true, false, ◌&
 use Rattle.pool_versions.specs.declared.catalogue.PoolFault.TheVariants.{BadNumber}
 use Rattle.pool_versions.specs.declared.service.Version.{Version}
 use Rattle.pool_versions.specs.Pool.{version_at}
-use Rattle.scenario.specs.declared.playing.Played.TheVariants.{InTurn}
+use Rattle.scenario.specs.declared.playing.Played.TheVariants.{NotAtAll}
 use Rattle.scenario.specs.declared.plan.Scenario.{Scenario}
 use Rattle.scenario.specs.Meaning.{Means}
 use Rattle.scenario_faults.specs.Refusals.{ScenarioFails}
@@ -40,7 +40,7 @@ ShowsAs form s from (Some to) text = ShowsChange form s from to text
 -- the same of the scenario that a text means
 pub record IsPlanAs (form : Form) (scenario : List ℕ) (from : ℕ) (to : Option ℕ) (text : List ℕ) : Type 0 where
   pub meant : Scenario
-  pub means : Means InTurn scenario meant
+  pub means : Means NotAtAll scenario meant
   pub shows : ShowsAs form meant from to text
 
 -- the same in lines for people
@@ -62,9 +62,9 @@ AskedFails _ has = ⊥
 -- a scenario was read, and then the command gave up
 pub record ReadFails (fault : CliFault) (scenario : List ℕ) (from : ℕ) (to : Option ℕ) : Type 0 where
   pub meant : Scenario
-  pub means : Means InTurn scenario meant
+  pub means : Means NotAtAll scenario meant
   pub why : AskedFails fault (has_versions meant from to)
 
 -- when `plan` gives up, and by which fault
 abbrev pub PlanFails : CliFault → List ℕ → ℕ → Option ℕ → Type 0
-PlanFails fault scenario from to = ScenarioFails InTurn fault scenario ⊎ ReadFails fault scenario from to
+PlanFails fault scenario from to = ScenarioFails NotAtAll fault scenario ⊎ ReadFails fault scenario from to

@@ -1,6 +1,6 @@
 //! The command `plan`.
 ghost use Rattle.std.specs.Prelude.{◌≡◌, ◌≢◌, Some, None, string_bytes, IfOk, OnOk, IfErr};
-ghost use Rattle.scenario.specs.declared.playing.Played.TheVariants.{InTurn};
+ghost use Rattle.scenario.specs.declared.playing.Played.TheVariants.{NotAtAll};
 ghost use Rattle.scenario_faults.specs.Refusals.{IsPlaced};
 ghost use Rattle.command_faults.specs.Printing.{Prints, BreaksOff};
 ghost use Rattle.rollout_plan.specs.Tables.{rule_of};
@@ -13,7 +13,7 @@ use json_lines::Form;
 use pcap_file::Sink;
 use pool_versions::{PoolFault, Version};
 use scenario::Scenario;
-use scenario_faults::{PlacedFault, scenario_in};
+use scenario_faults::{PlacedFault, unplayed_scenario_in};
 use std::alloc::Global;
 
 /// How the tables of a scenario are made.
@@ -71,10 +71,10 @@ fn text_for(
 ) -> Result<String, PlacedFault>
     ensures text { IfOk result (λ s. IsPlanAs form scenario.now from to (string_bytes s)) }
     ensures fault { IfErr result (λ r. PlanFails r.fault scenario.now from to) }
-    ensures place { IfErr result (IsPlaced InTurn scenario.now) }
+    ensures place { IfErr result (IsPlaced NotAtAll scenario.now) }
     ensures unwritten { IfErr result (λ r. r.fault ≢ CliFault.Write) }
 {
-    let scenario = match scenario_in(alloc, scenario) {
+    let scenario = match unplayed_scenario_in(alloc, scenario) {
         Ok(scenario) => scenario,
         Err(stopped) => return Err(stopped),
     };
@@ -90,9 +90,9 @@ fn text_for(
 /// Of each service of either version it has a block: how many slots name somebody else, and how many of these named a backend
 /// that is up no more, or nobody, and how many one that is up still; the fewest that any table with the same counts would
 /// change; and each backend with its weight and its slots. Where a member drains after, slots of backends that are up no more
-/// but drain are counted apart. A version without the service counts as one where it has no members. A scenario is one that is
-/// played in turn. Where it lacks a version the fault is BadNumber. The text is written in one piece once it is whole, so after
-/// any fault but `Write` nothing was written.
+/// but drain are counted apart. A version without the service counts as one where it has no members. The scenario may have
+/// any step. Where it lacks a version the fault is BadNumber. The text is written in one piece once it is whole, so after any
+/// fault but `Write` nothing was written.
 pub fn plan_as<S: Sink>(
     alloc: Global,
     form: Form,
@@ -105,7 +105,7 @@ pub fn plan_as<S: Sink>(
     ensures broken { IfErr result (λ r. r.fault ≡ CliFault.Write → BreaksOff (IsPlanAs form scenario.now from to) (S.tape out.old) (S.tape out.new)) }
     ensures silent { IfErr result (λ r. r.fault ≢ CliFault.Write → out.new ≡ out.old) }
     ensures fault { IfErr result (λ r. PlanFails r.fault scenario.now from to) }
-    ensures place { IfErr result (IsPlaced InTurn scenario.now) }
+    ensures place { IfErr result (IsPlaced NotAtAll scenario.now) }
 {
     let text = match text_for(alloc, form, scenario, from, to) {
         Ok(text) => text,

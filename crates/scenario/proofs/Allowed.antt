@@ -12,7 +12,7 @@ use Rattle.scenario.specs.Told.{PlainTold, once, each, at_node, steps_said, coun
 use Rattle.scenario.specs.Meaning.{PlainDraft, PlainScenario, rules_of, with_steps, with_pools, with_versions, with_draft, with_format, plan_of_draft, plan_of, plan_view, IsSupported, Means}
 use Rattle.scenario_keys.specs.Formats.{format_of}
 use Rattle.scenario.specs.declared.playing.Played.{Played}
-use Rattle.scenario.specs.declared.playing.Played.TheVariants.{InTurn, OnThreads}
+use Rattle.scenario.specs.declared.playing.Played.TheVariants.{InTurn, OnThreads, NotAtAll}
 use Rattle.scenario_keys.specs.declared.formats.Format.{Format}
 use Rattle.scenario.specs.declared.told.EachNode.{EachNode}
 use Rattle.scenario.specs.declared.told.EachNode.TheVariants as node
@@ -29,6 +29,9 @@ each_allowed InTurn node.Stop n = refl
 each_allowed OnThreads (node.Install v) n = refl
 each_allowed OnThreads node.Restart n = refl
 each_allowed OnThreads node.Stop n = refl
+each_allowed NotAtAll (node.Install v) n = refl
+each_allowed NotAtAll node.Restart n = refl
+each_allowed NotAtAll node.Stop n = refl
 
 all_nodes : (played : Played) (e : EachNode) (ns : List ℕ) → allows played (at_node e 0) ≡ true → list_all (λ s. allows played s) (map (at_node e) ns) ≡ true
 all_nodes played e [] h = refl

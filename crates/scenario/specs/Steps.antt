@@ -110,7 +110,8 @@ step_of nodes workers kind.Restart words = option_map restart (node_of nodes wor
 step_of nodes workers kind.Stop words = option_map stop (node_of nodes words)
 step_of nodes workers kind.Until words = None
 
--- the steps of a scenario that is played so: in turn none is a stop, and on threads none a full, hold or drain
+-- the steps of a scenario that is played so: in turn none is a stop, and on threads none a full, hold or drain; one that isn't
+-- played may have each
 abbrev pub allows : Played → PlainStep → Bool
 allows InTurn (stop n) = false
 allows OnThreads (full n marks) = false

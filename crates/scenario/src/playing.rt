@@ -11,6 +11,8 @@ pub enum Played {
     InTurn,
     /// By threads, as `run` does: it has no `full`, `hold` and `drain`.
     OnThreads,
+    /// Not at all, as `plan` and `table` read one: it may have any step that is played in turn or on threads.
+    NotAtAll,
 }
 
 impl Played {
@@ -29,6 +31,7 @@ impl Played {
                 ScenarioStep::Drain(_) => false,
                 _ => true,
             },
+            Played::NotAtAll => true,
         }
     }
 }

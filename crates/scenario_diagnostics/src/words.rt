@@ -1,4 +1,5 @@
 //! The words.
+use crate::doubles::double_path;
 use crate::spots::{below, line_of, spot_of};
 use backend_names::Name;
 use maglev_texts::address;
@@ -206,12 +207,12 @@ fn keys_at(alloc: Global, table: &Table, place: Place) -> Option<(&Table, String
 }
 
 // The table in this place of the array at a key.
-fn nth<'a>(table: &'a Table, key: &str, n: usize) -> Option<&'a Table> {
+pub(crate) fn nth<'a>(table: &'a Table, key: &str, n: usize) -> Option<&'a Table> {
     items(table, key).get(n)?.as_table()
 }
 
 // The items of the array at a key.
-fn items<'a>(table: &'a Table, key: &str) -> &'a [Value] {
+pub(crate) fn items<'a>(table: &'a Table, key: &str) -> &'a [Value] {
     match table.get(key) {
         Some(Value::Array(items)) => items.as_slice(),
         _ => &[],
@@ -314,6 +315,16 @@ fn has_base(table: &Table, version: usize) -> bool {
     }
 }
 
+// The path of a name that a service has twice. In a version by difference it is that of the word which gives the name again.
+fn double_name_path(alloc: Global, document: &Table, place: Place) -> Option<String> {
+    match place {
+        Place::Service(version, service, _) if has_base(document, version) => {
+            double_path(alloc, document, version, service)
+        }
+        _ => written_path(alloc, document, place),
+    }
+}
+
 // The path of a place in the versions written out: that of the version, where it is by difference.
 fn written_path(alloc: Global, document: &Table, place: Place) -> Option<String> {
     match place {
@@ -334,7 +345,10 @@ fn bad_pool(
     place: Place,
 ) -> Option<String> {
     let (_, flaw) = table_of(alloc, place)?;
-    let path = written_path(alloc, table, place)?;
+    let path = match fault {
+        PoolFault::DoubleName => double_name_path(alloc, table, place)?,
+        _ => written_path(alloc, table, place)?,
+    };
     let expected = match (fault, flaw) {
         (PoolFault::BadNumber, _) => "a number from 1",
         (PoolFault::NumberTaken, _) => "a number that no earlier version has",

@@ -2,7 +2,7 @@
 #![tactic(auto)]
 
 ghost use Rattle.std.specs.Prelude.{◌≡◌, ◌≢◌, IfOk, IfErr};
-ghost use Rattle.scenario.specs.declared.playing.Played.TheVariants.{InTurn, OnThreads};
+ghost use Rattle.scenario.specs.declared.playing.Played.TheVariants.{InTurn, OnThreads, NotAtAll};
 ghost use Rattle.scenario.specs.Meaning.{Means};
 ghost use Rattle.scenario_faults.specs.Refusals.{ScenarioFails, IsPlaced, scenario_fault, placed_fault};
 
@@ -54,6 +54,19 @@ pub fn scenario_in(alloc: Global, text: &[u8]) -> Result<Scenario, PlacedFault>
     ensures place { IfErr result (IsPlaced InTurn text.now) }
 {
     match read_placed(alloc, Played::InTurn, text) {
+        Ok(scenario) => Ok(scenario),
+        Err(refused) => Err(placed_fault(refused)),
+    }
+}
+
+/// The same of a scenario that isn't played, which may have any step.
+pub fn unplayed_scenario_in(alloc: Global, text: &[u8]) -> Result<Scenario, PlacedFault>
+    ensures means { IfOk result (Means NotAtAll text.now) }
+    ensures refused { IfErr result (λ r. ScenarioFails NotAtAll r.fault text.now) }
+    ensures devices { IfErr result (λ r. (r.fault ≢ CliFault.Read) × (r.fault ≢ CliFault.Write)) }
+    ensures place { IfErr result (IsPlaced NotAtAll text.now) }
+{
+    match read_placed(alloc, Played::NotAtAll, text) {
         Ok(scenario) => Ok(scenario),
         Err(refused) => Err(placed_fault(refused)),
     }

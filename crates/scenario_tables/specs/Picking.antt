@@ -13,7 +13,7 @@ use Rattle.cluster_node.specs.declared.packets.Packet.{Packet}
 use Rattle.cluster_node.specs.declared.packets.Packet.TheVariants.{Good, Bad}
 use Rattle.run_report.specs.Names.{cause_name}
 use Rattle.scenario_keys.specs.declared.words.SchemeKind.TheVariants.{Maglev}
-use Rattle.scenario.specs.declared.playing.Played.TheVariants.{InTurn}
+use Rattle.scenario.specs.declared.playing.Played.TheVariants.{NotAtAll}
 use Rattle.scenario.specs.declared.plan.Scenario.{Scenario}
 use Rattle.scenario.specs.Meaning.{Means}
 use Rattle.scenario_faults.specs.Refusals.{ScenarioFails}
@@ -63,15 +63,15 @@ AskedFails fault s number input = (s.scheme ≡ Maglev) × (is_some (version_in 
 -- the same of the scenario that a text means
 pub record IsPick (form : Form) (scenario : List ℕ) (number : ℕ) (check : Bool) (input : Option (List ℕ)) (text : List ℕ) : Type 0 where
   pub meant : Scenario
-  pub means : Means InTurn scenario meant
+  pub means : Means NotAtAll scenario meant
   pub shows : ShowsPick form meant number check input text
 
 -- a scenario was read, and then the command gave up
 pub record LacksPick (fault : CliFault) (scenario : List ℕ) (number : ℕ) (input : Option (List ℕ)) : Type 0 where
   pub meant : Scenario
-  pub means : Means InTurn scenario meant
+  pub means : Means NotAtAll scenario meant
   pub why : AskedFails fault meant number input
 
 -- when `pick` gives up, and by which fault
 abbrev pub PickFails : CliFault → List ℕ → ℕ → Option (List ℕ) → Type 0
-PickFails fault scenario number input = ScenarioFails InTurn fault scenario ⊎ LacksPick fault scenario number input
+PickFails fault scenario number input = ScenarioFails NotAtAll fault scenario ⊎ LacksPick fault scenario number input

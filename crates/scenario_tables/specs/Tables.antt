@@ -7,7 +7,7 @@ use Rattle.pool_versions.specs.declared.key.ServiceKey.{ServiceKey}
 use Rattle.pool_versions.specs.declared.service.Version.{Version}
 use Rattle.pool_versions.specs.Pool.{key_of}
 use Rattle.selection.specs.Picks.{NamedTable, slot_names}
-use Rattle.scenario.specs.declared.playing.Played.TheVariants.{InTurn}
+use Rattle.scenario.specs.declared.playing.Played.TheVariants.{NotAtAll}
 use Rattle.scenario.specs.declared.plan.Scenario.{Scenario}
 use Rattle.scenario.specs.Meaning.{Means}
 use Rattle.scenario_faults.specs.Refusals.{ScenarioFails}
@@ -85,24 +85,24 @@ AskedFails _ word keys = ⊥
 -- the same of the scenario that a text means
 pub record IsTable (form : Form) (scenario : List ℕ) (number : ℕ) (word : Option (List ℕ)) (text : List ℕ) : Type 0 where
   pub meant : Scenario
-  pub means : Means InTurn scenario meant
+  pub means : Means NotAtAll scenario meant
   pub shows : ShowsTable form meant number word text
 
 pub record AreMoves (form : Form) (scenario : List ℕ) (c : Compared) (text : List ℕ) : Type 0 where
   pub meant : Scenario
-  pub means : Means InTurn scenario meant
+  pub means : Means NotAtAll scenario meant
   pub shows : ShowsMoves form meant c text
 
 -- a scenario was read, and then the command gave up
 pub record LacksAsked (fault : CliFault) (scenario : List ℕ) (word : Option (List ℕ)) (keys : Scenario → Option (List ServiceKey)) : Type 0 where
   pub meant : Scenario
-  pub means : Means InTurn scenario meant
+  pub means : Means NotAtAll scenario meant
   pub why : AskedFails fault word (keys meant)
 
 -- when the commands give up, and by which fault
 abbrev pub TableFails : CliFault → List ℕ → ℕ → Option (List ℕ) → Type 0
 TableFails fault scenario number word =
-    ScenarioFails InTurn fault scenario ⊎ LacksAsked fault scenario word (λ s. keys_in (version_in s number))
+    ScenarioFails NotAtAll fault scenario ⊎ LacksAsked fault scenario word (λ s. keys_in (version_in s number))
 
 abbrev pub MovesFail : CliFault → List ℕ → Compared → Type 0
-MovesFail fault scenario c = ScenarioFails InTurn fault scenario ⊎ LacksAsked fault scenario c.word (λ s. keys_in_both s c)
+MovesFail fault scenario c = ScenarioFails NotAtAll fault scenario ⊎ LacksAsked fault scenario c.word (λ s. keys_in_both s c)

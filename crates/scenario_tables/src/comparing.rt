@@ -1,6 +1,6 @@
 //! The command `compare` of a scenario's service.
 ghost use Rattle.std.specs.Prelude.{◌≡◌, ◌≢◌, IfOk, IfErr, OnOk, string_bytes};
-ghost use Rattle.scenario.specs.declared.playing.Played.TheVariants.{InTurn};
+ghost use Rattle.scenario.specs.declared.playing.Played.TheVariants.{NotAtAll};
 ghost use Rattle.scenario_faults.specs.Refusals.{IsPlaced};
 ghost use Rattle.command_faults.specs.Printing.{Prints, BreaksOff};
 ghost use Rattle.scenario_tables.specs.Tables.{compared, ShowsMoves, AreMoves, AskedFails, MovesFail, keys_in_both};
@@ -11,7 +11,7 @@ use json_lines::Form;
 use pcap_file::Sink;
 use rollout_plan::{members_under, rule_of, version_of};
 use scenario::Scenario;
-use scenario_faults::{PlacedFault, scenario_in};
+use scenario_faults::{PlacedFault, unplayed_scenario_in};
 use std::alloc::Global;
 use table_commands::compare_text_of;
 
@@ -53,10 +53,10 @@ fn text_for(
 ) -> Result<String, PlacedFault>
     ensures text { IfOk result (λ s. AreMoves form scenario.now (compared change.entry) (string_bytes s)) }
     ensures fault { IfErr result (λ r. MovesFail r.fault scenario.now (compared change.entry)) }
-    ensures place { IfErr result (IsPlaced InTurn scenario.now) }
+    ensures place { IfErr result (IsPlaced NotAtAll scenario.now) }
     ensures unwritten { IfErr result (λ r. r.fault ≢ CliFault.Write) }
 {
-    let scenario = match scenario_in(alloc, scenario) {
+    let scenario = match unplayed_scenario_in(alloc, scenario) {
         Ok(scenario) => scenario,
         Err(stopped) => return Err(stopped),
     };
@@ -70,7 +70,7 @@ fn text_for(
 /// another.
 ///
 /// The service is that of the word `ADDRESS:PORT/PROTOCOL`, or where there is none the only one of both versions; else the fault
-/// is BadService. A version without it counts as one where it has no members. A scenario is one that is played in turn. Where it
+/// is BadService. A version without it counts as one where it has no members. The scenario may have any step. Where it
 /// lacks a version the fault is BadNumber. The text is written in one piece once it is whole, so after any fault but `Write`
 /// nothing was written.
 pub fn compare_in<S: Sink>(
@@ -84,7 +84,7 @@ pub fn compare_in<S: Sink>(
     ensures broken { IfErr result (λ r. r.fault ≡ CliFault.Write → BreaksOff (AreMoves form scenario.now (compared change.entry)) (S.tape out.old) (S.tape out.new)) }
     ensures silent { IfErr result (λ r. r.fault ≢ CliFault.Write → out.new ≡ out.old) }
     ensures fault { IfErr result (λ r. MovesFail r.fault scenario.now (compared change.entry)) }
-    ensures place { IfErr result (IsPlaced InTurn scenario.now) }
+    ensures place { IfErr result (IsPlaced NotAtAll scenario.now) }
 {
     let text = match text_for(alloc, form, scenario, change) {
         Ok(text) => text,

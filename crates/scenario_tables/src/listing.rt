@@ -2,7 +2,7 @@
 ghost use Rattle.std.specs.Prelude.{◌≡◌, ◌≢◌, ◌++◌, ◌<◌, map, option_map, IfOk, IfErr, OnOk, string_bytes};
 ghost use Rattle.std.specs.List.{flat_map, range_with_len};
 ghost use Rattle.selection.specs.Picks.{slot_names};
-ghost use Rattle.scenario.specs.declared.playing.Played.TheVariants.{InTurn};
+ghost use Rattle.scenario.specs.declared.playing.Played.TheVariants.{NotAtAll};
 ghost use Rattle.scenario_faults.specs.Refusals.{IsPlaced};
 ghost use Rattle.command_faults.specs.Printing.{Prints, BreaksOff};
 ghost use Rattle.rollout_plan.specs.Plans.{version_in};
@@ -16,7 +16,7 @@ use pcap_file::Sink;
 use pool_versions::Backend;
 use rollout_plan::{SlotTable, members_under, rule_of, version_of};
 use scenario::Scenario;
-use scenario_faults::{PlacedFault, scenario_in};
+use scenario_faults::{PlacedFault, unplayed_scenario_in};
 use std::alloc::{AllocError, Global};
 use table_commands::{push_count_line, push_slot_line, table_head};
 
@@ -119,10 +119,10 @@ fn text_for(
 ) -> Result<String, PlacedFault>
     ensures text { IfOk result (λ s. IsTable form scenario.now number (option_map (λ w. w.now) word.entry) (string_bytes s)) }
     ensures fault { IfErr result (λ r. TableFails r.fault scenario.now number (option_map (λ w. w.now) word.entry)) }
-    ensures place { IfErr result (IsPlaced InTurn scenario.now) }
+    ensures place { IfErr result (IsPlaced NotAtAll scenario.now) }
     ensures unwritten { IfErr result (λ r. r.fault ≢ CliFault.Write) }
 {
-    let scenario = match scenario_in(alloc, scenario) {
+    let scenario = match unplayed_scenario_in(alloc, scenario) {
         Ok(scenario) => scenario,
         Err(stopped) => return Err(stopped),
     };
@@ -136,7 +136,7 @@ fn text_for(
 /// slots each backend has.
 ///
 /// The service is that of the word `ADDRESS:PORT/PROTOCOL`, or where there is none the version's only one; else the fault is
-/// BadService. A scenario is one that is played in turn. Where it lacks the version the fault is BadNumber. A slot that names
+/// BadService. The scenario may have any step. Where it lacks the version the fault is BadNumber. A slot that names
 /// nobody has a dash, or in an object null. The text is written in one piece once it is whole, so after any fault but `Write` nothing was written.
 pub fn table_in<S: Sink>(
     alloc: Global,
@@ -151,7 +151,7 @@ pub fn table_in<S: Sink>(
         BreaksOff (IsTable form scenario.now version (option_map (λ w. w.now) service.entry)) (S.tape out.old) (S.tape out.new)) }
     ensures silent { IfErr result (λ r. r.fault ≢ CliFault.Write → out.new ≡ out.old) }
     ensures fault { IfErr result (λ r. TableFails r.fault scenario.now version (option_map (λ w. w.now) service.entry)) }
-    ensures place { IfErr result (IsPlaced InTurn scenario.now) }
+    ensures place { IfErr result (IsPlaced NotAtAll scenario.now) }
 {
     let text = match text_for(alloc, form, scenario, version, service) {
         Ok(text) => text,

@@ -5,7 +5,7 @@ ghost use Rattle.pool_versions.specs.Pool.{find_service};
 ghost use Rattle.rollout_plan.specs.Tables.{rule_of};
 ghost use Rattle.selection.specs.Picks.{slot_of_flow};
 ghost use Rattle.pcap_file.specs.Device.{Unfailed, ReadRefused};
-ghost use Rattle.scenario.specs.declared.playing.Played.TheVariants.{InTurn};
+ghost use Rattle.scenario.specs.declared.playing.Played.TheVariants.{NotAtAll};
 ghost use Rattle.scenario_faults.specs.Refusals.{IsPlaced};
 ghost use Rattle.command_faults.specs.Printing.{Prints, BreaksOff};
 ghost use Rattle.table_commands.specs.Pick.{longest};
@@ -22,7 +22,7 @@ use pcap_file::{Sink, Source};
 use pool_versions::Version;
 use rollout_plan::{SlotTable, rule_of, version_of};
 use scenario::{Scenario, SchemeKind};
-use scenario_faults::{PlacedFault, scenario_in};
+use scenario_faults::{PlacedFault, unplayed_scenario_in};
 use std::alloc::{AllocError, Global};
 use table_commands::{datagram_of, drop_text_of, flow_text_of};
 
@@ -139,10 +139,10 @@ fn text_in<R: Source>(
     ensures unfailed { OnOk result (Unfailed (R.tape input.old) (R.tape input.new)) }
     ensures read { IfErr result (λ r. r.fault ≡ CliFault.Read → ReadRefused (longest + 1) (R.tape input.old) (R.tape input.new)) }
     ensures fault { IfErr result (λ r. PickFails r.fault scenario.now options.version (R.tape input.old).bytes) }
-    ensures place { IfErr result (IsPlaced InTurn scenario.now) }
+    ensures place { IfErr result (IsPlaced NotAtAll scenario.now) }
     ensures unwritten { IfErr result (λ r. r.fault ≢ CliFault.Write) }
 {
-    let scenario = match scenario_in(alloc, scenario) {
+    let scenario = match unplayed_scenario_in(alloc, scenario) {
         Ok(scenario) => scenario,
         Err(stopped) => return Err(stopped),
     };
@@ -156,7 +156,7 @@ fn text_in<R: Source>(
 /// backend that the slot names in the table of the flow's service under a version, or why the datagram is dropped.
 ///
 /// That is where a new flow goes: no entry of a connection table is asked. The scheme must be `maglev`; else the fault is
-/// BadScheme. Where the scenario, which is one that is played in turn, lacks the version, it is BadNumber. The input is that of
+/// BadScheme. Where the scenario, which may have any step, lacks the version, it is BadNumber. The input is that of
 /// `pick`, and is read after that. The text is written in one piece, so after any fault but `Write` nothing was written.
 pub fn pick_in<R: Source, S: Sink>(
     alloc: Global,
@@ -172,7 +172,7 @@ pub fn pick_in<R: Source, S: Sink>(
     ensures read { IfErr result (λ r. r.fault ≡ CliFault.Read → ReadRefused (longest + 1) (R.tape input.old) (R.tape input.new)) }
     ensures silent { IfErr result (λ r. r.fault ≢ CliFault.Write → out.new ≡ out.old) }
     ensures fault { IfErr result (λ r. PickFails r.fault scenario.now options.version (R.tape input.old).bytes) }
-    ensures place { IfErr result (IsPlaced InTurn scenario.now) }
+    ensures place { IfErr result (IsPlaced NotAtAll scenario.now) }
 {
     let text = match text_in(alloc, scenario, options, input) {
         Ok(text) => text,
