@@ -1,5 +1,5 @@
 //! Where the packets to each destination came from.
-ghost use Rattle.std.specs.Prelude.{◌≡◌, ◌++◌, ◌∷◌, [], OnOk, reverse, IsTrue, ◌↔◌};
+ghost use Rattle.std.specs.Prelude.{◌≡◌, ◌++◌, ◌∷◌, [], OnOk, reverse, IsTrue, ◌↔◌, is_some};
 ghost use Rattle.pool_versions.specs.Pool.{same_key};
 ghost use Rattle.scenario_sketch.specs.Hops.{origin_among, origin_after, outranks};
 
@@ -41,24 +41,6 @@ impl Model for Origins {
     ghost invariant = { λ o. AreOrigins o.found.entries o.past.items };
 }
 
-// Where the packets to a destination came from, of which one more is counted.
-fn with(known: Option<Origin>, from: ServiceKey, is_answer: bool) -> Origin
-    ensures { result ≡ origin_after known from is_answer }
-{
-    match known {
-        Some(origin) => Origin {
-            first: origin.first,
-            is_answer: origin.is_answer,
-            has_others: origin.has_others || origin.first != from,
-        },
-        None => Origin {
-            first: from,
-            is_answer,
-            has_others: false,
-        },
-    }
-}
-
 /// Whether a destination is a service rather than one whose first packet came from it.
 pub(crate) fn outranks(service: Origin, other: Origin) -> bool
     ensures { result ≡ outranks service other }
@@ -81,14 +63,30 @@ impl Origins {
         }
     }
 
+    // What is known of a destination after one packet more to it. Where that came from is looked up for a new destination alone.
+    fn after(&self, hop: Hop) -> Origin
+        ensures { result ≡ origin_after (origin_among hop.to self.now) hop.from (is_some (origin_among hop.from self.now)) }
+    {
+        match self.of(hop.to) {
+            Some(origin) => Origin {
+                first: origin.first,
+                is_answer: origin.is_answer,
+                has_others: origin.has_others || origin.first != hop.from,
+            },
+            None => Origin {
+                first: hop.from,
+                is_answer: self.of(hop.from).is_some(),
+                has_others: false,
+            },
+        }
+    }
+
     /// One packet more.
     pub(crate) fn note(&mut self, hop: Hop) -> Result<(), AllocError>
         ensures { OnOk result (self.new ≡ self.old ++ hop ∷ []) }
     {
-        let known = self.found.get(&hop.to).copied();
-        let earlier = self.found.get(&hop.from).copied();
-        let is_answer = earlier.is_some();
-        self.found.insert(hop.to, with(known, hop.from, is_answer))?;
+        let origin = self.after(hop);
+        self.found.insert(hop.to, origin)?;
         self.past = self.past.and(&hop);
         Ok(())
     }
