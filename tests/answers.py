@@ -272,6 +272,23 @@ def test_tables_against_the_model():
             asks(f"pick {seed}", text, ["pick", "--version", str(first)], model.picked(text, first, data), data.hex().encode())
 
 
+def test_any_step():
+    """The commands that play no scenario read one with any step, also with steps that no one command plays; a text that is no step
+    of any stays BadStep."""
+    of_run, of_simulate = ["install 0 1", "stop 0", "take 2"], ["full 0 0", "hold 1", "take 2", "drain 1"]
+    for steps in (of_run, of_simulate, of_run + of_simulate, ["stop *", "hold 0", "until 1.5"]):
+        text = scenario(steps, versions=(ALL, B_DOWN))
+        text = format_three.three(text) if steps[0] == "stop *" else text
+        for words, expected in [(["1"], model.planned(text, 1)), (["1", "2"], model.plan(text, 1, 2)), (["--order", "1", "2"], model.ordered(text, 1, 2))]:
+            rows.plans(f"plan {words}, {steps}", text, words, expected)
+        asks(f"table, {steps}", text, ["table", "--version", "1"], model.table_of(text, 1, WEB))
+        asks(f"compare, {steps}", text, ["compare", "--from", "1", "--to", "2"], model.compared(text, 1, 2, WEB))
+        asks(f"pick, {steps}", text, ["pick", "--version", "1"], model.picked(text, 1, bytes.fromhex(TCP)), DIGITS)
+    for steps, place in ((["stop 0", "take"], 1), (["stop 2"], 0), (["hold 0", "stop"], 1), (["stop *"], 0)):
+        for words in (["table", "--version", "1"], ["compare", "--from", "1", "--to", "2"], ["pick", "--version", "1"]):
+            gives_up(f"{words[0]}, {steps}", scenario(steps), words, f"BadStep {place}", DIGITS)
+
+
 def test_refusals():
     """Each fault, in its order, and command lines that are none."""
     plain = TWO.replace("SCHEME", "plain")

@@ -1629,7 +1629,7 @@ def test_plan_faults():
     for name, text, words, fault in [
         ("no TOML", "format = ", ["1"], "BadToml"),
         ("an unknown key", "color = 1\n" + good, ["1", "2"], "BadKey"),
-        ("a step of run", scenario(["stop 0"]), ["1", "2"], "BadStep 0"),
+        ("a step that isn't one behind a step of run", scenario(["stop 0", "stop"]), ["1", "2"], "BadStep 1"),
         ("a double name", good.replace("B@", "A@"), ["1", "2"], "DoubleName"),
         ("a version that isn't there", good, ["3"], "BadNumber"),
         ("a first version that isn't there", good, ["3", "1"], "BadNumber"),

@@ -214,6 +214,42 @@ At = collections.namedtuple("At", "node life worker clock")
 CHANGES = ["down", "drained", "node", "restart", "worker", "idle", "evicted"]
 
 
+def segment(link, frame, check):
+    """The flow and the flags of the TCP segment that a frame carries, however long its datagram is; None where there is none."""
+    flow, datagram = read_packet(link, frame, check)
+    if flow == "TooLarge":
+        datagram = frame[14:] if link == "ethernet" else frame
+        head = 4 * (datagram[0] & 15)
+        flow = datagram[12:20] + datagram[head : head + 4] + datagram[9:10]
+    if isinstance(flow, str) or flow[12] != 6:
+        return None
+    return flow, datagram[4 * (datagram[0] & 15) + 13]
+
+
+FIN, SYN, RST, ACK = 1, 2, 4, 16
+
+
+def ordinals(link, records, check=True, after=None):
+    """Of each record which of its flow's connections it belongs to, from 0. A flow begins another connection with a SYN without ACK
+    where the connection before it had FIN or RST, or, where a time is given, where that many microseconds have passed."""
+    connections, found = {}, []
+    for seconds, micros, frame in records:
+        told, at = segment(link, frame, check), seconds * 1_000_000 + micros
+        if told is None:
+            found.append(0)
+            continue
+        flow, flags = told
+        own = connections.setdefault(flow, [[]])
+        if flags & SYN and not flags & ACK and own[-1]:
+            ended = any(one & (FIN | RST) for one, _ in own[-1])
+            late = after is not None and max(at - own[-1][-1][1], 0) >= after
+            if ended or late:
+                own.append([])
+        own[-1].append((flags, at))
+        found.append(len(own) - 1)
+    return found
+
+
 class Sent(tuple):
     """A packet that was sent: its node, its record, its flow, its backend and the version of its choice. `at` is where and when
     it was sent: the node, its life, the worker and what its clock showed then."""
@@ -241,6 +277,7 @@ class Run:
         self.events = []
         self.stops = []
         self.tables = {}
+        self.ordinals = [0] * len(self.records)
         for step in self.scenario["steps"]:
             word, *numbers = step.split(" ")
             for own in self.spelled_out(word, numbers):
@@ -467,6 +504,20 @@ class Run:
         told.events = [event for _, event in sorted(placed, key=lambda one: one[0])]
         return told
 
+    def begun_again(self, after=None):
+        """The run, in which a flow that begins again is another connection."""
+        told = copy.copy(self)
+        told.ordinals = ordinals(self.link, self.records, self.scenario.get("check", True), after)
+        return told
+
+    def connection(self, sent):
+        """The connection of a packet that was sent."""
+        return sent[2], self.ordinals[sent[1]]
+
+    def connections(self):
+        """How many connections a packet was sent of."""
+        return len({self.connection(sent) for sent in self.sends()})
+
     def cause(self, flow, backend, origin, later):
         """Why a flow that was sent to a backend by an entry of this origin was sent to another one under a later version."""
         if backend in self.backends(later, flow, "up", "drain"):
@@ -480,11 +531,11 @@ class Run:
         return any(member.state == "drain" for members in services for member in members)
 
     def pairs(self):
-        """Each two sends of one flow to different backends, with none of that flow between them: the number and the text of both
+        """Each two sends of one connection to different backends, with none of it between them: the number and the text of both
         events, and what was sent."""
         sends = [(place, event, sent) for place, (event, outcome, sent) in enumerate(self.events) if outcome.startswith("forward")]
         for later, one in enumerate(sends):
-            before = [other for other in sends[:later] if other[2][2] == one[2][2]]
+            before = [other for other in sends[:later] if self.connection(other[2]) == self.connection(one[2])]
             if before and before[-1][2][3] != one[2][3]:
                 yield before[-1], one
 
@@ -521,8 +572,7 @@ class Run:
             if where:
                 line += f" at {self.place(first[2])} {self.place(later[2])} {self.change(first, later)}"
             lines.append(line)
-        flows = len({sent[2] for sent in self.sends()})
-        lines += [f"flows {flows}", f"split {len(causes)}", f"down {causes.count('down')}", f"moved {causes.count('moved')}"]
+        lines += [f"flows {self.connections()}", f"split {len(causes)}", f"down {causes.count('down')}", f"moved {causes.count('moved')}"]
         lines += [f"drained {causes.count('drained')}"] if self.drains() else []
         return "".join(line + "\n" for line in lines)
 
@@ -530,8 +580,8 @@ class Run:
         """How many connections changed their server, how often, and why."""
         pairs = list(self.pairs())
         causes = [self.change(first, later) for first, later in pairs]
-        changed = {first[2][2] for first, _ in pairs}
-        lines = [f"connections {len({sent[2] for sent in self.sends()})}", f"changed {len(changed)}", f"changes {len(pairs)}"]
+        changed = {self.connection(first[2]) for first, _ in pairs}
+        lines = [f"connections {self.connections()}", f"changed {len(changed)}", f"changes {len(pairs)}"]
         lines += [f"changes {cause} {causes.count(cause)}" for cause in CHANGES]
         return "".join(line + "\n" for line in lines)
 

@@ -98,7 +98,7 @@ def splits(run, where=False):
         if where:
             one |= {"why": run.change(first, later)}
         found.append(one | {"first": send(run, first[0], first[2], where), "later": send(run, later[0], later[2], where)})
-    flows = len({sent[2] for sent in run.sends()})
+    flows = run.connections()
     counts = {"type": "splits", "flows": flows, "split": len(causes)} | {cause: causes.count(cause) for cause in ("down", "moved", "drained")}
     return [*found, counts]
 

@@ -99,6 +99,10 @@ def all_came(text):
 # What the model says of two packets of one flow at two nodes, simulated and on threads.
 TOLD = model.Run(APART.decode(), SPLIT["in.pcap"])
 PLACES, SUMMARY, RUN_PLACES, SHARES = TOLD.splits(True), TOLD.summary(), TOLD.on_threads().splits(True), TOLD.taken() + TOLD.taken(True)
+# The same flow, which ends and begins again: its segments have FIN, SYN and ACK, in turns.
+FLAGGED = [CAPTURE[24:73] + bytes([flags]) + CAPTURE[74:] for flags in [1, 2, 16, 1, 2, 16]]
+BEGUN = {"s.toml": APART.replace(b"take 2", b"take 6"), "in.pcap": CAPTURE[:24] + b"".join(FLAGGED)}
+AGAIN = model.Run(BEGUN["s.toml"].decode(), BEGUN["in.pcap"]).begun_again()
 # One node's part of it.
 PART = TOLD.part_of(1)
 # The same as objects, and its fault: where memory for the object is refused nothing is said.
@@ -135,6 +139,8 @@ CASES = [
     Case(["compare", "--scenario", "s.toml", "--from", "1", "--to", "2"], DOWN, files=SPLIT),
     Case(["pick", "--scenario", "s.toml", "--version", "1"], "tcp 10.0.0.1:1000>192.0.2.1:80 slot 6 backend A\n", TCP, files=FILES),
     Case(["simulate", "--where", "--summary", "s.toml", "in.pcap", "out.pcap"], PLACES + TWO + SUMMARY, files=SPLIT),
+    Case(["simulate", "--syn", "--where", "--summary", "s.toml", "in.pcap", "out.pcap"], AGAIN.splits(True) + AGAIN.report() + AGAIN.summary(), files=BEGUN),
+    Case(["simulate", "--syn-after", "60", "--json", *ASKED, "s.toml", "in.pcap", "out.pcap"], objects.text_of(objects.simulated(AGAIN, *ASKED)), files=BEGUN, faults=IN_OBJECTS),
     Case(["run", "--where", "--summary", "--pace", "s.toml", "in.pcap", "out.pcap"], RUN_PLACES + TWO + "audit agrees\n" + SUMMARY, files=SPLIT, faults=[LOST]),
     Case(["simulate", "--json", *ASKED, "s.toml", "in.pcap", "out.pcap"], objects.text_of(objects.simulated(TOLD, *ASKED)), files=SPLIT, faults=IN_OBJECTS),
     Case(["run", "--json", *ASKED[1:], "s.toml", "in.pcap", "out.pcap"], objects.text_of(objects.ran(TOLD, *ASKED[1:])), files=SPLIT, faults=[*IN_OBJECTS, LOST_OBJECT]),

@@ -73,6 +73,15 @@ PROMISES = [
         ],
     ),
     (
+        "`simulate --syn`: flows that begin again are other connections",
+        "`ordinals_in` and `simulate_turned` of `scenario_commands`, and the law of `connection_starts`.",
+        [
+            ("scenario_commands", "turning", "ordinals_in"),
+            ("scenario_commands", "turning", "simulate_turned"),
+            ("connection_starts", "laws", "nothing_ends_nothing_begins"),
+        ],
+    ),
+    (
         "What each backend got and each node sent, under each version",
         "`push_shares` of `traffic_shares`, which `--per-backend` and `--per-node` print, and the law of its packets.",
         [("traffic_shares", "lines", "push_shares"), ("traffic_shares", "laws", "packets_add_up")],

@@ -8,7 +8,7 @@ use std::alloc::{AllocError, Global};
 const SIMULATE_HELP: &str =
     "Example: maglev simulate --list examples/failover.toml examples/failover.pcap sent.pcap
 
-SCENARIO, INPUT and OUTPUT may be -, which is standard input or output. Where OUTPUT is standard output the report is printed on standard error.
+SCENARIO, INPUT and OUTPUT may be -, which is standard input or output. Where OUTPUT is standard output the report is printed on standard error. With --syn or --syn-after INPUT is read twice, so that it can be neither - nor a pipe.
 
 Steps of a scenario, of balancers N, versions V, workers W and records P:
   install N V    N gets version V
@@ -351,6 +351,25 @@ fn summary<'a>(alloc: Global) -> Arg<'a> {
         .action(ArgAction::SetTrue)
 }
 
+fn syn<'a>(alloc: Global) -> Arg<'a> {
+    Arg::new(alloc, "syn")
+        .long("syn")
+        .help(
+            "count a flow that begins again, by a TCP SYN without ACK after FIN or RST, as another connection, for the splits and the summary",
+        )
+        .action(ArgAction::SetTrue)
+}
+
+fn syn_after<'a>(alloc: Global) -> Arg<'a> {
+    Arg::new(alloc, "syn-after")
+        .long("syn-after")
+        .value_name("SECONDS")
+        .help(
+            "the same, and a SYN also begins a flow again that had no segment for so long, as 60 or 0.5",
+        )
+        .action(ArgAction::Set)
+}
+
 fn backends<'a>(alloc: Global) -> Arg<'a> {
     Arg::new(alloc, "per-backend")
         .long("per-backend")
@@ -493,6 +512,8 @@ fn simulate<'a>(alloc: Global) -> Result<Command<'a>, AllocError> {
         list(alloc),
         splits(alloc),
         places(alloc),
+        syn(alloc),
+        syn_after(alloc),
         backends(alloc),
         nodes(alloc),
         summary(alloc),

@@ -5,3 +5,4 @@ pub mod Kept
 pub mod Told
 pub mod Counts
 pub mod Alone
+pub mod Reckoned

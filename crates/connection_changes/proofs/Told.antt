@@ -4,17 +4,16 @@ use Rattle.std.specs.Prelude.{OnOk}
 use Rattle.std.specs.List.{flat_map, count_by}
 use Rattle.std.proofs.lemmas.List.Sums.{sum_by-cons}
 use Rattle.std.proofs.lemmas.List.{take_more, map-append}
-use Rattle.cluster_node.specs.declared.events.LogEntry.{LogEntry}
 use Rattle.run_report.specs.declared.cause.SplitCause.{SplitCause}
 use Rattle.run_report.specs.Report.{count_line}
 use Rattle.run_report.specs.Causes.{Lookups, cause_of}
-use Rattle.run_report.specs.Splits.{splits_of, flows_of}
 use Rattle.run_report.specs.Texts.{split_words, counts_text}
 use Rattle.run_report.proofs.SplitWalks.{lines_more}
 use Rattle.connection_changes.specs.declared.causes.Change.{Change}
 use Rattle.connection_changes.specs.declared.causes.ChangeCause.{ChangeCause}
-use Rattle.connection_changes.specs.Changes.{cause_between, cause_in, changed_of, changes_of, same_cause, changes_by}
-use Rattle.connection_changes.specs.Texts.{places_of, change_line, places_text, causes, cause_line, summary_text}
+use Rattle.connection_changes.specs.Changes.{cause_between, cause_in, same_cause, changes_by}
+use Rattle.connection_changes.specs.Texts.{places_of, change_line, places_in, causes, cause_line, summary_in}
+use Rattle.connection_changes.specs.Turns.{Reckoning}
 
 -- a line, as the code puts it together
 pub line_told : (lookups : Lookups) (idle : Option ℕ) (c : Change) (slot : ℕ) (moved : SplitCause) (cause : ChangeCause) (old new : List ℕ) → slot ≡ lookups.slot c.split.later.flow → moved ≡ cause_of lookups c.split
@@ -26,13 +25,18 @@ line_told lookups idle c slot moved cause old new s m k is =
     ∙ ap (λ (d : SplitCause). old ++ (split_words c.split (lookups.slot c.split.later.flow) d ++ places_of c.first c.later (cause_between d idle c.first c.later))) m
 
 -- the lines, and behind them the counts
-pub places_told : {E : Type 0} (r : Result (Unit {0}) E) (lookups : Lookups) (idle : Option ℕ) (past : List LogEntry) (cs : List Change) (old lines new : List ℕ) → cs ≡ changes_of past → lines ≡ old ++ flat_map (change_line lookups idle) cs
-    → OnOk r (new ≡ lines ++ counts_text lookups (length (flows_of past)) (splits_of past)) → OnOk r (new ≡ old ++ places_text lookups idle past)
-unfolding places_text
-places_told (Ok u) lookups idle past cs old lines new is put h =
-    h ∙ ap (λ (t : List ℕ). t ++ counts_text lookups (length (flows_of past)) (splits_of past)) (put ∙ ap (λ (ds : List Change). old ++ flat_map (change_line lookups idle) ds) is)
-    ∙ append_assoc old (flat_map (change_line lookups idle) (changes_of past)) (counts_text lookups (length (flows_of past)) (splits_of past))
-places_told (Err e) lookups idle past cs old lines new is put h = tt
+pub places_told : {E : Type 0} (r : Result (Unit {0}) E) (lookups : Lookups) (idle : Option ℕ) (all : Reckoning) (old lines new : List ℕ) → lines ≡ old ++ flat_map (change_line lookups idle) all.changes
+    → OnOk r (new ≡ lines ++ counts_text lookups all.connections all.splits) → OnOk r (new ≡ old ++ places_in lookups idle all)
+unfolding places_in
+places_told (Ok u) lookups idle all old lines new put h =
+    h ∙ ap (λ (t : List ℕ). t ++ counts_text lookups all.connections all.splits) put
+    ∙ append_assoc old (flat_map (change_line lookups idle) all.changes) (counts_text lookups all.connections all.splits)
+places_told (Err e) lookups idle all old lines new put h = tt
+
+-- a text of what is told that is a record's
+pub of_record : {E : Type 0} (r : Result (Unit {0}) E) (text : Reckoning → List ℕ) (a b : Reckoning) (old new : List ℕ) → a ≡ b → OnOk r (new ≡ old ++ text a) → OnOk r (new ≡ old ++ text b)
+of_record (Ok u) text a b old new same h = h ∙ ap (λ (r : Reckoning). old ++ text r) same
+of_record (Err e) text a b old new same h = tt
 
 -- one more cause
 pub causes_more : {X Y : Type 0} (f : X → Y) (xs : List X) (i : ℕ) (x : X) (old new : List Y) (y : Y) → i < length xs → x ≡ get_or xs i x → y ≡ f x → new ≡ old ++ y ∷ [] → old ≡ map f (take i xs) → new ≡ map f (take (i + 1) xs)
@@ -55,25 +59,22 @@ abbrev lines_by : List ChangeCause → List ℕ
 lines_by made = flat_map (λ cause. cause_line cause (count_by (λ c. same_cause cause c) made)) causes
 
 -- the summary, line by line
-pub summary_told : {E : Type 0} (r : Result (Unit {0}) E) (lookups : Lookups) (idle : Option ℕ) (past : List LogEntry) (cs : List Change) (made : List ChangeCause) (flows changed changes : ℕ) (old one two three new : List ℕ)
-    → cs ≡ changes_of past → made ≡ map (λ c. cause_in lookups idle c) cs → flows ≡ length (flows_of past) → changed ≡ length (changed_of past) → changes ≡ length cs
-    → one ≡ old ++ count_line (codes "connections") flows → two ≡ one ++ count_line (codes "changed") changed → three ≡ two ++ count_line (codes "changes") changes
-    → OnOk r (new ≡ three ++ flat_map (λ cause. cause_line cause (count_by (λ c. same_cause cause c) made)) causes) → OnOk r (new ≡ old ++ summary_text lookups idle past)
-unfolding summary_text
-summary_told (Err e) lookups idle past cs made flows changed changes old one two three new is all a b c p q s h = tt
-summary_told (Ok u) lookups idle past cs made flows changed changes old one two three new is all a b c p q s h =
-    h ∙ ap (λ (t : List ℕ). t ++ lines_by made) (s ∙ ap (λ (t : List ℕ). t ++ count_line (codes "changes") changes) (q ∙ ap (λ (t : List ℕ). t ++ count_line (codes "changed") changed) p))
-    ∙ append_assoc ((old ++ count_line (codes "connections") flows) ++ count_line (codes "changed") changed) (count_line (codes "changes") changes) (lines_by made)
-    ∙ append_assoc (old ++ count_line (codes "connections") flows) (count_line (codes "changed") changed) (count_line (codes "changes") changes ++ lines_by made)
-    ∙ append_assoc old (count_line (codes "connections") flows) (count_line (codes "changed") changed ++ (count_line (codes "changes") changes ++ lines_by made))
-    ∙ ap (λ (n : ℕ). old ++ (count_line (codes "connections") n ++ (count_line (codes "changed") changed ++ (count_line (codes "changes") changes ++ lines_by made)))) a
-    ∙ ap (λ (n : ℕ). old ++ (count_line (codes "connections") (length (flows_of past)) ++ (count_line (codes "changed") n ++ (count_line (codes "changes") changes ++ lines_by made)))) b
-    ∙ ap (λ (n : ℕ). old ++ (count_line (codes "connections") (length (flows_of past)) ++ (count_line (codes "changed") (length (changed_of past)) ++ (count_line (codes "changes") n ++ lines_by made)))) (c ∙ ap (λ (ds : List Change). length ds) is)
-    ∙ ap (λ (t : List ℕ). old ++ (count_line (codes "connections") (length (flows_of past)) ++ (count_line (codes "changed") (length (changed_of past)) ++ (count_line (codes "changes") (length (changes_of past)) ++ t)))) tail_is
+pub summary_told : {E : Type 0} (r : Result (Unit {0}) E) (lookups : Lookups) (idle : Option ℕ) (all : Reckoning) (made : List ChangeCause) (old one two three new : List ℕ)
+    → made ≡ map (λ c. cause_in lookups idle c) all.changes
+    → one ≡ old ++ count_line (codes "connections") all.connections → two ≡ one ++ count_line (codes "changed") all.changed → three ≡ two ++ count_line (codes "changes") (length all.changes)
+    → OnOk r (new ≡ three ++ flat_map (λ cause. cause_line cause (count_by (λ c. same_cause cause c) made)) causes) → OnOk r (new ≡ old ++ summary_in lookups idle all)
+unfolding summary_in
+summary_told (Err e) lookups idle all made old one two three new is p q s h = tt
+summary_told (Ok u) lookups idle all made old one two three new is p q s h =
+    h ∙ ap (λ (t : List ℕ). t ++ lines_by made) (s ∙ ap (λ (t : List ℕ). t ++ count_line (codes "changes") (length all.changes)) (q ∙ ap (λ (t : List ℕ). t ++ count_line (codes "changed") all.changed) p))
+    ∙ append_assoc ((old ++ count_line (codes "connections") all.connections) ++ count_line (codes "changed") all.changed) (count_line (codes "changes") (length all.changes)) (lines_by made)
+    ∙ append_assoc (old ++ count_line (codes "connections") all.connections) (count_line (codes "changed") all.changed) (count_line (codes "changes") (length all.changes) ++ lines_by made)
+    ∙ append_assoc old (count_line (codes "connections") all.connections) (count_line (codes "changed") all.changed ++ (count_line (codes "changes") (length all.changes) ++ lines_by made))
+    ∙ ap (λ (t : List ℕ). old ++ (count_line (codes "connections") all.connections ++ (count_line (codes "changed") all.changed ++ (count_line (codes "changes") (length all.changes) ++ t)))) tail_is
   where
-    tail_is : lines_by made ≡ flat_map (λ cause. cause_line cause (changes_by lookups idle (changes_of past) cause)) causes
-    tail_is = each_piece (λ cause. cause_line cause (count_by (λ c. same_cause cause c) made)) (λ cause. cause_line cause (changes_by lookups idle (changes_of past) cause))
-        (λ cause. ap (λ (n : ℕ). cause_line cause n) (ap (λ (xs : List ChangeCause). count_by (λ c. same_cause cause c) xs) (all ∙ ap (λ (ds : List Change). map (λ c. cause_in lookups idle c) ds) is) ∙ counted lookups idle (changes_of past) cause)) causes
+    tail_is : lines_by made ≡ flat_map (λ cause. cause_line cause (changes_by lookups idle all.changes cause)) causes
+    tail_is = each_piece (λ cause. cause_line cause (count_by (λ c. same_cause cause c) made)) (λ cause. cause_line cause (changes_by lookups idle all.changes cause))
+        (λ cause. ap (λ (n : ℕ). cause_line cause n) (ap (λ (xs : List ChangeCause). count_by (λ c. same_cause cause c) xs) is ∙ counted lookups idle all.changes cause)) causes
 
 -- one more line of a cause
 pub cause_more : (made : List ChangeCause) (i : ℕ) (x : ChangeCause) (count : ℕ) (old new whole : List ℕ) → i < length causes → x ≡ get_or causes i x → new ≡ old ++ cause_line x count → count ≡ count_by (λ c. same_cause x c) made

@@ -5,13 +5,13 @@ use Rattle.std.specs.Fmt.{decimal}
 use Rattle.cluster_node.specs.declared.events.LogEntry.{LogEntry}
 use Rattle.run_report.specs.Report.{count_line}
 use Rattle.run_report.specs.Causes.{Lookups, cause_of}
-use Rattle.run_report.specs.Splits.{splits_of, flows_of}
 use Rattle.run_report.specs.Texts.{split_words, counts_text}
 use Rattle.connection_changes.specs.declared.causes.Change.{Change}
 use Rattle.connection_changes.specs.declared.causes.ChangeCause.{ChangeCause}
 use Rattle.connection_changes.specs.declared.causes.ChangeCause.TheVariants.{Down, Drained, Node, Restart, Worker, Idle, Evicted}
 use Rattle.connection_changes.specs.declared.sites.Site.{Site}
-use Rattle.connection_changes.specs.Changes.{changed_of, changes_of, cause_in, changes_by}
+use Rattle.connection_changes.specs.Changes.{cause_in, changes_by}
+use Rattle.connection_changes.specs.Turns.{Reckoning, reckoning_of}
 
 abbrev pub cause_text : ChangeCause → List ℕ
 cause_text Down = codes "down"
@@ -44,8 +44,12 @@ abbrev pub change_line : Lookups → Option ℕ → Change → List ℕ
 change_line lookups idle c = split_words c.split (lookups.slot c.split.later.flow) (cause_of lookups c.split) ++ places_of c.first c.later (cause_in lookups idle c)
 
 -- a line for each change, and after them the counts of the splits
-unfoldable pub places_text : Lookups → Option ℕ → List LogEntry → List ℕ
-places_text lookups idle past = flat_map (change_line lookups idle) (changes_of past) ++ counts_text lookups (length (flows_of past)) (splits_of past)
+unfoldable pub places_in : Lookups → Option ℕ → Reckoning → List ℕ
+places_in lookups idle r = flat_map (change_line lookups idle) r.changes ++ counts_text lookups r.connections r.splits
+
+-- those of a record
+abbrev pub places_text : Lookups → Option ℕ → List LogEntry → List ℕ
+places_text lookups idle past = places_in lookups idle (reckoning_of past)
 
 abbrev pub causes : List ChangeCause
 causes = Down ∷ Drained ∷ Node ∷ Restart ∷ Worker ∷ Idle ∷ Evicted ∷ []
@@ -55,7 +59,11 @@ abbrev pub cause_line : ChangeCause → ℕ → List ℕ
 cause_line cause count = codes "changes " ++ count_line (cause_text cause) count
 
 -- how many connections there were, how many of them changed their server, how often, and how often for each cause
-unfoldable pub summary_text : Lookups → Option ℕ → List LogEntry → List ℕ
-summary_text lookups idle past =
-    count_line (codes "connections") (length (flows_of past)) ++ (count_line (codes "changed") (length (changed_of past)) ++ (count_line (codes "changes") (length (changes_of past))
-    ++ flat_map (λ cause. cause_line cause (changes_by lookups idle (changes_of past) cause)) causes))
+unfoldable pub summary_in : Lookups → Option ℕ → Reckoning → List ℕ
+summary_in lookups idle r =
+    count_line (codes "connections") r.connections ++ (count_line (codes "changed") r.changed ++ (count_line (codes "changes") (length r.changes)
+    ++ flat_map (λ cause. cause_line cause (changes_by lookups idle r.changes cause)) causes))
+
+-- those of a record
+abbrev pub summary_text : Lookups → Option ℕ → List LogEntry → List ℕ
+summary_text lookups idle past = summary_in lookups idle (reckoning_of past)

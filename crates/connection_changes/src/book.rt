@@ -5,7 +5,9 @@ ghost use Rattle.event_trace.specs.Noting.{said_by};
 ghost use Rattle.run_report.specs.Books.{IsBookOf};
 ghost use Rattle.connection_changes.specs.Changes.{changed_of, changes_of, counts_of};
 ghost use Rattle.connection_changes.specs.Books.{placed_changes};
+ghost use Rattle.connection_changes.specs.Turns.{reckoned, reckoning_of};
 
+use crate::account::Account;
 use crate::causes::Change;
 use crate::changed::ChangedFlows;
 use crate::clocks::Clocks;
@@ -127,6 +129,18 @@ impl ChangeBook {
         ensures { (past : List LogEntry) → IsChangeBookOf past self.now → result.now ≡ changes_of past }
     {
         self.changes.as_slice()
+    }
+
+    /// What is told of the connections.
+    pub fn account(&self) -> Account<'_>
+        ensures { (past : List LogEntry) → IsChangeBookOf past self.now → reckoned result ≡ reckoning_of past }
+    {
+        Account {
+            connections: self.splits.flows(),
+            changed: self.changed(),
+            splits: self.splits.splits(),
+            changes: self.changes(),
+        }
     }
 
     /// The splits alone.

@@ -5,14 +5,16 @@ ghost use Rattle.cluster_node.specs.declared.events.LogEntry.{LogEntry};
 ghost use Rattle.run_report.specs.Causes.{lookups_of, cause_of, does_anybody_drain};
 ghost use Rattle.run_report.specs.Texts.{split_words};
 ghost use Rattle.connection_changes.specs.Books.{IsChangeBookOf};
-ghost use Rattle.connection_changes.specs.Texts.{places_of, change_line, places_text};
+ghost use Rattle.connection_changes.specs.Texts.{places_of, change_line, places_in, places_text};
+ghost use Rattle.connection_changes.specs.Turns.{reckoned};
 
+use crate::account::Account;
 use crate::book::ChangeBook;
 use crate::causes::{Change, ChangeCause, cause_between};
 use crate::sites::Site;
 use hash_laws::FlowHash;
 use pool_versions::Catalogue;
-use run_report::{SplitText, cause_where, does_anybody_drain, push_split_counts, slot_of};
+use run_report::{SplitText, cause_where, does_anybody_drain, push_told_counts, slot_of};
 use std::alloc::AllocError;
 use std::fmt;
 
@@ -128,9 +130,23 @@ fn push_changes<H: FlowHash>(
     Ok(())
 }
 
-/// Puts a line for each change of a book after a text, and then the counts of the splits, as `push_splits` has them. A line is
-/// that of the split, and behind it where its two packets were sent, and why the later one went elsewhere. `idle` is the limit
-/// in microseconds after which an entry of a connection table no longer counts.
+/// Puts a line for each change after a text, and then the counts of the splits, as `push_told_splits` has them. A line is that of
+/// the split, and behind it where its two packets were sent, and why the later one went elsewhere. `idle` is the limit in
+/// microseconds after which an entry of a connection table no longer counts.
+pub fn push_told_places<H: FlowHash>(
+    text: &mut String,
+    hash: &H,
+    catalogue: &Catalogue,
+    idle: Option<u64>,
+    account: Account<'_>,
+) -> Result<(), AllocError>
+    ensures { OnOk result (string_bytes text.new ≡ string_bytes text.old ++ places_in (lookups_of (H.plain hash.now) catalogue.now.size catalogue.now) idle (reckoned account.entry)) }
+{
+    push_changes(text, hash, catalogue, idle, account.changes)?;
+    push_told_counts(text, catalogue, account.connections, account.splits)
+}
+
+/// The same of a book.
 pub fn push_places<H: FlowHash>(
     text: &mut String,
     hash: &H,
@@ -140,6 +156,5 @@ pub fn push_places<H: FlowHash>(
 ) -> Result<(), AllocError>
     ensures { (past : List LogEntry) → IsChangeBookOf past book.now → OnOk result (string_bytes text.new ≡ string_bytes text.old ++ places_text (lookups_of (H.plain hash.now) catalogue.now.size catalogue.now) idle past) }
 {
-    push_changes(text, hash, catalogue, idle, book.changes())?;
-    push_split_counts(text, catalogue, book.splits())
+    push_told_places(text, hash, catalogue, idle, book.account())
 }

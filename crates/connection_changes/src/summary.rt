@@ -8,8 +8,10 @@ ghost use Rattle.run_report.specs.Report.{count_line};
 ghost use Rattle.connection_changes.specs.declared.causes.ChangeCause.{ChangeCause};
 ghost use Rattle.connection_changes.specs.Books.{IsChangeBookOf};
 ghost use Rattle.connection_changes.specs.Changes.{same_cause, cause_in};
-ghost use Rattle.connection_changes.specs.Texts.{causes, cause_line, summary_text};
+ghost use Rattle.connection_changes.specs.Texts.{causes, cause_line, summary_in, summary_text};
+ghost use Rattle.connection_changes.specs.Turns.{reckoned};
 
+use crate::account::Account;
 use crate::book::ChangeBook;
 use crate::causes::{Change, ChangeCause, cause_with, same_cause};
 use crate::lines::ChangeCauseText;
@@ -79,6 +81,25 @@ fn push_count(text: &mut String, name: &str, count: usize) -> Result<(), AllocEr
 /// Puts after a text how many connections there were, how many of them changed their server, how often they did, and how often
 /// for each cause. The causes' counts add up to that of the changes, by `causes_add_up`. `idle` is the limit in microseconds
 /// after which an entry of a connection table no longer counts.
+pub fn push_told_summary(
+    alloc: Global,
+    text: &mut String,
+    catalogue: &Catalogue,
+    idle: Option<u64>,
+    account: Account<'_>,
+) -> Result<(), AllocError>
+    ensures { (lookups : Lookups) → lookups.ups ≡ (λ v x. candidates_of catalogue.now v x) → lookups.versions ≡ catalogue.now.versions →
+        OnOk result (string_bytes text.new ≡ string_bytes text.old ++ summary_in lookups idle (reckoned account.entry)) }
+{
+    let changes = account.changes;
+    let causes = causes_of(alloc, catalogue, idle, changes)?;
+    push_count(text, "connections", account.connections)?;
+    push_count(text, "changed", account.changed)?;
+    push_count(text, "changes", changes.len())?;
+    push_causes(text, causes.as_slice())
+}
+
+/// The same of a book.
 pub fn push_summary(
     alloc: Global,
     text: &mut String,
@@ -89,10 +110,5 @@ pub fn push_summary(
     ensures { (past : List LogEntry) (lookups : Lookups) → lookups.ups ≡ (λ v x. candidates_of catalogue.now v x) → lookups.versions ≡ catalogue.now.versions → IsChangeBookOf past book.now →
         OnOk result (string_bytes text.new ≡ string_bytes text.old ++ summary_text lookups idle past) }
 {
-    let changes = book.changes();
-    let causes = causes_of(alloc, catalogue, idle, changes)?;
-    push_count(text, "connections", book.splits().flows())?;
-    push_count(text, "changed", book.changed())?;
-    push_count(text, "changes", changes.len())?;
-    push_causes(text, causes.as_slice())
+    push_told_summary(alloc, text, catalogue, idle, book.account())
 }

@@ -40,6 +40,10 @@ counts_line flows split down moved drained =
 abbrev pub counts_json : Lookups → ℕ → List Split → List ℕ
 counts_json lookups flows ps = counts_line flows (length ps) (down_count lookups ps) (moved_count lookups ps) (drained_count lookups ps)
 
--- a line for each split of a record, and after them the counts
-unfoldable pub splits_json : Lookups → List LogEntry → List ℕ
-splits_json lookups past = flat_map (split_json lookups) (splits_of past) ++ counts_json lookups (length (flows_of past)) (splits_of past)
+-- a line for each split, and after them the counts
+unfoldable pub told_json : Lookups → ℕ → List Split → List ℕ
+told_json lookups flows ps = flat_map (split_json lookups) ps ++ counts_json lookups flows ps
+
+-- those of a record
+abbrev pub splits_json : Lookups → List LogEntry → List ℕ
+splits_json lookups past = told_json lookups (length (flows_of past)) (splits_of past)

@@ -4,10 +4,10 @@ use Rattle.std.specs.List.{count_by}
 use Rattle.std.specs.Fmt.{decimal}
 use Rattle.cluster_node.specs.declared.events.LogEntry.{LogEntry}
 use Rattle.run_report.specs.Causes.{Lookups}
-use Rattle.run_report.specs.Splits.{flows_of}
 use Rattle.connection_changes.specs.declared.causes.ChangeCause.{ChangeCause}
 use Rattle.connection_changes.specs.declared.causes.ChangeCause.TheVariants.{Down, Drained, Node, Restart, Worker, Idle, Evicted}
-use Rattle.connection_changes.specs.Changes.{changed_of, changes_of, cause_in, same_cause}
+use Rattle.connection_changes.specs.Changes.{cause_in, same_cause}
+use Rattle.connection_changes.specs.Turns.{Reckoning, reckoning_of}
 
 -- how many connections there were, how many changed their server, and how often
 unfoldable pub change_members : ℕ → ℕ → ℕ → List ℕ
@@ -36,15 +36,15 @@ why_members made = gone_members made ++ (codes "," ++ moved_members made)
 unfoldable pub why_end : List ChangeCause → List ℕ
 why_end made = codes ",\"why\":{" ++ (why_members made ++ codes "}}\n")
 
--- why each connection of a record changed its server
-abbrev pub causes_in : Lookups → Option ℕ → List LogEntry → List ChangeCause
-causes_in lookups idle past = map (λ c. cause_in lookups idle c) (changes_of past)
-
 -- `{"type":"summary","connections":COUNT,"changed":COUNT,"changes":COUNT,"why":{..}}`
 abbrev pub summary_line : ℕ → ℕ → ℕ → List ChangeCause → List ℕ
 summary_line connections changed changes made =
     codes "{\"type\":\"summary\"," ++ (change_members connections changed changes ++ why_end made)
 
+-- that of what is told of connections
+unfoldable pub summary_in : Lookups → Option ℕ → Reckoning → List ℕ
+summary_in lookups idle r = summary_line r.connections r.changed (length r.changes) (map (λ c. cause_in lookups idle c) r.changes)
+
 -- that of a record
-unfoldable pub summary_json : Lookups → Option ℕ → List LogEntry → List ℕ
-summary_json lookups idle past = summary_line (length (flows_of past)) (length (changed_of past)) (length (changes_of past)) (causes_in lookups idle past)
+abbrev pub summary_json : Lookups → Option ℕ → List LogEntry → List ℕ
+summary_json lookups idle past = summary_in lookups idle (reckoning_of past)

@@ -6,9 +6,10 @@ ghost use Rattle.event_trace.specs.Noting.{said_by};
 ghost use Rattle.run_report.specs.Books.{IsBookOf};
 ghost use Rattle.run_report.specs.Causes.{Lookups, lookups_of};
 ghost use Rattle.connection_changes.specs.Books.{IsChangeBookOf};
+ghost use Rattle.connection_changes.specs.Turns.{reckoned};
 ghost use Rattle.traffic_shares.specs.declared.holders.ShareKind.{ShareKind};
 ghost use Rattle.traffic_shares.specs.Books.{BookIf};
-ghost use Rattle.json_lines.specs.Forms.{head_as, event_as, splits_as, places_as, report_as, audit_as, share_lines_if, shares_as, summary_as, verdict_as, explanation_as};
+ghost use Rattle.json_lines.specs.Forms.{head_as, event_as, told_as, splits_as, places_by, places_as, report_as, audit_as, share_lines_if, shares_as, summary_by, summary_as, verdict_as, explanation_as};
 
 use crate::events::push_json_event;
 use crate::heads::{push_json_audit, push_json_head};
@@ -20,11 +21,11 @@ use crate::summaries::push_json_summary;
 use crate::verdicts::push_json_verdict;
 use cluster_core::{Totals, Verdict};
 use cluster_node::{Event, Outcome, Packet};
-use connection_changes::{ChangeBook, push_places, push_summary};
+use connection_changes::{Account, ChangeBook, push_told_places, push_told_summary};
 use event_trace::Tally;
 use hash_laws::FlowHash;
 use pool_versions::Catalogue;
-use run_report::{SplitBook, explained_text, push_line, push_splits, report_text};
+use run_report::{Split, SplitBook, explained_text, push_line, push_told_splits, report_text};
 use std::alloc::{AllocError, Global};
 use traffic_shares::{AskedShares, ShareBook, ShareBooks, push_shares};
 
@@ -70,7 +71,25 @@ impl Form {
         }
     }
 
-    /// Puts a line for each split of a book after a text, and then their counts.
+    /// Puts a line for each of some splits after a text, and then their counts, with so many flows.
+    pub fn push_told_splits<H: FlowHash>(
+        self,
+        text: &mut String,
+        hash: &H,
+        catalogue: &Catalogue,
+        flows: usize,
+        splits: &[Split],
+    ) -> Result<(), AllocError>
+        ensures { OnOk result (string_bytes text.new ≡ string_bytes text.old
+            ++ told_as self (lookups_of (H.plain hash.now) catalogue.now.size catalogue.now) flows splits.now) }
+    {
+        match self {
+            Form::Plain => push_told_splits(text, hash, catalogue, flows, splits),
+            Form::Json => push_json_splits(text, hash, catalogue, flows, splits),
+        }
+    }
+
+    /// The same of a book.
     pub fn push_splits<H: FlowHash, T: Copy>(
         self,
         text: &mut String,
@@ -82,14 +101,29 @@ impl Form {
             OnOk result (string_bytes text.new ≡ string_bytes text.old
             ++ splits_as self (lookups_of (H.plain hash.now) catalogue.now.size catalogue.now) past) }
     {
+        self.push_told_splits(text, hash, catalogue, book.flows(), book.splits())
+    }
+
+    /// Puts a line for each change after a text, with where its packets were sent, and then the counts of the splits. `idle` is the
+    /// limit in microseconds after which an entry of a connection table no longer counts.
+    pub fn push_told_places<H: FlowHash>(
+        self,
+        text: &mut String,
+        hash: &H,
+        catalogue: &Catalogue,
+        idle: Option<u64>,
+        account: Account<'_>,
+    ) -> Result<(), AllocError>
+        ensures { OnOk result (string_bytes text.new ≡ string_bytes text.old
+            ++ places_by self (lookups_of (H.plain hash.now) catalogue.now.size catalogue.now) idle (reckoned account.entry)) }
+    {
         match self {
-            Form::Plain => push_splits(text, hash, catalogue, book),
-            Form::Json => push_json_splits(text, hash, catalogue, book),
+            Form::Plain => push_told_places(text, hash, catalogue, idle, account),
+            Form::Json => push_json_places(text, hash, catalogue, idle, account),
         }
     }
 
-    /// The same of the changes, with where their packets were sent. `idle` is the limit in microseconds after which an entry of
-    /// a connection table no longer counts.
+    /// The same of a book.
     pub fn push_places<H: FlowHash>(
         self,
         text: &mut String,
@@ -102,10 +136,7 @@ impl Form {
             OnOk result (string_bytes text.new ≡ string_bytes text.old
             ++ places_as self (lookups_of (H.plain hash.now) catalogue.now.size catalogue.now) idle past) }
     {
-        match self {
-            Form::Plain => push_places(text, hash, catalogue, idle, book),
-            Form::Json => push_json_places(text, hash, catalogue, idle, book),
-        }
+        self.push_told_places(text, hash, catalogue, idle, book.account())
     }
 
     /// The report of a run, whose capture was cut off in a record or wasn't.
@@ -175,6 +206,24 @@ impl Form {
 
     /// Puts after a text how many connections there were, how many of them changed their server, how often they did, and why.
     /// `idle` is as for the places.
+    pub fn push_told_summary(
+        self,
+        alloc: Global,
+        text: &mut String,
+        catalogue: &Catalogue,
+        idle: Option<u64>,
+        account: Account<'_>,
+    ) -> Result<(), AllocError>
+        ensures { (lookups : Lookups) → lookups.ups ≡ (λ v x. candidates_of catalogue.now v x) → lookups.versions ≡ catalogue.now.versions →
+            OnOk result (string_bytes text.new ≡ string_bytes text.old ++ summary_by self lookups idle (reckoned account.entry)) }
+    {
+        match self {
+            Form::Plain => push_told_summary(alloc, text, catalogue, idle, account),
+            Form::Json => push_json_summary(alloc, text, catalogue, idle, account),
+        }
+    }
+
+    /// The same of a book.
     pub fn push_summary(
         self,
         alloc: Global,
@@ -186,10 +235,7 @@ impl Form {
         ensures { (past : List LogEntry) (lookups : Lookups) → lookups.ups ≡ (λ v x. candidates_of catalogue.now v x) → lookups.versions ≡ catalogue.now.versions → IsChangeBookOf past book.now →
             OnOk result (string_bytes text.new ≡ string_bytes text.old ++ summary_as self lookups idle past) }
     {
-        match self {
-            Form::Plain => push_summary(alloc, text, catalogue, idle, book),
-            Form::Json => push_json_summary(alloc, text, catalogue, idle, book),
-        }
+        self.push_told_summary(alloc, text, catalogue, idle, book.account())
     }
 
     /// Why two packets went where they went, behind the lines of their events: for none of these it is the verdict alone. It says

@@ -1,14 +1,13 @@
 //! The lines of the changes: the splits with where their packets were sent, and why the later one went elsewhere.
-ghost use Rattle.std.specs.Prelude.{◌≡◌, ◌++◌, List, OnOk, string_bytes};
+ghost use Rattle.std.specs.Prelude.{◌≡◌, ◌++◌, OnOk, string_bytes};
 ghost use Rattle.std.specs.List.{flat_map};
-ghost use Rattle.cluster_node.specs.declared.events.LogEntry.{LogEntry};
 ghost use Rattle.run_report.specs.Causes.{lookups_of};
-ghost use Rattle.connection_changes.specs.Books.{IsChangeBookOf};
-ghost use Rattle.json_lines.specs.Places.{change_line, change_json, places_json};
+ghost use Rattle.connection_changes.specs.Turns.{reckoned};
+ghost use Rattle.json_lines.specs.Places.{change_line, change_json, places_in};
 
-use crate::splits::{SendMembers, SplitMembers, push_split_counts};
+use crate::splits::{SendMembers, SplitMembers, push_told_counts};
 use connection_changes::{
-    Change, ChangeBook, ChangeCause, ChangeCauseText, Site, TimeText, cause_between,
+    Account, Change, ChangeCause, ChangeCauseText, Site, TimeText, cause_between,
 };
 use hash_laws::FlowHash;
 use pool_versions::Catalogue;
@@ -96,20 +95,19 @@ fn push_changes<H: FlowHash>(
     Ok(())
 }
 
-/// Puts a line for each change of a book after a text, and then the counts of the splits. A line is that of the split, with
-/// where its two packets were sent, and why the later one went elsewhere. `idle` is the limit in microseconds after which an
-/// entry of a connection table no longer counts.
+/// Puts a line for each change after a text, and then the counts of the splits. A line is that of the split, with where its two
+/// packets were sent, and why the later one went elsewhere. `idle` is the limit in microseconds after which an entry of a
+/// connection table no longer counts.
 pub fn push_json_places<H: FlowHash>(
     text: &mut String,
     hash: &H,
     catalogue: &Catalogue,
     idle: Option<u64>,
-    book: &ChangeBook,
+    account: Account<'_>,
 ) -> Result<(), AllocError>
-    ensures { (past : List LogEntry) → IsChangeBookOf past book.now →
-        OnOk result (string_bytes text.new ≡ string_bytes text.old
-        ++ places_json (lookups_of (H.plain hash.now) catalogue.now.size catalogue.now) idle past) }
+    ensures { OnOk result (string_bytes text.new ≡ string_bytes text.old
+        ++ places_in (lookups_of (H.plain hash.now) catalogue.now.size catalogue.now) idle (reckoned account.entry)) }
 {
-    push_changes(text, hash, catalogue, idle, book.changes())?;
-    push_split_counts(text, catalogue, book.splits())
+    push_changes(text, hash, catalogue, idle, account.changes)?;
+    push_told_counts(text, catalogue, account.connections, account.splits)
 }

@@ -1,20 +1,17 @@
 //! The lines of the splits, and their counts.
-ghost use Rattle.std.specs.Prelude.{◌≡◌, ◌≤◌, ◌+◌, ◌-◌, ◌++◌, List, length, OnOk, string_bytes};
+ghost use Rattle.std.specs.Prelude.{◌≡◌, ◌≤◌, ◌+◌, ◌-◌, ◌++◌, OnOk, string_bytes};
 ghost use Rattle.std.specs.List.{flat_map};
-ghost use Rattle.cluster_node.specs.declared.events.LogEntry.{LogEntry};
 ghost use Rattle.selection.specs.Candidates.{candidates_of};
-ghost use Rattle.run_report.specs.Books.{IsBookOf};
 ghost use Rattle.run_report.specs.Causes.{Lookups, lookups_of};
-ghost use Rattle.run_report.specs.Splits.{splits_of, flows_of};
-ghost use Rattle.json_lines.specs.Splits.{split_line, split_json, counts_line, counts_json, splits_json};
+ghost use Rattle.json_lines.specs.Splits.{split_line, split_json, counts_line, counts_json, told_json};
 
 use crate::members::BackendMembers;
 use hash_laws::FlowHash;
 use maglev_texts::{AddressText, FlowText};
 use pool_versions::Catalogue;
 use run_report::{
-    Gone, Sending, Split, SplitBook, SplitCause, SplitCauseText, cause_where, does_anybody_drain,
-    gone_of, slot_of,
+    Gone, Sending, Split, SplitCause, SplitCauseText, cause_where, does_anybody_drain, gone_of,
+    slot_of,
 };
 use std::alloc::AllocError;
 use std::fmt;
@@ -108,32 +105,32 @@ fn push_counts(text: &mut String, flows: usize, split: usize, gone: Gone) -> Res
     )
 }
 
-/// Puts the line of the counts of a book's splits after a text.
-pub(crate) fn push_split_counts<T: Copy>(
+/// Puts the line of the counts of some splits after a text, with so many flows.
+pub(crate) fn push_told_counts(
     text: &mut String,
     catalogue: &Catalogue,
-    book: &SplitBook<T>,
+    flows: usize,
+    splits: &[Split],
 ) -> Result<(), AllocError>
-    ensures { (past : List LogEntry) (lookups : Lookups) → lookups.ups ≡ (λ v x. candidates_of catalogue.now v x) → lookups.versions ≡ catalogue.now.versions →
-        IsBookOf past book.now →
-        OnOk result (string_bytes text.new ≡ string_bytes text.old ++ counts_json lookups (length (flows_of past)) (splits_of past)) }
+    ensures { (lookups : Lookups) → lookups.ups ≡ (λ v x. candidates_of catalogue.now v x) → lookups.versions ≡ catalogue.now.versions →
+        OnOk result (string_bytes text.new ≡ string_bytes text.old ++ counts_json lookups flows splits.now) }
 {
-    let splits = book.splits();
     let gone = gone_of(catalogue, does_anybody_drain(catalogue), splits);
-    push_counts(text, book.flows(), splits.len(), gone)
+    push_counts(text, flows, splits.len(), gone)
 }
 
-/// Puts a line for each split of a book after a text, and then one with the counts of flows and splits. Splits whose server
-/// left after it had drained are always counted.
-pub fn push_json_splits<H: FlowHash, T: Copy>(
+/// Puts a line for each of some splits after a text, and then one with the counts of flows, which is given, and splits. Splits
+/// whose server left after it had drained are always counted.
+pub fn push_json_splits<H: FlowHash>(
     text: &mut String,
     hash: &H,
     catalogue: &Catalogue,
-    book: &SplitBook<T>,
+    flows: usize,
+    splits: &[Split],
 ) -> Result<(), AllocError>
-    ensures { (past : List LogEntry) → IsBookOf past book.now →
-        OnOk result (string_bytes text.new ≡ string_bytes text.old ++ splits_json (lookups_of (H.plain hash.now) catalogue.now.size catalogue.now) past) }
+    ensures { OnOk result (string_bytes text.new ≡ string_bytes text.old
+        ++ told_json (lookups_of (H.plain hash.now) catalogue.now.size catalogue.now) flows splits.now) }
 {
-    push_lines(text, hash, catalogue, book.splits())?;
-    push_split_counts(text, catalogue, book)
+    push_lines(text, hash, catalogue, splits)?;
+    push_told_counts(text, catalogue, flows, splits)
 }

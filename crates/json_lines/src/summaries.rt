@@ -1,12 +1,11 @@
 //! How many connections changed their server, how often, and why.
-ghost use Rattle.std.specs.Prelude.{◌≡◌, ◌++◌, List, OnOk, string_bytes};
-ghost use Rattle.cluster_node.specs.declared.events.LogEntry.{LogEntry};
+ghost use Rattle.std.specs.Prelude.{◌≡◌, ◌++◌, OnOk, string_bytes};
 ghost use Rattle.selection.specs.Candidates.{candidates_of};
 ghost use Rattle.run_report.specs.Causes.{Lookups};
-ghost use Rattle.connection_changes.specs.Books.{IsChangeBookOf};
-ghost use Rattle.json_lines.specs.Summaries.{change_members, gone_members, moved_members, why_members, why_end, summary_line, summary_json};
+ghost use Rattle.connection_changes.specs.Turns.{reckoned};
+ghost use Rattle.json_lines.specs.Summaries.{change_members, gone_members, moved_members, why_members, why_end, summary_line, summary_in};
 
-use connection_changes::{ChangeBook, ChangeCause, causes_of, count_of};
+use connection_changes::{Account, ChangeCause, causes_of, count_of};
 use pool_versions::Catalogue;
 use std::alloc::{AllocError, Global};
 
@@ -94,19 +93,17 @@ pub fn push_json_summary(
     text: &mut String,
     catalogue: &Catalogue,
     idle: Option<u64>,
-    book: &ChangeBook,
+    account: Account<'_>,
 ) -> Result<(), AllocError>
-    ensures { (past : List LogEntry) (lookups : Lookups) → lookups.ups ≡ (λ v x. candidates_of catalogue.now v x) → lookups.versions ≡ catalogue.now.versions →
-        IsChangeBookOf past book.now →
-        OnOk result (string_bytes text.new ≡ string_bytes text.old ++ summary_json lookups idle past) }
+    ensures { (lookups : Lookups) → lookups.ups ≡ (λ v x. candidates_of catalogue.now v x) → lookups.versions ≡ catalogue.now.versions →
+        OnOk result (string_bytes text.new ≡ string_bytes text.old ++ summary_in lookups idle (reckoned account.entry)) }
 {
-    let changes = book.changes();
+    let changes = account.changes;
     let causes = causes_of(alloc, catalogue, idle, changes)?;
-    let connections = book.splits().flows();
     push_line(
         text,
-        connections,
-        book.changed(),
+        account.connections,
+        account.changed,
         changes.len(),
         causes.as_slice(),
     )

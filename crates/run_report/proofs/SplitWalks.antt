@@ -11,8 +11,8 @@ use Rattle.cluster_node.specs.declared.outcomes.Outcome.{Outcome}
 use Rattle.run_report.specs.declared.cause.SplitCause.{SplitCause}
 use Rattle.run_report.specs.declared.cause.SplitCause.TheVariants.{Down, Moved, Drained}
 use Rattle.run_report.specs.declared.sending.Split.{Split}
-use Rattle.run_report.specs.Splits.{splits_of, flows_of, said_of}
-use Rattle.run_report.specs.Texts.{split_line, split_counts, drained_line, counts_text, splits_text}
+use Rattle.run_report.specs.Splits.{said_of}
+use Rattle.run_report.specs.Texts.{split_line, split_counts, drained_line, counts_text, text_of}
 use Rattle.run_report.specs.Causes.{Lookups, cause_of, down_one, moved_one, drained_one, down_count, moved_count, drained_count, does_anybody_drain}
 
 rest_of : {X : Type 0} (xs : List X) (i : ℕ) (x : X) → i < length xs → x ≡ get_or xs i x → drop i xs ≡ x ∷ drop (i + 1) xs
@@ -47,45 +47,48 @@ causes_add_up lookups (p ∷ ps) =
     omega (arith, h, d, m, l, o)
 
 -- the counts, by those of the splits and of the causes
-counts_same : (lookups : Lookups) (past : List LogEntry) (ps : List Split) (flows split down drained : ℕ) (drains : Bool) → ps ≡ splits_of past
-    → flows ≡ length (flows_of past) → split ≡ length ps → down ≡ down_count lookups ps → drained ≡ drained_count lookups ps → drains ≡ does_anybody_drain lookups.versions
-    → split_counts flows split down (split - (down + drained)) ++ drained_line drains drained ≡ counts_text lookups (length (flows_of past)) (splits_of past)
-counts_same lookups past ps flows split down drained drains is many few low gone some =
+counts_same : (lookups : Lookups) (ps : List Split) (flows split down drained : ℕ) (drains : Bool)
+    → split ≡ length ps → down ≡ down_count lookups ps → drained ≡ drained_count lookups ps → drains ≡ does_anybody_drain lookups.versions
+    → split_counts flows split down (split - (down + drained)) ++ drained_line drains drained ≡ counts_text lookups flows ps
+counts_same lookups ps flows split down drained drains few low gone some =
     ap (λ (n : ℕ). split_counts flows split down n ++ drained_line drains drained) rest
     ∙ ap (λ (n : ℕ). split_counts flows split n (moved_count lookups ps) ++ drained_line drains drained) low
     ∙ ap (λ (n : ℕ). split_counts flows n (down_count lookups ps) (moved_count lookups ps) ++ drained_line drains drained) few
     ∙ ap (λ (n : ℕ). split_counts flows (length ps) (down_count lookups ps) (moved_count lookups ps) ++ drained_line drains n) gone
     ∙ ap (λ (t : Bool). split_counts flows (length ps) (down_count lookups ps) (moved_count lookups ps) ++ drained_line t (drained_count lookups ps)) some
-    ∙ ap (λ (n : ℕ). counts_text lookups n ps) many
-    ∙ ap (λ (qs : List Split). counts_text lookups (length (flows_of past)) qs) is
   where
     rest : split - (down + drained) ≡ moved_count lookups ps
     rest =
         let whole : down_count lookups ps + moved_count lookups ps + drained_count lookups ps ≡ length ps = causes_add_up lookups ps in
         omega (arith, whole, few, low, gone)
 
-pub counts_told : {E : Type 0} (lookups : Lookups) (past : List LogEntry) (r : Result (Unit {0}) E) (ps : List Split) (flows split down drained : ℕ) (drains : Bool) (old new : List ℕ) → ps ≡ splits_of past
-    → flows ≡ length (flows_of past) → split ≡ length ps → down ≡ down_count lookups ps → drained ≡ drained_count lookups ps → drains ≡ does_anybody_drain lookups.versions
-    → OnOk r (new ≡ old ++ (split_counts flows split down (split - (down + drained)) ++ drained_line drains drained)) → OnOk r (new ≡ old ++ counts_text lookups (length (flows_of past)) (splits_of past))
-counts_told lookups past (Ok done) ps flows split down drained drains old new is many few low gone some h =
-    h ∙ ap (λ (text : List ℕ). old ++ text) (counts_same lookups past ps flows split down drained drains is many few low gone some)
-counts_told lookups past (Err fault) ps flows split down drained drains old new is many few low gone some h = tt
+-- the counts, by those of the splits and of the causes
+pub counts_told : {E : Type 0} (lookups : Lookups) (r : Result (Unit {0}) E) (ps : List Split) (flows split down drained : ℕ) (drains : Bool) (old new : List ℕ)
+    → split ≡ length ps → down ≡ down_count lookups ps → drained ≡ drained_count lookups ps → drains ≡ does_anybody_drain lookups.versions
+    → OnOk r (new ≡ old ++ (split_counts flows split down (split - (down + drained)) ++ drained_line drains drained)) → OnOk r (new ≡ old ++ counts_text lookups flows ps)
+counts_told lookups (Ok done) ps flows split down drained drains old new few low gone some h =
+    h ∙ ap (λ (text : List ℕ). old ++ text) (counts_same lookups ps flows split down drained drains few low gone some)
+counts_told lookups (Err fault) ps flows split down drained drains old new few low gone some h = tt
 
 -- the lines, and behind them the counts
-pub text_told : {E : Type 0} (lookups : Lookups) (past : List LogEntry) (r : Result (Unit {0}) E) (ps : List Split) (flows split down drained : ℕ) (drains : Bool) (old lines new : List ℕ) → ps ≡ splits_of past
-    → flows ≡ length (flows_of past) → split ≡ length ps → down ≡ down_count lookups ps → drained ≡ drained_count lookups ps → drains ≡ does_anybody_drain lookups.versions → lines ≡ old ++ flat_map (split_line lookups) ps
-    → OnOk r (new ≡ lines ++ (split_counts flows split down (split - (down + drained)) ++ drained_line drains drained)) → OnOk r (new ≡ old ++ splits_text lookups past)
-text_told {E} lookups past r ps flows split down drained drains old lines new is many few low gone some made grown = ok r grown
+pub text_told : {E : Type 0} (lookups : Lookups) (r : Result (Unit {0}) E) (ps : List Split) (flows split down drained : ℕ) (drains : Bool) (old lines new : List ℕ)
+    → split ≡ length ps → down ≡ down_count lookups ps → drained ≡ drained_count lookups ps → drains ≡ does_anybody_drain lookups.versions → lines ≡ old ++ flat_map (split_line lookups) ps
+    → OnOk r (new ≡ lines ++ (split_counts flows split down (split - (down + drained)) ++ drained_line drains drained)) → OnOk r (new ≡ old ++ text_of lookups flows ps)
+text_told {E} lookups r ps flows split down drained drains old lines new few low gone some made grown = ok r grown
   where
-    all : lines ++ (split_counts flows split down (split - (down + drained)) ++ drained_line drains drained) ≡ old ++ splits_text lookups past
+    all : lines ++ (split_counts flows split down (split - (down + drained)) ++ drained_line drains drained) ≡ old ++ text_of lookups flows ps
     all = ap (λ (text : List ℕ). text ++ (split_counts flows split down (split - (down + drained)) ++ drained_line drains drained)) made
         ∙ append_assoc old (flat_map (split_line lookups) ps) (split_counts flows split down (split - (down + drained)) ++ drained_line drains drained)
-        ∙ ap (λ (text : List ℕ). old ++ (flat_map (split_line lookups) ps ++ text)) (counts_same lookups past ps flows split down drained drains is many few low gone some)
-        ∙ ap (λ (qs : List Split). old ++ (flat_map (split_line lookups) qs ++ counts_text lookups (length (flows_of past)) (splits_of past))) is
+        ∙ ap (λ (text : List ℕ). old ++ (flat_map (split_line lookups) ps ++ text)) (counts_same lookups ps flows split down drained drains few low gone some)
 
-    ok : (s : Result (Unit {0}) E) → OnOk s (new ≡ lines ++ (split_counts flows split down (split - (down + drained)) ++ drained_line drains drained)) → OnOk s (new ≡ old ++ splits_text lookups past)
+    ok : (s : Result (Unit {0}) E) → OnOk s (new ≡ lines ++ (split_counts flows split down (split - (down + drained)) ++ drained_line drains drained)) → OnOk s (new ≡ old ++ text_of lookups flows ps)
     ok (Ok done) h = h ∙ all
     ok (Err fault) h = tt
+
+-- a text of numbers that are those of a record
+pub of_record : {E A B : Type 0} (r : Result (Unit {0}) E) (text : A → B → List ℕ) (a a' : A) (b b' : B) (old new : List ℕ) → a ≡ a' → b ≡ b' → OnOk r (new ≡ old ++ text a b) → OnOk r (new ≡ old ++ text a' b')
+of_record {A = A} {B = B} (Ok done) text a a' b b' old new p q h = h ∙ ap (λ (x : A). old ++ text x b) p ∙ ap (λ (y : B). old ++ text a' y) q
+of_record (Err fault) text a a' b b' old new p q h = tt
 
 -- ---- a history event by event
 

@@ -29,6 +29,7 @@ pub use noted::{Beside, Noted};
 pub use reports::{CAUSES, report_text};
 pub use sending::{Sending, Split, sent_by};
 pub use split_lines::{
-    Gone, SplitCauseText, SplitText, gone_of, push_split_counts, push_splits, slot_of,
+    Gone, SplitCauseText, SplitText, gone_of, push_split_counts, push_splits, push_told_counts,
+    push_told_splits, slot_of,
 };
 pub use verdicts::{explained_text, left_drained, verdict_text};

@@ -7,7 +7,7 @@ ghost use Rattle.selection.specs.Picks.{slot_of_flow};
 ghost use Rattle.run_report.specs.Books.{IsBookOf};
 ghost use Rattle.run_report.specs.Splits.{splits_of, flows_of};
 ghost use Rattle.run_report.specs.Causes.{Lookups, lookups_of, down_one, drained_one, down_count, drained_count, does_anybody_drain};
-ghost use Rattle.run_report.specs.Texts.{line_of, split_line, split_counts, drained_line, counts_text, splits_text};
+ghost use Rattle.run_report.specs.Texts.{line_of, split_line, split_counts, drained_line, counts_text, text_of, splits_text};
 
 use crate::book::SplitBook;
 use crate::cause::{SplitCause, cause_where, does_anybody_drain};
@@ -214,7 +214,40 @@ pub fn gone_of(catalogue: &Catalogue, drains: bool, splits: &[Split]) -> Gone
     Gone { down, drained }
 }
 
-/// Puts the counts that come after the lines of a book's splits after a text: those of `push_splits`, without the lines.
+/// Puts the counts that come after the lines of the splits after a text, of so many flows: those of `push_told_splits`, without
+/// the lines.
+pub fn push_told_counts(
+    text: &mut String,
+    catalogue: &Catalogue,
+    flows: usize,
+    splits: &[Split],
+) -> Result<(), AllocError>
+    ensures { (lookups : Lookups) → lookups.ups ≡ (λ v x. candidates_of catalogue.now v x) → lookups.versions ≡ catalogue.now.versions →
+        OnOk result (string_bytes text.new ≡ string_bytes text.old ++ counts_text lookups flows splits.now) }
+{
+    let drains = does_anybody_drain(catalogue);
+    let gone = gone_of(catalogue, drains, splits);
+    push_counts(text, flows, splits.len(), gone, drains)
+}
+
+/// Puts a line for each of some splits after a text. Then it puts how many flows were sent, which is given, how many splits there
+/// are, and how many of them have each cause. Flows have their slots by the hash and the size of the catalogue's tables. Splits
+/// whose server left after it had drained are counted only where a member of a version drains.
+pub fn push_told_splits<H: FlowHash>(
+    text: &mut String,
+    hash: &H,
+    catalogue: &Catalogue,
+    flows: usize,
+    splits: &[Split],
+) -> Result<(), AllocError>
+    ensures { OnOk result (string_bytes text.new ≡ string_bytes text.old ++ text_of (lookups_of (H.plain hash.now) catalogue.now.size catalogue.now) flows splits.now) }
+{
+    let drains = does_anybody_drain(catalogue);
+    let gone = push_lines(text, hash, catalogue, drains, splits)?;
+    push_counts(text, flows, splits.len(), gone, drains)
+}
+
+/// The same counts, of a book.
 pub fn push_split_counts<T: Copy>(
     text: &mut String,
     catalogue: &Catalogue,
@@ -223,15 +256,10 @@ pub fn push_split_counts<T: Copy>(
     ensures { (past : List LogEntry) (lookups : Lookups) → lookups.ups ≡ (λ v x. candidates_of catalogue.now v x) → lookups.versions ≡ catalogue.now.versions → IsBookOf past book.now →
         OnOk result (string_bytes text.new ≡ string_bytes text.old ++ counts_text lookups (length (flows_of past)) (splits_of past)) }
 {
-    let splits = book.splits();
-    let drains = does_anybody_drain(catalogue);
-    let gone = gone_of(catalogue, drains, splits);
-    push_counts(text, book.flows(), splits.len(), gone, drains)
+    push_told_counts(text, catalogue, book.flows(), book.splits())
 }
 
-/// Puts a line for each split of a book after a text. Then it puts how many flows were sent, how many splits there are, and
-/// how many of them have each cause. Flows have their slots by the hash and the size of the catalogue's tables. Splits whose
-/// server left after it had drained are counted only where a member of a version drains.
+/// The lines of a book's splits, and their counts, as `push_told_splits` has them.
 pub fn push_splits<H: FlowHash, T: Copy>(
     text: &mut String,
     hash: &H,
@@ -240,8 +268,5 @@ pub fn push_splits<H: FlowHash, T: Copy>(
 ) -> Result<(), AllocError>
     ensures { (past : List LogEntry) → IsBookOf past book.now → OnOk result (string_bytes text.new ≡ string_bytes text.old ++ splits_text (lookups_of (H.plain hash.now) catalogue.now.size catalogue.now) past) }
 {
-    let splits = book.splits();
-    let drains = does_anybody_drain(catalogue);
-    let gone = push_lines(text, hash, catalogue, drains, splits)?;
-    push_counts(text, book.flows(), splits.len(), gone, drains)
+    push_told_splits(text, hash, catalogue, book.flows(), book.splits())
 }

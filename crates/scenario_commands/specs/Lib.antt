@@ -1,3 +1,4 @@
 pub mod Scenarios
 pub mod Listings
 pub mod Parts
+pub mod Turned

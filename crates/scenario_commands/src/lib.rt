@@ -4,7 +4,9 @@
 mod listing;
 mod parting;
 mod playing;
+mod turning;
 
 pub use listing::simulate_listed;
 pub use parting::simulate_part;
 pub use playing::{answer_keyed, explain_run, run_fault, simulate, simulate_keyed};
+pub use turning::{ordinals_in, simulate_turned};

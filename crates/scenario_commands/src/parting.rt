@@ -17,8 +17,8 @@ use simulate_scenario::{Listing, play_part};
 use std::alloc::Global;
 use text_pages::Streamed;
 
-// Whether a scenario has the node that is to be played.
-fn has_node(scenario: &Scenario, only: Option<u16>) -> bool
+/// Whether a scenario has the node that is to be played.
+pub(crate) fn has_node(scenario: &Scenario, only: Option<u16>) -> bool
     ensures { result ≡ has_node only scenario.now }
 {
     match only {

@@ -5,3 +5,4 @@ pub mod Keeping
 pub mod Noted
 pub mod Listed
 pub mod Parting
+pub mod Turning

@@ -24,7 +24,7 @@ use Rattle.json_lines.specs.declared.forms.Form.{Form}
 use Rattle.json_lines.specs.declared.forms.Form.TheVariants.{Plain, Json}
 use Rattle.json_lines.specs.Forms.{event_as, listing_as}
 use Rattle.json_lines.proofs.Listed.{listing_push}
-use Rattle.simulate_scenario.specs.Asked.{begun, begun_for, event_if, lines_of_two, is_plain, asked_shares, shares_in, keeps_splits, keeps_changes}
+use Rattle.simulate_scenario.specs.Asked.{begun, begun_for, event_if, lines_of_two, is_plain, is_report_alone, asked_shares, shares_in, keeps_splits, keeps_changes}
 use Rattle.connection_changes.specs.declared.book.ChangeBook.{ChangeBook}
 use Rattle.connection_changes.specs.Books.{IsNotedChangeBookOf, IsChangeBookOf}
 use Rattle.traffic_shares.specs.declared.books.ShareBooks.{ShareBooks}
@@ -49,10 +49,10 @@ none_changed : (b : ChangeBook) → IsNotedChangeBookOf [] b → (changes : Bool
 none_changed b h true = h
 none_changed b h false = tt
 
-pub none_noted : (n : Notebook) (asked : Query) → CountsAre [] n.counts → n.number ≡ 0 → string_bytes n.lines ≡ begun_for asked → IsNotedBookOf [] n.book → IsNotedChangeBookOf [] n.changes → AreShareBooksOf (shares_in asked) [] n.shares → n.one ≡ None → n.other ≡ None → n.first ≡ None → n.later ≡ None → AreOf asked [] n
-none_noted n (Report wanted) c k l b d a o p q r =
-    (c, (none_listed n wanted.form k l wanted.list, none_booked n.book b (keeps_splits (keeps_changes wanted.places wanted.summary) wanted.splits), none_changed n.changes d (keeps_changes wanted.places wanted.summary), a))
-none_noted n (Events two) c k l b d a o p q r = record { number = k; lines = l; one_is = o; other_is = p; first_is = q; later_is = r }
+pub none_noted : (n : Notebook) (asked : Query) → n.is_plain ≡ is_report_alone asked → CountsAre [] n.counts → n.number ≡ 0 → string_bytes n.lines ≡ begun_for asked → IsNotedBookOf [] n.book → IsNotedChangeBookOf [] n.changes → AreShareBooksOf (shares_in asked) [] n.shares → n.one ≡ None → n.other ≡ None → n.first ≡ None → n.later ≡ None → AreOf asked [] n
+none_noted n (Report wanted) e c k l b d a o p q r =
+    (c, (none_listed n wanted.form k l wanted.list, none_booked n.book b (keeps_splits (keeps_changes wanted.places wanted.summary) wanted.splits), none_changed n.changes d (keeps_changes wanted.places wanted.summary), a), e)
+none_noted n (Events two) e c k l b d a o p q r = record { number = k; lines = l; one_is = o; other_is = p; first_is = q; later_is = r }
 
 -- the lines are the same
 pub lists_same : (form : Form) (list : Bool) (past : List LogEntry) (n m : Notebook) → m.number ≡ n.number → m.lines ≡ n.lines → ListsIf form list past n → ListsIf form list past m

@@ -38,6 +38,11 @@ unlisted w = record w { list = false }
 abbrev pub is_plain : Wanted → Bool
 is_plain w = not (w.list || w.splits || w.places || w.backends || w.nodes || w.summary)
 
+-- the report alone is asked for
+abbrev pub is_report_alone : Query → Bool
+is_report_alone (Report wanted) = is_plain wanted
+is_report_alone (Events two) = false
+
 -- whose shares are wanted
 abbrev pub asked_shares : Wanted → AskedShares
 asked_shares w = record { backends = w.backends; nodes = w.nodes }

@@ -7,3 +7,4 @@ pub mod Paging
 pub mod Told
 pub mod Parts
 pub mod Ends
+pub mod Turned

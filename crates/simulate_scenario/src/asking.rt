@@ -23,6 +23,7 @@ pub struct Wanted {
 }
 
 impl Wanted {
+    ghost use Rattle.simulate_scenario.specs.Turned.{unturned};
     ghost use Rattle.simulate_scenario.specs.Asked.{unlisted, is_plain, asked_shares, keeps_splits, keeps_changes};
 
     /// The report alone.
@@ -46,8 +47,19 @@ impl Wanted {
         }
     }
 
+    /// The same without what is told of connections.
+    pub(crate) fn unturned(self) -> Wanted
+        ensures { result ≡ unturned self }
+    {
+        Wanted {
+            splits: false,
+            places: false,
+            summary: false,
+            ..self
+        }
+    }
+
     /// Whether it is the report alone.
-    #[inline(always)]
     pub(crate) fn is_plain(self) -> bool
         ensures { result ≡ is_plain self }
     {
@@ -113,7 +125,7 @@ pub enum Query {
 
 impl Query {
     ghost use Rattle.std.specs.Prelude.{◌++◌, OnOk, string_bytes};
-    ghost use Rattle.simulate_scenario.specs.Asked.{begun_for, shares_in};
+    ghost use Rattle.simulate_scenario.specs.Asked.{begun_for, shares_in, is_report_alone};
 
     /// Puts what the lines of the events begin with after a text.
     pub(crate) fn push_begun(&self, text: &mut String) -> Result<(), AllocError>
@@ -122,6 +134,16 @@ impl Query {
         match *self {
             Query::Report(wanted) => wanted.form.push_head(text, "simulate"),
             Query::Events(_) => Ok(()),
+        }
+    }
+
+    /// Whether its report alone is asked for.
+    pub(crate) fn is_plain(&self) -> bool
+        ensures { result ≡ is_report_alone self.now }
+    {
+        match *self {
+            Query::Report(wanted) => wanted.is_plain(),
+            Query::Events(_) => false,
         }
     }
 

@@ -8,8 +8,10 @@ mod ended;
 mod notes;
 mod paging;
 mod playing;
+mod turned;
 
 pub use answering::is_cut;
 pub use asking::{Answer, Query, TwoEvents, Wanted};
 pub use paging::Listing;
-pub use playing::{ListingGivenUp, play_listed, play_part, play_scenario};
+pub use playing::{ListingGivenUp, play_listed, play_part, play_scenario, play_turned};
+pub use turned::TurnedListing;

@@ -22,9 +22,11 @@ use std::alloc::{AllocError, Global};
 use traffic_shares::ShareBooks;
 
 /// For a report the counts, and the lines, the splits, the changes and the shares where it has them; else the outcomes of two
-/// events, and what they sent. How many events there were is kept where it is needed.
+/// events, and what they sent. How many events there were is kept where it is needed. Each event asks whether a report alone is
+/// wanted, so that is asked of what is wanted once.
 #[derive(Drop)]
 pub(crate) struct Notebook {
+    pub(crate) is_plain: bool,
     pub(crate) counts: Counts,
     pub(crate) lines: String,
     pub(crate) book: SplitBook<()>,
@@ -94,6 +96,7 @@ impl Notebook {
         let mut lines = String::new(alloc);
         asked.push_begun(&mut lines)?;
         Ok(Notebook {
+            is_plain: asked.is_plain(),
             counts: Counts::new(),
             lines,
             book: SplitBook::new(alloc, key),
@@ -116,6 +119,7 @@ impl Notebook {
         outcome: &Outcome,
     ) -> Result<(), AllocError>
         ensures lists { (past : List LogEntry) → Lists form past self.old → OnOk result (Lists form (said_by event.now (option_copied packet.entry) outcome.now ∷ past) self.new) }
+        ensures is_plain { self.new.is_plain ≡ self.old.is_plain }
         ensures counts { self.new.counts ≡ self.old.counts }
         ensures book { self.new.book ≡ self.old.book }
         ensures changes { self.new.changes ≡ self.old.changes }
@@ -138,6 +142,7 @@ impl Notebook {
     ) -> Result<(), AllocError>
         ensures lists { (past : List LogEntry) → ListsIf wanted.form wanted.list past self.old →
             OnOk result (ListsIf wanted.form wanted.list (said_by event.now (option_copied packet.entry) outcome.now ∷ past) self.new) }
+        ensures is_plain { self.new.is_plain ≡ self.old.is_plain }
         ensures counts { self.new.counts ≡ self.old.counts }
         ensures book { self.new.book ≡ self.old.book }
         ensures changes { self.new.changes ≡ self.old.changes }
@@ -156,6 +161,7 @@ impl Notebook {
         ensures books { (past : List LogEntry) (packet : Option Packet) → NotedIf splits past self.old.book → OnOk result (NotedIf splits (said_by event.now packet outcome.now ∷ past) self.new.book) }
         ensures lines { self.new.lines ≡ self.old.lines }
         ensures number { self.new.number ≡ self.old.number }
+        ensures is_plain { self.new.is_plain ≡ self.old.is_plain }
         ensures counts { self.new.counts ≡ self.old.counts }
         ensures changes { self.new.changes ≡ self.old.changes }
         ensures shares { self.new.shares ≡ self.old.shares }
@@ -208,6 +214,7 @@ impl Notebook {
         outcome: &Outcome,
     ) -> Result<(), AllocError>
         ensures more { (past : List LogEntry) → KeepsMore wanted past self.old → OnOk result (KeepsMore wanted (said_by event.now (option_copied packet.entry) outcome.now ∷ past) self.new) }
+        ensures is_plain { self.new.is_plain ≡ self.old.is_plain }
         ensures counts { self.new.counts ≡ self.old.counts }
     {
         self.list_if(wanted, event, packet, outcome)?;
@@ -220,18 +227,18 @@ impl Notebook {
     #[inline(always)]
     pub(crate) fn report(
         &mut self,
-        wanted: Wanted,
+        wanted: &Wanted,
         event: &Event,
         packet: Option<&Packet>,
         outcome: &Outcome,
     ) -> Result<(), AllocError>
-        ensures { (past : List LogEntry) → AreOf (Report wanted) past self.old → OnOk result (AreOf (Report wanted) (said_by event.now (option_copied packet.entry) outcome.now ∷ past) self.new) }
+        ensures { (past : List LogEntry) → AreOf (Report wanted.now) past self.old → OnOk result (AreOf (Report wanted.now) (said_by event.now (option_copied packet.entry) outcome.now ∷ past) self.new) }
     {
         self.counts.count(outcome)?;
-        if wanted.is_plain() {
+        if self.is_plain {
             return Ok(());
         }
-        self.more(wanted, event, packet, outcome)
+        self.more(*wanted, event, packet, outcome)
     }
 
     // The book of splits answers what was noted, where it is asked for.
@@ -300,9 +307,9 @@ impl Notes for Notebook {
         packet: Option<&Packet>,
         outcome: &Outcome,
     ) -> Result<(), AllocError> {
-        match *asked {
+        match asked {
             Query::Report(wanted) => self.report(wanted, event, packet, outcome),
-            Query::Events(two) => self.keep(two, event, packet, outcome),
+            Query::Events(two) => self.keep(*two, event, packet, outcome),
         }
     }
 }

@@ -32,17 +32,17 @@ pub struct Listing<P> {
 /// What is wanted, the same without the lines of events, and the pages as they were at first.
 #[derive(Drop)]
 pub(crate) struct Paged<P> {
-    wanted: Wanted,
-    unlisted: Wanted,
+    pub(crate) wanted: Wanted,
+    pub(crate) unlisted: Wanted,
     first: Log<P>,
 }
 
 /// The notes of a report, and the lines of the events that the pages don't have yet.
 #[derive(Drop)]
 pub(crate) struct PagedNotes<P: Pages> {
-    kept: Notebook,
+    pub(crate) kept: Notebook,
     number: u64,
-    lines: String,
+    pub(crate) lines: String,
     pages: P,
 }
 
@@ -143,7 +143,7 @@ impl<P: Pages> Notes for PagedNotes<P> {
         outcome: &Outcome,
     ) -> Result<(), AllocError> {
         self.list_if(asked.wanted, event, packet, outcome)?;
-        self.kept.report(asked.unlisted, event, packet, outcome)
+        self.kept.report(&asked.unlisted, event, packet, outcome)
     }
 }
 

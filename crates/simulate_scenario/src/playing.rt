@@ -15,6 +15,7 @@ ghost use Rattle.simulation.specs.declared.fault.SimulationFault.TheVariants as 
 ghost use Rattle.simulate_scenario.specs.Kept.{KeepsPromises};
 ghost use Rattle.node_part.specs.Parts.{part_of, part_trace};
 ghost use Rattle.simulate_scenario.specs.Parts.{PartToldIn, PartStoppedIn, PartKeeps};
+ghost use Rattle.simulate_scenario.specs.Turned.{IsTurnedAnswer, TurnedToldIn};
 ghost use Rattle.simulate_scenario.specs.declared.asking.Query.TheVariants.{Report};
 
 use crate::answering::{Answering, Asking};
@@ -22,6 +23,7 @@ use crate::asking::{Answer, Query};
 use crate::ended::Ended;
 use crate::notes::Notebook;
 use crate::paging::{Listing, PagedNotes, asking_paged};
+use crate::turned::{TurnedListing, TurnedNotes, asking_turned};
 use cluster_core::{Deployment, Setup};
 use connection_table::{PlaceTable, TableKey};
 use event_trace::{Balancers, Task};
@@ -348,6 +350,77 @@ pub fn play_part<P: Pages, I: Source, O: Outlet>(
     whole.catalogue.keeps_doubles_out();
     let part = PartSetup { only, whole };
     match play_paged(alloc, key, part, listing, input, output) {
+        Ok(told) => Ok(told),
+        Err(given_up) => Err(given_up),
+    }
+}
+
+// The pages of notes by which connections are told, if there are any.
+fn turned_pages_of<P: Pages>(given_up: GivenUp<TurnedNotes<P>>) -> ListingGivenUp<P>
+    ensures { result.fault ≡ given_up.fault }
+{
+    ListingGivenUp {
+        fault: given_up.fault,
+        pages: given_up.notes.map(TurnedNotes::into_pages),
+    }
+}
+
+// Plays a part for a report in which connections are told by the ordinals.
+fn play_turned_part<P: Pages, I: Source, O: Outlet>(
+    alloc: Global,
+    key: TableKey,
+    part: PartSetup<Scenario>,
+    listing: TurnedListing<P>,
+    input: &mut I,
+    output: &mut O,
+) -> Result<(Answer, P), ListingGivenUp<P>>
+    ensures ok { let s = part.whole in
+        IfOk result (λ r. AnswersBy (λ l i t p e.
+        IsTurnedAnswer (λ first pages text whole. P.told first pages text whole) listing.listing.wanted (listing.listing.pages ∷ []) (listing.ordinals ∷ []) r.1 r.0 l i (part_trace part.only t) p e)
+        (part_of part.only (cluster_in s)) (choice_in s) (plan_in s) (lookups_in s) s.idle
+        (I.tape input.old) (I.tape input.new) (O.tape output.old) (O.tape output.new)) }
+    ensures stopped { let s = part.whole in IfErr result (λ g. Stopped (part_of part.only (cluster_in s)) (choice_in s) (plan_in s)
+        (I.tape input.old) (I.tape input.new) (O.tape output.old) (O.tape output.new) g.fault) }
+{
+    let asking = match asking_turned(alloc, key, listing) {
+        Ok(asking) => asking,
+        Err(_) => {
+            return Err(ListingGivenUp {
+                fault: SimulationFault::Memory,
+                pages: None,
+            });
+        }
+    };
+    match play_named(alloc, key, part, asking, input, output) {
+        Ok((answer, notes)) => Ok((answer, notes.into_pages())),
+        Err(given_up) => Err(turned_pages_of(given_up)),
+    }
+}
+
+/// One node's part of the same run as in [`play_part`], or the whole where no node is named. In what is told of connections, which
+/// are the splits and the summary, a flow that begins again is another connection: which one of its flow a packet belongs to is
+/// the ordinal of its record.
+///
+/// By the clause `kept` the whole run, of which this is the part, keeps the promises.
+pub fn play_turned<P: Pages, I: Source, O: Outlet>(
+    alloc: Global,
+    key: TableKey,
+    part: PartSetup<Scenario>,
+    listing: TurnedListing<P>,
+    input: &mut I,
+    output: &mut O,
+) -> Result<(Answer, P), ListingGivenUp<P>>
+    ensures ok { IfOk result (λ r. TurnedToldIn listing.ordinals part.only part.whole listing.listing.wanted (λ text whole. P.told listing.listing.pages r.1 text whole)
+        (I.tape input.old) (I.tape input.new) (O.tape output.old) (O.tape output.new) (string_bytes r.0.text) r.0.counts) }
+    ensures kept { IfOk result (λ r. PartKeeps part.only part.whole (I.tape input.old) (I.tape input.new) (O.tape output.old) (O.tape output.new)) }
+    ensures stopped { IfErr result (λ g.
+        PartStoppedIn part.only part.whole (I.tape input.old) (I.tape input.new) (O.tape output.old) (O.tape output.new) g.fault) }
+{
+    let PartSetup { only, whole } = part;
+    let _slots = whole.size.slots();
+    whole.catalogue.keeps_doubles_out();
+    let part = PartSetup { only, whole };
+    match play_turned_part(alloc, key, part, listing, input, output) {
         Ok(told) => Ok(told),
         Err(given_up) => Err(given_up),
     }

@@ -1,18 +1,7 @@
-use Rattle.std.proofs.Common.{arith, ◌≡◌, ◌+◌, length, refl, sym, ap, ◌∙◌}
-use Rattle.run_report.specs.Causes.{Lookups, lookups_of, down_count, moved_count, drained_count, does_anybody_drain}
-use Rattle.run_report.proofs.SplitWalks.{causes_add_up, counts_told}
+use Rattle.run_report.specs.Texts.{counts_text}
+use Rattle.run_report.proofs.SplitWalks.{of_record}
 use Rattle.run_report.proofs.split_lines.push_split_counts.Goals as goal
-
-pub push_counts-requires : goal.push_counts-requires
-push_counts-requires g c =
-    let lookups : Lookups = lookups_of (λ bytes. 0) 1 c.args.catalogue.now in
-    let whole : down_count lookups c.splits-splits.result.now + moved_count lookups c.splits-splits.result.now + drained_count lookups c.splits-splits.result.now ≡ length c.splits-splits.result.now = causes_add_up lookups c.splits-splits.result.now in
-    let down : c.gone_of-gone.result.down ≡ down_count lookups c.splits-splits.result.now = c.gone_of-gone.ensures.down lookups refl refl in
-    let drained : c.gone_of-gone.result.drained ≡ drained_count lookups c.splits-splits.result.now = c.gone_of-gone.ensures.drained lookups refl refl in
-    omega (arith, whole, down, drained)
 
 pub returns : goal.returns
 returns g c = λ past lookups ups versions book.
-    counts_told lookups past c.push_counts.result c.splits-splits.result.now c.flows.result (length c.splits-splits.result.now) c.gone_of-gone.result.down c.gone_of-gone.result.drained c.does_anybody_drain-drains.result _ _
-    (c.splits-splits.ensures past book) (c.flows.ensures past book) refl (c.gone_of-gone.ensures.down lookups ups versions) (c.gone_of-gone.ensures.drained lookups ups versions)
-    (c.does_anybody_drain-drains.ensures ∙ ap does_anybody_drain (sym versions)) c.push_counts.ensures
+    of_record c.push_told_counts.result (λ flows ps. counts_text lookups flows ps) _ _ _ _ _ _ (c.flows.ensures past book) (c.splits.ensures past book) (c.push_told_counts.ensures lookups ups versions)

@@ -1,18 +1,9 @@
-use Rattle.std.proofs.Common.{arith, ◌≡◌, ◌+◌, length, refl}
-use Rattle.run_report.specs.Causes.{Lookups, lookups_of, down_count, moved_count, drained_count}
-use Rattle.run_report.proofs.SplitWalks.{causes_add_up, text_told}
+use Rattle.run_report.specs.Causes.{Lookups, lookups_of}
+use Rattle.run_report.specs.Texts.{text_of}
+use Rattle.run_report.proofs.SplitWalks.{of_record}
 use Rattle.run_report.proofs.split_lines.push_splits.Goals as goal
-
-pub push_counts-requires : goal.push_counts-requires
-push_counts-requires g c =
-    let lookups : Lookups = lookups_of (g.H.FlowHash.plain c.args.hash.now) c.args.catalogue.now.size c.args.catalogue.now in
-    let whole : down_count lookups c.splits-splits.result.now + moved_count lookups c.splits-splits.result.now + drained_count lookups c.splits-splits.result.now ≡ length c.splits-splits.result.now = causes_add_up lookups c.splits-splits.result.now in
-    let down : c.in_ok-gone.gone.down ≡ down_count lookups c.splits-splits.result.now = c.in_ok-gone.ensures.down in
-    let drained : c.in_ok-gone.gone.drained ≡ drained_count lookups c.splits-splits.result.now = c.in_ok-gone.ensures.drained in
-    omega (arith, whole, down, drained)
 
 pub returns : goal.returns
 returns g c = λ past book.
     let lookups : Lookups = lookups_of (g.H.FlowHash.plain c.args.hash.now) c.args.catalogue.now.size c.args.catalogue.now in
-    text_told lookups past c.push_counts.result c.splits-splits.result.now c.flows.result (length c.splits-splits.result.now) c.in_ok-gone.gone.down c.in_ok-gone.gone.drained c.does_anybody_drain-drains.result _ _ _
-    (c.splits-splits.ensures past book) (c.flows.ensures past book) refl c.in_ok-gone.ensures.down c.in_ok-gone.ensures.drained c.does_anybody_drain-drains.ensures c.in_ok-gone.ensures.text c.push_counts.ensures
+    of_record c.push_told_splits.result (λ flows ps. text_of lookups flows ps) _ _ _ _ _ _ (c.flows.ensures past book) (c.splits.ensures past book) c.push_told_splits.ensures

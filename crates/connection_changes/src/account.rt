@@ -1,0 +1,13 @@
+//! What is told of connections.
+use crate::causes::Change;
+use run_report::Split;
+
+/// How many connections there were, how many of them changed their server, and the splits and the changes, in the order of their
+/// later sends.
+#[derive(Clone, Copy, Debug)]
+pub struct Account<'a> {
+    pub connections: usize,
+    pub changed: usize,
+    pub splits: &'a [Split],
+    pub changes: &'a [Change],
+}

@@ -1,0 +1,4 @@
+pub mod Quiet
+pub mod Begun
+pub mod Put
+pub mod Walks

@@ -1,0 +1,5 @@
+pub mod Segments
+pub mod Ordinals
+pub mod Captures
+pub mod Known
+pub mod Laws

@@ -1,0 +1,15 @@
+use Rattle.std.proofs.Common.{inr, refl}
+use Rattle.scenario_commands.proofs.turning.ordinals_in.Goals as goal
+
+pub returns-clause-stopped : goal.returns-clause-stopped
+returns-clause-stopped g c =
+    inr (record {
+      scenario = c.in-Ok.scenario;
+      means = c.in-Ok.ensures.means;
+      why = c.in-Err-read_ordinals.fault;
+      named = c.capture_fault-fault.ensures;
+      stopped = c.in-Err-read_ordinals.ensures.refused;
+    })
+
+pub returns-clause-place : goal.returns-clause-place
+returns-clause-place g c = inr ((c.in-Ok.scenario, c.in-Ok.ensures.means), refl)
