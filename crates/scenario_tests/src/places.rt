@@ -465,7 +465,7 @@ static SAID_OF_DIFFERENCES: [Said; 10] = [
     (
         "'D@10.8.0.4'",
         "'A@10.8.0.4'",
-        "versions[1], line 18: found a table, expected a name that no earlier member of the service has",
+        "versions[1].services[0].add[1], line 28: found 'A@10.8.0.4', expected a name that no earlier member of the service has",
     ),
     (
         "'until 1'",
