@@ -5,7 +5,6 @@
 //! contract fixes them: these functions are proved safe, and tests of the program compare what they say.
 #![tactic(auto)]
 
-mod doubles;
 mod spots;
 mod words;
 

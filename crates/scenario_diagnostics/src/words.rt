@@ -1,5 +1,4 @@
 //! The words.
-use crate::doubles::double_path;
 use crate::spots::{below, line_of, spot_of};
 use backend_names::Name;
 use maglev_texts::address;
@@ -207,12 +206,12 @@ fn keys_at(alloc: Global, table: &Table, place: Place) -> Option<(&Table, String
 }
 
 // The table in this place of the array at a key.
-pub(crate) fn nth<'a>(table: &'a Table, key: &str, n: usize) -> Option<&'a Table> {
+fn nth<'a>(table: &'a Table, key: &str, n: usize) -> Option<&'a Table> {
     items(table, key).get(n)?.as_table()
 }
 
 // The items of the array at a key.
-pub(crate) fn items<'a>(table: &'a Table, key: &str) -> &'a [Value] {
+fn items<'a>(table: &'a Table, key: &str) -> &'a [Value] {
     match table.get(key) {
         Some(Value::Array(items)) => items.as_slice(),
         _ => &[],
@@ -315,21 +314,12 @@ fn has_base(table: &Table, version: usize) -> bool {
     }
 }
 
-// The path of a name that a service has twice. In a version by difference it is that of the word which gives the name again.
-fn double_name_path(alloc: Global, document: &Table, place: Place) -> Option<String> {
-    match place {
-        Place::Service(version, service, _) if has_base(document, version) => {
-            double_path(alloc, document, version, service)
-        }
-        _ => written_path(alloc, document, place),
-    }
-}
-
-// The path of a place in the versions written out: that of the version, where it is by difference.
+// The path of a place of the versions. A service of a version by difference that no table has is told by its version.
 fn written_path(alloc: Global, document: &Table, place: Place) -> Option<String> {
     match place {
-        Place::Version(version, Flaw::Item(_, _)) | Place::Service(version, _, _)
-            if has_base(document, version) => { format!(in alloc; "versions[{version}]").ok() }
+        Place::Version(version, Flaw::Item(Key::Services, _)) if has_base(document, version) => {
+            format!(in alloc; "versions[{version}]").ok()
+        }
         _ => {
             let (table, flaw) = table_of(alloc, place)?;
             path_of(alloc, table, flaw)
@@ -345,10 +335,7 @@ fn bad_pool(
     place: Place,
 ) -> Option<String> {
     let (_, flaw) = table_of(alloc, place)?;
-    let path = match fault {
-        PoolFault::DoubleName => double_name_path(alloc, table, place)?,
-        _ => written_path(alloc, table, place)?,
-    };
+    let path = written_path(alloc, table, place)?;
     let expected = match (fault, flaw) {
         (PoolFault::BadNumber, _) => "a number from 1",
         (PoolFault::NumberTaken, _) => "a number that no earlier version has",

@@ -421,7 +421,7 @@ fn places_of_differences(rt: HostRuntime) {
 // A text, what stands in its first place among the differences, and what is said of the fault.
 type Said = (&'static str, &'static str, &'static str);
 
-static SAID_OF_DIFFERENCES: [Said; 10] = [
+static SAID_OF_DIFFERENCES: [Said; 12] = [
     (
         "'10.8.0.3'",
         "'10.8.0'",
@@ -466,6 +466,16 @@ static SAID_OF_DIFFERENCES: [Said; 10] = [
         "'D@10.8.0.4'",
         "'A@10.8.0.4'",
         "versions[1].services[0].add[1], line 28: found 'A@10.8.0.4', expected a name that no earlier member of the service has",
+    ),
+    (
+        "down = ['A']",
+        "add = ['A@10.8.0.4']",
+        "versions[1].add[0], line 21: found 'A@10.8.0.4', expected a name that no earlier member of the service has",
+    ),
+    (
+        "remove = ['B']\nweights = ['A*2']\nadd = ['C', 'D@10.8.0.4']",
+        "members = ['A@10.8.0.1', 'B@10.8.0.2', 'A@10.8.0.4']",
+        "versions[1].services[0].members[2], line 26: found 'A@10.8.0.4', expected a name that no earlier member of the service has",
     ),
     (
         "'until 1'",
