@@ -6,6 +6,7 @@
 #![tactic(auto)]
 
 mod spots;
+mod steps;
 mod words;
 
 pub use scenario::{Flaw, Place};
