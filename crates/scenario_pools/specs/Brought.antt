@@ -25,12 +25,16 @@ abbrev pub adds : List ℕ → Option Change → Bool
 adds name None = false
 adds name (Some c) = adds_by name c
 
+abbrev pub adds_there : List ℕ → Option (Option Change) → Bool
+adds_there name None = false
+adds_there name (Some o) = adds name o
+
 -- The item at `add` of the change that has so many behind it, where it adds a member of this name. Changes that add stand
 -- behind all others.
 abbrev pub added_item : List ℕ → ℕ → List (Option Change) → Option ℕ
 added_item name behind os =
     if nat_lt behind (length os) then
-    if adds name (unwrap_or (slice_get os (length os - (behind + 1))) None) then Some (additions os - (behind + 1)) else None
+    if adds_there name (slice_get os ((length os - behind) - 1)) then Some (additions os - (behind + 1)) else None
     else None
 
 -- the word of version v that added a member of this name, with so many behind it

@@ -1,8 +1,8 @@
 //! The word that brought a member of a version by difference.
-ghost use Rattle.std.specs.Prelude.{◌≡◌, map, option_map};
+ghost use Rattle.std.specs.Prelude.{◌≡◌, map, slice_get};
 ghost use Rattle.version_drafts.specs.Plain.{plain_service, plain_version};
 ghost use Rattle.version_drafts.specs.Drafts.{plain_service_draft, plain_version_draft};
-ghost use Rattle.scenario_pools.specs.Brought.{adds, added_item, by_version, by_changes, in_draft, draft_for, behind, brought_to, brought_of, placed_in, drafted, member_in, word_at, word_of_member};
+ghost use Rattle.scenario_pools.specs.Brought.{adds, adds_there, added_item, by_version, by_changes, draft_for, brought_to, brought_of, placed_in, drafted, member_in, word_at, word_of_member};
 
 use crate::basing::key_of;
 use crate::writing::additions;
@@ -21,6 +21,16 @@ fn adds(name: Name, change: &Option<Change>) -> bool
     }
 }
 
+// The same of the change of a number.
+fn adds_at(name: Name, changes: &[Option<Change>], number: usize) -> bool
+    ensures { result ≡ adds_there name (slice_get changes.now number) }
+{
+    match changes.get(number) {
+        Some(change) => adds(name, change),
+        None => false,
+    }
+}
+
 // The item at `add` of the change that has so many behind it, where it adds a member of this name.
 fn added_item(name: Name, behind: usize, changes: &[Option<Change>]) -> Option<usize>
     ensures { result ≡ added_item name behind changes.now }
@@ -28,7 +38,7 @@ fn added_item(name: Name, behind: usize, changes: &[Option<Change>]) -> Option<u
     if behind >= changes.len() {
         return None;
     }
-    if adds(name, &changes[changes.len() - behind - 1]) {
+    if adds_at(name, changes, changes.len() - behind - 1) {
         Some(additions(changes).saturating_sub(behind + 1))
     } else {
         None
