@@ -1145,8 +1145,7 @@ def test_verbose_of_a_scenario():
     says("a double service", twice, HEAD, "DoubleService", "versions[1].services[1], line 24: found a table, expected an address, protocol and port that")
     says("a step of run", scenario(["install 0 1", "hold 0"]), HEAD, "BadStep 1", 'steps[1], line 9: found "hold 0", expected ', ("run", "s.toml", "in.pcap", "out.pcap"))
     stop = scenario(["install 0 1", "stop 0"])
-    kinds = "install N V, live [N ..], take K, lose K, again P, full N [W ..], hold N, drain N, restart N or stop N, with balancers N"
-    kinds += " and workers W that are there and none twice in a list; run knows no full, hold and drain, and it alone knows stop"
+    kinds = "stop N, with a balancer N from 0 to 1; run alone knows this step"
     for words in [("simulate", "s.toml", "in.pcap", "out.pcap"), ("explain", "s.toml", "in.pcap", "0", "1")]:
         says(f"a stop, by {words[0]}", stop, HEAD, "BadStep 1", f'steps[1], line 9: found "stop 0", expected {kinds}\n', words)
     says("explain", good.replace('"maglev"', "1"), HEAD, "BadKey", 'scheme, line 7: found 1, expected "maglev", "plain" or "round"\n', ("explain", "s.toml", "in.pcap", "0", "1"))
@@ -1196,7 +1195,7 @@ def test_verbose_of_words():
 
 
 HELPS = {
-    "NotIpv4": "their frames aren't IPv4: VLAN tags and IPv6 aren't read",
+    "NotIpv4": "their frames aren't IPv4: VLAN tags and IPv6 aren't read, and USING has commands that take tags off",
     "Truncated": "the capture has only the beginnings of its packets: play them as they were by --cut pad, or capture whole ones, with tcpdump -s 0",
     "NoService": "SCENARIO has no service of their address, protocol and port: maglev scenario INPUT lists those that INPUT has",
     "NoBackend": "their service had no member, or every member was down or drained",
@@ -1211,7 +1210,10 @@ def advised(text):
     few = count["forwarded"] <= count["received"] // 10
     causes = [(cause, count[f"drop {cause}"]) for cause in HELPS if count[f"drop {cause}"]]
     most = max(causes, key=lambda one: one[1], default=None) if few else next((one for one in causes if one[0] == "RingsFull"), None)
-    lines = [f"of {count['received']} packets {most[1]} were dropped as {most[0]}: {HELPS[most[0]]}"] if most else []
+    told = [most] if most else []
+    if not most or most[0] != "Truncated":
+        told += [one for one in causes if one[0] == "Truncated"]
+    lines = [f"of {count['received']} packets {dropped} were dropped as {cause}: {HELPS[cause]}" for cause, dropped in told]
     for word, what in [
         ("unrouted", "{} packet{} came when no balancer was live"),
         ("left", "{} record{} at the end of INPUT: no step reads them"),
@@ -1256,6 +1258,10 @@ def test_warnings():
         answer = with_files(text, capture(letters), lambda folder: run(["simulate", "-v", "s.toml", "in.pcap", "out.pcap"], cwd=folder))
         lines = advised(answer[1].decode())
         check(f"advised: {name}", len(lines) == 1 and answer[2].decode() == f"warning: {lines[0]}\n", f"{answer} {lines}")
+    text, data = scenario(["live 0", "install 0 1", "take 3"]), HEAD + record(packet("y")) + record(packet("z")) + record(P[:28])
+    answer = with_files(text, data, lambda folder: run(["simulate", "-v", "s.toml", "in.pcap", "out.pcap"], cwd=folder))
+    line = f"warning: of 3 packets 1 were dropped as Truncated: {HELPS['Truncated']}\n"
+    check("advised: one of three is cut", answer[2].decode() == line, f"{answer}")
     many = [lacks.format(version) for version in range(7, 32)]
     warns("many", [f"install 0 {version}" for version in range(7, 32)], many[:20] + ["5 more of these"])
     warns("a stop", ["install 0 1", "stop 0", "take 1"], [bare.format(1)], on_threads)

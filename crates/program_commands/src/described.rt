@@ -10,6 +10,9 @@ use scenario::Played;
 use scenario_faults::PlacedFault;
 use scenario_tables::{Change, PickOptions, compare_in, pick_in, table_in};
 
+/// What a command's INPUT is called that reads no file.
+pub(crate) const STANDARD_INPUT: &str = "standard input";
+
 // A command over the text of a scenario's file. `print` prints what is asked of it.
 fn over_text<'x, F>(rt: &'x HostRuntime, matches: &ArgMatches<'_>, scenario: &str, print: F) -> u8
 where
@@ -18,7 +21,7 @@ where
 {
     let paths = Paths {
         scenario,
-        input: "standard input",
+        input: STANDARD_INPUT,
         output: "standard output",
     };
     let (text, read) = read_scenario(rt, scenario);

@@ -1,4 +1,5 @@
 //! What `--verbose` says after a fault: where it is, what was found there and what was expected.
+use crate::described::STANDARD_INPUT;
 use crate::files::Paths;
 use command_faults::CliFault;
 use lazy_files::{FirstBytes, Refusal};
@@ -148,13 +149,18 @@ fn reason_by(alloc: Global, trouble: &Trouble, files: &Files<'_, '_>) -> Option<
     }
 }
 
-// Where a version's number is 0, or else that a version or a balancer which was asked for isn't there. A command with INPUT
-// asks for no version.
+// Whether a command has a file INPUT.
+fn has_input(path: &str) -> bool {
+    !path.is_empty() && path != STANDARD_INPUT
+}
+
+// Where a version's number is 0, or else that a version or a balancer which was asked for isn't there. A command with a file
+// INPUT asks for no version.
 fn bad_number(alloc: Global, files: &Files<'_, '_>, place: Option<Place>) -> Option<String> {
     let fault = ScenarioFault::Pool(PoolFault::BadNumber);
     match words_of(alloc, files.text, fault, place) {
         Some(words) => Some(words),
-        None if !files.paths.input.is_empty() => plain(
+        None if has_input(files.paths.input) => plain(
             alloc,
             "--node: expected the number of a balancer that the scenario has, counted from 0",
         ),

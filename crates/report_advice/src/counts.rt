@@ -16,6 +16,7 @@ pub(crate) struct Counts<'a> {
     pub(crate) left: u64,
     pub(crate) refused: u64,
     pub(crate) rings_full: u64,
+    pub(crate) truncated: u64,
     /// The cause for which most packets were dropped.
     pub(crate) most: Drops<'a>,
 }
@@ -48,6 +49,7 @@ impl<'a> Counts<'a> {
             left: 0,
             refused: 0,
             rings_full: 0,
+            truncated: 0,
             most: Drops {
                 cause: "",
                 count: 0,
@@ -57,8 +59,10 @@ impl<'a> Counts<'a> {
 
     // A cause, with how many packets were dropped for it.
     fn drop(&mut self, cause: &'a str, count: u64) {
-        if cause == "RingsFull" {
-            self.rings_full = count;
+        match cause {
+            "RingsFull" => self.rings_full = count,
+            "Truncated" => self.truncated = count,
+            _ => {}
         }
         if count > self.most.count {
             self.most = Drops { cause, count };
@@ -84,7 +88,8 @@ impl<'a> Counts<'a> {
         self.forwarded <= self.received / 10
     }
 
-    /// The drops that are told: those for the most frequent cause where few packets were sent, and else those at full rings.
+    /// The drops that are told first: those for the most frequent cause where few packets were sent, and else those at full
+    /// rings.
     pub(crate) fn drops_to_tell(&self) -> Drops<'a> {
         if self.are_few_sent() {
             return self.most;
@@ -93,6 +98,14 @@ impl<'a> Counts<'a> {
             cause: "RingsFull",
             count: self.rings_full,
         }
+    }
+
+    /// How many packets were dropped because the capture has only their beginnings, where that isn't told first.
+    pub(crate) fn others_truncated(&self) -> u64 {
+        if self.drops_to_tell().cause == "Truncated" {
+            return 0;
+        }
+        self.truncated
     }
 
     /// Those of the report that a text ends with, in lines or as an object.

@@ -5,7 +5,8 @@ use std::alloc::{AllocError, Global};
 // Why packets are dropped for a cause, and what helps.
 fn help_for(cause: &str) -> &'static str {
     match cause {
-        "NotIpv4" => "their frames aren't IPv4: VLAN tags and IPv6 aren't read",
+        "NotIpv4" =>
+            "their frames aren't IPv4: VLAN tags and IPv6 aren't read, and USING has commands that take tags off",
         "Truncated" =>
             "the capture has only the beginnings of its packets: play them as they were by --cut pad, or capture whole ones, with tcpdump -s 0",
         "BadHeader" | "BadTransport" => "their headers aren't those of a datagram",
@@ -49,17 +50,23 @@ fn advise_dropped(
     )
 }
 
-// Of packets that were nearly all dropped, or else of rings that were full.
+// Of packets that were nearly all dropped, or else of rings that were full, and of those of which the capture has only the
+// beginnings.
 fn advise_drops(
     alloc: Global,
     counts: &Counts<'_>,
     advice: &mut Vec<String>,
 ) -> Result<(), AllocError> {
-    let drops = counts.drops_to_tell();
-    if drops.count == 0 {
-        return Ok(());
+    let truncated = Drops {
+        cause: "Truncated",
+        count: counts.others_truncated(),
+    };
+    for drops in [counts.drops_to_tell(), truncated] {
+        if drops.count > 0 {
+            advise_dropped(alloc, counts.received, drops, advice)?;
+        }
     }
-    advise_dropped(alloc, counts.received, drops, advice)
+    Ok(())
 }
 
 // Of records that no step reads.

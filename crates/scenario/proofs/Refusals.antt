@@ -117,13 +117,13 @@ versions_refused f played d ds r e same is h =
     passed_on r e (λ x. IsDraftRefused f played d x.fault) is (draft_refused f played d e.fault (subst P same h))
 
 -- and so is its place
-too_large : (size : ℕ) (r : Result (List (PlainVersion Member)) PoolsFault) (o : Option Place) → r ≡ Err written.TooMany → o ≡ None → ArePoolsAt size r o
-too_large size r o is none = let P : Result (List (PlainVersion Member)) PoolsFault → Type 0 = λ x. ArePoolsAt size x o in subst P (sym is) none
+too_large : (size : ℕ) (ds : List PlainVersionDraft) (r : Result (List (PlainVersion Member)) PoolsFault) (o : Option Place) → r ≡ Err written.TooMany → o ≡ None → ArePoolsAt size ds r o
+too_large size ds r o is none = let P : Result (List (PlainVersion Member)) PoolsFault → Type 0 = λ x. ArePoolsAt size ds x o in subst P (sym is) none
 
 draft_placed : (ms : Members) (d : PlainDraft) (e : ScenarioFault) (o : Option Place) → AreVersionsRefused d.versions e → AreVersionsAt ms d.versions e o → IsDraftAt ms d e o
 draft_placed ms d fault.Memory o refused h = h
 draft_placed ms d fault.BadMember o refused h = h
-draft_placed ms d (fault.Pool pool.TooMany) o refused h = too_large d.choices.size (versions_of d.versions) o refused h
+draft_placed ms d (fault.Pool pool.TooMany) o refused h = too_large d.choices.size d.versions (versions_of d.versions) o refused h
 draft_placed ms d (fault.Pool pool.BadNumber) o refused h = absurd refused
 draft_placed ms d (fault.Pool pool.NumberTaken) o refused h = absurd refused
 draft_placed ms d (fault.Pool pool.DoubleService) o refused h = absurd refused

@@ -16,11 +16,13 @@ use Rattle.version_drafts.specs.declared.place.Place.TheVariants as place
 use Rattle.version_drafts.specs.Plain.{PlainVersion}
 use Rattle.version_drafts.specs.Drafts.{PlainVersionDraft}
 use Rattle.scenario_pools.specs.Writing.{versions_of}
+use Rattle.scenario_pools.specs.Brought.{word_of_member}
 use Rattle.scenario_pools.specs.declared.fault.PoolsFault.{PoolsFault}
 use Rattle.scenario_places.specs.MemberPlaces.{member_place_of}
 use Rattle.scenario_places.specs.PoolPlaces.{pool_place_of}
-use Rattle.scenario_places.specs.Catalogues.{IsPoolRefused, IsPoolAt}
+use Rattle.scenario_places.specs.Catalogues.{IsPoolRefused}
 use Rattle.pool_versions.specs.declared.catalogue.PoolFault.{PoolFault}
+use Rattle.pool_versions.specs.declared.catalogue.PoolFault.TheVariants as pool
 use Rattle.pool_versions.specs.declared.backend.Member.{Member}
 use Rattle.scenario.specs.Setup.{bad_choice, bad_limit}
 use Rattle.scenario.specs.Meaning.{PlainDraft, address_in, few_nodes, few_steps, draft_in, pool_refused, IsDocument}
@@ -65,25 +67,32 @@ abbrev pub IsMemberAt : Members → List PlainVersionDraft → Option Place → 
 IsMemberAt ms ds None = ⊥
 IsMemberAt ms ds (Some p) = member_place_of ms ds ≡ Some p
 
--- The versions that drafts mean can't be those of a catalogue at this place. Those that are too large written out have none.
-abbrev pub ArePoolsAt : ℕ → Result (List (PlainVersion Member)) PoolsFault → Option Place → Type 0
-ArePoolsAt size (Ok vs) None = ⊥
-ArePoolsAt size (Ok vs) (Some p) = pool_place_of size vs ≡ Some p
-ArePoolsAt size (Err e) o = o ≡ None
+-- The versions that drafts mean can't be those of a catalogue at this place, which is told in the drafts. Those that are too
+-- large written out have none.
+abbrev pub ArePoolsAt : ℕ → List PlainVersionDraft → Result (List (PlainVersion Member)) PoolsFault → Option Place → Type 0
+ArePoolsAt size ds (Ok vs) None = ⊥
+ArePoolsAt size ds (Ok vs) (Some p) = option_map (word_of_member ds vs) (pool_place_of size vs) ≡ Some p
+ArePoolsAt size ds (Err e) o = o ≡ None
 
 -- where the versions of a document's drafts are refused by a fault
 abbrev pub AreVersionsAt : Members → List PlainVersionDraft → ScenarioFault → Option Place → Type 0
 AreVersionsAt ms ds fault.BadMember o = IsMemberAt ms ds o
 AreVersionsAt ms ds e o = o ≡ None
 
--- versions are refused as a catalogue's, at the place where a catalogue refuses them
-abbrev pub AreRefusedAt : ℕ → List (PlainVersion Member) → Refused → Type 0
-AreRefusedAt size vs r = (f : PoolFault) × (r.fault ≡ pool_refused f) × IsPoolRefused size vs f × IsPoolAt size vs f r.place
+-- a catalogue refuses the versions of drafts by a fault, and the place of that in the drafts
+abbrev pub IsDraftedAt : ℕ → List PlainVersionDraft → List (PlainVersion Member) → PoolFault → Option Place → Type 0
+IsDraftedAt size ds vs pool.Memory o = o ≡ None
+IsDraftedAt size ds vs f None = ⊥
+IsDraftedAt size ds vs f (Some p) = option_map (word_of_member ds vs) (pool_place_of size vs) ≡ Some p
+
+-- versions of drafts are refused as a catalogue's, at the place of the drafts where a catalogue refuses them
+abbrev pub AreRefusedAt : ℕ → List PlainVersionDraft → List (PlainVersion Member) → Refused → Type 0
+AreRefusedAt size ds vs r = (f : PoolFault) × (r.fault ≡ pool_refused f) × IsPoolRefused size vs f × IsDraftedAt size ds vs f r.place
 
 -- where a draft of a document is refused by a fault, which is no key's
 abbrev pub IsDraftAt : Members → PlainDraft → ScenarioFault → Option Place → Type 0
 IsDraftAt ms d fault.BadMember o = IsMemberAt ms d.versions o
-IsDraftAt ms d (fault.Pool e) o = ArePoolsAt d.choices.size (versions_of d.versions) o
+IsDraftAt ms d (fault.Pool e) o = ArePoolsAt d.choices.size d.versions (versions_of d.versions) o
 IsDraftAt ms d e o = o ≡ None
 
 -- a text's draft is refused by a fault at this place

@@ -1,11 +1,12 @@
 //! Reads a scenario.
-ghost use Rattle.std.specs.Prelude.{◌≡◌, ◌≤◌, length, map, string_bytes, option_map, IfOk, IfErr, Ok, None};
+ghost use Rattle.std.specs.Prelude.{◌≡◌, ◌≤◌, ℕ, List, length, map, string_bytes, option_map, IfOk, IfErr, Ok, None};
 ghost use Rattle.toml.specs.View.{table_view};
-ghost use Rattle.version_drafts.specs.Plain.{plain_version};
+ghost use Rattle.pool_versions.specs.declared.backend.Member.{Member};
+ghost use Rattle.version_drafts.specs.Plain.{PlainVersion, plain_version};
 ghost use Rattle.version_drafts.specs.Drafts.{plain_version_draft};
 ghost use Rattle.scenario_pools.specs.Writing.{versions_of};
 ghost use Rattle.scenario_places.specs.MemberPlaces.{word_place};
-ghost use Rattle.scenario_places.specs.Catalogues.{IsCatalogueOf};
+ghost use Rattle.scenario_places.specs.Catalogues.{IsCatalogueOf, IsPoolRefused, IsPoolAt};
 ghost use Rattle.scenario.specs.Steps.{plain_timed};
 ghost use Rattle.scenario.specs.Told.{steps_of};
 ghost use Rattle.scenario.specs.declared.playing.Played.{Played};
@@ -23,8 +24,8 @@ use crate::told::{StepRules, add_told, told_of};
 use backend_names::TableSize;
 use pool_versions::{Catalogue, PoolFault, Version};
 use scenario_keys::{Format, MOST_STEPS, format_of};
-use scenario_places::{catalogue_of, word_place};
-use scenario_pools::{BadWord, PoolsFault, versions_of};
+use scenario_places::{RefusedPools, catalogue_of, word_place};
+use scenario_pools::{BadWord, PoolsFault, versions_of, word_of_member};
 use std::alloc::Global;
 use timed_steps::TimedStep;
 use toml::Table;
@@ -117,21 +118,38 @@ fn pool_refused(fault: PoolFault) -> ScenarioFault
     }
 }
 
-// The catalogue of some versions.
+// What is told of versions that a catalogue refused. The place is told in the drafts, which are written out again for that.
+fn drafted(alloc: Global, drafts: &[VersionDraft], refused: RefusedPools) -> Refused
+    ensures { let ds = map plain_version_draft drafts.now in (size : ℕ) (vs : List (PlainVersion Member)) → versions_of ds ≡ Ok vs →
+        IsPoolRefused size vs refused.fault → IsPoolAt size vs refused.fault refused.place → AreRefusedAt size ds vs result }
+{
+    let RefusedPools { fault, place } = refused;
+    match (versions_of(alloc, drafts), place) {
+        (Ok(versions), Some(place)) => Refused {
+            fault: pool_refused(fault),
+            place: Some(word_of_member(drafts, versions.as_slice(), place)),
+        },
+        _ => Refused {
+            fault: ScenarioFault::Memory,
+            place: None,
+        },
+    }
+}
+
+// The catalogue of the versions of some drafts.
 fn catalogue_for(
     alloc: Global,
     size: TableSize,
+    drafts: &[VersionDraft],
     versions: Vec<Version>,
 ) -> Result<Catalogue, Refused>
     ensures ok { IfOk result (IsCatalogueOf size (map plain_version versions.items)) }
-    ensures refused { IfErr result (AreRefusedAt size (map plain_version versions.items)) }
+    ensures refused { let ds = map plain_version_draft drafts.now in let vs = map plain_version versions.items in
+        versions_of ds ≡ Ok vs → IfErr result (AreRefusedAt size ds vs) }
 {
     match catalogue_of(alloc, size, versions) {
         Ok(catalogue) => Ok(catalogue),
-        Err(refused) => Err(Refused {
-            fault: pool_refused(refused.fault),
-            place: refused.place,
-        }),
+        Err(refused) => Err(drafted(alloc, drafts, refused)),
     }
 }
 
@@ -156,8 +174,9 @@ fn scenario_of(
         versions,
         steps,
     } = draft;
-    let versions = written(alloc, table, versions.as_slice())?;
-    let catalogue = catalogue_for(alloc, choices.size, versions)?;
+    let drafts = versions.as_slice();
+    let versions = written(alloc, table, drafts)?;
+    let catalogue = catalogue_for(alloc, choices.size, drafts, versions)?;
     let rules = StepRules {
         format,
         played,

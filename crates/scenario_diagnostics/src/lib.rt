@@ -5,8 +5,8 @@
 //! contract fixes them: these functions are proved safe, and tests of the program compare what they say.
 #![tactic(auto)]
 
-mod doubles;
 mod spots;
+mod steps;
 mod words;
 
 pub use scenario::{Flaw, Place};

@@ -1,6 +1,6 @@
 //! The words.
-use crate::doubles::double_path;
 use crate::spots::{below, line_of, spot_of};
+use crate::steps::expected_step;
 use backend_names::Name;
 use maglev_texts::address;
 use pool_versions::PoolFault;
@@ -36,18 +36,6 @@ pub fn words_of(
         _ => None,
     }
 }
-
-/// What is expected of a step.
-const STEPS: &str =
-    "install N V, live [N ..], take K, lose K, again P, full N [W ..], hold N, drain N, restart N or stop N, with balancers N and workers W that are there and none twice in a list; run knows no full, hold and drain, and it alone knows stop";
-
-/// What is expected of a step in format 3.
-const STARRED_STEPS: &str =
-    "install N V, live [N ..], take K, lose K, again P, full N [W ..], hold N, drain N, restart N, stop N or until T, with balancers N and workers W that are there and none twice in a list; * or a number for the N of install, restart and stop and the K of take; T in seconds; run knows no full, hold and drain, and it alone knows stop; and at most 100000 steps in all";
-
-/// What is expected of a step by time.
-const UNTIL: &str =
-    "until T, with T in seconds from 0 to 4294967295, and one to six digits behind a point or no point";
 
 /// What is expected of versions by difference.
 const WRITTEN_OUT: &str = "at most 1048576 services and members in all versions, written out";
@@ -207,12 +195,12 @@ fn keys_at(alloc: Global, table: &Table, place: Place) -> Option<(&Table, String
 }
 
 // The table in this place of the array at a key.
-pub(crate) fn nth<'a>(table: &'a Table, key: &str, n: usize) -> Option<&'a Table> {
+fn nth<'a>(table: &'a Table, key: &str, n: usize) -> Option<&'a Table> {
     items(table, key).get(n)?.as_table()
 }
 
 // The items of the array at a key.
-pub(crate) fn items<'a>(table: &'a Table, key: &str) -> &'a [Value] {
+fn items<'a>(table: &'a Table, key: &str) -> &'a [Value] {
     match table.get(key) {
         Some(Value::Array(items)) => items.as_slice(),
         _ => &[],
@@ -288,23 +276,11 @@ fn server_of_base(alloc: Global, table: &Table, place: Place) -> Option<String> 
 
 fn bad_step(alloc: Global, text: &str, table: &Table, step: u32) -> Option<String> {
     let path = format!(in alloc; "steps[{step}]").ok()?;
-    let expected = match format_of(table)? {
-        Format::One | Format::Two => STEPS,
-        Format::Three if is_until(table, step) => UNTIL,
-        Format::Three => STARRED_STEPS,
-    };
-    at(alloc, text, path.as_str(), expected)
-}
-
-// Whether a step is by time.
-fn is_until(table: &Table, step: u32) -> bool {
-    let Some(text) = items(table, "steps").get(step as usize) else {
-        return false;
-    };
-    match text.as_str() {
-        Some(text) => text == "until" || text.starts_with("until "),
-        None => false,
-    }
+    let found = items(table, Key::Steps.name())
+        .get(step as usize)?
+        .as_str()?;
+    let expected = expected_step(alloc, table, format_of(table)?, found)?;
+    at(alloc, text, path.as_str(), expected.as_str())
 }
 
 // Whether a version is by difference.
@@ -315,21 +291,12 @@ fn has_base(table: &Table, version: usize) -> bool {
     }
 }
 
-// The path of a name that a service has twice. In a version by difference it is that of the word which gives the name again.
-fn double_name_path(alloc: Global, document: &Table, place: Place) -> Option<String> {
-    match place {
-        Place::Service(version, service, _) if has_base(document, version) => {
-            double_path(alloc, document, version, service)
-        }
-        _ => written_path(alloc, document, place),
-    }
-}
-
-// The path of a place in the versions written out: that of the version, where it is by difference.
+// The path of a place of the versions. A service of a version by difference that no table has is told by its version.
 fn written_path(alloc: Global, document: &Table, place: Place) -> Option<String> {
     match place {
-        Place::Version(version, Flaw::Item(_, _)) | Place::Service(version, _, _)
-            if has_base(document, version) => { format!(in alloc; "versions[{version}]").ok() }
+        Place::Version(version, Flaw::Item(Key::Services, _)) if has_base(document, version) => {
+            format!(in alloc; "versions[{version}]").ok()
+        }
         _ => {
             let (table, flaw) = table_of(alloc, place)?;
             path_of(alloc, table, flaw)
@@ -345,10 +312,7 @@ fn bad_pool(
     place: Place,
 ) -> Option<String> {
     let (_, flaw) = table_of(alloc, place)?;
-    let path = match fault {
-        PoolFault::DoubleName => double_name_path(alloc, table, place)?,
-        _ => written_path(alloc, table, place)?,
-    };
+    let path = written_path(alloc, table, place)?;
     let expected = match (fault, flaw) {
         (PoolFault::BadNumber, _) => "a number from 1",
         (PoolFault::NumberTaken, _) => "a number that no earlier version has",

@@ -3,4 +3,5 @@ pub mod Writing
 pub mod Older
 pub mod Laws
 pub mod BadWords
+pub mod Brought
 pub mod PrivateWalk

@@ -53,7 +53,8 @@ pub(crate) fn stated_with(
     }))
 }
 
-fn key_of(draft: &ServiceDraft) -> ServiceKey
+/// What distinguishes the service that a draft is for.
+pub(crate) fn key_of(draft: &ServiceDraft) -> ServiceKey
     ensures { result ≡ draft_key (plain_service_draft draft.now) }
 {
     ServiceKey {

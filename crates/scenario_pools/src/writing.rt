@@ -134,7 +134,8 @@ fn is_addition(change: &Option<Change>) -> bool
     }
 }
 
-fn additions(changes: &[Option<Change>]) -> usize
+/// How many members changes add.
+pub(crate) fn additions(changes: &[Option<Change>]) -> usize
     ensures { result ≡ additions changes.now }
 {
     changes.iter().filter(|change| is_addition(change)).count()

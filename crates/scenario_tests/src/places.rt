@@ -421,7 +421,7 @@ fn places_of_differences(rt: HostRuntime) {
 // A text, what stands in its first place among the differences, and what is said of the fault.
 type Said = (&'static str, &'static str, &'static str);
 
-static SAID_OF_DIFFERENCES: [Said; 10] = [
+static SAID_OF_DIFFERENCES: [Said; 14] = [
     (
         "'10.8.0.3'",
         "'10.8.0'",
@@ -466,6 +466,26 @@ static SAID_OF_DIFFERENCES: [Said; 10] = [
         "'D@10.8.0.4'",
         "'A@10.8.0.4'",
         "versions[1].services[0].add[1], line 28: found 'A@10.8.0.4', expected a name that no earlier member of the service has",
+    ),
+    (
+        "down = ['A']",
+        "add = ['A@10.8.0.4']",
+        "versions[1].add[0], line 21: found 'A@10.8.0.4', expected a name that no earlier member of the service has",
+    ),
+    (
+        "remove = ['B']\nweights = ['A*2']\nadd = ['C', 'D@10.8.0.4']",
+        "members = ['A@10.8.0.1', 'B@10.8.0.2', 'A@10.8.0.4']",
+        "versions[1].services[0].members[2], line 26: found 'A@10.8.0.4', expected a name that no earlier member of the service has",
+    ),
+    (
+        "'install 0 1'",
+        "'install 7 1'",
+        "steps[0], line 9: found 'install 7 1', expected install N V, with a balancer N from 0 to 0 and a version's number V; * is all of them, and at most 100000 steps in all",
+    ),
+    (
+        "'install 0 1'",
+        "'full 0 01'",
+        "steps[0], line 9: found 'full 0 01', expected full N [W ..], with a balancer N from 0 to 0 and workers W from 0 to 0, none twice; run doesn't know this step; \"01\" is no number of digits up to 4294967295 without leading zeros",
     ),
     (
         "'until 1'",
