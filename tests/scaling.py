@@ -127,6 +127,68 @@ def test_refused():
     check("no words", (status, out) == (1, "") and err.startswith("usage: "), err)
 
 
+def files_in(folder):
+    """What the files of a folder hold."""
+    return {path.name: path.read_bytes() for path in folder.iterdir()}
+
+
+def isnt_joined(name, folder, words, why):
+    """join.py refuses these words for this reason, and leaves all files of the folder as they were."""
+    before = files_in(folder)
+    answer = did([sys.executable, SHARE / "join.py", *words], cwd=folder)
+    check(name, answer == (1, "", f"error: {why}\n"), answer)
+    check(f"{name}: nothing is written", files_in(folder) == before)
+
+
+def test_parts_of_each_node():
+    """As many parts are joined as the scenario has nodes, one of each; else OUTPUT is neither made nor emptied."""
+    with tempfile.TemporaryDirectory() as made:
+        folder = pathlib.Path(made)
+        played(folder, scenario(["install 0 1", "install 1 2", "take 9"]), capture("xyzxyzzyx"))
+        (folder / "kept.pcap").write_bytes(b"kept")
+        (folder / "both.jsonl").write_text(did([PROGRAM, "simulate", "--json", "--list", "s.toml", "in.pcap", "both.pcap"], cwd=folder)[1])
+        for end in ("pcap", "jsonl"):
+            shutil.copy(folder / f"part-0.{end}", folder / f"again-0.{end}")
+        for output in ("new.pcap", "kept.pcap"):
+            for parts in (["part-0"], ["part-0", "part-1", "part-1"]):
+                isnt_joined(f"{len(parts)} parts to {output}", folder, ["s.toml", output, *parts], f"the scenario has 2 nodes, and the parts are {len(parts)}")
+            for other in ("part-0", "again-0"):
+                isnt_joined(f"part-0 and {other} to {output}", folder, ["s.toml", output, "part-0", other], f"part-0 and {other} are both of node 0")
+            isnt_joined("a part of all nodes", folder, ["s.toml", output, "part-0", "both"], "both.jsonl has events of 2 nodes")
+        (folder / "again-0.pcap").write_bytes((folder / "part-0.pcap").read_bytes()[:-1])
+        isnt_joined("a capture that was cut short", folder, ["s.toml", "new.pcap", "again-0", "part-1"], "again-0.pcap ends inside a record")
+        (folder / "again-0.pcap").write_bytes(rows.HEAD)
+        sent = did([PROGRAM, "simulate", "--node", "0", "s.toml", "in.pcap", "/dev/null"], cwd=folder)[1].split("forwarded ")[1].split()[0]
+        why = f"again-0.pcap has 0 packets, and again-0.jsonl tells of {sent}"
+        isnt_joined("a capture of another run", folder, ["s.toml", "new.pcap", "again-0", "part-1"], why)
+
+
+def test_parts_of_fewer_nodes():
+    """A part of a node that the scenario lacks isn't joined, nor one without events in place of one that has them."""
+    with tempfile.TemporaryDirectory() as made:
+        folder = pathlib.Path(made)
+        text = scenario(["install 0 1", "live 0", "take 3"]).replace('"10.9.0.1", "10.9.0.2"', '"10.9.0.1", "10.9.0.2", "10.9.0.3"')
+        played(folder, text, capture("xyz"))
+        isnt_joined("a part without events twice", folder, ["s.toml", "new.pcap", "part-1", "part-2", "part-1"], "the parts have 0 of the 3 packets that came to a node")
+        played(folder, text.replace("install 0 1", "install 2 1").replace("live 0", "live 2"), capture("xyz"))
+        (folder / "s.toml").write_text(text.replace(', "10.9.0.3"', ""))
+        isnt_joined("a node that isn't there", folder, ["s.toml", "new.pcap", "part-1", "part-2"], "part-2 is of node 2, and the scenario has 2 nodes")
+
+
+def test_output_that_is_read():
+    """OUTPUT that is a file which is read, by whatever name, isn't emptied."""
+    with tempfile.TemporaryDirectory() as made:
+        folder = pathlib.Path(made)
+        played(folder, scenario(["install 0 1", "take 4"]), capture("xyxy"))
+        (folder / "soft").symlink_to("part-1.jsonl")
+        (folder / "hard").hardlink_to(folder / "part-0.pcap")
+        for output, path in [("part-0.pcap", "part-0.pcap"), ("./part-1.jsonl", "part-1.jsonl"), ("soft", "part-1.jsonl"), ("hard", "part-0.pcap"), ("s.toml", "s.toml")]:
+            isnt_joined(f"OUTPUT {output}", folder, ["s.toml", output, "part-0", "part-1"], f"OUTPUT is {path}, which is read")
+        before = files_in(folder)
+        status, out, err = did(["bash", "-c", f"'{sys.executable}' '{SHARE / 'join.py'}' s.toml part-*"], cwd=folder)
+        check("parts by their ends", (status, out) == (1, "") and err.startswith("error: ") and files_in(folder) == before, err)
+
+
 def page_has(start):
     """The block of docs/SCALING.md that begins so, as a script."""
     page = (TOP / "docs" / "SCALING.md").read_text()
