@@ -204,10 +204,15 @@ def with_program(folder):
     return os.environ | {"PATH": f"{tools}:{os.environ['PATH']}"}
 
 
+def of_four(steps):
+    """A scenario of four nodes, as the page's commands are for."""
+    servers = ", ".join(f'"10.9.0.{node}"' for node in range(1, 5))
+    return scenario([f"install {node} 1" for node in range(4)] + steps).replace('"10.9.0.1", "10.9.0.2"', servers)
+
+
 def follows(name, start, more=""):
     """What a block of the page leaves is what one process writes."""
-    servers = ", ".join(f'"10.9.0.{node}"' for node in range(1, 5))
-    text = scenario([f"install {node} 1" for node in range(4)] + ["take 20"]).replace('"10.9.0.1", "10.9.0.2"', servers)
+    text = of_four(["take 20"])
     with tempfile.TemporaryDirectory() as made:
         folder = pathlib.Path(made)
         (folder / "scenario.toml").write_text(text)
@@ -228,6 +233,22 @@ def test_page():
         follows("GNU parallel", "parallel maglev", f"\n{join}\n")
     else:
         print("parallel isn't installed: what it shows is skipped")
+
+
+def test_sqlite():
+    """The page's commands of SQLite's own program print what the queries find; nodes.sql makes the table alike."""
+    view = re.search(r"CREATE VIEW events AS SELECT line->>.*", page_has("sqlite3")).group()
+    comment = re.sub(r"(?m)^--\s*", "", (SHARE / "nodes.sql").read_text())
+    check("nodes.sql has the page's view", view in " ".join(comment.split()), view)
+    if not shutil.which("sqlite3"):
+        print("sqlite3 isn't installed: what it shows is skipped")
+        return
+    with tempfile.TemporaryDirectory() as made:
+        folder = pathlib.Path(made)
+        parts = played(folder, of_four(["take 5", "install 1 2", "restart 2", "install 2 2", "take 20"]), capture("xyzxxyzzyx"))
+        found = [row for query in selected(parts) for row in query]
+        done = did(["bash", "-c", page_has("sqlite3").replace("share/maglev", str(SHARE))], cwd=folder)
+        check("the page's commands of SQLite", found and done == (0, "".join("|".join(map(str, row)) + "\n" for row in found), ""), done)
 
 
 def test_mergecap():
