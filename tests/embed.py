@@ -11,6 +11,7 @@ import os
 import pathlib
 import random
 import re
+import shlex
 import shutil
 import subprocess
 import sys
@@ -338,6 +339,9 @@ def test_clone_install():
     named = {pathlib.Path(word) for word in re.findall(r"(/\S+/(?:docs|examples)/[\w.]*\w)", manual.replace("a prefix", "a_prefix").replace("\\-", "-"))}
     named = {pathlib.Path(str(path).replace("a_prefix", "a prefix")) for path in named}
     check("the page names files where they are", len(named) > 3 and all(path.exists() for path in named), named)
+    if shutil.which("pkg-config"):
+        told = did(["pkg-config", "--cflags", "--libs", "maglev"], env={**env, "PKG_CONFIG_PATH": str(prefix / "lib" / "pkgconfig")})
+        check("pkg-config of a prefix with a space", shlex.split(told[1].decode()) == [f"-I{prefix}/include", f"-L{prefix}/lib", "-lmaglev"], told)
     listed = {line.rstrip("/") for line in (there / "installed").read_text().splitlines()}
     check("the list has all that was put there", listed == files_below(prefix) - before, listed ^ (files_below(prefix) - before))
     again = did([top / "bin" / "install", prefix], env=env)
@@ -349,6 +353,22 @@ def test_clone_install():
     done = did([top / "bin" / "install", "--target", OTHER, prefix], env=env)
     check("the library of another machine", done[0] == 0 and (prefix / "lib" / "libmaglev.a").read_bytes() == (LIBRARIES[OTHER] / "libmaglev.a").read_bytes(), done)
     check("nothing else of it", not (prefix / "bin").exists() and not (prefix / "lib" / "libmaglev.so.0").exists())
+
+
+def test_clone_made_folders():
+    """--uninstall removes PREFIX too, and the folders above it that bin/install made, where nothing else is in them."""
+    install, above = MADE / "clone" / "bin" / "install", MADE / "made"
+    above.mkdir()
+    for word in ("it", "for/it", "for/../it"):
+        done = did([install, "--target", OTHER, word], cwd=above)
+        put = above / os.path.normpath(word) / "lib" / "libmaglev.a"
+        check(f"bin/install {word}", done[0] == 0 and put.exists(), done)
+        gone = did([install, "--uninstall", os.path.normpath(word)], cwd=above)
+        check(f"nothing of {word} is left", gone == (0, b"", b"") and not files_below(above), (gone, files_below(above)))
+    did([install, "--target", OTHER, "for/it"], cwd=above)
+    (above / "for" / "kept").write_text("")
+    gone = did([install, "--uninstall", "it"], cwd=above / "for")
+    check("--uninstall beside a file", gone == (0, b"", b"") and files_below(above) == {"for", "for/kept"}, (gone, files_below(above)))
 
 
 def test_clone_of_changes():
@@ -395,6 +415,11 @@ def test_install_misused():
     check("its help", told[::2] == (0, b"") and told[1].startswith(b"usage: install [--target TARGET] PREFIX\n"), told)
     for words in [[], ["--target", "x"], ["--uninstall"], ["--all"], ["a", "b"], [""], ["--uninstall", "--help"]]:
         check(f"bin/install {words}", did([TOP / "bin" / "install", *words])[:2] == (2, b""))
+    for target in ["riscv64-unknown-linux-gnu", "x86_64-linux-gnu", "x", ""]:
+        answer = did([TOP / "bin" / "install", "--target", target, MADE / "nowhere"])
+        named = target and f"install: there is no library for {target}: TARGET is {HERE} or {OTHER}\n"
+        check(f"a machine {target!r} that isn't offered", answer[:2] == (2, b"") and answer[2].decode().startswith(named), answer)
+        check(f"nothing is made for {target!r}", not (MADE / "nowhere").exists())
 
 
 if __name__ == "__main__":
