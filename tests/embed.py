@@ -288,9 +288,16 @@ def test_clone():
     cloned(top)
     sums = did(["sh", "-c", "sha256sum -c --quiet dist/*.sha256"], cwd=top)
     check("the sums of dist/", sums == (0, b"", b""), sums)
+    check("its header", (top / "dist" / "lib" / "maglev.h").read_bytes() == (TOP / "share" / "include" / "maglev.h").read_bytes())
     table = did([PROGRAM, "table", "--size", "7", "--hash", *ASKED[1:]])[1]
     made = did(["sh", "-c", page("cc examples/embed/table.c")], cwd=top, env=env)
     check("C from a clone", made[0] == 0 and did([top / "table", *ASKED])[1] == table, made)
+    if shutil.which("pkg-config"):
+        (top / "table").unlink(missing_ok=True)
+        made = did(["sh", "-c", page("cc examples/embed/table.c $(PKG_CONFIG_PATH")], cwd=top, env=env)
+        check("C by pkg-config from a clone", made == (0, b"", b"") and did([top / "table", *ASKED])[1] == table, made)
+    else:
+        print("pkg-config isn't installed: what it shows is skipped")
     answer = did(["sh", "-c", page("PYTHONPATH=examples/embed")], cwd=top, env=env)
     check("Python from a clone", answer == (0, b"['B', 'A', 'B', 'C', 'C', 'A', 'A']\n", b""), answer)
     for start in ["cc examples/embed/table.c", "PYTHONPATH=examples/embed"]:
