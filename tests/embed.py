@@ -238,6 +238,9 @@ def test_data_plane():
     check("it ends well", (status, err) == (0, b""), err)
     check("each packet that was forwarded", len(lines) == played.count(b": forward "), out)
     check("choices that are new, and one that was remembered", [line.split()[4] for line in lines].count("remembered,") == 1, out)
+    for words in [[], ["a", "b"]]:
+        answer = did([sys.executable, EXAMPLES / "failover.py", *words])
+        check(f"failover.py {words}", answer[:2] == (2, b"") and answer[2].startswith(b"usage: "), answer)
     check("servers of clients", [line.split()[3] for line in lines] == "web-1 web-2 web-2 web-3 web-1 web-3 web-3 web-3 web-3".split(), out)
 
 

@@ -287,6 +287,28 @@ def python_with_dask():
     return None
 
 
+def test_without_dask():
+    """Without Dask on_dask.py says what it needs, and prints its help; an OUTPUT that is read is refused before that."""
+    with tempfile.TemporaryDirectory() as made:
+        folder = pathlib.Path(made)
+        (folder / "dask.py").write_text("raise ModuleNotFoundError(\"No module named 'dask'\")\n")
+        (folder / "s.toml").write_text(scenario(["install 0 1", "take 2"]))
+        (folder / "in.pcap").write_bytes(capture("xy"))
+        before = files_in(folder)
+
+        def answer(*words):
+            return did([sys.executable, "-B", SHARE / "on_dask.py", *words], cwd=folder, env=os.environ | {"PYTHONPATH": made})
+
+        status, out, err = answer("--help")
+        check("its help", (status, err) == (0, "") and out.startswith("usage: on_dask.py ") and "python3-distributed" in out, err)
+        check("no words for Dask", answer()[0] == 2)
+        missing = "error: No module named 'dask': on_dask.py needs Dask distributed (Debian: apt-get install python3-distributed)\n"
+        check("no Dask", answer("s.toml", "in.pcap", "new.pcap") == (1, "", missing), answer("s.toml", "in.pcap", "new.pcap"))
+        for output in ("in.pcap", "s.toml"):
+            check(f"OUTPUT {output} by Dask", answer("s.toml", "in.pcap", output) == (1, "", f"error: OUTPUT is {output}, which is read\n"))
+        check("nothing is written without Dask", files_in(folder) == before)
+
+
 def test_dask():
     """Four workers of Dask play a part each, and what is joined is what one process writes."""
     python = python_with_dask()

@@ -99,11 +99,9 @@ def told_by(part):
     return next(iter(nodes), None), reports[0]
 
 
-def output_is_apart(scenario, output, parts):
-    """Refuses an OUTPUT that is a file which is read, by whatever name."""
-    if not os.path.exists(output):
-        return
-    for path in (scenario, *(f"{part}.{end}" for part in parts for end in ("pcap", "jsonl"))):
+def output_is_apart(output, read):
+    """Refuses an OUTPUT that is one of the files which are read, by whatever name."""
+    for path in read if os.path.exists(output) else []:
         if os.path.samefile(path, output):
             raise Unjoinable(f"OUTPUT is {path}, which is read")
 
@@ -160,7 +158,7 @@ def join(scenario, output, parts):
     """Joins the parts, and gives the text of the whole run's report. Nothing is written before all is found well."""
     order_is_kept(pathlib.Path(scenario))
     report = read_parts(pathlib.Path(scenario), parts)
-    output_is_apart(scenario, output, parts)
+    output_is_apart(output, [scenario, *(f"{part}.{end}" for part in parts for end in ("pcap", "jsonl"))])
     join_captures(parts, output)
     return text_of(report)
 
