@@ -413,6 +413,10 @@ def test_install():
         lines = [page("export PKG_CONFIG_PATH="), page("export LD_LIBRARY_PATH="), page("cc $PREFIX"), "./table 7 sum A B 'C*2'"]
         answer = did(["sh", "-e", "-c", "\n".join(lines)], cwd=room, env=env)
         check("the page's commands for an install", answer == theirs, answer)
+    module = {**env, "PYTHONPATH": str(prefix / "share" / "doc" / "maglev" / "examples" / "embed"), "PYTHONDONTWRITEBYTECODE": "1"}
+    module.pop("LD_LIBRARY_PATH", None)
+    answer = did([sys.executable, "-c", "import maglev; print(maglev._named(), *maglev.table(7, 'sum', ['A', 'B', 'C']))"], env=module, cwd="/")
+    check("the module that was installed", answer == (0, f"{prefix}/lib/libmaglev.so.0 B A B C C A A\n".encode(), b""), answer)
     words = [COMPILER, "-std=c11", EXAMPLES / "table.c", *options, f"-Wl,-rpath,{prefix}/lib", "-o", MADE / "shared"]
     check("a caller of the shared library", did(words)[0] == 0)
     ours = did([MADE / "shared", *ASKED])
