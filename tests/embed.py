@@ -388,11 +388,13 @@ def test_clone_of_changes():
     for place, name in enumerate(["share/lib/heap.c", "share/include/maglev.h", "dist/lib/x86_64-linux-gnu/libmaglev.a"]):
         kept, prefix = (top / name).read_bytes(), MADE / f"prefix{place}"
         (top / name).write_bytes(kept + b"\n")
+        # As in a new clone, in which bin/install has to look which program it is that runs.
+        shutil.rmtree(top / "crates" / "maglev" / "out", ignore_errors=True)
         status, _, err = did([top / "bin" / "install", prefix], env=env)
         check(f"{name} changed: bin/install says so", status == 0 and err.decode().endswith(missing), err)
         check("it installs the rest", (prefix / "bin" / "maglev").exists() and not (prefix / "lib").exists())
         other = did([top / "bin" / "install", "--target", OTHER, MADE / "none"], env=env)
-        check("there is no library of another machine", other[:2] == (3, b"") and not (MADE / "none" / "lib").exists(), other)
+        check("there is no library of another machine", other[:2] == (3, b"") and not (MADE / "none").exists(), other)
         (top / name).write_bytes(kept)
 
 
