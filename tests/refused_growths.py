@@ -2,8 +2,9 @@
 """Refuses each growth of memory of a command in turn, and compares what the program then says.
 
 A run either never needed what was refused and prints its whole text, or it prints `fault: Memory` and nothing else, with
-status 1. Each allocation is refused alone, and once more with all that come behind it, from the first of the program to the
-last. `refuse.c` does it, which the kit's compiler makes into a library that is loaded in front of the program.
+status 1. Warnings of `-v` may be left out. Each allocation is refused alone, and once more with all that come behind it, from the
+first of the program to the last. `refuse.c` does it, which the kit's compiler makes into a library that is loaded in front of the
+program.
 
 The last line is 'N passed, N failed', which counts runs.
 """
