@@ -42,8 +42,9 @@ def capture(link, header):
 def reply(frame):
     """A frame's datagram the other way round, whose checksums stay as they are."""
     datagram = frame[14:]
-    length = 4 * (datagram[0] & 15)
-    return datagram[:12] + datagram[16:20] + datagram[12:16] + datagram[20:length] + datagram[length + 2 : length + 4] + datagram[length : length + 2] + datagram[length + 4 :]
+    at = 4 * (datagram[0] & 15)
+    addresses, ports = datagram[16:20] + datagram[12:16], datagram[at + 2 : at + 4] + datagram[at : at + 2]
+    return datagram[:12] + addresses + datagram[20:at] + ports + datagram[at + 4 :]
 
 
 def both_directions():

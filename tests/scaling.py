@@ -169,7 +169,8 @@ def test_parts_of_fewer_nodes():
         folder = pathlib.Path(made)
         text = scenario(["install 0 1", "live 0", "take 3"]).replace('"10.9.0.1", "10.9.0.2"', '"10.9.0.1", "10.9.0.2", "10.9.0.3"')
         played(folder, text, capture("xyz"))
-        isnt_joined("a part without events twice", folder, ["s.toml", "new.pcap", "part-1", "part-2", "part-1"], "the parts have 0 of the 3 packets that came to a node")
+        why = "the parts have 0 of the 3 packets that came to a node"
+        isnt_joined("a part without events twice", folder, ["s.toml", "new.pcap", "part-1", "part-2", "part-1"], why)
         played(folder, text.replace("install 0 1", "install 2 1").replace("live 0", "live 2"), capture("xyz"))
         (folder / "s.toml").write_text(text.replace(', "10.9.0.3"', ""))
         isnt_joined("a node that isn't there", folder, ["s.toml", "new.pcap", "part-1", "part-2"], "part-2 is of node 2, and the scenario has 2 nodes")
@@ -182,7 +183,8 @@ def test_output_that_is_read():
         played(folder, scenario(["install 0 1", "take 4"]), capture("xyxy"))
         (folder / "soft").symlink_to("part-1.jsonl")
         (folder / "hard").hardlink_to(folder / "part-0.pcap")
-        for output, path in [("part-0.pcap", "part-0.pcap"), ("./part-1.jsonl", "part-1.jsonl"), ("soft", "part-1.jsonl"), ("hard", "part-0.pcap"), ("s.toml", "s.toml")]:
+        names = {"part-0.pcap": "part-0.pcap", "./part-1.jsonl": "part-1.jsonl", "soft": "part-1.jsonl", "hard": "part-0.pcap", "s.toml": "s.toml"}
+        for output, path in names.items():
             isnt_joined(f"OUTPUT {output}", folder, ["s.toml", output, "part-0", "part-1"], f"OUTPUT is {path}, which is read")
         before = files_in(folder)
         status, out, err = did(["bash", "-c", f"'{sys.executable}' '{SHARE / 'join.py'}' s.toml part-*"], cwd=folder)
