@@ -2,8 +2,9 @@
 """dist.py release | check | compare: the program and the library of dist/, and what they were made from.
 
 dist/maglev is the program that the gate proved and built, without what isn't loaded when it runs. Below dist/lib is libmaglev for
-each machine, as bin/library.py writes it. Beside them are their SHA-256 (maglev.sha256, lib.sha256), the line of the kit that made
-them (kit), and the SHA-256 of crates.txt and of each file that they are made from (sources.sha256, lib_sources.sha256).
+each machine, as bin/library.py writes it, with the header and what pkg-config says of the one for x86-64 (maglev.h, maglev.pc).
+Beside them are their SHA-256 (maglev.sha256, lib.sha256), the line of the kit that made them (kit), and the SHA-256 of crates.txt
+and of each file that they are made from (sources.sha256, lib_sources.sha256).
 `sha256sum -c dist/*.sha256`, at the top, holds dist/ and the tree to them.
 
 `release` writes dist/ from the program in crates/maglev/out/, where nothing that it is made from is newer, and from the library,
@@ -15,6 +16,7 @@ last line is 'N passed, N failed'. `compare` says whether the program that was b
 import hashlib
 import os
 import pathlib
+import re
 import struct
 import shutil
 import subprocess
@@ -29,6 +31,8 @@ DIST = TOP / "dist"
 LIB = DIST / "lib"
 # What dist/lib has of each machine.
 MADE = {"x86_64-unknown-linux-gnu": ["libmaglev.a", "libmaglev.so.0"], "aarch64-unknown-linux-gnu": ["libmaglev.a"]}
+HEADER = TOP / "share" / "include" / "maglev.h"
+PACKAGE = TOP / "share" / "lib" / "maglev.pc.in"
 BUILT = TOP / "crates" / "maglev" / "out" / "maglev"
 # A segment of notes, and a note that has the linker's sum of the whole file.
 NOTES, BUILD_ID = 4, 3
@@ -82,12 +86,26 @@ def sources_text():
 def lib_sources_text():
     """The sums of what the library is made from, and of the header that says what it has."""
     code = [path for path in build.sources(library.CRATE) if path.is_file()]
-    return sums_text([*code, library.HEAP, TOP / "share" / "include" / "maglev.h"])
+    return sums_text([*code, library.HEAP, HEADER])
+
+
+def machine_files():
+    """The files of dist/lib that are made for a machine."""
+    return [lib_folder(target) / name for target, names in MADE.items() for name in names]
+
+
+def common_files():
+    """The other files of dist/lib, with what they should hold: the header, and what pkg-config says of the library for x86-64,
+    which it finds beside that file."""
+    told = subprocess.run([DIST / "maglev", "--version"], capture_output=True, text=True, check=True).stdout.split()
+    words = {"PREFIX": "${pcfiledir}", "INCLUDE": "", "LIB": lib_folder(library.HERE).name, "VERSION": told[1]}
+    package = re.sub(r"@(\w+)@", lambda found: words[found[1]], PACKAGE.read_text())
+    return {LIB / HEADER.name: HEADER.read_bytes(), LIB / PACKAGE.stem: package.encode()}
 
 
 def lib_files():
     """The files of dist/lib, as they should be."""
-    return [lib_folder(target) / name for target, names in MADE.items() for name in names]
+    return [*machine_files(), *common_files()]
 
 
 def lib_folder(target):
@@ -123,6 +141,8 @@ def write(program, libraries):
     for target, names in MADE.items():
         for name in names:
             put(lib_folder(target) / name, (libraries[target] / name).read_bytes())
+    for path, data in common_files().items():
+        put(path, data)
     (DIST / "maglev.sha256").write_text(sums_text([DIST / "maglev"]))
     (DIST / "sources.sha256").write_text(sources_text())
     (DIST / "lib.sha256").write_text(sums_text(lib_files()))
@@ -209,6 +229,8 @@ def check_library():
         print(f"changed since dist/lib was made: {' '.join(others[:8])}")
     yield "dist/lib has the sums of this tree", not others
     yield "the files of dist/lib have the sums that dist/ gives", sums_text(lib_files()) == read("lib.sha256")
+    for path, data in common_files().items():
+        yield f"{path.relative_to(TOP)} is what the tree says", path.read_bytes() == data
     try:
         differ = unlike()
     except library.Missing as why:
@@ -219,7 +241,7 @@ def check_library():
         print(f"the kit is {kit()}, and dist/ was made by {read('kit').strip()}: their libraries are compared by what callers get")
         yield "callers get of dist/lib what the tests expect", passes("embed.py", MAGLEV_LIB=str(LIB))
         return
-    for path in lib_files():
+    for path in machine_files():
         yield f"the library that was built here is {path.relative_to(TOP)} to the byte", path not in differ
 
 

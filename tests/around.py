@@ -39,6 +39,20 @@ def capture(link, header):
     return model.written([(secs, micros, header + frame[14:]) for secs, micros, frame in records], link)
 
 
+def reply(frame):
+    """A frame's datagram the other way round, whose checksums stay as they are."""
+    datagram = frame[14:]
+    at = 4 * (datagram[0] & 15)
+    addresses, ports = datagram[16:20] + datagram[12:16], datagram[at + 2 : at + 4] + datagram[at : at + 2]
+    return datagram[:12] + addresses + datagram[20:at] + ports + datagram[at + 4 :]
+
+
+def both_directions():
+    """The example's datagrams, with a reply to each, as a capture of raw IP."""
+    _, records, _ = model.read_capture(EXAMPLE.with_suffix(".pcap").read_bytes())
+    return model.written([(secs, micros, data) for secs, micros, frame in records for data in (frame[14:], reply(frame))], 101)
+
+
 def using(start):
     """The command of docs/USING.md that begins so, as words."""
     page = (TOP / "docs" / "USING.md").read_text()
@@ -50,6 +64,13 @@ def played(folder, name):
     words = [TOP / "bin" / "maglev", "simulate", EXAMPLE.with_suffix(".toml"), folder / name, folder / "sent.pcap"]
     status, out, err = did(words)
     return status, out, err, (folder / "sent.pcap").read_bytes() if status == 0 else b""
+
+
+def pack(folder):
+    """Packs in.pcap by gzip, and by zstd where that is installed."""
+    for tool in ("gzip", "zstd"):
+        if shutil.which(tool):
+            subprocess.run([tool, "-q", "-k", "-f", "in.pcap"], cwd=folder, check=True)
 
 
 def test_captures_that_work():
@@ -69,13 +90,18 @@ def test_captures_that_work():
         ways.append(("two VLAN tags", capture(1, ethernet + bytes.fromhex("88a80005810000070800")), using("editcap -F pcap -L -C 12:8")))
         ways.append(("BSD's loopback", capture(0, bytes.fromhex("02000000")), using("editcap -F pcap -L -C 4")))
         ways.append(("gzip", None, using("gunzip -c")))
-        if has("tshark"):
-            ways.append(("one direction", capture(101, b""), using("tshark -r in.pcap -Y 'ip.dst")))
-        for name, text, words in ways if has("editcap") else []:
-            (folder / "in.pcap").write_bytes(text or capture(101, b""))
-            subprocess.run(["gzip", "-k", "-f", "in.pcap"], cwd=folder, check=True)
-            done = subprocess.run(words, shell=True, cwd=folder, capture_output=True, check=False)
-            check(f"{name}: made a capture that works", done.returncode == 0 and played(folder, "out.pcap") == expected, repr(done))
+        ways.append(("zstd", None, using("zstd -d -c")))
+        ways.append(("both directions", both_directions(), using("tshark -r in.pcap -Y 'ip.dst")))
+        there = {tool for tool in ("editcap", "gunzip", "zstd", "tshark") if has(tool)}
+        for name, text, words in ways:
+            if words.split()[0] in there:
+                (folder / "in.pcap").write_bytes(text or capture(101, b""))
+                pack(folder)
+                done = subprocess.run(words, shell=True, cwd=folder, capture_output=True, check=False)
+                check(f"{name}: made a capture that works", done.returncode == 0 and played(folder, "out.pcap") == expected, repr(done))
+        (folder / "in.pcap").write_bytes(both_directions())
+        check("replies are played where they are left in", played(folder, "in.pcap")[0] == 0 and played(folder, "in.pcap") != expected)
+        (folder / "in.pcap").write_bytes(capture(101, b""))
         if has("editcap"):
             subprocess.run(["editcap", "-F", "pcapng", "in.pcap", "in.pcapng"], cwd=folder, check=True)
             check("pcapng isn't read", played(folder, "in.pcapng")[2] == b"fault: BadMagic\n")
@@ -169,7 +195,10 @@ def test_manual():
     if has("mandoc"):
         check("the man page", did(["mandoc", "-T", "lint", page]) == (0, b"", b""))
     words = 'source share/bash-completion/completions/maglev; COMP_WORDS=(maglev %s); COMP_CWORD=%d; _maglev; echo "${COMPREPLY[*]}"'
-    for typed, at, expected in [("si", 1, "simulate"), ("table --hash s", 3, "sha256 sum"), ("pick --no", 2, "--no-check"), ("table --size =", 3, "7 13 251 1021 8191 65537"), ("pick --hash = sh", 4, "sha256")]:
+    syn = "--splits --syn --syn-after --summary"
+    behind = [("-", 1, "-v --verbose --help"), ("simulate --s", 2, syn), ("-v simulate --s", 3, syn), ("--verbose simulate --s", 3, syn)]
+    behind += [("-v si", 2, "simulate"), ("-v h", 2, ""), ("-v table --hash s", 4, "sha256 sum"), ("-v simulate --cut = ", 5, "pad")]
+    for typed, at, expected in [*behind, ("si", 1, "simulate"), ("table --hash s", 3, "sha256 sum"), ("pick --no", 2, "--no-check"), ("table --size =", 3, "7 13 251 1021 8191 65537"), ("pick --hash = sh", 4, "sha256")]:
         answer = did(["bash", "-c", words % (typed, at)], cwd=TOP)
         check(f"completion of {typed}", answer == (0, expected.encode() + b"\n", b""), repr(answer))
     answer = did(["bash", "-c", "source share/bash-completion/completions/maglev; complete -p maglev"], cwd=TOP)

@@ -11,6 +11,7 @@ import os
 import pathlib
 import random
 import re
+import shlex
 import shutil
 import subprocess
 import sys
@@ -237,6 +238,9 @@ def test_data_plane():
     check("it ends well", (status, err) == (0, b""), err)
     check("each packet that was forwarded", len(lines) == played.count(b": forward "), out)
     check("choices that are new, and one that was remembered", [line.split()[4] for line in lines].count("remembered,") == 1, out)
+    for words in [[], ["a", "b"]]:
+        answer = did([sys.executable, EXAMPLES / "failover.py", *words])
+        check(f"failover.py {words}", answer[:2] == (2, b"") and answer[2].startswith(b"usage: "), answer)
     check("servers of clients", [line.split()[3] for line in lines] == "web-1 web-2 web-2 web-3 web-1 web-3 web-3 web-3 web-3".split(), out)
 
 
@@ -287,9 +291,16 @@ def test_clone():
     cloned(top)
     sums = did(["sh", "-c", "sha256sum -c --quiet dist/*.sha256"], cwd=top)
     check("the sums of dist/", sums == (0, b"", b""), sums)
+    check("its header", (top / "dist" / "lib" / "maglev.h").read_bytes() == (TOP / "share" / "include" / "maglev.h").read_bytes())
     table = did([PROGRAM, "table", "--size", "7", "--hash", *ASKED[1:]])[1]
     made = did(["sh", "-c", page("cc examples/embed/table.c")], cwd=top, env=env)
     check("C from a clone", made[0] == 0 and did([top / "table", *ASKED])[1] == table, made)
+    if shutil.which("pkg-config"):
+        (top / "table").unlink(missing_ok=True)
+        made = did(["sh", "-c", page("cc examples/embed/table.c $(PKG_CONFIG_PATH")], cwd=top, env=env)
+        check("C by pkg-config from a clone", made == (0, b"", b"") and did([top / "table", *ASKED])[1] == table, made)
+    else:
+        print("pkg-config isn't installed: what it shows is skipped")
     answer = did(["sh", "-c", page("PYTHONPATH=examples/embed")], cwd=top, env=env)
     check("Python from a clone", answer == (0, b"['B', 'A', 'B', 'C', 'C', 'A', 'A']\n", b""), answer)
     for start in ["cc examples/embed/table.c", "PYTHONPATH=examples/embed"]:
@@ -338,6 +349,9 @@ def test_clone_install():
     named = {pathlib.Path(word) for word in re.findall(r"(/\S+/(?:docs|examples)/[\w.]*\w)", manual.replace("a prefix", "a_prefix").replace("\\-", "-"))}
     named = {pathlib.Path(str(path).replace("a_prefix", "a prefix")) for path in named}
     check("the page names files where they are", len(named) > 3 and all(path.exists() for path in named), named)
+    if shutil.which("pkg-config"):
+        told = did(["pkg-config", "--cflags", "--libs", "maglev"], env={**env, "PKG_CONFIG_PATH": str(prefix / "lib" / "pkgconfig")})
+        check("pkg-config of a prefix with a space", shlex.split(told[1].decode()) == [f"-I{prefix}/include", f"-L{prefix}/lib", "-lmaglev"], told)
     listed = {line.rstrip("/") for line in (there / "installed").read_text().splitlines()}
     check("the list has all that was put there", listed == files_below(prefix) - before, listed ^ (files_below(prefix) - before))
     again = did([top / "bin" / "install", prefix], env=env)
@@ -351,6 +365,22 @@ def test_clone_install():
     check("nothing else of it", not (prefix / "bin").exists() and not (prefix / "lib" / "libmaglev.so.0").exists())
 
 
+def test_clone_made_folders():
+    """--uninstall removes PREFIX too, and the folders above it that bin/install made, where nothing else is in them."""
+    install, above = MADE / "clone" / "bin" / "install", MADE / "made"
+    above.mkdir()
+    for word in ("it", "for/it", "for/../it"):
+        done = did([install, "--target", OTHER, word], cwd=above)
+        put = above / os.path.normpath(word) / "lib" / "libmaglev.a"
+        check(f"bin/install {word}", done[0] == 0 and put.exists(), done)
+        gone = did([install, "--uninstall", os.path.normpath(word)], cwd=above)
+        check(f"nothing of {word} is left", gone == (0, b"", b"") and not files_below(above), (gone, files_below(above)))
+    did([install, "--target", OTHER, "for/it"], cwd=above)
+    (above / "for" / "kept").write_text("")
+    gone = did([install, "--uninstall", "it"], cwd=above / "for")
+    check("--uninstall beside a file", gone == (0, b"", b"") and files_below(above) == {"for", "for/kept"}, (gone, files_below(above)))
+
+
 def test_clone_of_changes():
     """Where the library of dist/ isn't the tree's, or isn't whole, bin/install doesn't take it: without the kit the rest is installed."""
     top, env = MADE / "clone", without(["rt"])
@@ -358,11 +388,13 @@ def test_clone_of_changes():
     for place, name in enumerate(["share/lib/heap.c", "share/include/maglev.h", "dist/lib/x86_64-linux-gnu/libmaglev.a"]):
         kept, prefix = (top / name).read_bytes(), MADE / f"prefix{place}"
         (top / name).write_bytes(kept + b"\n")
+        # As in a new clone, in which bin/install has to look which program it is that runs.
+        shutil.rmtree(top / "crates" / "maglev" / "out", ignore_errors=True)
         status, _, err = did([top / "bin" / "install", prefix], env=env)
         check(f"{name} changed: bin/install says so", status == 0 and err.decode().endswith(missing), err)
         check("it installs the rest", (prefix / "bin" / "maglev").exists() and not (prefix / "lib").exists())
         other = did([top / "bin" / "install", "--target", OTHER, MADE / "none"], env=env)
-        check("there is no library of another machine", other[:2] == (3, b"") and not (MADE / "none" / "lib").exists(), other)
+        check("there is no library of another machine", other[:2] == (3, b"") and not (MADE / "none").exists(), other)
         (top / name).write_bytes(kept)
 
 
@@ -383,6 +415,10 @@ def test_install():
         lines = [page("export PKG_CONFIG_PATH="), page("export LD_LIBRARY_PATH="), page("cc $PREFIX"), "./table 7 sum A B 'C*2'"]
         answer = did(["sh", "-e", "-c", "\n".join(lines)], cwd=room, env=env)
         check("the page's commands for an install", answer == theirs, answer)
+    module = {**env, "PYTHONPATH": str(prefix / "share" / "doc" / "maglev" / "examples" / "embed"), "PYTHONDONTWRITEBYTECODE": "1"}
+    module.pop("LD_LIBRARY_PATH", None)
+    answer = did([sys.executable, "-c", "import maglev; print(maglev._named(), *maglev.table(7, 'sum', ['A', 'B', 'C']))"], env=module, cwd="/")
+    check("the module that was installed", answer == (0, f"{prefix}/lib/libmaglev.so.0 B A B C C A A\n".encode(), b""), answer)
     words = [COMPILER, "-std=c11", EXAMPLES / "table.c", *options, f"-Wl,-rpath,{prefix}/lib", "-o", MADE / "shared"]
     check("a caller of the shared library", did(words)[0] == 0)
     ours = did([MADE / "shared", *ASKED])
@@ -395,6 +431,11 @@ def test_install_misused():
     check("its help", told[::2] == (0, b"") and told[1].startswith(b"usage: install [--target TARGET] PREFIX\n"), told)
     for words in [[], ["--target", "x"], ["--uninstall"], ["--all"], ["a", "b"], [""], ["--uninstall", "--help"]]:
         check(f"bin/install {words}", did([TOP / "bin" / "install", *words])[:2] == (2, b""))
+    for target in ["riscv64-unknown-linux-gnu", "x86_64-linux-gnu", "x", ""]:
+        answer = did([TOP / "bin" / "install", "--target", target, MADE / "nowhere"])
+        named = target and f"install: there is no library for {target}: TARGET is {HERE} or {OTHER}\n"
+        check(f"a machine {target!r} that isn't offered", answer[:2] == (2, b"") and answer[2].decode().startswith(named), answer)
+        check(f"nothing is made for {target!r}", not (MADE / "nowhere").exists())
 
 
 if __name__ == "__main__":

@@ -2,8 +2,9 @@
 """Refuses each growth of memory of a command in turn, and compares what the program then says.
 
 A run either never needed what was refused and prints its whole text, or it prints `fault: Memory` and nothing else, with
-status 1. Each allocation is refused alone, and once more with all that come behind it, from the first of the program to the
-last. `refuse.c` does it, which the kit's compiler makes into a library that is loaded in front of the program.
+status 1. Warnings of `-v` may be left out. Each allocation is refused alone, and once more with all that come behind it, from the
+first of the program to the last. `refuse.c` does it, which the kit's compiler makes into a library that is loaded in front of the
+program.
 
 The last line is 'N passed, N failed', which counts runs.
 """
@@ -31,6 +32,7 @@ FAULTS = [(1, b"", b"fault: Memory\n")]
 THREE = "A@10.8.0.1 B@10.8.0.2 C@10.8.0.3"
 TABLE = "size 7 backends 3\n0 B\n1 A\n2 B\n3 C\n4 C\n5 A\n6 A\ncount A 3\ncount B 2\ncount C 2\n"
 MOVED = "size 7 old 3 new 2 differ 3\n0 B@10.8.0.2 A@10.8.0.1\n2 B@10.8.0.2 A@10.8.0.1\n5 A@10.8.0.1 C@10.8.0.3\n"
+PICKED = "tcp 10.0.0.1:1000>192.0.2.1:80 slot 6 backend A\n"
 TCP = b"45000028000100004006aecd0a000001c000020103e8005000000001000000005002200000000000"
 
 SCENARIO = b"""format = 1
@@ -110,6 +112,22 @@ ASKED = ["--list", "--where", "--per-backend", "--per-node", "--summary"]
 IN_OBJECTS = [(1, b"", b'{"type":"fault","fault":"Memory","detail":null}\n'), (1, b"", b"")]
 LOST_OBJECT = (1, b"", b'{"type":"fault","fault":"ThreadLost","detail":"a thread couldn\'t be started: allow more threads, or take fewer balancers and workers"}\n')
 DOWN = model.compared(APART.decode(), 1, 2, "192.0.2.1:80/tcp")
+# Two servers of three are replaced, in two orders.
+REPLACED = SCENARIO + SCENARIO[SCENARIO.index(b"[[") :].replace(b"number = 1", b"number = 2").replace(b'"A@10.8.0.1", "B@10.8.0.2"', b'"D@10.8.0.4"')
+ORDERS = model.ordered(REPLACED.decode(), 1, 2)
+# Node 1 gets a version in which its server is down in the midst of a connection, which then ends and begins again.
+WITHIN = APART.replace(b'"install 1 2", "take 2"', b'"install 1 1", "take 2", "install 1 2", "take 6"')
+SOON = {"s.toml": WITHIN, "in.pcap": CAPTURE[:24] + b"".join(CAPTURE[24:73] + bytes([flags]) + CAPTURE[74:] for flags in [16, 16, 16, 16, 16, 1, 16, 2])}
+SOON_PART = model.Run(WITHIN.decode(), SOON["in.pcap"]).begun_again().part_of(1)
+# A step installs a version that isn't there.
+LACKING = {"s.toml": SCENARIO.replace(b'"take 1"', b'"install 1 7", "take 1"'), "in.pcap": CAPTURE}
+WARNED = "warning: a step installs version 7, which the catalogue lacks\nwarning: node 1 is live when packets come, and never has a version\n"
+WARNED += "warning: 1 event refused, as an install of a version that isn't newer: simulate --list shows which\n"
+# The sketch of six packets of which a snap length cut four bytes.
+CUT_SIX = SNAPPED["in.pcap"] + 5 * SNAPPED["in.pcap"][24:]
+SKETCHED_OF_CUT, _ = model.sketched(model.padded(CUT_SIX))
+# Where standard error is a file it gets a line of how far INPUT is read, which isn't always the same.
+READ = re.compile(rb"\d+ packets, [^\n]*\n")
 
 
 @dataclasses.dataclass
@@ -126,18 +144,25 @@ class Case:
     faults: list = dataclasses.field(default_factory=list)
     # Whether a text is what it prints, where that isn't always the same.
     judge: object = None
+    # The status with which it ends, and the warnings behind its text.
+    status: int = 0
+    said: str = ""
 
     def accepts(self, text):
         return self.judge(text) if self.judge else text == self.text
+
+    def warns(self, said, was_refused):
+        """Whether all warnings were given. Where memory was refused some may be left out."""
+        return said == self.said or (was_refused and set(said.splitlines()) <= set(self.said.splitlines()))
 
 
 CASES = [
     Case(["table", "--size", "7", "--hash", "sum", "A", "B", "C"], TABLE),
     Case(["compare", "--size", "7", "--hash", "sum", "--old", THREE, "--new", THREE.replace(".2", ".2/down")], MOVED),
-    Case(["pick", "--size", "7", "--hash", "sum", "A", "B", "C"], "tcp 10.0.0.1:1000>192.0.2.1:80 slot 6 backend A\n", TCP),
+    Case(["pick", "--size", "7", "--hash", "sum", "A", "B", "C"], PICKED, TCP),
     Case(["table", "--scenario", "s.toml", "--version", "1"], TABLE, files=FILES),
     Case(["compare", "--scenario", "s.toml", "--from", "1", "--to", "2"], DOWN, files=SPLIT),
-    Case(["pick", "--scenario", "s.toml", "--version", "1"], "tcp 10.0.0.1:1000>192.0.2.1:80 slot 6 backend A\n", TCP, files=FILES),
+    Case(["pick", "--scenario", "s.toml", "--version", "1"], PICKED, TCP, files=FILES),
     Case(["simulate", "--where", "--summary", "s.toml", "in.pcap", "out.pcap"], PLACES + TWO + SUMMARY, files=SPLIT),
     Case(["simulate", "--syn", "--where", "--summary", "s.toml", "in.pcap", "out.pcap"], AGAIN.splits(True) + AGAIN.report() + AGAIN.summary(), files=BEGUN),
     Case(["simulate", "--syn-after", "60", "--json", *ASKED, "s.toml", "in.pcap", "out.pcap"], objects.text_of(objects.simulated(AGAIN, *ASKED)), files=BEGUN, faults=IN_OBJECTS),
@@ -161,6 +186,16 @@ CASES = [
     Case(["plan", "s.toml", "1", "2"], CHANGED, files=LATER),
     Case(["run", "s.toml", "in.pcap", "out.pcap"], TWO + "audit agrees\n", files=LATER, faults=[LOST]),
     Case(["explain", "s.toml", "in.pcap", "2", "2"], "same\n", files=FILES),
+    Case(["plan", "--order", "s.toml", "1", "2"], ORDERS, files={"s.toml": REPLACED}),
+    Case(["plan", "--order", "--json", "s.toml", "1", "2"], objects.text_of(objects.ordered(ORDERS)), files={"s.toml": REPLACED}, faults=IN_OBJECTS),
+    Case(["simulate", "--fail-above", "0.999999", "s.toml", "in.pcap", "out.pcap"], TWO + SUMMARY, files=SPLIT, status=3),
+    Case(["scenario", "--cut", "pad", "in.pcap"], SKETCHED_OF_CUT, files={"in.pcap": CUT_SIX}),
+    Case(["table", "--json", "--size", "7", "--hash", "sum", "A", "B", "C"], objects.text_of(objects.tabled(TABLE)), faults=IN_OBJECTS),
+    Case(["compare", "--json", "--scenario", "s.toml", "--from", "1", "--to", "2"], objects.text_of(objects.compared(DOWN)), files=SPLIT, faults=IN_OBJECTS),
+    Case(["pick", "--json", "--size", "7", "--hash", "sum", "A", "B", "C"], objects.text_of(objects.picked(PICKED)), TCP, faults=IN_OBJECTS),
+    Case(["simulate", "-v", "s.toml", "in.pcap", "out.pcap"], REPORT.replace("refused 0", "refused 1"), files=LACKING, said=WARNED),
+    Case(["simulate", "--progress", "s.toml", "in.pcap", "out.pcap"], TWO, files=SPLIT),
+    Case(["simulate", "--syn", "--node", "1", "--where", "s.toml", "in.pcap", "out.pcap"], SOON_PART.splits(True) + SOON_PART.report(), files=SOON),
     Case(["simulate", "--cut", "pad", "s.toml", "in.pcap", "out.pcap"], PADDED.report(), files=SNAPPED, written={"out.pcap": PADDED.output()}),
     Case(["run", "--cut", "pad", "s.toml", "in.pcap", "out.pcap"], PADDED.report() + "audit agrees\n", files=SNAPPED, written={"out.pcap": PADDED.output()}, faults=[LOST]),
     Case(["run", "s.toml", "in.pcap", "out.pcap"], AUDITED, files=FILES, written={"out.pcap": SENT}, faults=[LOST]),
@@ -180,6 +215,25 @@ def compiled(folder, source="refuse.c"):
     return library
 
 
+def answered(case, folder, env, descriptor):
+    """What a command answers: its status and both outputs. Where it shows its progress standard error is a file, and what was
+    shown is left out."""
+    shows = "--progress" in case.arguments
+    with tempfile.TemporaryFile() as said:
+        done = subprocess.run(
+            [PROGRAM, *case.arguments],
+            input=case.stdin,
+            stdout=subprocess.PIPE,
+            stderr=said if shows else subprocess.PIPE,
+            cwd=folder,
+            env=env,
+            pass_fds=[descriptor],
+            timeout=60,
+        )
+        said.seek(0)
+        return done.returncode, done.stdout, READ.sub(b"", said.read()) if shows else done.stderr
+
+
 def run_refused(library, case, refused):
     """Runs a command with one word of refusal, in a folder of its own.
 
@@ -189,20 +243,11 @@ def run_refused(library, case, refused):
         for name, content in case.files.items():
             (pathlib.Path(folder) / name).write_bytes(content)
         reader, writer = os.pipe()
-        done = subprocess.run(
-            [PROGRAM, *case.arguments],
-            input=case.stdin,
-            capture_output=True,
-            cwd=folder,
-            env={"LD_PRELOAD": library, "REFUSED": refused, "TOLD": str(writer)},
-            pass_fds=[writer],
-            timeout=60,
-        )
+        status, text, said = answer = answered(case, folder, {"LD_PRELOAD": library, "REFUSED": refused, "TOLD": str(writer)}, writer)
         os.close(writer)
         with os.fdopen(reader, "rb") as pipe:
             was_refused = pipe.read() != b""
-        answer = (done.returncode, done.stdout, done.stderr)
-        is_ample = (done.returncode, done.stderr) == (0, b"") and case.accepts(done.stdout.decode())
+        is_ample = status == case.status and case.warns(said.decode(), was_refused) and case.accepts(text.decode())
         if is_ample:
             is_ample = all((pathlib.Path(folder) / name).read_bytes() == content for name, content in case.written.items())
         return is_ample, answer in FAULTS + case.faults, was_refused, answer

@@ -127,6 +127,70 @@ def test_refused():
     check("no words", (status, out) == (1, "") and err.startswith("usage: "), err)
 
 
+def files_in(folder):
+    """What the files of a folder hold."""
+    return {path.name: path.read_bytes() for path in folder.iterdir()}
+
+
+def isnt_joined(name, folder, words, why):
+    """join.py refuses these words for this reason, and leaves all files of the folder as they were."""
+    before = files_in(folder)
+    answer = did([sys.executable, SHARE / "join.py", *words], cwd=folder)
+    check(name, answer == (1, "", f"error: {why}\n"), answer)
+    check(f"{name}: nothing is written", files_in(folder) == before)
+
+
+def test_parts_of_each_node():
+    """As many parts are joined as the scenario has nodes, one of each; else OUTPUT is neither made nor emptied."""
+    with tempfile.TemporaryDirectory() as made:
+        folder = pathlib.Path(made)
+        played(folder, scenario(["install 0 1", "install 1 2", "take 9"]), capture("xyzxyzzyx"))
+        (folder / "kept.pcap").write_bytes(b"kept")
+        (folder / "both.jsonl").write_text(did([PROGRAM, "simulate", "--json", "--list", "s.toml", "in.pcap", "both.pcap"], cwd=folder)[1])
+        for end in ("pcap", "jsonl"):
+            shutil.copy(folder / f"part-0.{end}", folder / f"again-0.{end}")
+        for output in ("new.pcap", "kept.pcap"):
+            for parts in (["part-0"], ["part-0", "part-1", "part-1"]):
+                isnt_joined(f"{len(parts)} parts to {output}", folder, ["s.toml", output, *parts], f"the scenario has 2 nodes, and the parts are {len(parts)}")
+            for other in ("part-0", "again-0"):
+                isnt_joined(f"part-0 and {other} to {output}", folder, ["s.toml", output, "part-0", other], f"part-0 and {other} are both of node 0")
+            isnt_joined("a part of all nodes", folder, ["s.toml", output, "part-0", "both"], "both.jsonl has events of 2 nodes")
+        (folder / "again-0.pcap").write_bytes((folder / "part-0.pcap").read_bytes()[:-1])
+        isnt_joined("a capture that was cut short", folder, ["s.toml", "new.pcap", "again-0", "part-1"], "again-0.pcap ends inside a record")
+        (folder / "again-0.pcap").write_bytes(rows.HEAD)
+        sent = did([PROGRAM, "simulate", "--node", "0", "s.toml", "in.pcap", "/dev/null"], cwd=folder)[1].split("forwarded ")[1].split()[0]
+        why = f"again-0.pcap has 0 packets, and again-0.jsonl tells of {sent}"
+        isnt_joined("a capture of another run", folder, ["s.toml", "new.pcap", "again-0", "part-1"], why)
+
+
+def test_parts_of_fewer_nodes():
+    """A part of a node that the scenario lacks isn't joined, nor one without events in place of one that has them."""
+    with tempfile.TemporaryDirectory() as made:
+        folder = pathlib.Path(made)
+        text = scenario(["install 0 1", "live 0", "take 3"]).replace('"10.9.0.1", "10.9.0.2"', '"10.9.0.1", "10.9.0.2", "10.9.0.3"')
+        played(folder, text, capture("xyz"))
+        why = "the parts have 0 of the 3 packets that came to a node"
+        isnt_joined("a part without events twice", folder, ["s.toml", "new.pcap", "part-1", "part-2", "part-1"], why)
+        played(folder, text.replace("install 0 1", "install 2 1").replace("live 0", "live 2"), capture("xyz"))
+        (folder / "s.toml").write_text(text.replace(', "10.9.0.3"', ""))
+        isnt_joined("a node that isn't there", folder, ["s.toml", "new.pcap", "part-1", "part-2"], "part-2 is of node 2, and the scenario has 2 nodes")
+
+
+def test_output_that_is_read():
+    """OUTPUT that is a file which is read, by whatever name, isn't emptied."""
+    with tempfile.TemporaryDirectory() as made:
+        folder = pathlib.Path(made)
+        played(folder, scenario(["install 0 1", "take 4"]), capture("xyxy"))
+        (folder / "soft").symlink_to("part-1.jsonl")
+        (folder / "hard").hardlink_to(folder / "part-0.pcap")
+        names = {"part-0.pcap": "part-0.pcap", "./part-1.jsonl": "part-1.jsonl", "soft": "part-1.jsonl", "hard": "part-0.pcap", "s.toml": "s.toml"}
+        for output, path in names.items():
+            isnt_joined(f"OUTPUT {output}", folder, ["s.toml", output, "part-0", "part-1"], f"OUTPUT is {path}, which is read")
+        before = files_in(folder)
+        status, out, err = did(["bash", "-c", f"'{sys.executable}' '{SHARE / 'join.py'}' s.toml part-*"], cwd=folder)
+        check("parts by their ends", (status, out) == (1, "") and err.startswith("error: ") and files_in(folder) == before, err)
+
+
 def page_has(start):
     """The block of docs/SCALING.md that begins so, as a script."""
     page = (TOP / "docs" / "SCALING.md").read_text()
@@ -142,10 +206,15 @@ def with_program(folder):
     return os.environ | {"PATH": f"{tools}:{os.environ['PATH']}"}
 
 
+def of_four(steps):
+    """A scenario of four nodes, as the page's commands are for."""
+    servers = ", ".join(f'"10.9.0.{node}"' for node in range(1, 5))
+    return scenario([f"install {node} 1" for node in range(4)] + steps).replace('"10.9.0.1", "10.9.0.2"', servers)
+
+
 def follows(name, start, more=""):
     """What a block of the page leaves is what one process writes."""
-    servers = ", ".join(f'"10.9.0.{node}"' for node in range(1, 5))
-    text = scenario([f"install {node} 1" for node in range(4)] + ["take 20"]).replace('"10.9.0.1", "10.9.0.2"', servers)
+    text = of_four(["take 20"])
     with tempfile.TemporaryDirectory() as made:
         folder = pathlib.Path(made)
         (folder / "scenario.toml").write_text(text)
@@ -166,6 +235,22 @@ def test_page():
         follows("GNU parallel", "parallel maglev", f"\n{join}\n")
     else:
         print("parallel isn't installed: what it shows is skipped")
+
+
+def test_sqlite():
+    """The page's commands of SQLite's own program print what the queries find; nodes.sql makes the table alike."""
+    view = re.search(r"CREATE VIEW events AS SELECT line->>.*", page_has("sqlite3")).group()
+    comment = re.sub(r"(?m)^--\s*", "", (SHARE / "nodes.sql").read_text())
+    check("nodes.sql has the page's view", view in " ".join(comment.split()), view)
+    if not shutil.which("sqlite3"):
+        print("sqlite3 isn't installed: what it shows is skipped")
+        return
+    with tempfile.TemporaryDirectory() as made:
+        folder = pathlib.Path(made)
+        parts = played(folder, of_four(["take 5", "install 1 2", "restart 2", "install 2 2", "take 20"]), capture("xyzxxyzzyx"))
+        found = [row for query in selected(parts) for row in query]
+        done = did(["bash", "-c", page_has("sqlite3").replace("share/maglev", str(SHARE))], cwd=folder)
+        check("the page's commands of SQLite", found and done == (0, "".join("|".join(map(str, row)) + "\n" for row in found), ""), done)
 
 
 def test_mergecap():
@@ -202,6 +287,28 @@ def python_with_dask():
             return python
     print("python3-distributed isn't installed: what it shows is skipped")
     return None
+
+
+def test_without_dask():
+    """Without Dask on_dask.py says what it needs, and prints its help; an OUTPUT that is read is refused before that."""
+    with tempfile.TemporaryDirectory() as made:
+        folder = pathlib.Path(made)
+        (folder / "dask.py").write_text("raise ModuleNotFoundError(\"No module named 'dask'\")\n")
+        (folder / "s.toml").write_text(scenario(["install 0 1", "take 2"]))
+        (folder / "in.pcap").write_bytes(capture("xy"))
+        before = files_in(folder)
+
+        def answer(*words):
+            return did([sys.executable, "-B", SHARE / "on_dask.py", *words], cwd=folder, env=os.environ | {"PYTHONPATH": made})
+
+        status, out, err = answer("--help")
+        check("its help", (status, err) == (0, "") and out.startswith("usage: on_dask.py ") and "python3-distributed" in out, err)
+        check("no words for Dask", answer()[0] == 2)
+        missing = "error: No module named 'dask': on_dask.py needs Dask distributed (Debian: apt-get install python3-distributed)\n"
+        check("no Dask", answer("s.toml", "in.pcap", "new.pcap") == (1, "", missing), answer("s.toml", "in.pcap", "new.pcap"))
+        for output in ("in.pcap", "s.toml"):
+            check(f"OUTPUT {output} by Dask", answer("s.toml", "in.pcap", output) == (1, "", f"error: OUTPUT is {output}, which is read\n"))
+        check("nothing is written without Dask", files_in(folder) == before)
 
 
 def test_dask():

@@ -124,22 +124,31 @@ def man_page(whole, commands):
     return "\n".join(page) + "\n"
 
 
+# What stands for -v before a command, which is as behind it.
+VERBOSE = ("-v", "--verbose")
+VERBOSE_TEXT = "say more of a fault, and of what may not be meant"
+
+
 def bash_words(whole, commands):
     """Completions for bash. It takes `--size=7` for three words, so that the sign is left out of what is before."""
-    lines = ["# Completions of maglev for bash.", "_maglev() {", '    local word=${COMP_WORDS[COMP_CWORD]} before=${COMP_WORDS[COMP_CWORD-1]}']
+    names = " ".join(whole.commands())
+    lines = ["# Completions of maglev for bash.", "_maglev() {", '    local word=${COMP_WORDS[COMP_CWORD]} before=${COMP_WORDS[COMP_CWORD-1]} at=1']
     lines.append('    if [ "$word" = = ]; then word=; elif [ "$before" = = ]; then before=${COMP_WORDS[COMP_CWORD-2]}; fi')
     lines.append('    if [ "$COMP_CWORD" -eq 1 ]; then')
-    lines.append(f'        mapfile -t COMPREPLY < <(compgen -W "{" ".join(whole.commands())} help --help" -- "$word")')
+    lines.append(f'        mapfile -t COMPREPLY < <(compgen -W "{names} help {" ".join(VERBOSE)} --help" -- "$word")')
+    lines += ["        return", "    fi", f'    case ${{COMP_WORDS[1]}} in {" | ".join(VERBOSE)}) at=2 ;; esac']
+    lines.append('    if [ "$COMP_CWORD" -eq "$at" ]; then')
+    lines.append(f'        mapfile -t COMPREPLY < <(compgen -W "{names}" -- "$word")')
     lines += ["        return", "    fi", "    case $before in"]
     lines.append(f'        {"|".join(FILE_OPTIONS)}) compopt -o filenames 2>/dev/null; mapfile -t COMPREPLY < <(compgen -f -- "$word"); return ;;')
     for option, words in CHOICES.items():
         lines.append(f'        {option}) mapfile -t COMPREPLY < <(compgen -W "{" ".join(words)}" -- "$word"); return ;;')
-    lines += ["    esac", "    case ${COMP_WORDS[1]} in"]
+    lines += ["    esac", "    case ${COMP_WORDS[at]} in"]
     for one in commands:
         options = " ".join(long for long, _, _ in one.options())
         files, kind = (" -f", " compopt -o filenames 2>/dev/null;") if one.takes_files() else ("", "")
         lines.append(f'        {one.name}){kind} mapfile -t COMPREPLY < <(compgen{files} -W "{options}" -- "$word") ;;')
-    lines.append(f'        help) mapfile -t COMPREPLY < <(compgen -W "{" ".join(whole.commands())}" -- "$word") ;;')
+    lines.append(f'        help) mapfile -t COMPREPLY < <(compgen -W "{names}" -- "$word") ;;')
     lines += ["    esac", "}", "complete -F _maglev maglev"]
     return "\n".join(lines) + "\n"
 
@@ -151,9 +160,12 @@ def quoted(text):
 
 def zsh_words(whole, commands):
     """Completions for zsh."""
-    lines = ["#compdef maglev", "# Completions of maglev for zsh.", "_maglev() {", "    local -a commands", "    commands=("]
+    lines = ["#compdef maglev", "# Completions of maglev for zsh.", "_maglev() {", "    local -a commands options", "    commands=("]
     lines += ["        " + quoted(f"{word}:{text}") for word, text in whole.parts["Commands:"]]
-    lines += ["    )", "    if (( CURRENT == 2 )); then", "        _describe command commands", "        return", "    fi", "    case $words[2] in"]
+    lines += ["    )", "    options=(" + " ".join(quoted(f"{word}:{VERBOSE_TEXT}") for word in VERBOSE) + ")"]
+    lines.append(f'    if (( CURRENT > 2 )) && [[ $words[2] = ({"|".join(VERBOSE)}) ]]; then')
+    lines += ["        words[2]=()", "        (( CURRENT-- ))", "        options=()", "    fi"]
+    lines += ["    if (( CURRENT == 2 )); then", "        _describe command commands", "        _describe -o option options", "        return", "    fi", "    case $words[2] in"]
     for one in commands:
         specs = []
         for long, takes, text in one.options():
@@ -171,6 +183,7 @@ def fish_words(whole, commands):
     lines = ["# Completions of maglev for fish.", "complete -c maglev -f"]
     for word, text in whole.parts["Commands:"]:
         lines.append(f"complete -c maglev -n __fish_use_subcommand -a {word} -d {quoted(text)}")
+    lines.append(f"complete -c maglev -n __fish_use_subcommand -s v -l verbose -d {quoted(VERBOSE_TEXT)}")
     for one in commands:
         seen = f"-n '__fish_seen_subcommand_from {one.name}'"
         if one.takes_files():

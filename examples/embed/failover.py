@@ -69,4 +69,7 @@ def main(listing: str) -> int:
 
 
 if __name__ == "__main__":
+    if len(sys.argv) != 2:
+        print(f"usage: {sys.argv[0]} LISTING", file=sys.stderr)
+        sys.exit(2)
     sys.exit(main(sys.argv[1]))

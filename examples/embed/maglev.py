@@ -3,8 +3,9 @@
     >>> table(7, "sum", ["A", "B", "C"])
     ['B', 'A', 'B', 'C', 'C', 'A', 'A']
 
-The library is that of the variable LIBMAGLEV; or else, in a clone on x86-64, that of dist/lib; or else the one that the system
-finds. Nothing is kept between calls, so each function may be called from several threads.
+The library is that of the variable LIBMAGLEV; or else, in a clone on x86-64, that of dist/lib; or else, where bin/install put this
+file, that of PREFIX/lib; or else the one that the system finds. Nothing is kept between calls, so each function may be called from
+several threads.
 """
 import ctypes
 import os
@@ -74,9 +75,12 @@ class _Flow(ctypes.Structure):
 
 def _named() -> str:
     """Where the library is, or its name for the system."""
-    name = "libmaglev.so.0"
-    cloned = pathlib.Path(__file__).resolve().parent.parent.parent / "dist" / "lib" / f"{platform.machine()}-linux-gnu" / name
-    return os.environ.get("LIBMAGLEV") or (str(cloned) if cloned.exists() else name)
+    name, here = "libmaglev.so.0", pathlib.Path(__file__).resolve().parent
+    cloned = here / ".." / ".." / "dist" / "lib" / f"{platform.machine()}-linux-gnu" / name
+    # This file is in PREFIX/share/doc/maglev/examples/embed then.
+    installed = here / ".." / ".." / ".." / ".." / ".." / "lib" / name
+    found = [str(path.resolve()) for path in (cloned, installed) if path.exists()]
+    return os.environ.get("LIBMAGLEV") or (found + [name])[0]
 
 
 def _loaded() -> ctypes.CDLL:

@@ -4,10 +4,12 @@
 PART is the name of two files without their ends: PART.pcap is what the node sent, and PART.jsonl what was printed. OUTPUT gets
 the capture that one process writes over all nodes, to the byte, and standard output the report that it prints. Both rest on
 this: a record that is delivered once is sent once at most, and the whole run sends in the order of the records. So a scenario
-whose steps deliver a record again (`again`), or later than its turn (`hold`, `drain`), is refused.
+whose steps deliver a record again (`again`), or later than its turn (`hold`, `drain`), is refused. So are parts that aren't one
+of each node of one run, and an OUTPUT that is a file which is read; then OUTPUT is left as it was.
 """
 import heapq
 import json
+import os
 import pathlib
 import struct
 import sys
@@ -24,9 +26,17 @@ class Unjoinable(Exception):
     """The parts can't be joined, for this reason."""
 
 
+def value_of(scenario, key):
+    """The value of a key of a scenario."""
+    document = tomllib.loads(scenario.read_text())
+    if key not in document:
+        raise Unjoinable(f"{scenario} has no {key!r}")
+    return document[key]
+
+
 def order_is_kept(scenario):
     """Refuses a scenario of which the records' order isn't that of the run."""
-    for number, step in enumerate(tomllib.loads(scenario.read_text())["steps"]):
+    for number, step in enumerate(value_of(scenario, "steps")):
         word = step.split(" ")[0]
         if word in ("again", "hold", "drain"):
             raise Unjoinable(f"step {number}, {word!r}: its packets don't come in the order of their records")
@@ -50,7 +60,10 @@ def records_of(path):
     with open(path, "rb") as capture:
         capture.read(HEAD)
         while head := capture.read(RECORD):
-            yield head + capture.read(struct.unpack_from("<I", head, 8)[0])
+            length = struct.unpack_from("<I", head, 8)[0] if len(head) == RECORD else 1
+            if len(body := capture.read(length)) < length:
+                raise Unjoinable(f"{path} ends inside a record")
+            yield head + body
 
 
 def sent_of(part):
@@ -67,12 +80,58 @@ def join_captures(parts, output):
             joined.write(record)
 
 
-def report_of(part):
-    """The object of a part's report."""
-    found = [one for one in objects_of(f"{part}.jsonl") if one["type"] == "report"]
-    if len(found) != 1:
-        raise Unjoinable(f"{part}.jsonl has {len(found)} reports")
-    return found[0]
+def told_by(part):
+    """The node of a part's events, none where it has no event, and the object of its report."""
+    nodes, reports, sent = set(), [], 0
+    for one in objects_of(f"{part}.jsonl"):
+        if one["type"] == "event":
+            nodes.add(one["node"])
+            sent += one["outcome"] == "forward"
+        elif one["type"] == "report":
+            reports.append(one)
+    if len(reports) != 1:
+        raise Unjoinable(f"{part}.jsonl has {len(reports)} reports")
+    if len(nodes) > 1:
+        raise Unjoinable(f"{part}.jsonl has events of {len(nodes)} nodes")
+    written = sum(1 for _ in records_of(f"{part}.pcap"))
+    if written != sent:
+        raise Unjoinable(f"{part}.pcap has {written} packets, and {part}.jsonl tells of {sent}")
+    return next(iter(nodes), None), reports[0]
+
+
+def output_is_apart(output, read):
+    """Refuses an OUTPUT that is one of the files which are read, by whatever name."""
+    for path in read if os.path.exists(output) else []:
+        if os.path.samefile(path, output):
+            raise Unjoinable(f"OUTPUT is {path}, which is read")
+
+
+def nodes_are_apart(parts, found, nodes):
+    """Refuses parts of which two are of one node, or one is of a node that isn't among so many."""
+    for place, (part, node) in enumerate(zip(parts, found)):
+        if node is not None and node >= nodes:
+            raise Unjoinable(f"{part} is of node {node}, and the scenario has {nodes} nodes")
+        if node is not None and node in found[:place]:
+            raise Unjoinable(f"{parts[found.index(node)]} and {part} are both of node {node}")
+
+
+def all_is_there(report):
+    """Refuses a joined report in which a packet came to no part's node: the node's part isn't there."""
+    came = report["packets"] - sum(report[word] for word in SHARED[1:])
+    if report["received"] != came:
+        raise Unjoinable(f"the parts have {report['received']} of the {came} packets that came to a node")
+
+
+def read_parts(scenario, parts):
+    """The report of the whole run, of parts that are one of each node of it."""
+    nodes = len(value_of(scenario, "nodes"))
+    if len(parts) != nodes:
+        raise Unjoinable(f"the scenario has {nodes} nodes, and the parts are {len(parts)}")
+    found = [told_by(part) for part in parts]
+    nodes_are_apart(parts, [node for node, _ in found], nodes)
+    report = join_reports([report for _, report in found])
+    all_is_there(report)
+    return report
 
 
 def join_reports(reports):
@@ -96,10 +155,12 @@ def text_of(report):
 
 
 def join(scenario, output, parts):
-    """Joins the parts, and gives the text of the whole run's report."""
+    """Joins the parts, and gives the text of the whole run's report. Nothing is written before all is found well."""
     order_is_kept(pathlib.Path(scenario))
+    report = read_parts(pathlib.Path(scenario), parts)
+    output_is_apart(output, [scenario, *(f"{part}.{end}" for part in parts for end in ("pcap", "jsonl"))])
     join_captures(parts, output)
-    return text_of(join_reports([report_of(part) for part in parts]))
+    return text_of(report)
 
 
 def main():

@@ -1,8 +1,18 @@
 -- Splits and shares of a whole run, from the parts that `maglev simulate --json --list --node N` printed. `events` is a table of
 -- their objects of the type `event`, of all nodes: DuckDB makes it by
 --   CREATE VIEW events AS SELECT * FROM read_json('part-*.jsonl', format = 'newline_delimited') WHERE type = 'event';
--- Spark by spark.read.json("part-*.jsonl").filter("type = 'event'").createOrReplaceTempView("events"). A record is delivered
--- once: no step of the scenario is `again`, `hold` or `drain`.
+-- Spark by spark.read.json("part-*.jsonl").filter("type = 'event'").createOrReplaceTempView("events"). SQLite's program, 3.38 or
+-- newer, makes it of lines, with an .import for each part:
+--   .mode ascii
+--   .separator "\037" "\n"
+--   CREATE TABLE lines (line);
+--   .import part-0.jsonl lines
+--   CREATE VIEW events AS SELECT line->>'kind' AS kind, line->>'outcome' AS outcome, line->>'node' AS node,
+--     line->>'record' AS record, line->>'worker' AS worker, line->>'version' AS version, line->>'flow' AS flow,
+--     line->>'backend' AS backend, line->>'address' AS address, line->>'chosen' AS chosen, line->>'bytes' AS bytes
+--     FROM lines WHERE line->>'type' = 'event';
+--   .mode list
+-- A record is delivered once: no step of the scenario is `again`, `hold` or `drain`.
 
 -- Splits: each two sends of one flow to different servers, with none of that flow between them, in the order of the later one.
 WITH sends AS (

@@ -4,6 +4,8 @@
 Plays a scenario over a capture on the workers of a Dask cluster, one node's part a task, and joins the parts: OUTPUT and the
 report that is printed are those of `maglev simulate SCENARIO INPUT OUTPUT`. The cluster is that of ADDRESS, or one on this
 machine with a process for each processor. All workers see the same files. The parts are kept in FOLDER, where it is given.
+
+It needs Python 3.11 and Dask distributed (Debian: python3-distributed).
 """
 import argparse
 import os
@@ -12,8 +14,6 @@ import subprocess
 import sys
 import tempfile
 import tomllib
-
-from dask.distributed import Client, LocalCluster
 
 sys.path.insert(0, str(pathlib.Path(__file__).resolve().parent))
 import join  # noqa: E402
@@ -40,13 +40,15 @@ def played(client, asked, folder):
 
 def cluster_of(asked):
     """A client of the cluster that is asked for."""
+    from dask.distributed import Client, LocalCluster
+
     if asked.scheduler:
         return Client(asked.scheduler)
     return Client(LocalCluster(threads_per_worker=1, processes=True, dashboard_address=None))
 
 
 def words_of(arguments):
-    options = argparse.ArgumentParser(description=__doc__.split("\n\n")[1])
+    options = argparse.ArgumentParser(description=__doc__.split("\n\n")[1], epilog=__doc__.split("\n\n")[2])
     options.add_argument("--scheduler", metavar="ADDRESS", help="the scheduler of a Dask cluster")
     options.add_argument("--program", metavar="MAGLEV", default="maglev", help="the program on each worker")
     options.add_argument("--keep", metavar="FOLDER", help="a folder that all workers see, which keeps the parts")
@@ -60,9 +62,12 @@ def main():
     asked = words_of(sys.argv[1:])
     try:
         join.order_is_kept(pathlib.Path(asked.scenario))
+        join.output_is_apart(asked.output, [asked.scenario, asked.input])
         with tempfile.TemporaryDirectory(dir=os.path.dirname(os.path.abspath(asked.output))) as made, cluster_of(asked) as client:
             parts = played(client, asked, os.path.abspath(asked.keep) if asked.keep else made)
             sys.stdout.write(join.join(asked.scenario, asked.output, parts))
+    except ModuleNotFoundError as why:
+        sys.exit(f"error: {why}: on_dask.py needs Dask distributed (Debian: apt-get install python3-distributed)")
     except (join.Unjoinable, OSError, ValueError) as why:
         sys.exit(f"error: {why}")
 
