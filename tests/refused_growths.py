@@ -105,6 +105,7 @@ PLACES, SUMMARY, RUN_PLACES, SHARES = TOLD.splits(True), TOLD.summary(), TOLD.on
 FLAGGED = [CAPTURE[24:73] + bytes([flags]) + CAPTURE[74:] for flags in [1, 2, 16, 1, 2, 16]]
 BEGUN = {"s.toml": APART.replace(b"take 2", b"take 6"), "in.pcap": CAPTURE[:24] + b"".join(FLAGGED)}
 AGAIN = model.Run(BEGUN["s.toml"].decode(), BEGUN["in.pcap"]).begun_again()
+AGAIN_ON_THREADS = AGAIN.on_threads()
 # One node's part of it.
 PART = TOLD.part_of(1)
 # The same as objects, and its fault: where memory for the object is refused nothing is said.
@@ -167,6 +168,7 @@ CASES = [
     Case(["simulate", "--syn", "--where", "--summary", "s.toml", "in.pcap", "out.pcap"], AGAIN.splits(True) + AGAIN.report() + AGAIN.summary(), files=BEGUN),
     Case(["simulate", "--syn-after", "60", "--json", *ASKED, "s.toml", "in.pcap", "out.pcap"], objects.text_of(objects.simulated(AGAIN, *ASKED)), files=BEGUN, faults=IN_OBJECTS),
     Case(["run", "--where", "--summary", "--pace", "s.toml", "in.pcap", "out.pcap"], RUN_PLACES + TWO + "audit agrees\n" + SUMMARY, files=SPLIT, faults=[LOST]),
+    Case(["run", "--syn", "--where", "--summary", "s.toml", "in.pcap", "out.pcap"], AGAIN_ON_THREADS.splits(True) + AGAIN.report() + "audit agrees\n" + AGAIN_ON_THREADS.summary(), files=BEGUN, faults=[LOST]),
     Case(["simulate", "--json", *ASKED, "s.toml", "in.pcap", "out.pcap"], objects.text_of(objects.simulated(TOLD, *ASKED)), files=SPLIT, faults=IN_OBJECTS),
     Case(["run", "--json", *ASKED[1:], "s.toml", "in.pcap", "out.pcap"], objects.text_of(objects.ran(TOLD, *ASKED[1:])), files=SPLIT, faults=[*IN_OBJECTS, LOST_OBJECT]),
     Case(["simulate", "--per-backend", "--per-node", "s.toml", "in.pcap", "out.pcap"], TWO + SHARES, files=SPLIT),

@@ -1,5 +1,5 @@
 #!/usr/bin/env python3
-"""starts.py [FIRST COUNT]: `simulate --syn` and `--syn-after`, where a flow that begins again is another connection.
+"""starts.py [FIRST COUNT]: `--syn` and `--syn-after` of `simulate` and `run`, where a flow that begins again is another connection.
 
 Rows are worked out by hand. So many random scenarios, 300 in the gate, whose captures have flags of all kinds, print what
 tests/model.py says. The last line is 'N passed, N failed'.
@@ -104,26 +104,93 @@ def test_again():
     check("again: the first connection's", "at 1 " in expected.splits(True), expected.splits(True) + line)
 
 
+def ran(name, text, data, words, expected):
+    """`run` prints this text."""
+    answer = rows.ran(text, data, words)
+    check(f"run: {name}", answer[:3] == (0, expected.encode(), b""), f"{answer} {expected!r}")
+
+
+def test_on_threads():
+    """The same of `run`: splits are those of the nodes' histories, one after the other, and connections those of INPUT."""
+    data = capture("xS xF xS xA")
+    # node 0: install, two arrivals, records 0 and 2 are served; node 1: the same of records 1 and 3
+    whole = report(4, 4) + "audit agrees\n"
+    flow = told(1006, "4 8", 5, A1, C2, "moved")
+    one, two = told(1006, "3 8", 5, A1, C2, "moved"), told(1006, "4 9", 5, A1, C2, "moved")
+    places = where(one, f"0 {ONE} 0 0", f"1 {ONE} 1 0", "node") + where(two, f"2 {ONE} 0 0", f"3 {ONE} 1 0", "node")
+    ran("without --syn", APART, data, ["--splits"], flow + counts(1, 0, 1) + whole)
+    ran("splits", APART, data, ["--syn", "--splits"], one + two + counts(2, 0, 2) + whole)
+    ran("places", APART, data, ["--syn", "--where"], places + counts(2, 0, 2) + whole)
+    ran("all", APART, data, ["--syn", "--where", "--splits", "--summary", "--pace"], places + counts(2, 0, 2) + whole + summary(2, 2, node=2))
+    ran("the summary", APART, data, ["--syn", "--summary"], whole + summary(2, 2, node=2))
+    ran("none of these", APART, data, ["--syn"], whole)
+    expected = model.Run(APART, data).begun_again()
+    asked = ["--where", "--per-backend", "--per-node", "--summary"]
+    ran("objects", APART, data, ["--syn", "--json", *asked], objects.text_of(objects.ran(expected, *asked)))
+    halves = capture("xS xF xS yA")
+    for share, status in [("0.4", 0), ("0.3", 3)]:
+        answer = rows.ran(APART, halves, ["--syn", "--fail-above", share])
+        check(f"run: a share above {share}", answer[:3] == (status, (whole + summary(3, 1, node=1)).encode(), b""), answer)
+    late = capture("xA xS", [0, 60])
+    for after, connections in [("60", 2), ("60.000001", 1)]:
+        changes = {"node": 1} if connections == 1 else {}
+        ran(f"a SYN after {after}", APART, late, ["--syn-after", after, "--summary"], report(2, 2, left=0) + "audit agrees\n" + summary(connections, len(changes), **changes))
+
+
+def test_lives_and_workers():
+    """`run` with balancers that begin anew, and with two workers each."""
+    text = scenario(["install 0 1", "live 0", "take 2", "restart 0", "install 0 2", "take 9"])
+    whole = report(4, 4) + "audit agrees\n"
+    # install, two arrivals, two servings and the restart; then install, two arrivals and two servings
+    ran("a restart, without --syn", text, capture("xS xF xS xA"), ["--where"], where(told(1006, "4 9", 5, A1, C2, "moved"), f"1 {ONE} 0 0", f"2 {ONE} 0 0", "restart") + counts(1, 0, 1) + whole)
+    ran("a restart between connections", text, capture("xS xF xS xA"), ["--syn", "--where", "--summary"], counts(2, 0, 0) + whole + summary(2))
+    line = where(told(1006, "4 9", 5, A1, C2, "moved"), f"1 {ONE} 0 0", f"2 {ONE} 0 0", "restart")
+    ran("a restart within one", text, capture("xS xA xF xS"), ["--syn", "--where", "--summary"], line + counts(2, 0, 1) + whole + summary(2, 1, restart=1))
+    # whether the first record was served before the stop is the schedule's to say
+    stopping = text.replace("restart", "stop").replace("take 2", "take 1")
+    for options, found in [([], [summary(1, 1, restart=1), summary(1)]), (["--syn"], [summary(2), summary(1)])]:
+        for _ in range(20):
+            answer = rows.ran(stopping, capture("xF xS"), [*options, "--summary"])
+            behind = answer[1].decode().partition("audit agrees\n")[2]
+            check(f"run: a stop {options}", answer[0] == 0 and behind in found, answer)
+    workers = scenario(["install 0 1", "install 1 2", "take 9"], workers=2)
+    for words in ("xS yS zS xF yF zF xS yS zS xA yA zA", "xF yF zF yS xS zS zA xA yA", "zR zS xA xS yR yS"):
+        expected = model.Run(workers, capture(words)).begun_again().on_threads()
+        told_of = expected.splits(True) + expected.report() + "audit agrees\n" + expected.summary()
+        ran(f"two workers, {words}", workers, capture(words), ["--syn", "--where", "--summary", "--pace"], told_of)
+
+
 def test_refusals():
     """INPUT is read twice, so that it is a file; a time is one."""
     with tempfile.TemporaryDirectory() as folder:
         folder = pathlib.Path(folder)
         (folder / "s.toml").write_text(APART)
         (folder / "in.pcap").write_bytes(capture("xF xS"))
-        os.mkfifo(folder / "pipe")
-        for name in ("-", "pipe"):
-            answer = run(["simulate", "--syn", "s.toml", name, "out.pcap"], cwd=folder, stdin=b"")
-            check(f"INPUT {name}", answer[:2] == (2, b"") and b"reads INPUT twice" in answer[2] and not (folder / "out.pcap").exists(), answer)
-        for word in ("", ".", "1.", "x", "-1", "1.0000000", "1e3", "99999999999999999999", "18446744073710", "+1", "1 "):
-            answer = run(["simulate", "--syn-after", word, "s.toml", "in.pcap", "out.pcap"], cwd=folder)
-            check(f"a time {word!r}", answer[0] == 2 and answer[1] == b"" and answer[2] != b"", answer)
-        answer = run(["simulate", "--syn", "s.toml", "none.pcap", "out.pcap"], cwd=folder)
-        check("no INPUT", answer == (1, b"", b"fault: OpenInput\n") and not (folder / "out.pcap").exists(), answer)
         (folder / "bad.pcap").write_bytes(b"x" * 40)
-        answer = run(["simulate", "--syn", "s.toml", "bad.pcap", "out.pcap"], cwd=folder)
-        check("no capture", answer == (1, b"", b"fault: BadMagic\n") and not (folder / "out.pcap").exists(), answer)
-        answer = run(["run", "--syn", "s.toml", "in.pcap", "out.pcap"], cwd=folder)
-        check("run has no --syn", answer[0] == 2 and b"--syn" in answer[2], answer)
+        os.mkfifo(folder / "pipe")
+        for command in ("simulate", "run"):
+            refuses(folder, command)
+        for command, step in [("simulate", "stop 0"), ("run", "hold 0")]:
+            (folder / "step.toml").write_text(scenario(["install 0 1", step]))
+            answer = run([command, "--syn", "-v", "step.toml", "none.pcap", "out.pcap"], cwd=folder)
+            check(f"{command}: a step", answer[:2] == (1, b"") and answer[2].startswith(b"fault: BadStep 1\n") and b"steps[1], line 9" in answer[2], answer)
+
+
+def refuses(folder, command):
+    """What a command refuses over the files of a folder."""
+
+    def is_refused(name, status, error, words):
+        answer = run([command, *words, "out.pcap"], cwd=folder, stdin=b"")
+        check(f"{command}: {name}", answer[:2] == (status, b"") and error in answer[2] and not (folder / "out.pcap").exists(), answer)
+
+    twice = b"error: --syn reads INPUT twice, so that it can be neither - nor a pipe\n"
+    for name in ("-", "pipe"):
+        is_refused(f"INPUT {name}", 2, twice, ["--syn", "s.toml", name])
+        is_refused(f"INPUT {name}, after a time", 2, twice, ["--syn-after", "60", "s.toml", name])
+    for word in ("", ".", "1.", "x", "-1", "1.0000000", "1e3", "99999999999999999999", "18446744073710", "+1", "1 "):
+        is_refused(f"a time {word!r}", 2, b"error: ", ["--syn-after", word, "s.toml", "in.pcap"])
+    is_refused("no INPUT", 1, b"fault: OpenInput\n", ["--syn", "s.toml", "none.pcap"])
+    is_refused("no capture", 1, b"fault: BadMagic\n", ["--syn", "s.toml", "bad.pcap"])
 
 
 def spiced(source, data):
@@ -160,6 +227,28 @@ def test_against_the_model():
         simulates(f"scenario {seed}, node 0", text, data, one.splits(True) + one.report() + one.summary(), None, [*options, "--where", "--summary", "--node", "0"])
     print(f"in {apart} of {COUNT} scenarios --syn changes the summary")
     check("--syn tells something else", COUNT < 100 or apart > COUNT // 10, apart)
+
+
+def test_threads_against_the_model():
+    """What `run` prints of random scenarios is what the model says, in the order of its history, as lines and as objects."""
+    apart = 0
+    for seed in range(FIRST, FIRST + COUNT // 3):
+        source = random.Random(321_000 + seed)
+        text, data, by_lives = rows.idle_case(seed)
+        if not by_lives or seed % 2:
+            text, data = rows.random_scenario(source, ("", "*2"), rows.steps_by_lives, 20), rows.random_capture(source)
+        data = spiced(source, data)
+        after = source.choice([None, None, 0, 1, 500_000, 2_000_000])
+        options = ["--syn"] if after is None else ["--syn-after", f"{after // 1_000_000}.{after % 1_000_000:06}"]
+        found = model.Run(text, data).begun_again(after)
+        expected = found.on_threads()
+        apart += expected.summary() != model.Run(text, data).on_threads().summary()
+        whole = expected.splits(True) + expected.report() + "audit agrees\n" + expected.taken() + expected.summary()
+        ran(f"scenario {seed}", text, data, [*options, "--where", "--summary", "--per-backend"], whole)
+        ran(f"scenario {seed}, splits", text, data, [*options, "--splits"], expected.splits() + expected.report() + "audit agrees\n")
+        ran(f"scenario {seed}, objects", text, data, [*options, "--json", "--where", "--summary"], objects.text_of(objects.ran(found, "--where", "--summary")))
+    print(f"in {apart} of {COUNT // 3} runs --syn changes the summary")
+    check("run --syn tells something else", COUNT < 100 or apart > COUNT // 30, apart)
 
 
 if __name__ == "__main__":

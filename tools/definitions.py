@@ -97,6 +97,11 @@ PROMISES = [
         [("maglev_cli", "running", "run")],
     ),
     (
+        "`run --syn`: the same of a cluster on threads",
+        "`thread_ordinals_in` of `scenario_commands`, and `run_turned` of `maglev_cli`.",
+        [("scenario_commands", "turning", "thread_ordinals_in"), ("maglev_cli", "turned", "run_turned")],
+    ),
+    (
         "`simulate --node N`: one node's part of the run",
         "`simulate_part` of `scenario_commands`, and the laws of `node_part`.",
         [

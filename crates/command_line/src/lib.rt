@@ -561,6 +561,8 @@ fn run<'a>(alloc: Global) -> Result<Command<'a>, AllocError> {
     let args = [
         splits(alloc),
         places(alloc),
+        syn(alloc),
+        syn_after(alloc),
         backends(alloc),
         nodes(alloc),
         summary(alloc),

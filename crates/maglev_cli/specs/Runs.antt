@@ -1,5 +1,5 @@
 -- The command that runs a scenario's cluster on threads.
-use Rattle.std.specs.Prelude.{◌≡◌, ◌⊎◌, Bool, false, List, ℕ, Option, None}
+use Rattle.std.specs.Prelude.{◌≡◌, ◌⊎◌, Bool, false, List, ℕ, Option, Some, None}
 use Rattle.std.specs.Io.KnownBytes.{Appends}
 use Rattle.pcap_file.specs.Device.{Tape, Unfailed, PutRefused}
 use Rattle.thread_records.specs.Paced.{NoneRefused}
@@ -15,6 +15,8 @@ use Rattle.run_scenario.specs.declared.running.RunOptions.{RunOptions}
 use Rattle.run_scenario.specs.declared.failure.RunFailure.TheVariants.{Simulation, Threads}
 use Rattle.run_scenario.specs.Runs.{Ran, Halted, counts_in}
 use Rattle.run_scenario.specs.Kept.{KeepsPromises}
+use Rattle.run_scenario.specs.Turned.{RanBy}
+use Rattle.connection_starts.specs.declared.ordinals.Ordinals.{Ordinals}
 use Rattle.scenario_faults.specs.Refusals.{ScenarioFails}
 use Rattle.scenario_commands.specs.Scenarios.{run_fault}
 use Rattle.change_share.specs.declared.counts.ChangeCounts.{ChangeCounts}
@@ -84,3 +86,30 @@ RunCommandFails fault options text input input' output output' report report' Un
     (ScenarioFails OnThreads fault text × Uncalled)
     ⊎ ((RunFails fault text input input' output output' × Unreported)
     ⊎ RunReportFails fault options text input input' output output' report report')
+
+-- The cluster of the scenario that the text means ran on threads, and the report got what is told of this run, in which connections
+-- are told by the ordinals. These are the counts of them. The run keeps the promises.
+pub record TurnedRuns (o : Ordinals) (options : RunOptions) (text : List ℕ) (input input' output output' report report' : Tape) (counts : Option ChangeCounts) : Type 0 where
+  pub scenario : Scenario
+  pub means : Means OnThreads text scenario
+  pub answer : List ℕ
+  pub ran : RanBy (Some o) scenario options input input' output output' answer counts
+  pub written : Appends report.bytes report'.bytes answer
+  pub unfailed : Unfailed report report'
+
+-- the same as when the cluster ran, but the report was given up
+pub record TurnedReportFails (fault : CliFault) (o : Ordinals) (options : RunOptions) (text : List ℕ) (input input' output output' report report' : Tape) : Type 0 where
+  pub scenario : Scenario
+  pub means : Means OnThreads text scenario
+  pub answer : List ℕ
+  pub counts : Option ChangeCounts
+  pub ran : RanBy (Some o) scenario options input input' output output' answer counts
+  pub named : fault ≡ Write
+  pub refused : PutRefused answer report report'
+
+-- the command stopped by this fault, as one without the ordinals does
+abbrev pub TurnedRunFails : CliFault → Ordinals → RunOptions → List ℕ → Tape → Tape → Tape → Tape → Tape → Tape → Type 0 → Type 0 → Type 0
+TurnedRunFails fault o options text input input' output output' report report' Uncalled Unreported =
+    (ScenarioFails OnThreads fault text × Uncalled)
+    ⊎ ((RunFails fault text input input' output output' × Unreported)
+    ⊎ TurnedReportFails fault o options text input input' output output' report report')

@@ -29,7 +29,8 @@ fn threads_fault(fault: RunFault) -> CliFault
     }
 }
 
-fn failure_fault(stop: RunFailure) -> CliFault
+/// The fault of a run that stopped, as the command's.
+pub(crate) fn failure_fault(stop: RunFailure) -> CliFault
     ensures { result ≡ failure_fault stop }
 {
     match stop {

@@ -14,7 +14,8 @@ use lazy_files::{
 use padded_capture::{CaptureSource, Padded};
 use pcap_file::{Frame, FromRead, PcapFault, ToWrite, read_record_into, read_start};
 use read_progress::{AtEnd, Showing};
-use scenario_commands::{answer_keyed, ordinals_in};
+use scenario::Played;
+use scenario_commands::{answer_keyed, ordinals_in, thread_ordinals_in};
 use scenario_faults::PlacedFault;
 use scenario_sketch::sketch;
 use simulate_scenario::Query;
@@ -264,17 +265,34 @@ where
     )
 }
 
+/// How the ordinals of the records of INPUT are read: for a scenario that is played so. A flow begins again after so many
+/// microseconds without a segment too, where they are given.
+#[derive(Clone, Copy)]
+pub(crate) struct FirstReading<'a> {
+    pub(crate) path: &'a str,
+    pub(crate) reading: ReadingManner,
+    pub(crate) played: Played,
+    pub(crate) idle: Option<u64>,
+}
+
 /// The ordinals of the records of INPUT, which is read whole for them.
 pub(crate) fn ordinals_of(
     rt: &HostRuntime,
-    path: &str,
-    reading: ReadingManner,
+    first: FirstReading<'_>,
     key: TableKey,
     text: &[u8],
-    idle: Option<u64>,
 ) -> Result<Ordinals, PlacedFault> {
+    let FirstReading {
+        path,
+        reading,
+        played,
+        idle,
+    } = first;
     let mut input = capture_file(rt, path, reading);
-    let found = ordinals_in(rt.alloc(), key, text, idle, &mut input);
+    let found = match played {
+        Played::OnThreads => thread_ordinals_in(rt.alloc(), key, text, idle, &mut input),
+        _ => ordinals_in(rt.alloc(), key, text, idle, &mut input),
+    };
     let mut input = input.into_inner();
     input.clear();
     match found {

@@ -7,6 +7,7 @@ mod files;
 mod reasons;
 mod scenarios;
 mod showing;
+mod starting;
 mod tables;
 mod voice;
 mod word_reasons;
@@ -18,6 +19,7 @@ use pcap_file::ToWrite;
 pub use scenario::Played;
 pub use scenarios::{asks_summary, between_captures, form_of};
 use scenarios::{run_explain, run_plan, run_simulate, run_sketch};
+pub use starting::{Starting, TurnedManner, TurnedStart, between_turned, starting_of};
 use tables::{run_compare, run_pick, run_table};
 pub use words::{matches_of, refused, unread, words_of};
 

@@ -1,10 +1,11 @@
 //! The commands that play a scenario on one thread, from what the command line says, and the end of each command over files.
 use crate::files::{
-    CaptureFile, Manner, Paths, Printed, ReadingManner, between_files, explain_files, ordinals_of,
-    outcome_of, read_scenario, records_before, sketch_file,
+    CaptureFile, Manner, Paths, Printed, ReadingManner, between_files, explain_files, outcome_of,
+    read_scenario, records_before, sketch_file,
 };
 use crate::reasons::{Files, Trouble, reason};
 use crate::showing::showing_of;
+use crate::starting::{Starting, TurnedManner, TurnedStart, between_turned, starting_of};
 use crate::voice::Voice;
 use crate::{ABOVE, USAGE};
 use change_share::{ChangeCounts, Share};
@@ -12,7 +13,7 @@ use clap::ArgMatches;
 use command_faults::CliFault;
 use connection_table::TableKey;
 use json_lines::Form;
-use lazy_files::{OutputFile, ReportText, StandardOutput, is_pipe, is_standard};
+use lazy_files::{OutputFile, ReportText, StandardOutput};
 use node_part::PartSetup;
 use pcap_file::{PcapFault, ToWrite};
 use read_progress::AtEnd;
@@ -37,8 +38,8 @@ pub(crate) fn paths_of<'a>(matches: &'a ArgMatches<'_>, output: &'a str) -> Opti
     })
 }
 
-// How a command reads its capture.
-fn reading_of(
+/// How a command reads its capture.
+pub(crate) fn reading_of(
     rt: &HostRuntime,
     matches: &ArgMatches<'_>,
     prints: bool,
@@ -245,60 +246,6 @@ pub fn asks_summary(matches: &ArgMatches<'_>) -> bool {
     matches.get_flag("summary") || matches.get_str("fail-above").is_some()
 }
 
-// Whether flows that begin again are other connections, and after which time without a segment a SYN begins one again too.
-#[derive(Clone, Copy)]
-enum Starting {
-    Never,
-    Again(Option<u64>),
-}
-
-// The digits of a word as a number.
-fn number_of(word: &str) -> Option<u64> {
-    if !word.bytes().all(|byte| byte.is_ascii_digit()) {
-        return None;
-    }
-    word.parse::<u64>().ok()
-}
-
-// The microseconds of a word that names seconds, with up to six places behind a point.
-fn micros_of(word: &str) -> Option<u64> {
-    let (seconds, part) = match word.split_once('.') {
-        Some((seconds, part)) => (seconds, part),
-        None => (word, "0"),
-    };
-    if part.len() > 6 {
-        return None;
-    }
-    let mut micros = number_of(part)?;
-    for _ in part.len()..6 {
-        micros = micros.checked_mul(10)?;
-    }
-    number_of(seconds)?
-        .checked_mul(1_000_000)?
-        .checked_add(micros)
-}
-
-// What the command line says of flows that begin again. The error is of a time that isn't one.
-fn starting_of(matches: &ArgMatches<'_>) -> Result<Starting, ()> {
-    match matches.get_str("syn-after") {
-        Some(word) => match micros_of(word) {
-            Some(micros) => Ok(Starting::Again(Some(micros))),
-            None => Err(()),
-        },
-        None if matches.get_flag("syn") => Ok(Starting::Again(None)),
-        None => Ok(Starting::Never),
-    }
-}
-
-// Whether INPUT can't be read twice, though it has to be.
-fn lacks_second_reading(rt: &HostRuntime, matches: &ArgMatches<'_>, starting: Starting) -> bool {
-    let input = matches.get_str("input").unwrap_or("");
-    match starting {
-        Starting::Never => false,
-        Starting::Again(_) => is_standard(input) || is_pipe(rt, input),
-    }
-}
-
 // What is wanted of a run.
 fn wanted_of(matches: &ArgMatches<'_>) -> Wanted {
     Wanted {
@@ -316,26 +263,20 @@ fn wanted_of(matches: &ArgMatches<'_>) -> Wanted {
 fn run_turned(rt: &HostRuntime, matches: &ArgMatches<'_>, idle: Option<u64>) -> u8 {
     let only = matches.get_one::<u16>("node");
     let wanted = wanted_of(matches);
-    let path = matches.get_str("input").unwrap_or("");
-    let reading = reading_of(rt, matches, wanted.list, AtEnd::Gone);
-    between_captures(
-        rt,
-        matches,
-        Played::InTurn,
-        wanted.list,
-        |key, text, input, output, report| {
-            let ordinals = match ordinals_of(rt, path, reading, key, text, idle) {
-                Ok(ordinals) => ordinals,
-                Err(stopped) => return Err(stopped),
-            };
-            let pages = report;
-            let listing = Listing { wanted, pages };
-            let report = TurnedListing { listing, ordinals };
-            let part = PartSetup { only, whole: text };
-            let done = simulate_turned(rt.alloc(), key, part, input, output, report);
-            done.map(|(counts, _)| counts)
-        },
-    )
+    let manner = TurnedManner {
+        played: Played::InTurn,
+        is_streamed: wanted.list,
+        idle,
+    };
+    between_turned(rt, matches, manner, |start, text, input, output, report| {
+        let TurnedStart { key, ordinals } = start;
+        let pages = report;
+        let listing = Listing { wanted, pages };
+        let report = TurnedListing { listing, ordinals };
+        let part = PartSetup { only, whole: text };
+        let done = simulate_turned(rt.alloc(), key, part, input, output, report);
+        done.map(|(counts, _)| counts)
+    })
 }
 
 // The command `simulate`, where each flow is one connection.
@@ -364,23 +305,10 @@ fn run_plain(rt: &HostRuntime, matches: &ArgMatches<'_>) -> u8 {
 
 /// The command `simulate`.
 pub(crate) fn run_simulate(rt: &HostRuntime, matches: &ArgMatches<'_>) -> u8 {
-    let Ok(starting) = starting_of(matches) else {
-        let _ = writeln!(
-            rt.stderr(),
-            "error: --syn-after wants seconds, with up to six places, as 60 or 0.5"
-        );
-        return USAGE;
-    };
-    if lacks_second_reading(rt, matches, starting) {
-        let _ = writeln!(
-            rt.stderr(),
-            "error: --syn reads INPUT twice, so that it can be neither - nor a pipe"
-        );
-        return USAGE;
-    }
-    match starting {
-        Starting::Never => run_plain(rt, matches),
-        Starting::Again(idle) => run_turned(rt, matches, idle),
+    match starting_of(rt, matches) {
+        Ok(Starting::Never) => run_plain(rt, matches),
+        Ok(Starting::Again(idle)) => run_turned(rt, matches, idle),
+        Err(status) => status,
     }
 }
 

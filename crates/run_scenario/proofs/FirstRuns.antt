@@ -1,5 +1,5 @@
 -- A run over the first records of a capture, where the steps read no others, is a run over all of them.
-use Rattle.std.proofs.Common.{◌≡◌, ◌≤◌, ◌<◌, ◌⊎◌, inl, inr, ℕ, zero, suc, ◌+◌, Bool, true, false, List, [], ◌∷◌, ◌++◌, length, take, reverse, Option, refl, sym, ap, ◌∙◌, subst, arith, length-append}
+use Rattle.std.proofs.Common.{◌≡◌, ◌≤◌, ◌<◌, ◌⊎◌, inl, inr, ℕ, zero, suc, ◌+◌, Bool, true, false, List, [], ◌∷◌, ◌++◌, length, take, reverse, Option, Some, None, refl, sym, ap, ◌∙◌, subst, arith, length-append}
 use Rattle.std.specs.Prelude.{All, slice_get}
 use Rattle.std.proofs.lemmas.List.{length-map}
 use Rattle.ip_headers.specs.declared.Link.{Link}
@@ -16,6 +16,7 @@ use Rattle.thread_records.specs.declared.nodes.NodeRecord.{NodeRecord}
 use Rattle.thread_records.specs.Joins.{all_events, all_outcomes}
 use Rattle.thread_records.specs.Runs.{AreRuns}
 use Rattle.json_lines.specs.declared.forms.Form.{Form}
+use Rattle.connection_starts.specs.declared.ordinals.Ordinals.{Ordinals}
 use Rattle.json_lines.specs.Forms.{places_as, summary_as}
 use Rattle.scenario.specs.declared.plan.Scenario.{Scenario}
 use Rattle.simulate_scenario.specs.Described.{choice_in, plan_in, lookups_in}
@@ -24,7 +25,11 @@ use Rattle.simulation.specs.Simulated.{traffic_of}
 use Rattle.run_scenario.specs.Firsts.{kept_for, with_others, IsSplit}
 use Rattle.run_scenario.specs.Runs.{packets_in, steps_in, commands_in, tally_in}
 use Rattle.run_scenario.specs.Sends.{sent_by_nodes}
-use Rattle.run_scenario.specs.PrivateHistories.{said_whole, splits_over, summary_over}
+use Rattle.simulate_scenario.specs.Answers.{counts_if}
+use Rattle.simulate_scenario.specs.Asked.{keeps_changes}
+use Rattle.simulate_scenario.specs.Turned.{reckoned_by, turned_if, turned_summary_if, turned_counts_if}
+use Rattle.run_scenario.specs.declared.running.RunOptions.{RunOptions}
+use Rattle.run_scenario.specs.PrivateHistories.{said_whole, before_by, behind_by, counts_by}
 use Rattle.run_scenario.proofs.Planned.{reads_all}
 use Rattle.run_scenario.proofs.Offered.{NameAlike, runs_same}
 use Rattle.run_scenario.proofs.Prefixes.{ReadFirst, read_first, packets_first, plan_first, orders_first, offered_first, tally_first}
@@ -116,11 +121,19 @@ module _ (s : Scenario) (link : Link) (kept all : List Record) (others : ℕ) (l
   same_sent rules ring rs runs = nodes_alike (traffic_of (plan_in s) link kept) (traffic_of (plan_in s) link all) (length few_packets) among rules few_packets ring 0 (commands_in s link all) rs told_there runs
 
 -- what is told of the splits, by what the histories say
-pub splits_said : (form : Form) (places splits : Bool) (s : Scenario) (few all : List Packet) (rs : List NodeRecord) → said_whole few rs ≡ said_whole all rs → splits_over form places splits s few rs ≡ splits_over form places splits s all rs
-splits_said form true splits s few all rs same = ap (λ (l : List LogEntry). places_as form (lookups_in s) s.idle l) same
-splits_said form false true s few all rs same = refl
-splits_said form false false s few all rs same = refl
+pub splits_said : (turns : Option Ordinals) (form : Form) (places splits : Bool) (s : Scenario) (few all : List Packet) (rs : List NodeRecord) → said_whole few rs ≡ said_whole all rs
+    → before_by turns form places splits s few rs ≡ before_by turns form places splits s all rs
+splits_said None form true splits s few all rs same = ap (λ (l : List LogEntry). places_as form (lookups_in s) s.idle l) same
+splits_said None form false true s few all rs same = refl
+splits_said None form false false s few all rs same = refl
+splits_said (Some o) form places splits s few all rs same = ap (λ (l : List LogEntry). turned_if form places splits (lookups_in s) s.idle (reckoned_by o l)) same
 
-pub summary_said : (form : Form) (summary : Bool) (s : Scenario) (few all : List Packet) (rs : List NodeRecord) → said_whole few rs ≡ said_whole all rs → summary_over form summary s few rs ≡ summary_over form summary s all rs
-summary_said form true s few all rs same = ap (λ (l : List LogEntry). summary_as form (lookups_in s) s.idle l) same
-summary_said form false s few all rs same = refl
+pub summary_said : (turns : Option Ordinals) (form : Form) (summary : Bool) (s : Scenario) (few all : List Packet) (rs : List NodeRecord) → said_whole few rs ≡ said_whole all rs
+    → behind_by turns form summary s few rs ≡ behind_by turns form summary s all rs
+summary_said None form true s few all rs same = ap (λ (l : List LogEntry). summary_as form (lookups_in s) s.idle l) same
+summary_said None form false s few all rs same = refl
+summary_said (Some o) form summary s few all rs same = ap (λ (l : List LogEntry). turned_summary_if form summary (lookups_in s) s.idle (reckoned_by o l)) same
+
+pub counts_said : (turns : Option Ordinals) (options : RunOptions) (few all : List Packet) (rs : List NodeRecord) → said_whole few rs ≡ said_whole all rs → counts_by turns options few rs ≡ counts_by turns options all rs
+counts_said None options few all rs same = ap (λ (l : List LogEntry). counts_if (keeps_changes options.places options.summary) l) same
+counts_said (Some o) options few all rs same = ap (λ (l : List LogEntry). turned_counts_if (keeps_changes options.places options.summary) o l) same

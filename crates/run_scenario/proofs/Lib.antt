@@ -16,3 +16,4 @@ pub mod Prefixes
 pub mod Alike
 pub mod FirstRuns
 pub mod Sparings
+pub mod PlainRuns

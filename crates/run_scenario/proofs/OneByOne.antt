@@ -1,5 +1,5 @@
 -- The nodes' histories, one after another.
-use Rattle.std.proofs.Common.{◌≡◌, ℕ, zero, suc, ◌+◌, ◌<◌, ◌≤◌, ◌^◌, Bool, true, false, List, [], ◌∷◌, ◌++◌, length, take, get_or, reverse, None, refl, sym, ap, ◌∙◌, length-append, arith}
+use Rattle.std.proofs.Common.{◌≡◌, ℕ, zero, suc, ◌+◌, ◌<◌, ◌≤◌, ◌^◌, Bool, true, false, List, [], ◌∷◌, ◌++◌, length, take, get_or, reverse, Option, Some, None, refl, sym, ap, ◌∙◌, length-append, arith}
 use Rattle.std.specs.Prelude.{if◌then◌else◌}
 use Rattle.std.proofs.lemmas.List.{reverse-append, take_more}
 use Rattle.std.proofs.lemmas.List.Elements.{All-nil, All-cons, All-head, All-tail, All-take}
@@ -24,8 +24,10 @@ use Rattle.scenario.specs.declared.plan.Scenario.{Scenario}
 use Rattle.traffic_shares.specs.declared.books.AskedShares.{AskedShares}
 use Rattle.json_lines.specs.declared.forms.Form.{Form}
 use Rattle.json_lines.specs.Forms.{shares_as}
-use Rattle.run_scenario.specs.Runs.{packets_in, record_with, splits_if, summary_if, counts_in}
-use Rattle.run_scenario.specs.PrivateHistories.{AreEven, said_by, said_whole, splits_over, summary_over, counts_over}
+use Rattle.connection_starts.specs.declared.ordinals.Ordinals.{Ordinals}
+use Rattle.run_scenario.specs.Runs.{packets_in, record_with}
+use Rattle.run_scenario.specs.Turned.{told_splits, told_summary, told_counts}
+use Rattle.run_scenario.specs.PrivateHistories.{AreEven, said_by, said_whole, before_by, behind_by, counts_by}
 use Rattle.run_scenario.specs.declared.running.RunOptions.{RunOptions}
 
 -- there is an outcome for each event
@@ -118,26 +120,31 @@ joins rules packets ring cs run even few runs =
     let told = runs_told rules packets ring 0 cs rs runs in
     record { events = refl; outcomes = refl; told = whole rules packets rs told; own = λ n r h. own rules packets rs n r told h }
 
-pub same_splits : (form : Form) (places splits : Bool) (s : Scenario) (packets : List Packet) (run : NodesRun) (even : AreEven run.nodes.items) (few : length (all_outcomes run.nodes.items) < 2 ^ 63) → splits_over form places splits s packets run.nodes.items ≡ splits_if form places splits s packets (history_of run even few)
+pub same_splits : (turns : Option Ordinals) (form : Form) (places splits : Bool) (s : Scenario) (packets : List Packet) (run : NodesRun) (even : AreEven run.nodes.items) (few : length (all_outcomes run.nodes.items) < 2 ^ 63)
+    → before_by turns form places splits s packets run.nodes.items ≡ told_splits turns form places splits s packets (history_of run even few)
 unfolding history_of
-same_splits form true splits s packets run even few = refl
-same_splits form false true s packets run even few = refl
-same_splits form false false s packets run even few = refl
+same_splits None form true splits s packets run even few = refl
+same_splits None form false true s packets run even few = refl
+same_splits None form false false s packets run even few = refl
+same_splits (Some o) form places splits s packets run even few = refl
 
-pub same_summary : (form : Form) (b : Bool) (s : Scenario) (packets : List Packet) (run : NodesRun) (even : AreEven run.nodes.items) (few : length (all_outcomes run.nodes.items) < 2 ^ 63) → summary_over form b s packets run.nodes.items ≡ summary_if form b s packets (history_of run even few)
+pub same_summary : (turns : Option Ordinals) (form : Form) (b : Bool) (s : Scenario) (packets : List Packet) (run : NodesRun) (even : AreEven run.nodes.items) (few : length (all_outcomes run.nodes.items) < 2 ^ 63)
+    → behind_by turns form b s packets run.nodes.items ≡ told_summary turns form b s packets (history_of run even few)
 unfolding history_of
-same_summary form true s packets run even few = refl
-same_summary form false s packets run even few = refl
+same_summary None form true s packets run even few = refl
+same_summary None form false s packets run even few = refl
+same_summary (Some o) form b s packets run even few = refl
 
 pub same_shares : (form : Form) (asked : AskedShares) (packets : List Packet) (run : NodesRun) (even : AreEven run.nodes.items) (few : length (all_outcomes run.nodes.items) < 2 ^ 63)
     → shares_as form asked (said_whole packets run.nodes.items) ≡ shares_as form asked (record_with packets (history_of run even few))
 unfolding history_of
 same_shares form asked packets run even few = refl
 
-pub same_counts : (options : RunOptions) (s : Scenario) (link : Link) (records : List Record) (run : NodesRun) (even : AreEven run.nodes.items) (few : length (all_outcomes run.nodes.items) < 2 ^ 63)
-    → counts_over options (packets_in s link records) run.nodes.items ≡ counts_in s options link records (history_of run even few)
+pub same_counts : (turns : Option Ordinals) (options : RunOptions) (s : Scenario) (link : Link) (records : List Record) (run : NodesRun) (even : AreEven run.nodes.items) (few : length (all_outcomes run.nodes.items) < 2 ^ 63)
+    → counts_by turns options (packets_in s link records) run.nodes.items ≡ told_counts turns s options link records (history_of run even few)
 unfolding history_of
-same_counts options s link records run even few = refl
+same_counts None options s link records run even few = refl
+same_counts (Some o) options s link records run even few = refl
 
 pub same_outcomes : (run : NodesRun) (even : AreEven run.nodes.items) (few : length (all_outcomes run.nodes.items) < 2 ^ 63) → all_outcomes run.nodes.items ≡ (history_of run even few).outcomes.items
 unfolding history_of

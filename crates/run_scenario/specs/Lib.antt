@@ -3,6 +3,7 @@ pub mod Inputs
 pub mod Firsts
 pub mod Runs
 pub mod Kept
+pub mod Turned
 pub mod PrivateFailures
 pub mod Store
 pub mod PrivateHistories

@@ -1,10 +1,11 @@
 //! What is told of the nodes' histories, one after another. No list has them all.
-ghost use Rattle.std.specs.Prelude.{◌≡◌, ◌+◌, ◌<◌, ◌≤◌, ◌^◌, ◌++◌, true, false, List, length, reverse, IfOk, IfSome, OnOk, string_bytes};
+ghost use Rattle.std.specs.Prelude.{◌≡◌, ◌+◌, ◌<◌, ◌≤◌, ◌^◌, ◌++◌, true, false, List, Option, Some, None, length, reverse, IfOk, IfSome, OnOk, string_bytes};
 ghost use Rattle.cluster_node.specs.declared.events.LogEntry.{LogEntry};
 ghost use Rattle.cluster_node.specs.declared.packets.Packet.{Packet};
 ghost use Rattle.cluster_core.specs.OutcomeCounts.{is_refused, how_many};
 ghost use Rattle.cluster_core.specs.Totals.{came_all, went_all};
 ghost use Rattle.run_report.specs.Books.{IsBookOf};
+ghost use Rattle.connection_starts.specs.declared.ordinals.Ordinals.{Ordinals};
 ghost use Rattle.connection_changes.specs.Books.{IsNotedChangeBookOf, IsChangeBookOf};
 ghost use Rattle.json_lines.specs.Forms.{splits_as, places_as, shares_as};
 ghost use Rattle.simulate_scenario.specs.Asked.{keeps_changes};
@@ -18,10 +19,12 @@ ghost use Rattle.run_scenario.specs.PrivateHistories.{AreEven, said_by, said_who
 
 use crate::running::RunOptions;
 use crate::shares::shares_told;
+use crate::turned_histories;
 use change_share::ChangeCounts;
 use cluster_core::{Totals, packet_at};
 use cluster_node::{Event, Outcome, Packet};
-use connection_changes::ChangeBook;
+use connection_changes::{ChangeBook, TurnedBook};
+use connection_starts::Ordinals;
 use connection_table::TableKey;
 use json_lines::Form;
 use node_threads::NodesRun;
@@ -262,7 +265,7 @@ impl Telling<'_> {
     // What is told where the changes are kept.
     fn tell_changes(&self, alloc: Global, nodes: &[NodeRecord]) -> Result<Told, AllocError>
         requires even { AreEven nodes.now }
-        ensures { keeps_changes self.now.options.places self.now.options.summary ≡ true → IfOk result (TellsOf self.now.options self.now.scenario.now self.now.packets.now nodes.now) }
+        ensures { keeps_changes self.now.options.places self.now.options.summary ≡ true → IfOk result (TellsOf None self.now.options self.now.scenario.now self.now.packets.now nodes.now) }
     {
         let book = changes_of(alloc, self.key, self.packets, nodes)?;
         let before = self.before(alloc, &book)?;
@@ -280,7 +283,7 @@ impl Telling<'_> {
     // What is told where they aren't.
     fn tell_splits(&self, alloc: Global, nodes: &[NodeRecord]) -> Result<Told, AllocError>
         requires even { AreEven nodes.now }
-        ensures { keeps_changes self.now.options.places self.now.options.summary ≡ false → IfOk result (TellsOf self.now.options self.now.scenario.now self.now.packets.now nodes.now) }
+        ensures { keeps_changes self.now.options.places self.now.options.summary ≡ false → IfOk result (TellsOf None self.now.options self.now.scenario.now self.now.packets.now nodes.now) }
     {
         Ok(Told {
             before: splits_alone(alloc, self.key, self.scenario, nodes, self.options)?,
@@ -290,15 +293,59 @@ impl Telling<'_> {
         })
     }
 
-    /// What is told of the nodes' histories, where it is asked for.
-    pub(crate) fn tell(&self, alloc: Global, nodes: &[NodeRecord]) -> Result<Told, AllocError>
+    // What is told where a flow that begins again is another connection.
+    fn tell_turned(
+        &self,
+        alloc: Global,
+        nodes: &[NodeRecord],
+        ordinals: Ordinals,
+    ) -> Result<Told, AllocError>
         requires even { AreEven nodes.now }
-        ensures { IfOk result (TellsOf self.now.options self.now.scenario.now self.now.packets.now nodes.now) }
+        ensures { IfOk result (TellsOf (Some ordinals) self.now.options self.now.scenario.now self.now.packets.now nodes.now) }
+    {
+        let Telling {
+            key,
+            scenario,
+            packets,
+            options,
+        } = *self;
+        let mut book = TurnedBook::new(alloc, key, ordinals);
+        turned_histories::note_nodes(&mut book, packets, nodes)?;
+        let account = book.account();
+        Ok(Told {
+            before: turned_histories::splits_told(alloc, scenario, account, options)?,
+            shares: self.shares(alloc, nodes)?,
+            behind: turned_histories::summary_told(alloc, scenario, account, options)?,
+            counts: turned_histories::counts_told(options, account),
+        })
+    }
+
+    // What is told where each flow is one connection.
+    fn tell_flows(&self, alloc: Global, nodes: &[NodeRecord]) -> Result<Told, AllocError>
+        requires even { AreEven nodes.now }
+        ensures { IfOk result (TellsOf None self.now.options self.now.scenario.now self.now.packets.now nodes.now) }
     {
         if self.options.keeps_changes() {
             self.tell_changes(alloc, nodes)
         } else {
             self.tell_splits(alloc, nodes)
+        }
+    }
+
+    /// What is told of the nodes' histories, where it is asked for. Connections are told by the ordinals of the records, where
+    /// there are any.
+    pub(crate) fn tell(
+        &self,
+        alloc: Global,
+        nodes: &[NodeRecord],
+        turns: Option<Ordinals>,
+    ) -> Result<Told, AllocError>
+        requires even { AreEven nodes.now }
+        ensures { IfOk result (TellsOf turns self.now.options self.now.scenario.now self.now.packets.now nodes.now) }
+    {
+        match turns {
+            Some(ordinals) => self.tell_turned(alloc, nodes, ordinals),
+            None => self.tell_flows(alloc, nodes),
         }
     }
 }

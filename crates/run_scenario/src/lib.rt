@@ -15,6 +15,7 @@ mod sender;
 mod sending;
 mod shares;
 mod threads;
+mod turned_histories;
 
 pub use failure::RunFailure;
-pub use running::{RunOptions, run_scenario};
+pub use running::{RunOptions, TurnedRun, run_scenario, run_turned};

@@ -1,5 +1,5 @@
 //! A scenario's cluster runs on threads over a capture.
-ghost use Rattle.std.specs.Prelude.{◌≡◌, ◌≤◌, ◌<◌, ◌+◌, ◌^◌, true, List, length, IfOk, IfErr, string_bytes};
+ghost use Rattle.std.specs.Prelude.{◌≡◌, ◌≤◌, ◌<◌, ◌+◌, ◌^◌, true, List, Some, length, IfOk, IfErr, string_bytes};
 ghost use Rattle.pcap_file.specs.Format.{Record, max_records};
 ghost use Rattle.simulation.specs.Sent.{packets_of};
 ghost use Rattle.thread_records.specs.Paced.{NoneRefused};
@@ -9,6 +9,7 @@ ghost use Rattle.run_scenario.specs.Firsts.{IsSplit, kept_for, with_others};
 ghost use Rattle.run_scenario.specs.Sends.{sent_by_nodes};
 ghost use Rattle.run_scenario.specs.Runs.{Ran, Halted, counts_in};
 ghost use Rattle.run_scenario.specs.Kept.{KeepsPromises};
+ghost use Rattle.run_scenario.specs.Turned.{RanBy};
 ghost use Rattle.run_scenario.specs.PrivateFailures.{IsOfThreads};
 ghost use Rattle.run_scenario.specs.PrivateHistories.{RanOver};
 
@@ -21,6 +22,7 @@ use crate::sender::Sender;
 use crate::sending::write_capture;
 use crate::threads::{Audited, Task, run_named};
 use cluster_node::Packet;
+use connection_starts::Ordinals;
 use connection_table::TableKey;
 use event_trace::Tally;
 use ip_headers::Link;
@@ -115,25 +117,38 @@ fn with_others(tally: Tally, others: usize) -> Tally
     }
 }
 
+// What is asked of a run. Connections are told by the ordinals of the records, where there are any. The tables and the books hash
+// by the key.
+#[derive(Drop)]
+struct Asked {
+    key: TableKey,
+    options: RunOptions,
+    turns: Option<Ordinals>,
+}
+
 // Runs the cluster over a capture that was read.
 fn run_over<R: Threads + Wait + Sync>(
     rt: &R,
     alloc: Global,
-    key: TableKey,
     scenario: &Scenario,
     captured: &Captured,
-    options: RunOptions,
+    asked: Asked,
 ) -> Result<Done, RunFailure>
     requires few { length captured.now.records + captured.now.others ≤ max_records }
     ensures packets { IfOk result (λ d. d.packets.items ≡ packets_of captured.now.head.link scenario.now.check captured.now.records) }
     ensures over { (all : List Record) → IsSplit (kept_for scenario.now.steps.items) all captured.now.records captured.now.others →
-        IfOk result (λ d. RanOver scenario.now options captured.now.head.link all captured.now.ending d.nodes.items (string_bytes d.answer.text) d.answer.counts) }
+        IfOk result (λ d. RanOver asked.turns scenario.now asked.options captured.now.head.link all captured.now.ending d.nodes.items (string_bytes d.answer.text) d.answer.counts) }
     ensures sends { (all : List Record) → IsSplit (kept_for scenario.now.steps.items) all captured.now.records captured.now.others →
         IfOk result (λ d. sent_by_nodes (traffic_of (plan_in scenario.now) captured.now.head.link captured.now.records) d.nodes.items
         ≡ sent_by_nodes (traffic_of (plan_in scenario.now) captured.now.head.link all) d.nodes.items) }
-    ensures paced { options.paced ≡ true → IfOk result (λ d. NoneRefused d.nodes.items) }
+    ensures paced { asked.options.paced ≡ true → IfOk result (λ d. NoneRefused d.nodes.items) }
     ensures stopped { IfErr result IsOfThreads }
 {
+    let Asked {
+        key,
+        options,
+        turns,
+    } = asked;
     let wire = wire_of(scenario, captured.head.link);
     let packets = packets_of(alloc, &wire, &captured.records)?;
     let orders = orders_of(alloc, scenario, &captured.records, packets.as_slice())?;
@@ -144,7 +159,7 @@ fn run_over<R: Threads + Wait + Sync>(
         commands: orders.commands.as_slice(),
         options,
     };
-    let audited = run_named(rt, alloc, &task)?;
+    let audited = run_named(rt, alloc, &task, turns)?;
     let Audited { run, agrees, told } = audited;
     let Told {
         before,
@@ -167,6 +182,39 @@ fn run_over<R: Threads + Wait + Sync>(
         nodes: run.nodes,
         answer: Answer { text, counts },
     })
+}
+
+// Runs the cluster over a capture, which is read whole, and writes what the nodes sent.
+fn run_by<R: Threads + Wait + Sync, I: Source, O: Sink>(
+    rt: &R,
+    alloc: Global,
+    scenario: &ThreadScenario,
+    asked: Asked,
+    input: &mut I,
+    output: &mut O,
+) -> Result<Answer, RunFailure>
+    ensures ran { IfOk result (λ a. RanBy asked.turns scenario.now.scenario asked.options
+        (I.tape input.old) (I.tape input.new) (O.tape output.old) (O.tape output.new) (string_bytes a.text) a.counts) }
+    ensures stopped { IfErr result (Halted scenario.now.scenario (I.tape input.old) (I.tape input.new) (O.tape output.old) (O.tape output.new)) }
+{
+    let scenario = &scenario.scenario;
+    let _slots = scenario.size.slots();
+    scenario.catalogue.keeps_doubles_out();
+    let captured = read_whole(alloc, input, kept_for(scenario.steps.as_slice()))?;
+    let done = run_over(rt, alloc, scenario, &captured, asked)?;
+    let wire = wire_of(scenario, captured.head.link);
+    let nodes = done.nodes.as_slice();
+    let records = &captured.records;
+    let packets = done.packets.as_slice();
+    let sender = Sender {
+        wire,
+        records,
+        packets,
+    };
+    match write_capture(alloc, output, &sender, nodes) {
+        Ok(()) => Ok(done.answer),
+        Err(fault) => Err(RunFailure::Simulation(fault)),
+    }
 }
 
 /// Runs a scenario's cluster on threads over a capture, and answers the report. Where its changes are kept, it also answers
@@ -214,22 +262,57 @@ pub fn run_scenario<R: Threads + Wait + Sync, I: Source, O: Sink>(
         × NoneRefused ran.nodes) }
     ensures stopped { IfErr result (Halted scenario.now.scenario (I.tape input.old) (I.tape input.new) (O.tape output.old) (O.tape output.new)) }
 {
-    let scenario = &scenario.scenario;
-    let _slots = scenario.size.slots();
-    scenario.catalogue.keeps_doubles_out();
-    let captured = read_whole(alloc, input, kept_for(scenario.steps.as_slice()))?;
-    let done = run_over(rt, alloc, key, scenario, &captured, options)?;
-    let wire = wire_of(scenario, captured.head.link);
-    let nodes = done.nodes.as_slice();
-    let records = &captured.records;
-    let packets = done.packets.as_slice();
-    let sender = Sender {
-        wire,
-        records,
-        packets,
+    let _slots = scenario.scenario.size.slots();
+    scenario.scenario.catalogue.keeps_doubles_out();
+    let asked = Asked {
+        key,
+        options,
+        turns: None,
     };
-    match write_capture(alloc, output, &sender, nodes) {
-        Ok(()) => Ok(done.answer),
-        Err(fault) => Err(RunFailure::Simulation(fault)),
+    match run_by(rt, alloc, scenario, asked, input, output) {
+        Ok(answer) => Ok(answer),
+        Err(stop) => Err(stop),
+    }
+}
+
+/// A scenario that runs where a flow that begins again is another connection, and how.
+#[derive(Debug, Drop)]
+pub struct TurnedRun<S> {
+    /// The connection tables and the books hash by it.
+    pub key: TableKey,
+    pub scenario: S,
+    /// What is asked of the run.
+    pub options: RunOptions,
+    /// The ordinal of each record's connection.
+    pub ordinals: Ordinals,
+}
+
+/// The same run as of [`run_scenario`]. In what is told of connections, which are the splits and the summary, a flow that begins again
+/// is another connection: which one of its flow a packet belongs to is the ordinal of its record.
+pub fn run_turned<R: Threads + Wait + Sync, I: Source, O: Sink>(
+    rt: &R,
+    alloc: Global,
+    run: TurnedRun<&ThreadScenario>,
+    input: &mut I,
+    output: &mut O,
+) -> Result<Answer, RunFailure>
+    ensures ran { IfOk result (λ a. RanBy (Some run.entry.ordinals) run.entry.scenario.now.scenario run.entry.options
+        (I.tape input.old) (I.tape input.new) (O.tape output.old) (O.tape output.new) (string_bytes a.text) a.counts) }
+    ensures stopped { IfErr result (Halted run.entry.scenario.now.scenario (I.tape input.old) (I.tape input.new) (O.tape output.old) (O.tape output.new)) }
+{
+    let TurnedRun {
+        key,
+        scenario,
+        options,
+        ordinals,
+    } = run;
+    let asked = Asked {
+        key,
+        options,
+        turns: Some(ordinals),
+    };
+    match run_by(rt, alloc, scenario, asked, input, output) {
+        Ok(answer) => Ok(answer),
+        Err(stop) => Err(stop),
     }
 }

@@ -18,6 +18,7 @@ use crate::histories::{Telling, Told, outcome_count};
 use crate::running::RunOptions;
 use cluster_core::Setup;
 use cluster_node::Packet;
+use connection_starts::Ordinals;
 use connection_table::{PlaceTable, TableKey};
 use hash_laws::AnyHash;
 use named_scheme::{NamedScheme, scheme_of};
@@ -57,12 +58,13 @@ fn judged<R: Threads + Sync>(
     auditor: &Auditor<'_, NamedScheme, AnyHash>,
     task: &Task<'_>,
     nodes: &[NodeRecord],
+    turns: Option<Ordinals>,
 ) -> (Result<bool, AllocError>, Result<Told, AllocError>)
     requires read { WereRead task.now.packets.now }
     requires even { AreEven nodes.now }
     ensures audit { let rules = rules_of (λ s z. pick_of s z) (λ h. plain_of h) auditor.now in
         IfOk result.0 (λ b. IsTrue b ↔ All (λ r. r.outcomes.items ≡ verdicts rules [] task.now.packets.now r.events.items) nodes.now) }
-    ensures told { IfOk result.1 (TellsOf task.now.options task.now.scenario.now task.now.packets.now nodes.now) }
+    ensures told { IfOk result.1 (TellsOf turns task.now.options task.now.scenario.now task.now.packets.now nodes.now) }
 {
     let Task {
         key,
@@ -76,9 +78,9 @@ fn judged<R: Threads + Sync>(
         ensures { let rules = rules_of (λ s z. pick_of s z) (λ h. plain_of h) auditor.entry.now in
             IfOk result (λ b. IsTrue b ↔ All (λ r. r.outcomes.items ≡ verdicts rules [] packets.entry.now r.events.items) nodes.entry.now) }
     { audit_nodes::<NamedScheme, AnyHash, PlaceTable, R>(rt, alloc, nodes, auditor, packets) };
-    let told = || -> Result<Told, AllocError>
+    let told = move || -> Result<Told, AllocError>
         requires { AreEven nodes.now }
-        ensures { IfOk result (TellsOf options scenario.entry.now packets.entry.now nodes.entry.now) }
+        ensures { IfOk result (TellsOf turns.entry options scenario.entry.now packets.entry.now nodes.entry.now) }
     {
         let telling = Telling {
             key,
@@ -86,7 +88,7 @@ fn judged<R: Threads + Sync>(
             packets,
             options,
         };
-        telling.tell(alloc, nodes)
+        telling.tell(alloc, nodes, turns)
     };
     if options.tells() {
         thread::join(rt, replay, told)
@@ -96,11 +98,12 @@ fn judged<R: Threads + Sync>(
 }
 
 /// Runs the cluster with the scheme that the scenario names, each node by its list of commands, and replays its history. What
-/// is told beside the report is made meanwhile.
+/// is told beside the report is made meanwhile, of connections by the ordinals of the records, where there are any.
 pub(crate) fn run_named<R: Threads + Wait + Sync>(
     rt: &R,
     alloc: Global,
     task: &Task<'_>,
+    turns: Option<Ordinals>,
 ) -> Result<Audited, RunFailure>
     requires nodes { length task.now.commands.now ≡ length task.now.scenario.now.nodes.items }
     requires read { WereRead task.now.packets.now }
@@ -109,7 +112,7 @@ pub(crate) fn run_named<R: Threads + Wait + Sync>(
     ensures counts { IfOk result (λ a. AreTotals a.run.stats (all_outcomes a.run.nodes.items)) }
     ensures few { IfOk result (λ a. length (all_outcomes a.run.nodes.items) < 2 ^ 63) }
     ensures audit { IfOk result (λ a. a.agrees ≡ true) }
-    ensures told { IfOk result (λ a. TellsOf task.now.options task.now.scenario.now task.now.packets.now a.run.nodes.items a.told) }
+    ensures told { IfOk result (λ a. TellsOf turns task.now.options task.now.scenario.now task.now.packets.now a.run.nodes.items a.told) }
     ensures stopped { IfErr result IsOfThreads }
 {
     let scenario = task.scenario;
@@ -148,7 +151,7 @@ pub(crate) fn run_named<R: Threads + Wait + Sync>(
         return Err(RunFailure::Threads(RunFault::Memory));
     };
     let auditor = Auditor::new(alloc, &setup, catalogue, &prepared)?;
-    let (agrees, told) = judged(rt, alloc, &auditor, task, run.nodes.as_slice());
+    let (agrees, told) = judged(rt, alloc, &auditor, task, run.nodes.as_slice(), turns);
     Ok(Audited {
         run,
         agrees: agrees?,

@@ -1,4 +1,5 @@
-//! The commands that play a scenario over a capture on one thread: `simulate` and `explain`, over any devices.
+//! The commands that play a scenario over a capture on one thread: `simulate` and `explain`, over any devices. For these and for `run`
+//! the ordinals of a capture's records are read here.
 #![tactic(auto)]
 
 mod listing;
@@ -9,4 +10,4 @@ mod turning;
 pub use listing::simulate_listed;
 pub use parting::simulate_part;
 pub use playing::{answer_keyed, explain_run, run_fault, simulate, simulate_keyed};
-pub use turning::{ordinals_in, simulate_turned};
+pub use turning::{ordinals_in, simulate_turned, thread_ordinals_in};

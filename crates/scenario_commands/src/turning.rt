@@ -1,8 +1,9 @@
 //! The command `simulate`, where a flow that begins again is another connection.
-ghost use Rattle.std.specs.Prelude.{◌≡◌, IfOk, IfErr};
-ghost use Rattle.scenario.specs.declared.playing.Played.TheVariants.{InTurn};
+ghost use Rattle.std.specs.Prelude.{◌≡◌, None, IfOk, IfErr};
+ghost use Rattle.scenario.specs.declared.playing.Played.TheVariants.{InTurn, OnThreads};
 ghost use Rattle.scenario_faults.specs.Refusals.{IsPlaced};
-ghost use Rattle.scenario_commands.specs.Turned.{OrdinalsIn, OrdinalsFail, TurnedPlays, TurnedFails};
+ghost use Rattle.connection_starts.specs.Captures.{AreOrdinalsOf};
+ghost use Rattle.scenario_commands.specs.Turned.{OrdinalsIn, OrdinalsFail, OrdinalsFor, OrdinalsStop, IsUnread, TurnedPlays, TurnedFails};
 
 use crate::listing::listing_fault;
 use crate::parting::has_node;
@@ -13,10 +14,32 @@ use connection_table::TableKey;
 use node_part::PartSetup;
 use pcap_file::{Sink, Source};
 use pool_versions::PoolFault;
-use scenario_faults::{PlacedFault, scenario_in};
+use scenario_faults::{PlacedFault, scenario_in, thread_scenario_in};
 use simulate_scenario::{Listing, TurnedListing, play_turned};
 use std::alloc::Global;
 use text_pages::Streamed;
+
+// The ordinals in a capture.
+fn ordinals_by<I: Source>(
+    alloc: Global,
+    key: TableKey,
+    check: bool,
+    idle: Option<u64>,
+    input: &mut I,
+) -> Result<Ordinals, PlacedFault>
+    ensures read { IfOk result (AreOrdinalsOf (record { check = check; idle = idle }) (I.tape input.old).bytes) }
+    ensures stopped { IfErr result (λ r. IsUnread r.fault (I.tape input.old) (I.tape input.new)) }
+    ensures place { IfErr result (λ r. r.place ≡ None) }
+{
+    let rules = StartRules { check, idle };
+    match read_ordinals(alloc, key, rules, input) {
+        Ok(ordinals) => Ok(ordinals),
+        Err(fault) => {
+            let fault = capture_fault(fault);
+            Err(PlacedFault { fault, place: None })
+        }
+    }
+}
 
 /// The ordinal of each record's connection in a capture over which a scenario is to be played: how often its flow has begun again.
 /// It begins again with a TCP SYN without ACK after FIN or RST, and after so many microseconds without a segment, where they are
@@ -38,16 +61,31 @@ pub fn ordinals_in<I: Source>(
         Ok(scenario) => scenario,
         Err(stopped) => return Err(stopped),
     };
-    let rules = StartRules {
-        check: scenario.check,
-        idle,
-    };
-    match read_ordinals(alloc, key, rules, input) {
+    match ordinals_by(alloc, key, scenario.check, idle, input) {
         Ok(ordinals) => Ok(ordinals),
-        Err(fault) => {
-            let fault = capture_fault(fault);
-            Err(PlacedFault { fault, place: None })
-        }
+        Err(stopped) => Err(stopped),
+    }
+}
+
+/// The same of a scenario that is to run on threads, which may have no step `full`, `hold` or `drain`.
+pub fn thread_ordinals_in<I: Source>(
+    alloc: Global,
+    key: TableKey,
+    scenario: &[u8],
+    idle: Option<u64>,
+    input: &mut I,
+) -> Result<Ordinals, PlacedFault>
+    ensures read { IfOk result (OrdinalsFor OnThreads idle scenario.now (I.tape input.old).bytes) }
+    ensures stopped { IfErr result (λ r. OrdinalsStop OnThreads r.fault scenario.now (I.tape input.old) (I.tape input.new) (input.new ≡ input.old)) }
+    ensures place { IfErr result (IsPlaced OnThreads scenario.now) }
+{
+    let scenario = match thread_scenario_in(alloc, scenario) {
+        Ok(scenario) => scenario,
+        Err(stopped) => return Err(stopped),
+    };
+    match ordinals_by(alloc, key, scenario.scenario.check, idle, input) {
+        Ok(ordinals) => Ok(ordinals),
+        Err(stopped) => Err(stopped),
     }
 }
 

@@ -73,6 +73,8 @@ complete -c maglev -n '__fish_seen_subcommand_from explain' -l help -d 'Print he
 complete -c maglev -n '__fish_seen_subcommand_from run' -F
 complete -c maglev -n '__fish_seen_subcommand_from run' -l splits -d 'print each flow that was split, and why, before the report'
 complete -c maglev -n '__fish_seen_subcommand_from run' -l where -d 'print the splits with where both packets were sent, when, and why the later one went elsewhere'
+complete -c maglev -n '__fish_seen_subcommand_from run' -l syn -d 'count a flow that begins again, by a TCP SYN without ACK after FIN or RST, as another connection, for the splits and the summary'
+complete -c maglev -n '__fish_seen_subcommand_from run' -l syn-after -x -d 'the same, and a SYN also begins a flow again that had no segment for so long, as 60 or 0.5'
 complete -c maglev -n '__fish_seen_subcommand_from run' -l per-backend -d 'print behind the report how many packets, bytes and flows each backend got under each version'
 complete -c maglev -n '__fish_seen_subcommand_from run' -l per-node -d 'print behind the report what each balancer sent under each version'
 complete -c maglev -n '__fish_seen_subcommand_from run' -l summary -d 'print behind the report how many connections changed their server, how often, and why'

@@ -11,16 +11,16 @@ use Rattle.cluster_node.specs.declared.packets.Packet.{Packet}
 use Rattle.cluster_node.specs.declared.events.LogEntry.{LogEntry}
 use Rattle.event_trace.specs.Steps.{below}
 use Rattle.event_trace.specs.declared.play.Tally.{Tally}
-use Rattle.simulate_scenario.specs.Answers.{totals_in, is_cut, counts_if}
-use Rattle.simulate_scenario.specs.Asked.{keeps_changes}
+use Rattle.simulate_scenario.specs.Answers.{totals_in, is_cut}
 use Rattle.simulate_scenario.specs.Described.{rules_in, choice_in}
 use Rattle.node_threads.proofs.Settled.{all_settled}
 use Rattle.json_lines.specs.Forms.{shares_as}
-use Rattle.run_scenario.specs.PrivateHistories.{AreEven, said_whole, splits_over, summary_over, counts_over}
-use Rattle.run_scenario.specs.Runs.{begun, audited_report, asked_shares, record_with, splits_if, tally_in, packets_in, commands_in, steps_in}
+use Rattle.run_scenario.specs.PrivateHistories.{AreEven, said_whole, before_by, behind_by, counts_by}
+use Rattle.run_scenario.specs.Runs.{begun, audited_report, asked_shares, record_with, tally_in, packets_in, commands_in, steps_in}
+use Rattle.run_scenario.specs.Turned.{told_splits}
 use Rattle.run_scenario.specs.Firsts.{with_others}
 use Rattle.run_scenario.proofs.InWords.{packets_are, tally_is}
-use Rattle.run_scenario.proofs.FirstRuns.{same_commands, same_tally, same_runs, same_said, same_sent, splits_said, summary_said}
+use Rattle.run_scenario.proofs.FirstRuns.{same_commands, same_tally, same_runs, same_said, same_sent, splits_said, summary_said, counts_said}
 use Rattle.run_scenario.proofs.OneByOne.{are_even, history_of, joins, same_splits, same_shares, same_summary, same_counts, same_outcomes}
 use Rattle.run_scenario.proofs.running.run_over.Goals as goal
 
@@ -64,7 +64,8 @@ returns-clause-over g c = λ all split.
     let others = c.args.captured.now.others in
     let ending = c.args.captured.now.ending in
     let run = c.in_ok-audited.audited.run in
-    let o = c.args.options in
+    let o = c.args.asked.options in
+    let turns = c.args.asked.turns in
     let commands = map (λ l. l.items) c.as_slice-3.result.now in
     let read : c.in_ok-packets.packets.items ≡ packets_in s link kept = c.in_ok-packets.ensures.packets ∙ packets_are s c.wire_of-wire.result link c.args.captured.now.records c.wire_of-wire.ensures.link c.wire_of-wire.ensures.check in
     let first : c.as_slice.result.now ≡ packets_in s link kept = c.as_slice.ensures.value ∙ read in
@@ -86,7 +87,7 @@ returns-clause-over g c = λ all split.
       history = history_of run even few;
       run = record { runs = runs; joins = joins (rules_in s) (packets_in s link all) s.ring (commands_in s link all) run even few runs };
       report =
-          let whole = splits_if o.form o.places o.splits s (packets_in s link all) (history_of run even few) in
+          let whole = told_splits turns o.form o.places o.splits s (packets_in s link all) (history_of run even few) in
           let audited = audited_report o.form (tally_in s link all) (totals_in (history_of run even few).outcomes.items) (is_cut ending) true in
           let shares = shares_as o.form (asked_shares o) (record_with (packets_in s link all) (history_of run even few)) in
           c.in_ok-push_str-4.ensures.bytes
@@ -95,8 +96,8 @@ returns-clause-over g c = λ all split.
           ∙ ap (λ (l : List ℕ). l ++ c.as_str-2.result.now) (c.in_ok-push_str.ensures.bytes
           ∙ ap (λ (l : List ℕ). l ++ c.as_str.result.now) (c.in_ok-push_head.ensures ∙ ap (λ (l : List ℕ). l ++ begun o.form) c.new-text.ensures.bytes)
           ∙ ap (λ (l : List ℕ). begun o.form ++ l) (c.as_str.ensures.value ∙ c.in_ok-audited.ensures.told.before
-          ∙ ap (λ (ps : List Packet). splits_over o.form o.places o.splits s ps run.nodes.items) are
-          ∙ splits_said o.form o.places o.splits s (packets_in s link kept) (packets_in s link all) run.nodes.items said ∙ same_splits o.form o.places o.splits s (packets_in s link all) run even few))
+          ∙ ap (λ (ps : List Packet). before_by turns o.form o.places o.splits s ps run.nodes.items) are
+          ∙ splits_said turns o.form o.places o.splits s (packets_in s link kept) (packets_in s link all) run.nodes.items said ∙ same_splits turns o.form o.places o.splits s (packets_in s link all) run even few))
           ∙ ap (λ (l : List ℕ). (begun o.form ++ whole) ++ l) (c.as_str-2.ensures.value ∙ c.in_ok-report.ensures
           ∙ ap (λ (t : Tally). audited_report o.form t c.totals_of-totals.result (is_cut ending) c.in_ok-audited.audited.agrees) tally
           ∙ ap (λ (t : Totals). audited_report o.form (tally_in s link all) t (is_cut ending) c.in_ok-audited.audited.agrees) (c.totals_of-totals.ensures ∙ ap (λ (os : List Outcome). totals_in os) (same_outcomes run even few))
@@ -105,10 +106,10 @@ returns-clause-over g c = λ all split.
           ∙ ap (λ (ps : List Packet). shares_as o.form (asked_shares o) (said_whole ps run.nodes.items)) are
           ∙ ap (λ (l : List LogEntry). shares_as o.form (asked_shares o) l) said ∙ same_shares o.form (asked_shares o) (packets_in s link all) run even few))
           ∙ ap (λ (l : List ℕ). (((begun o.form ++ whole) ++ audited) ++ shares) ++ l)
-          (c.as_str-4.ensures.value ∙ c.in_ok-audited.ensures.told.behind ∙ ap (λ (ps : List Packet). summary_over o.form o.summary s ps run.nodes.items) are
-          ∙ summary_said o.form o.summary s (packets_in s link kept) (packets_in s link all) run.nodes.items said ∙ same_summary o.form o.summary s (packets_in s link all) run even few);
-      counted = c.in_ok-audited.ensures.told.counts ∙ ap (λ (ps : List Packet). counts_over o ps run.nodes.items) are
-          ∙ ap (λ (l : List LogEntry). counts_if (keeps_changes o.places o.summary) l) said ∙ same_counts o s link all run even few;
+          (c.as_str-4.ensures.value ∙ c.in_ok-audited.ensures.told.behind ∙ ap (λ (ps : List Packet). behind_by turns o.form o.summary s ps run.nodes.items) are
+          ∙ summary_said turns o.form o.summary s (packets_in s link kept) (packets_in s link all) run.nodes.items said ∙ same_summary turns o.form o.summary s (packets_in s link all) run even few);
+      counted = c.in_ok-audited.ensures.told.counts ∙ ap (λ (ps : List Packet). counts_by turns o ps run.nodes.items) are
+          ∙ counts_said turns o (packets_in s link kept) (packets_in s link all) run.nodes.items said ∙ same_counts turns o s link all run even few;
     }
 
 pub returns-clause-sends : goal.returns-clause-sends

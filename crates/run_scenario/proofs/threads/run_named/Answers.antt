@@ -41,5 +41,5 @@ returns-clause-runs g c =
 pub returns-clause-told : goal.returns-clause-told
 returns-clause-told g c =
     let task = c.args.task.now in
-    let told = subst (λ r. IfOk r (TellsOf task.options task.scenario.now task.packets.now c.as_slice-3.result.now)) c.in_ok-told.was c.judged-agrees.ensures.told in
-    subst (λ (ns : List NodeRecord). TellsOf task.options task.scenario.now task.packets.now ns c.in_ok-told.field-0) c.as_slice-3.ensures.value told
+    let told = subst (λ r. IfOk r (TellsOf c.args.turns task.options task.scenario.now task.packets.now c.as_slice-3.result.now)) c.in_ok-told.was c.judged-agrees.ensures.told in
+    subst (λ (ns : List NodeRecord). TellsOf c.args.turns task.options task.scenario.now task.packets.now ns c.in_ok-told.field-0) c.as_slice-3.ensures.value told

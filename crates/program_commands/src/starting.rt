@@ -1,0 +1,149 @@
+//! Whether a flow that begins again is another connection, as the command line says, and commands for which it is.
+use crate::USAGE;
+use crate::files::{CaptureFile, FirstReading, ordinals_of};
+use crate::scenarios::{between_captures, reading_of};
+use change_share::ChangeCounts;
+use clap::ArgMatches;
+use connection_starts::Ordinals;
+use connection_table::TableKey;
+use lazy_files::{OutputFile, ReportText, is_pipe, is_standard};
+use pcap_file::ToWrite;
+use read_progress::AtEnd;
+use scenario::Played;
+use scenario_faults::PlacedFault;
+use std::io::Write;
+
+/// Whether flows that begin again are other connections, and after which time without a segment a SYN begins one again too.
+#[derive(Clone, Copy)]
+pub enum Starting {
+    Never,
+    Again(Option<u64>),
+}
+
+// The digits of a word as a number.
+fn number_of(word: &str) -> Option<u64> {
+    if !word.bytes().all(|byte| byte.is_ascii_digit()) {
+        return None;
+    }
+    word.parse::<u64>().ok()
+}
+
+// The microseconds of a word that names seconds, with up to six places behind a point.
+fn micros_of(word: &str) -> Option<u64> {
+    let (seconds, part) = match word.split_once('.') {
+        Some((seconds, part)) => (seconds, part),
+        None => (word, "0"),
+    };
+    if part.len() > 6 {
+        return None;
+    }
+    let mut micros = number_of(part)?;
+    for _ in part.len()..6 {
+        micros = micros.checked_mul(10)?;
+    }
+    number_of(seconds)?
+        .checked_mul(1_000_000)?
+        .checked_add(micros)
+}
+
+// What the command line says of flows that begin again. The error is of a time that isn't one.
+fn read_starting(matches: &ArgMatches<'_>) -> Result<Starting, ()> {
+    match matches.get_str("syn-after") {
+        Some(word) => match micros_of(word) {
+            Some(micros) => Ok(Starting::Again(Some(micros))),
+            None => Err(()),
+        },
+        None if matches.get_flag("syn") => Ok(Starting::Again(None)),
+        None => Ok(Starting::Never),
+    }
+}
+
+// Whether INPUT can't be read twice, though it has to be.
+fn lacks_second_reading(rt: &HostRuntime, matches: &ArgMatches<'_>, starting: Starting) -> bool {
+    let input = matches.get_str("input").unwrap_or("");
+    match starting {
+        Starting::Never => false,
+        Starting::Again(_) => is_standard(input) || is_pipe(rt, input),
+    }
+}
+
+/// What the command line says of flows that begin again. Where it can't be done that is told, and the status answered: where a time
+/// isn't one, or INPUT can't be read twice.
+pub fn starting_of(rt: &HostRuntime, matches: &ArgMatches<'_>) -> Result<Starting, u8> {
+    let Ok(starting) = read_starting(matches) else {
+        let _ = writeln!(
+            rt.stderr(),
+            "error: --syn-after wants seconds, with up to six places, as 60 or 0.5"
+        );
+        return Err(USAGE);
+    };
+    if lacks_second_reading(rt, matches, starting) {
+        let _ = writeln!(
+            rt.stderr(),
+            "error: --syn reads INPUT twice, so that it can be neither - nor a pipe"
+        );
+        return Err(USAGE);
+    }
+    Ok(starting)
+}
+
+/// How a command goes for which a flow that begins again is another connection.
+#[derive(Clone, Copy)]
+pub struct TurnedManner {
+    pub played: Played,
+    /// The report is printed as it comes.
+    pub is_streamed: bool,
+    /// After how many microseconds without a segment a SYN begins a flow again too.
+    pub idle: Option<u64>,
+}
+
+/// What such a command begins with: the tables' key, and the ordinal of each record's connection.
+#[derive(Drop)]
+pub struct TurnedStart {
+    pub key: TableKey,
+    pub ordinals: Ordinals,
+}
+
+/// The same as [`between_captures`], where a flow that begins again is another connection. INPUT is read twice: at first for the
+/// ordinals.
+///
+/// [`between_captures`]: crate::between_captures
+pub fn between_turned<'x, F>(
+    rt: &'x HostRuntime,
+    matches: &'x ArgMatches<'_>,
+    manner: TurnedManner,
+    play: F,
+) -> u8
+where
+    F: FnOnce(
+        TurnedStart,
+        &[u8],
+        &mut CaptureFile<'x>,
+        &mut ToWrite<OutputFile<'x>>,
+        &mut ToWrite<ReportText<'x>>,
+    ) -> Result<Option<ChangeCounts>, PlacedFault>,
+    F: Drop,
+    requires { F.IsAlwaysCallable play }
+{
+    let TurnedManner {
+        played,
+        is_streamed,
+        idle,
+    } = manner;
+    let first = FirstReading {
+        path: matches.get_str("input").unwrap_or(""),
+        reading: reading_of(rt, matches, is_streamed, AtEnd::Gone),
+        played,
+        idle,
+    };
+    between_captures(
+        rt,
+        matches,
+        played,
+        is_streamed,
+        |key, text, input, output, report| match ordinals_of(rt, first, key, text) {
+            Ok(ordinals) => play(TurnedStart { key, ordinals }, text, input, output, report),
+            Err(stopped) => Err(stopped),
+        },
+    )
+}
