@@ -17,8 +17,8 @@ use std::alloc::{AllocError, Global};
 use std::{fmt, mem};
 
 /// How many sends are noted before they are compared. One after another they are found faster than each by itself, since the
-/// memory is asked for the next flow's entry before that of the last one has come.
-const NOTED: usize = 512;
+/// memory is asked for the next flow's entry before that of the last one has come. So many lie in a processor's first cache.
+const NOTED: usize = 128;
 
 /// What is known of a cluster's events so far: how many there were, the last send of each flow with what is kept beside it, and
 /// the splits. Splits are in the order of their later sends. The book's memory grows with the flows and the splits, and not
@@ -100,6 +100,19 @@ impl<T: Copy> SplitBook<T> {
         Ok(())
     }
 
+    // A send is its flow's last, where the one before it went elsewhere, or there is none.
+    #[inline(never)]
+    fn send_anew(&mut self, later: &Noted<T>) -> Result<(), AllocError>
+        ensures settled { (done : List (Noted T)) → IsSettledAs done self.old → OnOk result (IsSettledAs (later.now ∷ done) self.new) }
+        ensures number { self.new.number ≡ self.old.number }
+        ensures noted { self.new.noted ≡ self.old.noted }
+    {
+        match self.last.put(later)? {
+            None => Ok(()),
+            Some(first) => self.compare(&first, later),
+        }
+    }
+
     // A send is its flow's last.
     fn send(&mut self, later: &Noted<T>) -> Result<(), AllocError>
         ensures settled { (done : List (Noted T)) → IsSettledAs done self.old → OnOk result (IsSettledAs (later.now ∷ done) self.new) }
@@ -109,10 +122,7 @@ impl<T: Copy> SplitBook<T> {
         if self.last.renew(later) {
             return Ok(());
         }
-        match self.last.put(later)? {
-            None => Ok(()),
-            Some(first) => self.compare(&first, later),
-        }
+        self.send_anew(later)
     }
 
     // Sends after one another, the oldest in front.
