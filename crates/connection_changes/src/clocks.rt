@@ -97,6 +97,7 @@ impl Clocks {
 
     /// One event more, with the packet that it names where it is an arrival, and its outcome. Where memory is refused nothing
     /// more is known of these.
+    #[inline(always)]
     pub(crate) fn note(
         &mut self,
         event: &Event,

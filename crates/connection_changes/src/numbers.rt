@@ -39,11 +39,24 @@ impl Numbers {
         Ok(())
     }
 
+    // Puts a number at the first place behind the others.
+    fn push(&mut self, number: u64) -> Result<(), AllocError>
+        ensures { OnOk result ((k : ℕ) → slice_index self.new.all.items k ≡ (if vec_len self.old.all == k then number else slice_index self.old.all.items k)) }
+    {
+        let Ok(()) = self.all.push(number) else {
+            return Err(AllocError);
+        };
+        Ok(())
+    }
+
     /// Puts a number at a place. Where memory is refused the others are as they were.
     pub(crate) fn put(&mut self, place: u32, number: u64) -> Result<(), AllocError>
         ensures { OnOk result ((k : ℕ) → slice_index self.new.all.items k ≡ (if place == k then number else slice_index self.old.all.items k)) }
     {
         let at = place as usize;
+        if at == self.all.len() {
+            return self.push(number);
+        }
         self.reach(at + 1)?;
         self.all[at] = number;
         Ok(())

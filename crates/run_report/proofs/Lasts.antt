@@ -1,6 +1,6 @@
 -- One send more among the last sends.
 use Rattle.std.proofs.Common.{◌≡◌, ℕ, Bool, true, false, List, Option, Some, None, refl, sym, ap, ◌∙◌, subst, cond}
-use Rattle.std.specs.Prelude.{option_map, slice_get, if◌then◌else◌}
+use Rattle.std.specs.Prelude.{option_map, slice_get, is_some, if◌then◌else◌}
 use Rattle.std.specs.HashMap.{get}
 use Rattle.std.proofs.lemmas.Option.{same_Some, none-some}
 use Rattle.five_tuple.specs.declared.Flow.{Flow}
@@ -82,3 +82,29 @@ module _ {T : Type 0} where
       go : (o : Option (Noted T)) → option_map Some o ≡ Some (Some (sending_of flow l b)) → o ≡ Some (sending_of flow l b)
       go None e = absurd cc
       go (Some s) e = same_Some (Some s) (Some (sending_of flow l b)) e
+
+  -- a flow with no entry has no last send, and one with an entry has one
+  pub not_there : (sent : Flow → Option (Noted T)) (l : LastSends T) (flow : Flow) → AreLast sent l → get same_key l.sends (record { flow = flow }) ≡ None → false ≡ is_some (sent flow)
+  not_there sent l flow h none = go (sent flow) (sym (h.each flow) ∙ ap (λ (o : Option (LastSend T)). option_map (λ s. told l.backends.all.items flow s) o) none)
+    where
+      go : (o : Option (Noted T)) → option_map Some o ≡ None → false ≡ is_some o
+      go None e = refl
+      go (Some t) e = absurd cc
+
+  pub is_there : (sent : Flow → Option (Noted T)) (l : LastSends T) (flow : Flow) (s : LastSend T) → AreLast sent l → get same_key l.sends (record { flow = flow }) ≡ Some s
+      → is_some (slice_get l.backends.all.items s.place) ≡ is_some (sent flow)
+  is_there sent l flow s h found = go (sent flow) (slice_get l.backends.all.items s.place) (sym (ap (λ (o : Option (LastSend T)). option_map (λ s. told l.backends.all.items flow s) o) found) ∙ h.each flow)
+    where
+      go : (o : Option (Noted T)) (b : Option Backend) → Some (option_map (sending_of flow s) b) ≡ option_map Some o → is_some b ≡ is_some o
+      go None b e = absurd cc
+      go (Some t) None e = absurd (none-some t (same_Some None (Some t) e))
+      go (Some t) (Some b) e = refl
+
+  -- a map with more room represents the same sends
+  pub reserved : (sent : Flow → Option (Noted T)) (old new : LastSends T) → new.backends ≡ old.backends → ((q : FlowKey) → get same_key new.sends q ≡ get same_key old.sends q) → AreLast sent old → AreLast sent new
+  reserved sent old new same gets h = record {
+    each = λ x.
+        ap (λ (bs : Backends). option_map (λ s. told bs.all.items x s) (get same_key new.sends (record { flow = x }))) same
+        ∙ ap (λ (o : Option (LastSend T)). option_map (λ s. told old.backends.all.items x s) o) (gets (record { flow = x }))
+        ∙ h.each x;
+  }

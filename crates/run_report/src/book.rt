@@ -1,5 +1,5 @@
 //! The last send of each flow, and the splits so far.
-ghost use Rattle.std.specs.Prelude.{◌≡◌, ◌+◌, ◌++◌, ◌∷◌, [], List, length, reverse, Option, Some, IfOk, OnOk};
+ghost use Rattle.std.specs.Prelude.{◌≡◌, ◌≤◌, ◌+◌, ◌++◌, ◌∷◌, [], List, length, reverse, Option, Some, IfOk, OnOk};
 ghost use Rattle.cluster_node.specs.declared.events.LogEntry.{LogEntry};
 ghost use Rattle.cluster_node.specs.declared.packets.Packet.{Packet};
 ghost use Rattle.selection.specs.Readied.{same_backend};
@@ -16,9 +16,9 @@ use connection_table::TableKey;
 use std::alloc::{AllocError, Global};
 use std::{fmt, mem};
 
-/// How many sends are noted before they are compared. One after another they are found faster than each by itself, since the
-/// memory is asked for the next flow's entry before that of the last one has come.
-const NOTED: usize = 512;
+/// How many sends are noted before they are compared. So many entries are looked up one after another, and those still lie near
+/// as the sends are compared.
+const NOTED: usize = 128;
 
 /// What is known of a cluster's events so far: how many there were, the last send of each flow with what is kept beside it, and
 /// the splits. Splits are in the order of their later sends. The book's memory grows with the flows and the splits, and not
@@ -100,6 +100,19 @@ impl<T: Copy> SplitBook<T> {
         Ok(())
     }
 
+    // A send is its flow's last, where the one before it went elsewhere, or there is none.
+    #[inline(never)]
+    fn send_anew(&mut self, later: &Noted<T>) -> Result<(), AllocError>
+        ensures settled { (done : List (Noted T)) → IsSettledAs done self.old → OnOk result (IsSettledAs (later.now ∷ done) self.new) }
+        ensures number { self.new.number ≡ self.old.number }
+        ensures noted { self.new.noted ≡ self.old.noted }
+    {
+        match self.last.put(later)? {
+            None => Ok(()),
+            Some(first) => self.compare(&first, later),
+        }
+    }
+
     // A send is its flow's last.
     fn send(&mut self, later: &Noted<T>) -> Result<(), AllocError>
         ensures settled { (done : List (Noted T)) → IsSettledAs done self.old → OnOk result (IsSettledAs (later.now ∷ done) self.new) }
@@ -109,10 +122,31 @@ impl<T: Copy> SplitBook<T> {
         if self.last.renew(later) {
             return Ok(());
         }
-        match self.last.put(later)? {
-            None => Ok(()),
-            Some(first) => self.compare(&first, later),
+        self.send_anew(later)
+    }
+
+    // How many of these sends are of flows of which no packet was sent before. Nothing in between waits for an entry, so the
+    // memory is asked for the next ones before that of the first has come.
+    fn count_new(&self, noted: &[Noted<T>]) -> usize
+        ensures { result ≤ length noted.now }
+    {
+        let mut count = 0;
+        for one in noted {
+            if !self.last.has(&one.sending.flow) {
+                count += 1;
+            }
         }
+        count
+    }
+
+    // Room for the new flows among these sends. All entries are looked up for it, and so lie near as the sends are compared.
+    fn make_room_for(&mut self, noted: &[Noted<T>]) -> Result<(), AllocError>
+        ensures settled { (done : List (Noted T)) → IsSettledAs done self.old → IsSettledAs done self.new }
+        ensures number { self.new.number ≡ self.old.number }
+        ensures noted { self.new.noted ≡ self.old.noted }
+    {
+        let count = self.count_new(noted);
+        self.last.reserve(count)
     }
 
     // Sends after one another, the oldest in front.
@@ -135,6 +169,7 @@ impl<T: Copy> SplitBook<T> {
         ensures number { self.new.number ≡ self.old.number }
     {
         let mut noted = mem::replace(&mut self.noted, Vec::new(self.alloc));
+        self.make_room_for(noted.as_slice())?;
         self.send_all(noted.as_slice())?;
         noted.clear();
         self.noted = noted;

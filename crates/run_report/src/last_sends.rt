@@ -72,6 +72,25 @@ impl<T: Copy> LastSends<T> {
         self.sends.len()
     }
 
+    /// Whether a packet of a flow was sent.
+    #[inline(always)]
+    pub(crate) fn has(&self, flow: &Flow) -> bool
+        ensures { (sent : Flow → Option (Noted T)) → AreLast sent self.now → result ≡ is_some (sent flow.now) }
+    {
+        match self.sends.get(&FlowKey { flow: *flow }) {
+            None => false,
+            Some(last) => self.backends.has(last.place),
+        }
+    }
+
+    /// Room for so many flows more.
+    pub(crate) fn reserve(&mut self, flows: usize) -> Result<(), AllocError>
+        ensures last { (sent : Flow → Option (Noted T)) → AreLast sent self.old → AreLast sent self.new }
+        ensures flows { hash_map_len self.new.sends ≡ hash_map_len self.old.sends }
+    {
+        self.sends.reserve(flows)
+    }
+
     // The send that a flow's entry represents.
     fn told(&self, flow: &Flow, last: &LastSend<T>) -> Option<Noted<T>>
         ensures { result ≡ told self.now.backends.all.items flow.now last.now }

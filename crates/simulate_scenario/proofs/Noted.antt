@@ -1,6 +1,6 @@
 -- What is kept of a record that has one event more.
 use Rattle.std.proofs.Common.{◌≡◌, ℕ, zero, suc, ◌+◌, Bool, true, false, List, [], ◌∷◌, ◌++◌, length, reverse, string_bytes, Option, Some, None, Result, refl, sym, ap, ◌∙◌, append_assoc, subst, arith, not}
-use Rattle.std.specs.Prelude.{◌==◌, ◌||◌, if◌then◌else◌, slice_get, OnOk}
+use Rattle.std.specs.Prelude.{◌==◌, ◌||◌, ◌&&◌, if◌then◌else◌, slice_get, OnOk}
 use Rattle.std.proofs.lemmas.List.{append-nil, reverse-append, length-reverse}
 use Rattle.std.proofs.lemmas.Bool.{eqb-true, eq-eqb, true≢false}
 use Rattle.std.proofs.lemmas.Result.{on_ok_weaker}
@@ -24,7 +24,7 @@ use Rattle.json_lines.specs.declared.forms.Form.{Form}
 use Rattle.json_lines.specs.declared.forms.Form.TheVariants.{Plain, Json}
 use Rattle.json_lines.specs.Forms.{event_as, listing_as}
 use Rattle.json_lines.proofs.Listed.{listing_push}
-use Rattle.simulate_scenario.specs.Asked.{begun, begun_for, event_if, lines_of_two, is_plain, is_report_alone, asked_shares, shares_in, keeps_splits, keeps_changes}
+use Rattle.simulate_scenario.specs.Asked.{begun, begun_for, event_if, lines_of_two, is_plain, is_report_alone, is_report_of_changes, asked_shares, shares_in, keeps_splits, keeps_changes, keeps_only_changes}
 use Rattle.connection_changes.specs.declared.book.ChangeBook.{ChangeBook}
 use Rattle.connection_changes.specs.Books.{IsNotedChangeBookOf, IsChangeBookOf}
 use Rattle.traffic_shares.specs.declared.books.ShareBooks.{ShareBooks}
@@ -49,10 +49,10 @@ none_changed : (b : ChangeBook) → IsNotedChangeBookOf [] b → (changes : Bool
 none_changed b h true = h
 none_changed b h false = tt
 
-pub none_noted : (n : Notebook) (asked : Query) → n.is_plain ≡ is_report_alone asked → CountsAre [] n.counts → n.number ≡ 0 → string_bytes n.lines ≡ begun_for asked → IsNotedBookOf [] n.book → IsNotedChangeBookOf [] n.changes → AreShareBooksOf (shares_in asked) [] n.shares → n.one ≡ None → n.other ≡ None → n.first ≡ None → n.later ≡ None → AreOf asked [] n
-none_noted n (Report wanted) e c k l b d a o p q r =
-    (c, (none_listed n wanted.form k l wanted.list, none_booked n.book b (keeps_splits (keeps_changes wanted.places wanted.summary) wanted.splits), none_changed n.changes d (keeps_changes wanted.places wanted.summary), a), e)
-none_noted n (Events two) e c k l b d a o p q r = record { number = k; lines = l; one_is = o; other_is = p; first_is = q; later_is = r }
+pub none_noted : (n : Notebook) (asked : Query) → n.is_plain ≡ is_report_alone asked → n.only_changes ≡ is_report_of_changes asked → CountsAre [] n.counts → n.number ≡ 0 → string_bytes n.lines ≡ begun_for asked → IsNotedBookOf [] n.book → IsNotedChangeBookOf [] n.changes → AreShareBooksOf (shares_in asked) [] n.shares → n.one ≡ None → n.other ≡ None → n.first ≡ None → n.later ≡ None → AreOf asked [] n
+none_noted n (Report wanted) e f c k l b d a o p q r =
+    (c, (none_listed n wanted.form k l wanted.list, none_booked n.book b (keeps_splits (keeps_changes wanted.places wanted.summary) wanted.splits), none_changed n.changes d (keeps_changes wanted.places wanted.summary), a), e, f)
+none_noted n (Events two) e f c k l b d a o p q r = record { number = k; lines = l; one_is = o; other_is = p; first_is = q; later_is = r }
 
 -- the lines are the same
 pub lists_same : (form : Form) (list : Bool) (past : List LogEntry) (n m : Notebook) → m.number ≡ n.number → m.lines ≡ n.lines → ListsIf form list past n → ListsIf form list past m
@@ -83,6 +83,24 @@ plain_more w past s n m plain e f g k = go w.list w.splits w.places w.backends w
     go false false false true b u h k = absurd cc
     go false false false false true u h k = absurd cc
     go false false false false false true h k = absurd cc
+
+-- where nothing but the changes is kept they alone grow
+pub changes_more : {E : Type 0} (r : Result (Unit {0}) E) (w : Wanted) (past : List LogEntry) (s : LogEntry) (n m : Notebook) → keeps_only_changes w ≡ true → m.number ≡ n.number → m.lines ≡ n.lines → m.shares ≡ n.shares
+    → (IsNotedChangeBookOf past n.changes → OnOk r (IsNotedChangeBookOf (s ∷ past) m.changes)) → KeepsMore w past n → OnOk r (KeepsMore w (s ∷ past) m)
+changes_more r w past s n m only e f g more k = go w.list w.splits w.places w.backends w.nodes w.summary only k
+  where
+    shares : AreShareBooksOf (record { backends = false; nodes = false }) past n.shares → AreShareBooksOf (record { backends = false; nodes = false }) (s ∷ past) m.shares
+    shares h = record { these = ap (λ (x : ShareBooks). x.asked) g ∙ h.these; backends = tt; nodes = tt }
+
+    go : (l t p a b u : Bool) → (not (l || a || b) && keeps_changes p u) ≡ true
+        → ListsIf w.form l past n × NotedIf (keeps_splits (keeps_changes p u) t) past n.book × NotedChangesIf (keeps_changes p u) past n.changes × AreShareBooksOf (record { backends = a; nodes = b }) past n.shares
+        → OnOk r (ListsIf w.form l (s ∷ past) m × NotedIf (keeps_splits (keeps_changes p u) t) (s ∷ past) m.book × NotedChangesIf (keeps_changes p u) (s ∷ past) m.changes × AreShareBooksOf (record { backends = a; nodes = b }) (s ∷ past) m.shares)
+    go false t true false false u h k = on_ok_weaker r (λ changes. (ap string_bytes f ∙ k.0, tt, changes, shares k.3)) (more k.2)
+    go false t false false false true h k = on_ok_weaker r (λ changes. (ap string_bytes f ∙ k.0, tt, changes, shares k.3)) (more k.2)
+    go false t false false false false h k = absurd cc
+    go true t p a b u h k = absurd cc
+    go false t p true b u h k = absurd cc
+    go false t p false true u h k = absurd cc
 
 -- each of the four, one after another
 pub more_told : {E : Type 0} (r : Result (Unit {0}) E) (w : Wanted) (past : List LogEntry) (s : LogEntry) (n a b d f : Notebook) (splits changes : Bool) → KeepsMore w past n

@@ -60,3 +60,12 @@ keeps_changes false summary = summary
 abbrev pub keeps_splits : Bool → Bool → Bool
 keeps_splits true splits = false
 keeps_splits false splits = splits
+
+-- nothing but the changes is kept beside the counts of a report
+abbrev pub keeps_only_changes : Wanted → Bool
+keeps_only_changes w = not (w.list || w.backends || w.nodes) && keeps_changes w.places w.summary
+
+-- a report is asked for, and nothing but the changes is kept for it beside the counts
+abbrev pub is_report_of_changes : Query → Bool
+is_report_of_changes (Report wanted) = keeps_only_changes wanted
+is_report_of_changes (Events two) = false

@@ -11,7 +11,7 @@ use Rattle.connection_changes.specs.Books.{IsNotedChangeBookOf, IsChangeBookOf}
 use Rattle.traffic_shares.specs.Books.{AreShareBooksOf}
 use Rattle.json_lines.specs.declared.forms.Form.{Form}
 use Rattle.json_lines.specs.Forms.{listing_as}
-use Rattle.simulate_scenario.specs.Asked.{begun, lines_of_two, is_plain, asked_shares, keeps_splits, keeps_changes}
+use Rattle.simulate_scenario.specs.Asked.{begun, lines_of_two, is_plain, asked_shares, keeps_splits, keeps_changes, keeps_only_changes}
 use Rattle.simulate_scenario.specs.declared.asking.Query.{Query}
 use Rattle.simulate_scenario.specs.declared.asking.TwoEvents.{TwoEvents}
 use Rattle.simulate_scenario.specs.declared.asking.Wanted.{Wanted}
@@ -70,7 +70,7 @@ KeepsMore wanted past n =
     ListsIf wanted.form wanted.list past n × NotedIf (keeps_splits (keeps_changes wanted.places wanted.summary) wanted.splits) past n.book
     × NotedChangesIf (keeps_changes wanted.places wanted.summary) past n.changes × AreShareBooksOf (asked_shares wanted) past n.shares
 
--- the notes are those of a record, for what is asked, and know whether a report alone is
+-- the notes are those of a record, for what is asked, and know whether a report alone is, or one beside which only the changes are kept
 abbrev pub AreOf : Query → List LogEntry → Notebook → Type 0
-AreOf (Report wanted) past n = CountsAre (outcomes_of past) n.counts × KeepsMore wanted past n × (n.is_plain ≡ is_plain wanted)
+AreOf (Report wanted) past n = CountsAre (outcomes_of past) n.counts × KeepsMore wanted past n × (n.is_plain ≡ is_plain wanted) × (n.only_changes ≡ keeps_only_changes wanted)
 AreOf (Events two) past n = KeepsTwo two past n

@@ -24,7 +24,7 @@ pub struct Wanted {
 
 impl Wanted {
     ghost use Rattle.simulate_scenario.specs.Turned.{unturned};
-    ghost use Rattle.simulate_scenario.specs.Asked.{unlisted, is_plain, asked_shares, keeps_splits, keeps_changes};
+    ghost use Rattle.simulate_scenario.specs.Asked.{unlisted, is_plain, asked_shares, keeps_splits, keeps_changes, keeps_only_changes};
 
     /// The report alone.
     pub const REPORT: Wanted = Wanted {
@@ -91,6 +91,13 @@ impl Wanted {
     {
         self.places || self.summary
     }
+
+    /// Whether nothing but the changes is kept beside the counts.
+    pub(crate) fn keeps_only_changes(self) -> bool
+        ensures { result ≡ keeps_only_changes self }
+    {
+        !(self.list || self.backends || self.nodes) && self.keeps_changes()
+    }
 }
 
 /// Two events of a run, counted from 0, the packets of which are explained. With `list` their lines come first, in the order of
@@ -125,7 +132,7 @@ pub enum Query {
 
 impl Query {
     ghost use Rattle.std.specs.Prelude.{◌++◌, OnOk, string_bytes};
-    ghost use Rattle.simulate_scenario.specs.Asked.{begun_for, shares_in, is_report_alone};
+    ghost use Rattle.simulate_scenario.specs.Asked.{begun_for, shares_in, is_report_alone, is_report_of_changes};
 
     /// Puts what the lines of the events begin with after a text.
     pub(crate) fn push_begun(&self, text: &mut String) -> Result<(), AllocError>
@@ -143,6 +150,16 @@ impl Query {
     {
         match *self {
             Query::Report(wanted) => wanted.is_plain(),
+            Query::Events(_) => false,
+        }
+    }
+
+    /// Whether its report is asked for, and nothing but the changes is kept for it beside the counts.
+    pub(crate) fn keeps_only_changes(&self) -> bool
+        ensures { result ≡ is_report_of_changes self.now }
+    {
+        match *self {
+            Query::Report(wanted) => wanted.keeps_only_changes(),
             Query::Events(_) => false,
         }
     }

@@ -23,10 +23,11 @@ use traffic_shares::ShareBooks;
 
 /// For a report the counts, and the lines, the splits, the changes and the shares where it has them; else the outcomes of two
 /// events, and what they sent. How many events there were is kept where it is needed. Each event asks whether a report alone is
-/// wanted, so that is asked of what is wanted once.
+/// wanted, and whether only the changes are kept beside its counts, so both are asked of what is wanted once.
 #[derive(Drop)]
 pub(crate) struct Notebook {
     pub(crate) is_plain: bool,
+    pub(crate) only_changes: bool,
     pub(crate) counts: Counts,
     pub(crate) lines: String,
     pub(crate) book: SplitBook<()>,
@@ -97,6 +98,7 @@ impl Notebook {
         asked.push_begun(&mut lines)?;
         Ok(Notebook {
             is_plain: asked.is_plain(),
+            only_changes: asked.keeps_only_changes(),
             counts: Counts::new(),
             lines,
             book: SplitBook::new(alloc, key),
@@ -120,6 +122,7 @@ impl Notebook {
     ) -> Result<(), AllocError>
         ensures lists { (past : List LogEntry) → Lists form past self.old → OnOk result (Lists form (said_by event.now (option_copied packet.entry) outcome.now ∷ past) self.new) }
         ensures is_plain { self.new.is_plain ≡ self.old.is_plain }
+        ensures only_changes { self.new.only_changes ≡ self.old.only_changes }
         ensures counts { self.new.counts ≡ self.old.counts }
         ensures book { self.new.book ≡ self.old.book }
         ensures changes { self.new.changes ≡ self.old.changes }
@@ -143,6 +146,7 @@ impl Notebook {
         ensures lists { (past : List LogEntry) → ListsIf wanted.form wanted.list past self.old →
             OnOk result (ListsIf wanted.form wanted.list (said_by event.now (option_copied packet.entry) outcome.now ∷ past) self.new) }
         ensures is_plain { self.new.is_plain ≡ self.old.is_plain }
+        ensures only_changes { self.new.only_changes ≡ self.old.only_changes }
         ensures counts { self.new.counts ≡ self.old.counts }
         ensures book { self.new.book ≡ self.old.book }
         ensures changes { self.new.changes ≡ self.old.changes }
@@ -162,6 +166,7 @@ impl Notebook {
         ensures lines { self.new.lines ≡ self.old.lines }
         ensures number { self.new.number ≡ self.old.number }
         ensures is_plain { self.new.is_plain ≡ self.old.is_plain }
+        ensures only_changes { self.new.only_changes ≡ self.old.only_changes }
         ensures counts { self.new.counts ≡ self.old.counts }
         ensures changes { self.new.changes ≡ self.old.changes }
         ensures shares { self.new.shares ≡ self.old.shares }
@@ -205,7 +210,7 @@ impl Notebook {
         self.shares.note(event, packet, outcome)
     }
 
-    // What is kept beside the counts.
+    // What is kept beside the counts, each where it is asked for.
     fn more(
         &mut self,
         wanted: Wanted,
@@ -215,6 +220,7 @@ impl Notebook {
     ) -> Result<(), AllocError>
         ensures more { (past : List LogEntry) → KeepsMore wanted past self.old → OnOk result (KeepsMore wanted (said_by event.now (option_copied packet.entry) outcome.now ∷ past) self.new) }
         ensures is_plain { self.new.is_plain ≡ self.old.is_plain }
+        ensures only_changes { self.new.only_changes ≡ self.old.only_changes }
         ensures counts { self.new.counts ≡ self.old.counts }
     {
         self.list_if(wanted, event, packet, outcome)?;
@@ -237,6 +243,9 @@ impl Notebook {
         self.counts.count(outcome)?;
         if self.is_plain {
             return Ok(());
+        }
+        if self.only_changes {
+            return self.changes.note(event, packet, outcome);
         }
         self.more(*wanted, event, packet, outcome)
     }
