@@ -37,7 +37,9 @@ Faults, and what to do:
   TooLong                      shorten the scenario; or INPUT is damaged
   NoRandom                     let the program read random bytes of the system
   Write                        make room, or open standard output
-  Memory                       allow more memory, or take fewer slots, versions and entries";
+  Memory                       allow more memory, or take fewer slots, versions and entries
+
+The files of docs and examples are those of a clone. Where maglev is installed they are below PREFIX/share/doc/maglev.";
 
 /// The end of the help of `run`.
 const RUN_HELP: &str = "Example: maglev run examples/failover.toml examples/failover.pcap sent.pcap
