@@ -1,8 +1,8 @@
 use Rattle.std.proofs.Common.{inr}
 use Rattle.scenario_commands.proofs.turning.ordinals_in.Goals as goal
 
-pub returns-in-Err-ordinals_by-clause-stopped : goal.returns-in-Err-ordinals_by-clause-stopped
-returns-in-Err-ordinals_by-clause-stopped g c = inr (record { scenario = c.in-Ok.scenario; means = c.in-Ok.ensures.means; unread = c.in-Err-ordinals_by.ensures.stopped })
+pub returns-clause-stopped : goal.returns-clause-stopped
+returns-clause-stopped g c = inr (record { scenario = c.in-Ok.scenario; means = c.in-Ok.ensures.means; unread = c.in-Err-ordinals_by.ensures.stopped })
 
-pub returns-in-Err-ordinals_by-clause-place : goal.returns-in-Err-ordinals_by-clause-place
-returns-in-Err-ordinals_by-clause-place g c = inr ((c.in-Ok.scenario, c.in-Ok.ensures.means), c.in-Err-ordinals_by.ensures.place)
+pub returns-clause-place : goal.returns-clause-place
+returns-clause-place g c = inr ((c.in-Ok.scenario, c.in-Ok.ensures.means), c.in-Err-ordinals_by.ensures.place)
