@@ -80,7 +80,7 @@ fn judged<R: Threads + Sync>(
     { audit_nodes::<NamedScheme, AnyHash, PlaceTable, R>(rt, alloc, nodes, auditor, packets) };
     let told = move || -> Result<Told, AllocError>
         requires { AreEven nodes.now }
-        ensures { IfOk result (TellsOf turns.entry options scenario.entry.now packets.entry.now nodes.entry.now) }
+        ensures { IfOk result (TellsOf turns options scenario.entry.now packets.entry.now nodes.entry.now) }
     {
         let telling = Telling {
             key,
