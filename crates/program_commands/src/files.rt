@@ -268,7 +268,7 @@ where
 /// How the ordinals of the records of INPUT are read: for a scenario that is played so. A flow begins again after so many
 /// microseconds without a segment too, where they are given.
 #[derive(Clone, Copy)]
-pub(crate) struct FirstReading<'a> {
+pub struct FirstReading<'a> {
     pub(crate) path: &'a str,
     pub(crate) reading: ReadingManner,
     pub(crate) played: Played,
@@ -276,7 +276,7 @@ pub(crate) struct FirstReading<'a> {
 }
 
 /// The ordinals of the records of INPUT, which is read whole for them.
-pub(crate) fn ordinals_of(
+pub fn ordinals_of(
     rt: &HostRuntime,
     first: FirstReading<'_>,
     key: TableKey,

@@ -15,11 +15,12 @@ mod words;
 
 use clap::ArgMatches;
 use command_faults::{CliFault, finish};
+pub use files::{FirstReading, ordinals_of};
 use pcap_file::ToWrite;
 pub use scenario::Played;
 pub use scenarios::{asks_summary, between_captures, form_of};
 use scenarios::{run_explain, run_plan, run_simulate, run_sketch};
-pub use starting::{Starting, TurnedManner, TurnedStart, between_turned, starting_of};
+pub use starting::{Starting, first_reading, starting_of};
 use tables::{run_compare, run_pick, run_table};
 pub use words::{matches_of, refused, unread, words_of};
 

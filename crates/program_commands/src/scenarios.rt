@@ -1,11 +1,11 @@
 //! The commands that play a scenario on one thread, from what the command line says, and the end of each command over files.
 use crate::files::{
-    CaptureFile, Manner, Paths, Printed, ReadingManner, between_files, explain_files, outcome_of,
-    read_scenario, records_before, sketch_file,
+    CaptureFile, Manner, Paths, Printed, ReadingManner, between_files, explain_files, ordinals_of,
+    outcome_of, read_scenario, records_before, sketch_file,
 };
 use crate::reasons::{Files, Trouble, reason};
 use crate::showing::showing_of;
-use crate::starting::{Starting, TurnedManner, TurnedStart, between_turned, starting_of};
+use crate::starting::{Starting, first_reading, starting_of};
 use crate::voice::Voice;
 use crate::{ABOVE, USAGE};
 use change_share::{ChangeCounts, Share};
@@ -263,20 +263,25 @@ fn wanted_of(matches: &ArgMatches<'_>) -> Wanted {
 fn run_turned(rt: &HostRuntime, matches: &ArgMatches<'_>, idle: Option<u64>) -> u8 {
     let only = matches.get_one::<u16>("node");
     let wanted = wanted_of(matches);
-    let manner = TurnedManner {
-        played: Played::InTurn,
-        is_streamed: wanted.list,
-        idle,
-    };
-    between_turned(rt, matches, manner, |start, text, input, output, report| {
-        let TurnedStart { key, ordinals } = start;
-        let pages = report;
-        let listing = Listing { wanted, pages };
-        let report = TurnedListing { listing, ordinals };
-        let part = PartSetup { only, whole: text };
-        let done = simulate_turned(rt.alloc(), key, part, input, output, report);
-        done.map(|(counts, _)| counts)
-    })
+    let first = first_reading(rt, matches, Played::InTurn, wanted.list, idle);
+    between_captures(
+        rt,
+        matches,
+        Played::InTurn,
+        wanted.list,
+        |key, text, input, output, report| {
+            let ordinals = match ordinals_of(rt, first, key, text) {
+                Ok(ordinals) => ordinals,
+                Err(stopped) => return Err(stopped),
+            };
+            let pages = report;
+            let listing = Listing { wanted, pages };
+            let report = TurnedListing { listing, ordinals };
+            let part = PartSetup { only, whole: text };
+            let done = simulate_turned(rt.alloc(), key, part, input, output, report);
+            done.map(|(counts, _)| counts)
+        },
+    )
 }
 
 // The command `simulate`, where each flow is one connection.

@@ -1,16 +1,11 @@
-//! Whether a flow that begins again is another connection, as the command line says, and commands for which it is.
+//! Whether a flow that begins again is another connection, as the command line says, and how INPUT is read for that.
 use crate::USAGE;
-use crate::files::{CaptureFile, FirstReading, ordinals_of};
-use crate::scenarios::{between_captures, reading_of};
-use change_share::ChangeCounts;
+use crate::files::FirstReading;
+use crate::scenarios::reading_of;
 use clap::ArgMatches;
-use connection_starts::Ordinals;
-use connection_table::TableKey;
-use lazy_files::{OutputFile, ReportText, is_pipe, is_standard};
-use pcap_file::ToWrite;
+use lazy_files::{is_pipe, is_standard};
 use read_progress::AtEnd;
 use scenario::Played;
-use scenario_faults::PlacedFault;
 use std::io::Write;
 
 /// Whether flows that begin again are other connections, and after which time without a segment a SYN begins one again too.
@@ -87,63 +82,20 @@ pub fn starting_of(rt: &HostRuntime, matches: &ArgMatches<'_>) -> Result<Startin
     Ok(starting)
 }
 
-/// How a command goes for which a flow that begins again is another connection.
-#[derive(Clone, Copy)]
-pub struct TurnedManner {
-    pub played: Played,
-    /// The report is printed as it comes.
-    pub is_streamed: bool,
-    /// After how many microseconds without a segment a SYN begins a flow again too.
-    pub idle: Option<u64>,
-}
-
-/// What such a command begins with: the tables' key, and the ordinal of each record's connection.
-#[derive(Drop)]
-pub struct TurnedStart {
-    pub key: TableKey,
-    pub ordinals: Ordinals,
-}
-
-/// The same as [`between_captures`], where a flow that begins again is another connection. INPUT is read twice: at first for the
-/// ordinals.
-///
-/// [`between_captures`]: crate::between_captures
-pub fn between_turned<'x, F>(
-    rt: &'x HostRuntime,
-    matches: &'x ArgMatches<'_>,
-    manner: TurnedManner,
-    play: F,
-) -> u8
-where
-    F: FnOnce(
-        TurnedStart,
-        &[u8],
-        &mut CaptureFile<'x>,
-        &mut ToWrite<OutputFile<'x>>,
-        &mut ToWrite<ReportText<'x>>,
-    ) -> Result<Option<ChangeCounts>, PlacedFault>,
-    F: Drop,
-    requires { F.IsAlwaysCallable play }
-{
-    let TurnedManner {
-        played,
-        is_streamed,
-        idle,
-    } = manner;
-    let first = FirstReading {
+/// How the ordinals of INPUT's records are read for a command, for which a flow that begins again is another connection: after so
+/// many microseconds without a segment a SYN begins one again too, where they are given. Where `is_streamed` holds the report is
+/// printed as it comes.
+pub fn first_reading<'a>(
+    rt: &HostRuntime,
+    matches: &'a ArgMatches<'_>,
+    played: Played,
+    is_streamed: bool,
+    idle: Option<u64>,
+) -> FirstReading<'a> {
+    FirstReading {
         path: matches.get_str("input").unwrap_or(""),
         reading: reading_of(rt, matches, is_streamed, AtEnd::Gone),
         played,
         idle,
-    };
-    between_captures(
-        rt,
-        matches,
-        played,
-        is_streamed,
-        |key, text, input, output, report| match ordinals_of(rt, first, key, text) {
-            Ok(ordinals) => play(TurnedStart { key, ordinals }, text, input, output, report),
-            Err(stopped) => Err(stopped),
-        },
-    )
+    }
 }
