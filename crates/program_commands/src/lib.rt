@@ -25,7 +25,7 @@ use tables::{run_compare, run_pick, run_table};
 pub use words::{matches_of, refused, unread, words_of};
 
 /// The status of a command line that isn't one.
-const USAGE: u8 = 2;
+pub const USAGE: u8 = 2;
 
 /// The status where a greater share of the connections changed their server than may.
 const ABOVE: u8 = 3;

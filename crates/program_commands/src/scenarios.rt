@@ -263,7 +263,9 @@ fn wanted_of(matches: &ArgMatches<'_>) -> Wanted {
 fn run_turned(rt: &HostRuntime, matches: &ArgMatches<'_>, idle: Option<u64>) -> u8 {
     let only = matches.get_one::<u16>("node");
     let wanted = wanted_of(matches);
-    let first = first_reading(rt, matches, Played::InTurn, wanted.list, idle);
+    let Some(first) = first_reading(rt, matches, Played::InTurn, wanted.list, idle) else {
+        return USAGE;
+    };
     between_captures(
         rt,
         matches,

@@ -84,18 +84,19 @@ pub fn starting_of(rt: &HostRuntime, matches: &ArgMatches<'_>) -> Result<Startin
 
 /// How the ordinals of INPUT's records are read for a command, for which a flow that begins again is another connection: after so
 /// many microseconds without a segment a SYN begins one again too, where they are given. Where `is_streamed` holds the report is
-/// printed as it comes.
+/// printed as it comes. None where the command line names no INPUT.
 pub fn first_reading<'a>(
     rt: &HostRuntime,
     matches: &'a ArgMatches<'_>,
     played: Played,
     is_streamed: bool,
     idle: Option<u64>,
-) -> FirstReading<'a> {
-    FirstReading {
-        path: matches.get_str("input").unwrap_or(""),
-        reading: reading_of(rt, matches, is_streamed, AtEnd::Gone),
+) -> Option<FirstReading<'a>> {
+    let reading = reading_of(rt, matches, is_streamed, AtEnd::Gone);
+    Some(FirstReading {
+        path: matches.get_str("input")?,
+        reading,
         played,
         idle,
-    }
+    })
 }
