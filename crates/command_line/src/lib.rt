@@ -200,12 +200,7 @@ fn table<'a>(alloc: Global) -> Result<Command<'a>, AllocError> {
         names(alloc)?,
     ];
     let args = Vec::from_array(alloc, args)?;
-    Command::new(alloc, "table")
-        .about(
-            "Prints which backend each slot of a table names, and how many slots each backend has",
-        )
-        .after_help(TABLE_HELP)
-        .args(args)
+    begun(alloc, 0).after_help(TABLE_HELP).args(args)
 }
 
 fn pick<'a>(alloc: Global) -> Result<Command<'a>, AllocError> {
@@ -220,12 +215,7 @@ fn pick<'a>(alloc: Global) -> Result<Command<'a>, AllocError> {
         names(alloc)?,
     ];
     let args = Vec::from_array(alloc, args)?;
-    Command::new(alloc, "pick")
-        .about(
-            "Reads one IPv4 datagram as hexadecimal text, and prints its flow, slot and backend, or why it is dropped",
-        )
-        .after_help(PICK_HELP)
-        .args(args)
+    begun(alloc, 1).after_help(PICK_HELP).args(args)
 }
 
 fn members<'a>(alloc: Global, id: &'a str, help: &'a str) -> Result<Arg<'a>, AllocError> {
@@ -266,10 +256,7 @@ fn compare<'a>(alloc: Global) -> Result<Command<'a>, AllocError> {
         of_words(alloc),
     ];
     let args = Vec::from_array(alloc, args)?;
-    Command::new(alloc, "compare")
-        .about("Prints the slots that name another backend after a change of members")
-        .after_help(COMPARE_HELP)
-        .args(args)
+    begun(alloc, 2).after_help(COMPARE_HELP).args(args)
 }
 
 fn file<'a>(alloc: Global, id: &'a str, name: &'a str, help: &'a str) -> Arg<'a> {
@@ -485,12 +472,7 @@ fn plan<'a>(alloc: Global) -> Result<Command<'a>, AllocError> {
         version(alloc, "to", "TO", "number of the version after"),
     ];
     let args = Vec::from_array(alloc, args)?;
-    Command::new(alloc, "plan")
-        .about(
-            "Prints how many slots of each service change from one version of a scenario to another, and why",
-        )
-        .after_help(PLAN_HELP)
-        .args(args)
+    begun(alloc, 3).after_help(PLAN_HELP).args(args)
 }
 
 fn sketch<'a>(alloc: Global) -> Result<Command<'a>, AllocError> {
@@ -501,12 +483,7 @@ fn sketch<'a>(alloc: Global) -> Result<Command<'a>, AllocError> {
         input(alloc),
     ];
     let args = Vec::from_array(alloc, args)?;
-    Command::new(alloc, "scenario")
-        .about(
-            "Prints a scenario to start from: a service for each frequent destination of a capture",
-        )
-        .after_help(SCENARIO_HELP)
-        .args(args)
+    begun(alloc, 4).after_help(SCENARIO_HELP).args(args)
 }
 
 fn simulate<'a>(alloc: Global) -> Result<Command<'a>, AllocError> {
@@ -530,12 +507,7 @@ fn simulate<'a>(alloc: Global) -> Result<Command<'a>, AllocError> {
         output(alloc),
     ];
     let args = Vec::from_array(alloc, args)?;
-    Command::new(alloc, "simulate")
-        .about(
-            "Plays a scenario over a capture, writes what the cluster sends, and prints a report",
-        )
-        .after_help(SIMULATE_HELP)
-        .args(args)
+    begun(alloc, 5).after_help(SIMULATE_HELP).args(args)
 }
 
 fn explain<'a>(alloc: Global) -> Result<Command<'a>, AllocError> {
@@ -551,12 +523,7 @@ fn explain<'a>(alloc: Global) -> Result<Command<'a>, AllocError> {
         event(alloc, "other", "J"),
     ];
     let args = Vec::from_array(alloc, args)?;
-    Command::new(alloc, "explain")
-        .about(
-            "Plays a scenario over a capture, and prints why the packets of two events went where they went",
-        )
-        .after_help(EXPLAIN_HELP)
-        .args(args)
+    begun(alloc, 6).after_help(EXPLAIN_HELP).args(args)
 }
 
 fn run<'a>(alloc: Global) -> Result<Command<'a>, AllocError> {
@@ -579,16 +546,51 @@ fn run<'a>(alloc: Global) -> Result<Command<'a>, AllocError> {
         output(alloc),
     ];
     let args = Vec::from_array(alloc, args)?;
-    Command::new(alloc, "run")
-        .about(
-            "Runs a scenario's cluster on threads over a capture, writes what the nodes send, node by node, and prints a report with an audit",
-        )
-        .after_help(RUN_HELP)
-        .args(args)
+    begun(alloc, 7).after_help(RUN_HELP).args(args)
 }
 
-/// How many commands there are.
-const COMMANDS: usize = 8;
+/// The commands in the order of the help.
+const COMMANDS: [&str; 8] = [
+    "table", "pick", "compare", "plan", "scenario", "simulate", "explain", "run",
+];
+
+// A command of a place without its arguments.
+fn begun<'a>(alloc: Global, place: usize) -> Command<'a> {
+    match place {
+        0 => Command::new(alloc, "table").about(
+            "Prints which backend each slot of a table names, and how many slots each backend has",
+        ),
+        1 => Command::new(alloc, "pick").about(
+            "Reads one IPv4 datagram as hexadecimal text, and prints its flow, slot and backend, or why it is dropped",
+        ),
+        2 => Command::new(alloc, "compare").about(
+            "Prints the slots that name another backend after a change of members",
+        ),
+        3 => Command::new(alloc, "plan").about(
+            "Prints how many slots of each service change from one version of a scenario to another, and why",
+        ),
+        4 => Command::new(alloc, "scenario").about(
+            "Prints a scenario to start from: a service for each frequent destination of a capture",
+        ),
+        5 => Command::new(alloc, "simulate").about(
+            "Plays a scenario over a capture, writes what the cluster sends, and prints a report",
+        ),
+        6 => Command::new(alloc, "explain").about(
+            "Plays a scenario over a capture, and prints why the packets of two events went where they went",
+        ),
+        _ => Command::new(alloc, "run").about(
+            "Runs a scenario's cluster on threads over a capture, writes what the nodes send, node by node, and prints a report with an audit",
+        ),
+    }
+}
+
+// Whether some words name the command of a place.
+fn is_named(words: &[String], place: usize) -> bool {
+    match COMMANDS.get(place) {
+        Some(name) => words.iter().any(|word| word.as_str() == *name),
+        None => false,
+    }
+}
 
 // The command at a place of the help.
 fn command_at<'a>(alloc: Global, place: usize) -> Result<Command<'a>, AllocError> {
@@ -604,14 +606,20 @@ fn command_at<'a>(alloc: Global, place: usize) -> Result<Command<'a>, AllocError
     }
 }
 
-/// The command line of the program.
-pub fn command<'a>(alloc: Global) -> Result<Command<'a>, Error> {
+/// The command line of the program, for some words. A command that they don't name stands there without its arguments, which would
+/// take memory.
+pub fn command<'a>(alloc: Global, words: &[String]) -> Result<Command<'a>, Error> {
     let mut whole = Command::new(alloc, "maglev")
         .about("A cluster of layer 4 load balancers after Maglev (NSDI 2016), proved")
         .version("0.1.0")
         .subcommand_required(true);
-    for place in 0..COMMANDS {
-        whole = whole.subcommand(command_at(alloc, place)?)?;
+    for place in 0..COMMANDS.len() {
+        let one = if is_named(words, place) {
+            command_at(alloc, place)?
+        } else {
+            begun(alloc, place)
+        };
+        whole = whole.subcommand(one)?;
     }
     Ok(whole)
 }

@@ -87,5 +87,5 @@ fn asked(words: &[String]) -> &[String] {
 
 /// What a command line asks for, by its words.
 pub fn matches_of<'a>(alloc: Global, words: &'a [String]) -> Result<ArgMatches<'a>, Error> {
-    command(alloc)?.try_get_matches_from(asked(words))
+    command(alloc, words)?.try_get_matches_from(asked(words))
 }
