@@ -19,7 +19,7 @@ ASKED = [[], ["--splits"], ["--where"], ["--summary"], ["--syn", "--summary"], [
 
 
 def text(nodes, workers):
-    """A scenario of one version of 100 servers."""
+    """A scenario of so many balancers of so many workers, and one version of 100 servers."""
     members = [f"s{number:03}@10.1.0.{number + 1}" for number in range(100)]
     return scenario(["install * 1", "take *"], [members], nodes=nodes, workers=workers, format=3)
 

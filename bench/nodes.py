@@ -5,7 +5,6 @@ as likely, so that each balancer gets a quarter of the packets; in a second one 
 of 100. It compares what they sent, and prints the medians in seconds and the parts' over the whole's for each capture. Run it on
 four processors that do nothing else.
 """
-import os
 import pathlib
 import statistics
 import subprocess
@@ -13,18 +12,10 @@ import sys
 import tempfile
 import time
 
+from asked import HERE, PROGRAM, text
 from many_clients import client
-from pairs import scenario
 
-HERE = pathlib.Path(__file__).resolve().parent
-PROGRAM = os.environ.get("MAGLEV_PROGRAM", str(HERE.parent / "bin" / "maglev"))
 NODES = range(4)
-
-
-def text():
-    """A scenario of four balancers of one worker, and one version of 100 servers."""
-    members = [f"s{number:03}@10.1.0.{number + 1}" for number in range(100)]
-    return scenario(["install * 1", "take *"], [members], nodes=len(NODES), format=3)
 
 
 def timed(commands):
@@ -56,7 +47,7 @@ def main():
     packets, turns = (sys.argv[1:] + ["10000000", "7"][len(sys.argv) - 1 :])[:2]
     with tempfile.TemporaryDirectory() as made:
         folder = pathlib.Path(made)
-        (folder / "s.toml").write_text(text())
+        (folder / "s.toml").write_text(text(len(NODES), 1))
         clients = folder / "clients"
         clients.write_text("".join(f"{address} {port}\n" for address, port in map(client, range(100_000))))
         for name, options in ("all clients as likely", [clients]), ("one client sends a quarter", []):
