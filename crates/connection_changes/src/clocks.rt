@@ -60,6 +60,7 @@ impl Clocks {
     }
 
     // A node's life begins, with no clocks.
+    #[inline(always)]
     fn begin(&mut self, begun: Option<u16>) -> Result<(), AllocError>
         ensures lives { OnOk result ((n : ℕ) → life_in self.new n ≡ life_with begun n (life_in self.old n)) }
         ensures clocks { OnOk result ((n w : ℕ) → clock_in self.new n w ≡ clock_begun begun n (clock_in self.old n w)) }
@@ -77,6 +78,7 @@ impl Clocks {
     }
 
     // A worker serves a packet.
+    #[inline(always)]
     fn serve(&mut self, served: Option<Served>) -> Result<(), AllocError>
         ensures clocks { OnOk result ((n w : ℕ) → clock_in self.new n w ≡ clock_with served (λ k. slice_index self.old.times.all.items k) n w (clock_in self.old n w)) }
         ensures rest { self.new ≡ record self.old { clocks = self.new.clocks } }

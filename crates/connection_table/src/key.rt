@@ -44,9 +44,9 @@ impl TableKey {
         Ok(TableKey { seed })
     }
 
-    // The hash of a flow, whose two halves are joined.
+    /// The hash of a flow, whose two halves are joined.
     #[inline(always)]
-    pub(crate) fn hash_of(&self, flow: &Flow) -> u32
+    pub fn hash_of(&self, flow: &Flow) -> u32
         ensures { result ≡ flow_hash self.now flow.now }
     {
         let hash = self.hash_one(*flow);

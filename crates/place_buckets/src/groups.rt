@@ -226,7 +226,7 @@ fn grown(alloc: Global, links: &mut [Link], count: usize) -> Result<Vec<Group>, 
 
 /// Makes the groups twice as many where `LOAD` places have come to each. So their number stays a power of two, as `bucket` wants.
 fn make_room(alloc: Global, groups: &mut Vec<Group>, links: &mut [Link]) -> Result<(), AllocError>
-    requires few { length links.old < 2 ^ 31 }
+    requires few { length links.old < 2 ^ 32 - 1 }
     requires grouped { AreGrouped groups.old.items links.old (length links.old) }
     ensures grouped { AreGrouped groups.new.items links.new (length links.old) }
     ensures hashes { map hash_of links.new ≡ map hash_of links.old }
@@ -257,7 +257,7 @@ fn reserve_link(links: &mut Vec<Link>) -> Result<(), AllocError>
 
 /// One more place, with this hash.
 fn push(groups: &mut [Group], links: &mut Vec<Link>, hash: u32) -> Result<(), AllocError>
-    requires few { length links.old.items < 2 ^ 31 }
+    requires few { length links.old.items < 2 ^ 32 - 1 }
     requires buckets { 0 < length groups.old }
     requires grouped { AreGrouped groups.old links.old.items (length links.old.items) }
     ensures grouped { AreGrouped groups.new links.new.items (length links.new.items) }
@@ -279,7 +279,7 @@ pub(crate) fn add(
     links: &mut Vec<Link>,
     hash: u32,
 ) -> Result<(), AllocError>
-    requires few { length links.old.items < 2 ^ 31 }
+    requires few { length links.old.items < 2 ^ 32 - 1 }
     requires some { 0 < length links.old.items → 0 < length groups.old.items }
     requires grouped { AreGrouped groups.old.items links.old.items (length links.old.items) }
     ensures some { 0 < length links.new.items → 0 < length groups.new.items }

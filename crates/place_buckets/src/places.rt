@@ -72,7 +72,7 @@ impl Buckets {
 
     /// One more place, with this hash.
     pub fn add(&mut self, hash: u32) -> Result<(), AllocError>
-        requires { length self.old < 2 ^ 31 }
+        requires { length self.old < 2 ^ 32 - 1 }
         ensures ok { OnOk result (self.new ≡ self.old ++ hash ∷ []) }
         ensures err { OnErr result (self.new ≡ self.old) }
     {

@@ -1,18 +1,17 @@
 -- One send more among the last sends.
-use Rattle.std.proofs.Common.{◌≡◌, ℕ, Bool, true, false, List, Option, Some, None, refl, sym, ap, ◌∙◌, subst, cond}
+use Rattle.std.proofs.Common.{◌≡◌, ℕ, Bool, true, false, List, Option, Some, None, refl, sym, ap, ◌∙◌, subst}
 use Rattle.std.specs.Prelude.{option_map, slice_get, is_some, if◌then◌else◌}
-use Rattle.std.specs.HashMap.{get}
 use Rattle.std.proofs.lemmas.Option.{same_Some, none-some}
 use Rattle.five_tuple.specs.declared.Flow.{Flow}
 use Rattle.connection_table.specs.Touches.{same_flow}
+use Rattle.flow_map.specs.Maps.{value_of}
 use Rattle.connection_table.proofs.Standing.{same_flow-true}
 use Rattle.pool_versions.specs.declared.backend.Backend.{Backend}
 use Rattle.run_report.specs.declared.backends.Backends.{Backends}
-use Rattle.run_report.specs.declared.last_sends.FlowKey.{FlowKey}
 use Rattle.run_report.specs.declared.last_sends.LastSend.{LastSend}
 use Rattle.run_report.specs.declared.last_sends.LastSends.{LastSends}
 use Rattle.run_report.specs.declared.noted.Noted.{Noted}
-use Rattle.run_report.specs.Books.{Keeps, same_key, told, AreLast}
+use Rattle.run_report.specs.Books.{Keeps, told, AreLast}
 
 module _ {T : Type 0} where
   abbrev sending_of : Flow → LastSend T → Backend → Noted T
@@ -42,40 +41,23 @@ module _ {T : Type 0} where
 
   pub last_more : (sent : Flow → Option (Noted T)) (old new : LastSends T) (place : ℕ) (later : Noted T) → AreLast sent old → Keeps old.backends.all.items new.backends.all.items
       → slice_get new.backends.all.items place ≡ Some later.sending.backend
-      → ((q : FlowKey) → get same_key new.sends q ≡ cond (same_key (record { flow = later.sending.flow }) q) (Some (entry_of place later)) (get same_key old.sends q))
+      → ((x : Flow) → value_of x new.sends ≡ (if same_flow later.sending.flow x then Some (entry_of place later) else value_of x old.sends))
       → AreLast (λ x. if same_flow later.sending.flow x then Some later else sent x) new
   last_more sent old new place later h k at put = record { each = λ x. go x (same_flow later.sending.flow x) refl }
     where
       go : (x : Flow) (b : Bool) → same_flow later.sending.flow x ≡ b
-          → option_map (λ s. told new.backends.all.items x s) (get same_key new.sends (record { flow = x })) ≡ option_map Some (if b then Some later else sent x)
+          → option_map (λ s. told new.backends.all.items x s) (value_of x new.sends) ≡ option_map Some (if b then Some later else sent x)
       go x true is =
           ap (λ (o : Option (LastSend T)). option_map (λ s. told new.backends.all.items x s) o)
-          (put (record { flow = x }) ∙ ap (λ (c : Bool). cond c (Some (entry_of place later)) (get same_key old.sends (record { flow = x }))) is)
+          (put x ∙ ap (λ (c : Bool). if c then Some (entry_of place later) else value_of x old.sends) is)
           ∙ ap Some (told_now new.backends.all.items place later at x is)
       go x false is =
           ap (λ (o : Option (LastSend T)). option_map (λ s. told new.backends.all.items x s) o)
-          (put (record { flow = x }) ∙ ap (λ (c : Bool). cond c (Some (entry_of place later)) (get same_key old.sends (record { flow = x }))) is)
-          ∙ told_yet old.backends.all.items new.backends.all.items k x (get same_key old.sends (record { flow = x })) (sent x) (h.each x)
-
-  -- a map that was written its own value has the same values
-  same_value : (o : Option (LastSend T)) (p : Option (LastSend T)) (l : LastSend T) (b : Bool) → (b ≡ true → p ≡ Some l) → o ≡ cond b (Some l) p → o ≡ p
-  same_value o p l true is e = e ∙ sym (is refl)
-  same_value o p l false is e = e
-
-  pub kept_yet : (sent : Flow → Option (Noted T)) (old new : LastSends T) (flow : Flow) (l : LastSend T) → AreLast sent old → new.backends ≡ old.backends
-      → get same_key old.sends (record { flow = flow }) ≡ Some l
-      → ((q : FlowKey) → get same_key new.sends q ≡ cond (same_key (record { flow = flow }) q) (Some l) (get same_key old.sends q)) → AreLast sent new
-  kept_yet sent old new flow l h same found put = record {
-    each = λ x.
-        ap (λ (bs : Backends). option_map (λ s. told bs.all.items x s) (get same_key new.sends (record { flow = x }))) same
-        ∙ ap (λ (o : Option (LastSend T)). option_map (λ s. told old.backends.all.items x s) o)
-        (same_value (get same_key new.sends (record { flow = x })) (get same_key old.sends (record { flow = x })) l (same_flow flow x)
-        (λ e. subst (λ (y : Flow). get same_key old.sends (record { flow = y }) ≡ Some l) (same_flow-true flow x e) found) (put (record { flow = x })))
-        ∙ h.each x;
-  }
+          (put x ∙ ap (λ (c : Bool). if c then Some (entry_of place later) else value_of x old.sends) is)
+          ∙ told_yet old.backends.all.items new.backends.all.items k x (value_of x old.sends) (sent x) (h.each x)
 
   -- the flow's last send, where its entry has this backend
-  pub first_is : (sent : Flow → Option (Noted T)) (old : LastSends T) (flow : Flow) (l : LastSend T) (b : Backend) → AreLast sent old → get same_key old.sends (record { flow = flow }) ≡ Some l
+  pub first_is : (sent : Flow → Option (Noted T)) (old : LastSends T) (flow : Flow) (l : LastSend T) (b : Backend) → AreLast sent old → value_of flow old.sends ≡ Some l
       → slice_get old.backends.all.items l.place ≡ Some b → sent flow ≡ Some (sending_of flow l b)
   first_is sent old flow l b h found at = go (sent flow) (sym (h.each flow) ∙ ap (λ (o : Option (LastSend T)). option_map (λ s. told old.backends.all.items flow s) o) found ∙ ap (λ (o : Option Backend). Some (option_map (sending_of flow l) o)) at)
     where
@@ -84,27 +66,23 @@ module _ {T : Type 0} where
       go (Some s) e = same_Some (Some s) (Some (sending_of flow l b)) e
 
   -- a flow with no entry has no last send, and one with an entry has one
-  pub not_there : (sent : Flow → Option (Noted T)) (l : LastSends T) (flow : Flow) → AreLast sent l → get same_key l.sends (record { flow = flow }) ≡ None → false ≡ is_some (sent flow)
+  pub not_there : (sent : Flow → Option (Noted T)) (l : LastSends T) (flow : Flow) → AreLast sent l → value_of flow l.sends ≡ None → false ≡ is_some (sent flow)
   not_there sent l flow h none = go (sent flow) (sym (h.each flow) ∙ ap (λ (o : Option (LastSend T)). option_map (λ s. told l.backends.all.items flow s) o) none)
     where
       go : (o : Option (Noted T)) → option_map Some o ≡ None → false ≡ is_some o
       go None e = refl
       go (Some t) e = absurd cc
 
-  pub is_there : (sent : Flow → Option (Noted T)) (l : LastSends T) (flow : Flow) (s : LastSend T) → AreLast sent l → get same_key l.sends (record { flow = flow }) ≡ Some s
-      → is_some (slice_get l.backends.all.items s.place) ≡ is_some (sent flow)
-  is_there sent l flow s h found = go (sent flow) (slice_get l.backends.all.items s.place) (sym (ap (λ (o : Option (LastSend T)). option_map (λ s. told l.backends.all.items flow s) o) found) ∙ h.each flow)
+  pub is_there : (sent : Flow → Option (Noted T)) (l : LastSends T) (flow : Flow) (s : LastSend T) → AreLast sent l → value_of flow l.sends ≡ Some s → true ≡ is_some (sent flow)
+  is_there sent l flow s h found = go (sent flow) (sym (ap (λ (o : Option (LastSend T)). option_map (λ s. told l.backends.all.items flow s) o) found) ∙ h.each flow)
     where
-      go : (o : Option (Noted T)) (b : Option Backend) → Some (option_map (sending_of flow s) b) ≡ option_map Some o → is_some b ≡ is_some o
-      go None b e = absurd cc
-      go (Some t) None e = absurd (none-some t (same_Some None (Some t) e))
-      go (Some t) (Some b) e = refl
+      go : (o : Option (Noted T)) → Some (told l.backends.all.items flow s) ≡ option_map Some o → true ≡ is_some o
+      go None e = absurd cc
+      go (Some t) e = refl
 
-  -- a map with more room represents the same sends
-  pub reserved : (sent : Flow → Option (Noted T)) (old new : LastSends T) → new.backends ≡ old.backends → ((q : FlowKey) → get same_key new.sends q ≡ get same_key old.sends q) → AreLast sent old → AreLast sent new
-  reserved sent old new same gets h = record {
-    each = λ x.
-        ap (λ (bs : Backends). option_map (λ s. told bs.all.items x s) (get same_key new.sends (record { flow = x }))) same
-        ∙ ap (λ (o : Option (LastSend T)). option_map (λ s. told old.backends.all.items x s) o) (gets (record { flow = x }))
-        ∙ h.each x;
-  }
+  pub same_some : (sent : Flow → Option (Noted T)) (l : LastSends T) (flow : Flow) → AreLast sent l → is_some (value_of flow l.sends) ≡ is_some (sent flow)
+  same_some sent l flow h = go (value_of flow l.sends) refl
+    where
+      go : (o : Option (LastSend T)) → value_of flow l.sends ≡ o → is_some o ≡ is_some (sent flow)
+      go None e = not_there sent l flow h e
+      go (Some s) e = is_there sent l flow s h e

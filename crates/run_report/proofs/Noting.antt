@@ -1,7 +1,6 @@
 -- What noted sends tell is what their record tells.
 use Rattle.std.proofs.Common.{◌≡◌, ℕ, ◌+◌, ◌<◌, Bool, true, false, List, [], ◌∷◌, ◌++◌, length, map, reverse, take, get_or, Option, Some, None, Result, Ok, Err, refl, sym, ap, ◌∙◌, subst, arith}
 use Rattle.std.specs.Prelude.{option_map, is_some, OnOk, if◌then◌else◌}
-use Rattle.std.specs.HashMap.{hash_map_len}
 use Rattle.std.proofs.lemmas.List.{append-nil, reverse-append, take_more}
 use Rattle.five_tuple.specs.declared.Flow.{Flow}
 use Rattle.connection_table.specs.Touches.{same_flow}
@@ -141,7 +140,7 @@ module _ {T : Type 0} where
 
   -- one send more is compared
   pub settled_more : (done : List (Noted T)) (later : Noted T) (a b : SplitBook T) → IsSettledAs done a → AreLast (with_send (λ x. last_noted done x) later) b.last
-      → hash_map_len b.last.sends ≡ hash_map_len a.last.sends + (if is_some (last_noted done later.sending.flow) then 0 else 1)
+      → length b.last.sends ≡ length a.last.sends + (if is_some (last_noted done later.sending.flow) then 0 else 1)
       → b.splits.items ≡ a.splits.items ++ split_with (last_noted done later.sending.flow) later → b.besides.items ≡ a.besides.items ++ beside_with (last_noted done later.sending.flow) later
       → IsSettledAs (later ∷ done) b
   settled_more done later a b s last flows splits besides = record {
@@ -168,25 +167,25 @@ module _ {T : Type 0} where
   renewed done later a last s h =
       let none = no_split (last_noted done later.sending.flow) h.0 later h.1 h.2 in
       settled_more done later a (record a { last = last }) s h.3
-      (h.4 ∙ (let e : hash_map_len a.last.sends ≡ hash_map_len a.last.sends + 0 = omega arith in e) ∙ ap (λ (o : Option (Noted T)). hash_map_len a.last.sends + (if is_some o then 0 else 1)) (sym h.1))
+      (h.4 ∙ (let e : length a.last.sends ≡ length a.last.sends + 0 = omega arith in e) ∙ ap (λ (o : Option (Noted T)). length a.last.sends + (if is_some o then 0 else 1)) (sym h.1))
       (sym (ap (λ (qs : List Split). a.splits.items ++ qs) none.0 ∙ append-nil a.splits.items)) (sym (ap (λ (bs : List (Beside T)). a.besides.items ++ bs) none.1 ∙ append-nil a.besides.items))
 
   pub not_renewed : (done : List (Noted T)) (later : Noted T) (a : SplitBook T) (last : LastSends T) → IsSettledAs done a → RenewedAs false (λ x. last_noted done x) later a.last last → IsSettledAs done (record a { last = last })
   not_renewed done later a last s h = record { last = h.0; flows = h.1 ∙ s.flows; splits = s.splits; besides = s.besides }
 
   pub came_first : (done : List (Noted T)) (later : Noted T) (a : SplitBook T) (last : LastSends T) → IsSettledAs done a → AreLast (with_send (λ x. last_noted done x) later) last
-      → hash_map_len last.sends ≡ hash_map_len a.last.sends + (if is_some (last_noted done later.sending.flow) then 0 else 1) → last_noted done later.sending.flow ≡ None → IsSettledAs (later ∷ done) (record a { last = last })
+      → length last.sends ≡ length a.last.sends + (if is_some (last_noted done later.sending.flow) then 0 else 1) → last_noted done later.sending.flow ≡ None → IsSettledAs (later ∷ done) (record a { last = last })
   came_first done later a last s h flows none =
       settled_more done later a (record a { last = last }) s h flows
       (sym (ap (λ (o : Option (Noted T)). a.splits.items ++ split_with o later) none ∙ append-nil a.splits.items)) (sym (ap (λ (o : Option (Noted T)). a.besides.items ++ beside_with o later) none ∙ append-nil a.besides.items))
 
   pub compared : {E : Type 0} (r : Result (Unit {0}) E) (done : List (Noted T)) (first later : Noted T) (a : SplitBook T) (last : LastSends T) (b : SplitBook T) → IsSettledAs done a
-      → AreLast (with_send (λ x. last_noted done x) later) last → hash_map_len last.sends ≡ hash_map_len a.last.sends + (if is_some (last_noted done later.sending.flow) then 0 else 1)
+      → AreLast (with_send (λ x. last_noted done x) later) last → length last.sends ≡ length a.last.sends + (if is_some (last_noted done later.sending.flow) then 0 else 1)
       → last_noted done later.sending.flow ≡ Some first → OnOk r (b.splits.items ≡ a.splits.items ++ split_with (Some first) later) → OnOk r (b.besides.items ≡ a.besides.items ++ beside_with (Some first) later)
       → b.last ≡ last → OnOk r (IsSettledAs (later ∷ done) b)
   compared (Err e) done first later a last b s h flows is splits besides same = tt
   compared (Ok u) done first later a last b s h flows is splits besides same =
-      settled_more done later a b s (subst (λ (l : LastSends T). AreLast (with_send (λ x. last_noted done x) later) l) (sym same) h) (ap (λ (l : LastSends T). hash_map_len l.sends) same ∙ flows)
+      settled_more done later a b s (subst (λ (l : LastSends T). AreLast (with_send (λ x. last_noted done x) later) l) (sym same) h) (ap (λ (l : LastSends T). length l.sends) same ∙ flows)
       (splits ∙ ap (λ (o : Option (Noted T)). a.splits.items ++ split_with o later) (sym is)) (besides ∙ ap (λ (o : Option (Noted T)). a.besides.items ++ beside_with o later) (sym is))
 
   -- sends more, one after another
@@ -206,7 +205,7 @@ module _ {T : Type 0} where
   none_waits all b none s = record { done = all; settled = s; waiting = ap (λ (ns : List (Noted T)). reverse ns ++ all) none }
 
   -- no send was noted
-  pub none_noted : (b : SplitBook T) → AreLast (λ x. None) b.last → hash_map_len b.last.sends ≡ 0 → b.splits.items ≡ [] → b.besides.items ≡ [] → b.noted.items ≡ [] → HasNoted [] b
+  pub none_noted : (b : SplitBook T) → AreLast (λ x. None) b.last → length b.last.sends ≡ 0 → b.splits.items ≡ [] → b.besides.items ≡ [] → b.noted.items ≡ [] → HasNoted [] b
   none_noted b last flows splits besides noted = record {
     done = [];
     settled = record { last = record { each = last.each }; flows = flows; splits = splits; besides = besides };

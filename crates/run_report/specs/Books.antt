@@ -1,12 +1,11 @@
 -- A book of each flow's last send, and of the splits so far, is that of a record.
 use Rattle.std.specs.Prelude.{◌≡◌, ℕ, Bool, true, false, List, ◌++◌, length, map, reverse, Option, Some, option_map, slice_get, if◌then◌else◌}
-use Rattle.std.specs.HashMap.{get, hash_map_len}
 use Rattle.five_tuple.specs.declared.Flow.{Flow}
 use Rattle.connection_table.specs.Touches.{same_flow}
+use Rattle.flow_map.specs.Maps.{value_of}
 use Rattle.pool_versions.specs.declared.backend.Backend.{Backend}
 use Rattle.cluster_node.specs.declared.events.LogEntry.{LogEntry}
 use Rattle.run_report.specs.declared.book.SplitBook.{SplitBook}
-use Rattle.run_report.specs.declared.last_sends.FlowKey.{FlowKey}
 use Rattle.run_report.specs.declared.last_sends.LastSend.{LastSend}
 use Rattle.run_report.specs.declared.last_sends.LastSends.{LastSends}
 use Rattle.run_report.specs.declared.noted.Noted.{Noted}
@@ -17,9 +16,6 @@ use Rattle.run_report.specs.Splits.{splits_of, flows_of}
 abbrev pub Keeps : List Backend → List Backend → Type 0
 Keeps old new = (k : ℕ) (b : Backend) → slice_get old k ≡ Some b → slice_get new k ≡ Some b
 
-abbrev pub same_key : FlowKey → FlowKey → Bool
-same_key a b = same_flow a.flow b.flow
-
 -- the send that a flow's entry represents, by the backend at its place
 abbrev pub told : {T : Type 0} → List Backend → Flow → LastSend T → Option (Noted T)
 told backends x l =
@@ -27,7 +23,7 @@ told backends x l =
 
 -- each flow's entry represents its last send, and the others have none
 pub record AreLast {T : Type 0} (sent : Flow → Option (Noted T)) (l : LastSends T) : Type 0 where
-  pub each : (x : Flow) → option_map (λ s. told l.backends.all.items x s) (get same_key l.sends (record { flow = x })) ≡ option_map Some (sent x)
+  pub each : (x : Flow) → option_map (λ s. told l.backends.all.items x s) (value_of x l.sends) ≡ option_map Some (sent x)
 
 -- these sends with one that is its flow's last
 abbrev pub with_send : {T : Type 0} → (Flow → Option (Noted T)) → Noted T → Flow → Option (Noted T)
@@ -36,13 +32,13 @@ with_send sent later x = if same_flow later.sending.flow x then Some later else 
 -- Where the flow's last send went to the same backend the later one has taken its place. Else nothing has changed.
 abbrev pub RenewedAs : {T : Type 0} → Bool → (Flow → Option (Noted T)) → Noted T → LastSends T → LastSends T → Type 0
 RenewedAs {T} true sent later old new =
-    (first : Noted T) × (sent later.sending.flow ≡ Some first) × (first.sending.backend ≡ later.sending.backend) × AreLast (with_send sent later) new × (hash_map_len new.sends ≡ hash_map_len old.sends)
-RenewedAs false sent later old new = AreLast sent new × (hash_map_len new.sends ≡ hash_map_len old.sends)
+    (first : Noted T) × (sent later.sending.flow ≡ Some first) × (first.sending.backend ≡ later.sending.backend) × AreLast (with_send sent later) new × (length new.sends ≡ length old.sends)
+RenewedAs false sent later old new = AreLast sent new × (length new.sends ≡ length old.sends)
 
 -- the book answers what these sends tell, the newest of which is in front
 pub record IsSettledAs {T : Type 0} (done : List (Noted T)) (b : SplitBook T) : Type 0 where
   pub last : AreLast (λ x. last_noted done x) b.last
-  pub flows : hash_map_len b.last.sends ≡ count_noted done
+  pub flows : length b.last.sends ≡ count_noted done
   pub splits : b.splits.items ≡ splits_noted done
   pub besides : b.besides.items ≡ besides_noted done
 
@@ -61,5 +57,5 @@ pub record IsNotedBookOf {T : Type 0} (past : List LogEntry) (b : SplitBook T) :
 
 pub record IsBookOf {T : Type 0} (past : List LogEntry) (b : SplitBook T) : Type 0 where
   pub number : b.number ≡ length past
-  pub flows : hash_map_len b.last.sends ≡ length (flows_of past)
+  pub flows : length b.last.sends ≡ length (flows_of past)
   pub splits : b.splits.items ≡ splits_of past

@@ -1,5 +1,5 @@
 //! Backends, each at a place.
-ghost use Rattle.std.specs.Prelude.{◌≡◌, ℕ, [], true, Some, IfOk, IfSome, OnOk, is_some, slice_get, option_copied};
+ghost use Rattle.std.specs.Prelude.{◌≡◌, ℕ, [], true, Some, IfOk, IfSome, OnOk, slice_get, option_copied};
 ghost use Rattle.pool_versions.specs.declared.backend.Backend.{Backend};
 ghost use Rattle.run_report.specs.Books.{Keeps};
 
@@ -32,16 +32,6 @@ impl Backends {
         ensures { option_copied result ≡ slice_get self.now.all.items place }
     {
         self.all.get(place)
-    }
-
-    /// Whether there is a backend at a place.
-    pub(crate) fn has(&self, place: usize) -> bool
-        ensures { result ≡ is_some (slice_get self.now.all.items place) }
-    {
-        match self.at(place) {
-            None => false,
-            Some(_) => true,
-        }
     }
 
     /// Whether a place is this backend's.

@@ -1,5 +1,5 @@
 //! The last send of each flow, and the splits so far.
-ghost use Rattle.std.specs.Prelude.{◌≡◌, ◌≤◌, ◌+◌, ◌++◌, ◌∷◌, [], List, length, reverse, Option, Some, IfOk, OnOk};
+ghost use Rattle.std.specs.Prelude.{◌≡◌, ◌+◌, ◌++◌, ◌∷◌, [], List, length, reverse, Option, Some, IfOk, OnOk};
 ghost use Rattle.cluster_node.specs.declared.events.LogEntry.{LogEntry};
 ghost use Rattle.cluster_node.specs.declared.packets.Packet.{Packet};
 ghost use Rattle.selection.specs.Readied.{same_backend};
@@ -18,7 +18,7 @@ use std::{fmt, mem};
 
 /// How many sends are noted before they are compared. So many entries are looked up one after another, and those still lie near
 /// as the sends are compared.
-const NOTED: usize = 128;
+const NOTED: usize = 64;
 
 /// What is known of a cluster's events so far: how many there were, the last send of each flow with what is kept beside it, and
 /// the splits. Splits are in the order of their later sends. The book's memory grows with the flows and the splits, and not
@@ -30,6 +30,8 @@ pub struct SplitBook<T> {
     number: u64,
     // What wasn't compared yet, the oldest in front.
     noted: Vec<Noted<T>>,
+    // Room for the places of their flows.
+    places: Vec<u32>,
     last: LastSends<T>,
     splits: Vec<Split>,
     // Of each split what was kept beside its sends.
@@ -68,6 +70,7 @@ impl<T: Copy> SplitBook<T> {
             alloc,
             number: 0,
             noted: Vec::new(alloc),
+            places: Vec::new(alloc),
             last: LastSends::new(alloc, key),
             splits: Vec::new(alloc),
             besides: Vec::new(alloc),
@@ -113,50 +116,40 @@ impl<T: Copy> SplitBook<T> {
         }
     }
 
-    // A send is its flow's last.
-    fn send(&mut self, later: &Noted<T>) -> Result<(), AllocError>
+    // A send is its flow's last. The flow may stand at this place.
+    #[inline(always)]
+    fn send(&mut self, at: u32, later: &Noted<T>) -> Result<(), AllocError>
         ensures settled { (done : List (Noted T)) → IsSettledAs done self.old → OnOk result (IsSettledAs (later.now ∷ done) self.new) }
         ensures number { self.new.number ≡ self.old.number }
         ensures noted { self.new.noted ≡ self.old.noted }
     {
-        if self.last.renew(later) {
+        if self.last.renew(at, later) {
             return Ok(());
         }
         self.send_anew(later)
     }
 
-    // How many of these sends are of flows of which no packet was sent before. Nothing in between waits for an entry, so the
-    // memory is asked for the next ones before that of the first has come.
-    fn count_new(&self, noted: &[Noted<T>]) -> usize
-        ensures { result ≤ length noted.now }
-    {
-        let mut count = 0;
+    // The places of these sends' flows, 0 for those of which no packet was sent before. Nothing in between waits for an entry, so
+    // the memory is asked for the next ones before that of the first has come.
+    fn find(&self, noted: &[Noted<T>], places: &mut Vec<u32>) -> Result<(), AllocError> {
         for one in noted {
-            if !self.last.has(&one.sending.flow) {
-                count += 1;
-            }
+            let place = self.last.place_of(&one.sending.flow).unwrap_or(0);
+            let Ok(()) = places.push(place) else {
+                return Err(AllocError);
+            };
         }
-        count
+        Ok(())
     }
 
-    // Room for the new flows among these sends. All entries are looked up for it, and so lie near as the sends are compared.
-    fn make_room_for(&mut self, noted: &[Noted<T>]) -> Result<(), AllocError>
-        ensures settled { (done : List (Noted T)) → IsSettledAs done self.old → IsSettledAs done self.new }
-        ensures number { self.new.number ≡ self.old.number }
-        ensures noted { self.new.noted ≡ self.old.noted }
-    {
-        let count = self.count_new(noted);
-        self.last.reserve(count)
-    }
-
-    // Sends after one another, the oldest in front.
-    fn send_all(&mut self, noted: &[Noted<T>]) -> Result<(), AllocError>
+    // Sends after one another, the oldest in front, of flows that may stand at these places.
+    fn send_all(&mut self, places: &[u32], noted: &[Noted<T>]) -> Result<(), AllocError>
         ensures settled { (done : List (Noted T)) → IsSettledAs done self.old → OnOk result (IsSettledAs (reverse noted.now ++ done) self.new) }
         ensures number { self.new.number ≡ self.old.number }
         ensures noted { self.new.noted ≡ self.old.noted }
     {
-        for one in noted {
-            self.send(one)?;
+        for (i, one) in noted.iter().enumerate() {
+            let place = places.get(i).copied().unwrap_or(0);
+            self.send(place, one)?;
         }
         Ok(())
     }
@@ -169,10 +162,13 @@ impl<T: Copy> SplitBook<T> {
         ensures number { self.new.number ≡ self.old.number }
     {
         let mut noted = mem::replace(&mut self.noted, Vec::new(self.alloc));
-        self.make_room_for(noted.as_slice())?;
-        self.send_all(noted.as_slice())?;
+        let mut places = mem::replace(&mut self.places, Vec::new(self.alloc));
+        self.find(noted.as_slice(), &mut places)?;
+        self.send_all(places.as_slice(), noted.as_slice())?;
         noted.clear();
+        places.clear();
         self.noted = noted;
+        self.places = places;
         Ok(())
     }
 

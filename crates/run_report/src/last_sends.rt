@@ -1,9 +1,6 @@
 //! The last send of each flow.
-ghost use Rattle.std.specs.Prelude.{◌≡◌, ◌+◌, [], ◌∷◌, Option, Some, None, IfOk, OnOk, is_some, if◌then◌else◌};
-ghost use Rattle.std.specs.HashMap.{hash_map_len};
+ghost use Rattle.std.specs.Prelude.{◌≡◌, ◌+◌, length, Option, None, IfOk, OnOk, is_some, if◌then◌else◌};
 ghost use Rattle.five_tuple.specs.declared.Flow.{Flow};
-ghost use Rattle.five_tuple.specs.Flow.{flow_bytes};
-ghost use Rattle.connection_table.specs.Touches.{same_flow};
 ghost use Rattle.run_report.specs.declared.noted.Noted.{Noted};
 ghost use Rattle.run_report.specs.Books.{told, with_send, AreLast, RenewedAs};
 
@@ -12,28 +9,8 @@ use crate::noted::Noted;
 use crate::sending::Sending;
 use connection_table::TableKey;
 use five_tuple::Flow;
+use flow_map::FlowMap;
 use std::alloc::{AllocError, Global};
-use std::collections::HashMap;
-use std::hash::{Hash, Hasher};
-
-/// A flow as the key of a map: its 13 bytes are hashed in one piece.
-#[derive(Clone, Copy, PartialEq, Eq)]
-struct FlowKey {
-    flow: Flow,
-}
-
-impl Hash for FlowKey {
-    ghost use Rattle.std.specs.Cmp.Rules.{hashing};
-    ghost use borrow.Author.Rules.{rules};
-
-    ghost hash_input = { λ k. flow_bytes k.flow ∷ [] };
-
-    ghost respects_eq = { Prim.search (hashing, rules) };
-
-    fn hash<H: Hasher>(&self, state: &mut H) {
-        state.write(&self.flow.bytes());
-    }
-}
 
 /// A send of a flow, with its backend's place, and what is kept beside it.
 #[derive(Clone, Copy)]
@@ -49,7 +26,7 @@ struct LastSend<T> {
 /// kept once for all of them.
 #[derive(Drop)]
 pub(crate) struct LastSends<T> {
-    sends: HashMap<FlowKey, LastSend<T>, TableKey>,
+    sends: FlowMap<LastSend<T>>,
     backends: Backends,
 }
 
@@ -57,38 +34,27 @@ impl<T: Copy> LastSends<T> {
     /// Those of no sends. Flows are hashed by the key.
     pub(crate) fn new(alloc: Global, key: TableKey) -> LastSends<T>
         ensures last { AreLast (λ x. None) result }
-        ensures flows { hash_map_len result.sends ≡ 0 }
+        ensures flows { length result.sends ≡ 0 }
     {
         LastSends {
-            sends: HashMap::with_hasher(alloc, key),
+            sends: FlowMap::new(alloc, key),
             backends: Backends::new(alloc),
         }
     }
 
     /// How many flows there are.
     pub(crate) fn len(&self) -> usize
-        ensures { result ≡ hash_map_len self.now.sends }
+        ensures { result ≡ length self.now.sends }
     {
         self.sends.len()
     }
 
-    /// Whether a packet of a flow was sent.
+    /// The place of a flow of which a packet was sent. There it stays.
     #[inline(always)]
-    pub(crate) fn has(&self, flow: &Flow) -> bool
-        ensures { (sent : Flow → Option (Noted T)) → AreLast sent self.now → result ≡ is_some (sent flow.now) }
+    pub(crate) fn place_of(&self, flow: &Flow) -> Option<u32>
+        ensures { (sent : Flow → Option (Noted T)) → AreLast sent self.now → is_some result ≡ is_some (sent flow.now) }
     {
-        match self.sends.get(&FlowKey { flow: *flow }) {
-            None => false,
-            Some(last) => self.backends.has(last.place),
-        }
-    }
-
-    /// Room for so many flows more.
-    pub(crate) fn reserve(&mut self, flows: usize) -> Result<(), AllocError>
-        ensures last { (sent : Flow → Option (Noted T)) → AreLast sent self.old → AreLast sent self.new }
-        ensures flows { hash_map_len self.new.sends ≡ hash_map_len self.old.sends }
-    {
-        self.sends.reserve(flows)
+        self.sends.place_of(flow)
     }
 
     // The send that a flow's entry represents.
@@ -109,25 +75,28 @@ impl<T: Copy> LastSends<T> {
         })
     }
 
-    /// Takes a send as its flow's last where the one before it went to the same backend, by one look into the map. Whether it did.
-    pub(crate) fn renew(&mut self, later: &Noted<T>) -> bool
+    /// Takes a send as its flow's last where its flow stands at a place, and the send before it went to the same backend. Whether
+    /// it did.
+    #[inline(always)]
+    pub(crate) fn renew(&mut self, at: u32, later: &Noted<T>) -> bool
         ensures { (sent : Flow → Option (Noted T)) → AreLast sent self.old → RenewedAs result sent later.now self.old self.new }
     {
         let sending = &later.sending;
-        let Some(last) = self.sends.get_mut(&FlowKey { flow: sending.flow }) else {
+        let Some(last) = self.sends.at(at, &sending.flow) else {
             return false;
         };
         let place = last.place;
         if !self.backends.is_at(place, &sending.backend) {
             return false;
         }
-        *last = LastSend {
+        let send = LastSend {
             number: sending.number,
             place,
             version: sending.version,
             origin: sending.origin,
             beside: later.beside,
         };
+        self.sends.set(at, sending.flow, send);
         true
     }
 
@@ -135,10 +104,9 @@ impl<T: Copy> LastSends<T> {
     pub(crate) fn put(&mut self, later: &Noted<T>) -> Result<Option<Noted<T>>, AllocError>
         ensures first { (sent : Flow → Option (Noted T)) → AreLast sent self.old → IfOk result (λ first. first ≡ sent later.now.sending.flow) }
         ensures last { (sent : Flow → Option (Noted T)) → AreLast sent self.old → OnOk result (AreLast (with_send sent later.now) self.new) }
-        ensures flows { (sent : Flow → Option (Noted T)) → AreLast sent self.old → OnOk result (hash_map_len self.new.sends ≡ hash_map_len self.old.sends + (if is_some (sent later.now.sending.flow) then 0 else 1)) }
+        ensures flows { (sent : Flow → Option (Noted T)) → AreLast sent self.old → OnOk result (length self.new.sends ≡ length self.old.sends + (if is_some (sent later.now.sending.flow) then 0 else 1)) }
     {
         let sending = &later.sending;
-        let key = FlowKey { flow: sending.flow };
         let place = self.backends.place_of(&sending.backend)?;
         let send = LastSend {
             number: sending.number,
@@ -147,9 +115,7 @@ impl<T: Copy> LastSends<T> {
             origin: sending.origin,
             beside: later.beside,
         };
-        let Ok(last) = self.sends.insert(key, send) else {
-            return Err(AllocError);
-        };
+        let last = self.sends.insert(sending.flow, send)?;
         Ok(last.and_then(|last| self.told(&sending.flow, &last)))
     }
 }
