@@ -16,8 +16,8 @@ use Rattle.cluster_core.specs.Histories.{IsSteady}
 use Rattle.cluster_core.specs.Tables.{TablesDiffer}
 use Rattle.run_report.proofs.Agreed.{history_picks, history_tables}
 use Rattle.cluster_core.proofs.Sends.{agreement}
-use Rattle.cluster_core.proofs.Keeps.{keeping}
-use Rattle.cluster_core.proofs.Slots.{tables_differ, tables_are_even}
+use Rattle.cluster_core.proofs.Keeps.{keeping, keeping_ups}
+use Rattle.cluster_core.proofs.Slots.{tables_differ, tables_are_even, no_slot_drains}
 use Rattle.thread_records.specs.declared.nodes.NodeRecord.{NodeRecord}
 use Rattle.thread_records.specs.declared.nodes.History.{History}
 use Rattle.thread_records.specs.Runs.{JoinsRuns}
@@ -60,12 +60,15 @@ keeps s link records nodes history listed sound joined =
     let rules = rules_in s in
     let packets = packets_in s link records in
     let agree : IsSteady rules → Agreement rules history.outcomes.items = λ steady. subst (λ (os : List Outcome). Agreement rules os) (sym joined.told) (agreement rules steady packets history.events.items) in
+    let kept : Keeping rules [] packets history.events.items history.outcomes.items = subst (λ (os : List Outcome). Keeping rules [] packets history.events.items os) (sym joined.told) (keeping rules [] packets history.events.items) in
     let differ : s.scheme ≡ Maglev → TablesDiffer (plain_of s.hash) s.size s.catalogue history.outcomes.items = λ is. tables_differ rules (plain_of s.hash) s.size s.catalogue history.outcomes.items (λ candidates x. ap (λ (kind : SchemeKind). pick_by kind (plain_of s.hash) s.size candidates x 0) is) (λ v x. refl) (agree (maglev_steady s is)) in
     record {
       agreement = agree;
-      keeping = subst (λ (os : List Outcome). Keeping rules [] packets history.events.items os) (sym joined.told) (keeping rules [] packets history.events.items);
+      keeping = kept;
+      keeping_ups = keeping_ups rules [] packets history.events.items history.outcomes.items kept;
       tables = differ;
       splits = λ steady. history_picks rules history.events.items history.outcomes.items (agree steady);
       split_slots = λ is. history_tables (plain_of s.hash) s.size s.catalogue history.events.items history.outcomes.items (differ is);
       slots = λ is. tables_are_even (plain_of s.hash) s.size s.catalogue listed sound;
+      none_drains = λ is. no_slot_drains (plain_of s.hash) s.size s.catalogue sound;
     }
