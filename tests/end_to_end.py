@@ -1153,6 +1153,54 @@ def test_verbose_of_a_scenario():
     simulates("verbose: no fault", quiet, HEAD + record(P), report(1, 1), WRITTEN_HEAD + SENT_RECORD, ["-v"])
 
 
+def test_words_of_steps():
+    """Behind what a step of its first word is, the first of its words that is wrong."""
+    node = "with a balancer N from 0 to 1"
+    digits = "is no number of digits up to 4294967295 without leading zeros"
+    forms = {
+        "install": f"install N V, {node} and a version's number V",
+        "live": "live [N ..], with balancers N from 0 to 1, none twice",
+        "take": "take K, with a number K of records",
+        "lose": "lose K, with a number K of records",
+        "again": "again P, with the number P of a record, from 0 on",
+        "full": f"full N [W ..], {node} and workers W from 0 to 3, none twice; run doesn't know this step",
+        "hold": f"hold N, {node}; run doesn't know this step",
+        "drain": f"drain N, {node}; run doesn't know this step",
+        "restart": f"restart N, {node}",
+        "stop": f"stop N, {node}; run alone knows this step",
+    }
+    for step, wrong in [
+        ("install 9 1", '"9" is no balancer: there are 0 to 1'),
+        ("install 2 x", '"2" is no balancer: there are 0 to 1'),
+        ("install x 2 3", f'"x" {digits}'),
+        ("install 0 01", f'"01" {digits}'),
+        ("install 0 1 2", '"2" is a word too many'),
+        ("install 0", "a word is missing"),
+        ("install", "a word is missing"),
+        ("live 7", '"7" is no balancer: there are 0 to 1'),
+        ("live 0 0", '"0" stands twice'),
+        ("live 1 0 1", '"1" stands twice'),
+        ("live ", f'"" {digits}'),
+        ("full 0 9", '"9" is no worker: there are 0 to 3'),
+        ("full 2 4", '"2" is no balancer: there are 0 to 1'),
+        ("full 0 3 0 3", '"3" stands twice'),
+        ("full", "a word is missing"),
+        ("take 1 1", '"1" is a word too many'),
+        ("take", "a word is missing"),
+        ("take *", f'"*" {digits}'),
+        ("take \\u001b", f'"\\u001b" {digits}'),
+        ("lose -1", f'"-1" {digits}'),
+        ("again 4294967296", f'"4294967296" {digits}'),
+        ("hold 2", '"2" is no balancer: there are 0 to 1'),
+        ("drain 0 1", '"1" is a word too many'),
+        ("restart  0", f'"" {digits}'),
+        ("restart 0 ", '"" is a word too many'),
+        ("stop 5", '"5" is no balancer: there are 0 to 1'),
+    ]:
+        line = f'steps[1], line 9: found "{step}", expected {forms[step.split(" ")[0]]}; {wrong}\n'
+        says(f"the step {step!r}", scenario(["install 0 1", step], workers=4), HEAD, "BadStep 1", line)
+
+
 def says_of_words(name, words, fault, line):
     """With `--verbose` a command that needs no scenario says in a second line which word is wrong; without it there is none."""
     plain = f"fault: {fault}\n"
@@ -1209,15 +1257,14 @@ def advised(text):
     count = collections.defaultdict(int, {line.rsplit(" ", 1)[0]: int(line.rsplit(" ", 1)[1]) for line in text.splitlines() if line[-1].isdigit()})
     few = count["forwarded"] <= count["received"] // 10
     causes = [(cause, count[f"drop {cause}"]) for cause in HELPS if count[f"drop {cause}"]]
-    most = max(causes, key=lambda one: one[1], default=None) if few else next((one for one in causes if one[0] == "RingsFull"), None)
+    most = max(causes, key=lambda one: one[1], default=None) if few else None
     told = [most] if most else []
-    if not most or most[0] != "Truncated":
-        told += [one for one in causes if one[0] == "Truncated"]
+    told += [one for cause in ("RingsFull", "Truncated") for one in causes if one[0] == cause and one != most]
     lines = [f"of {count['received']} packets {dropped} were dropped as {cause}: {HELPS[cause]}" for cause, dropped in told]
     for word, what in [
         ("unrouted", "{} packet{} came when no balancer was live"),
         ("left", "{} record{} at the end of INPUT: no step reads them"),
-        ("refused", "{} event{} refused, as an install of a version that isn't newer: simulate --list shows which"),
+        ("refused", "{} event{} refused, as an install of a version that isn't newer, or isn't there: simulate --list shows which"),
     ]:
         if count[word]:
             lines.append(what.format(count[word], "s" * (count[word] != 1)))
@@ -1272,6 +1319,46 @@ def test_warnings():
     warns("explain", ["install 0 1", "take 2"], [bare.format(1)], ("explain", "-v", "s.toml", "in.pcap", "1", "2"))
 
 
+def advises(name, steps, data, told, command="simulate", versions=(ALL,), more=""):
+    """With `-v` a command warns of these drops alone, each a cause with how many there were, in this order. Gives what it prints."""
+    text = scenario(["live 0", "install 0 1", *steps], versions, more=more)
+    status, out, err = with_files(text, data, lambda folder: run([command, "-v", "s.toml", "in.pcap", "out.pcap"], cwd=folder))
+    received = re.search(r"^received (\d+)$", out.decode(), re.MULTILINE)[1]
+    wanted = told(out.decode()) if callable(told) else told
+    lines = "".join(f"warning: of {received} packets {count} were dropped as {cause}: {HELPS[cause]}\n" for cause, count in wanted)
+    check(f"advised: {name}, by {command}", (status, err.decode()) == (0, lines), f"{out!r} {err!r}")
+
+
+def test_advice_of_drops():
+    """For which cause nearly all packets were dropped, and beside that where rings were full or packets were cut."""
+    tagged = record(bytes(12) + bytes.fromhex("810000010800") + P)
+    plain = record(bytes(12) + b"\x08\x00" + P)
+    ethernet = HEAD[:23] + b"\x01"
+    down = [[f"{member}/down" for member in ALL]]
+    for command in ("simulate", "run"):
+        advises("frames with tags", ["take 3"], ethernet + 3 * tagged, [("NotIpv4", 3)], command)
+        advises("one frame of nine without a tag", ["take 9"], ethernet + 8 * tagged + plain, [], command)
+        advises("nobody is up", ["take 3"], capture("yzx"), [("NoBackend", 3)], command, down)
+    for name, letters, cut, told in [
+        ("a worker that refuses one packet of five", "yyyy|y", 0, [("RingsFull", 1)]),
+        ("one that refuses all", "|yyy", 0, [("RingsFull", 3)]),
+        ("one that refuses what no service has", "w" * 18 + "|yy", 0, [("NoService", 18), ("RingsFull", 2)]),
+        ("one that refuses, and a packet that is cut", "w" * 18 + "|y", 1, [("NoService", 18), ("RingsFull", 1), ("Truncated", 1)]),
+        ("packets that are cut, and one that refuses", "|y", 9, [("Truncated", 9), ("RingsFull", 1)]),
+    ]:
+        before, behind = letters.split("|")
+        data = capture(before + behind) + cut * record(P[:28])
+        advises(name, [f"take {len(before)}", "full 0 0", f"take {len(behind) + cut}"], data, told)
+    count = 20_000
+
+    def of_report(text):
+        full = re.search(r"^drop RingsFull (\d+)$", text, re.MULTILINE)
+        check("a ring of one place is full", full, text)
+        return [("RingsFull", int(full[1]))] if full else []
+
+    advises("a ring of one place", [f"take {count}"], capture("y" * count), of_report, "run", more="ring = 1\n")
+
+
 def tells(name, words, plain, more, text=None, data=None):
     """What a command prints on standard error: into a pipe `plain` alone; with `-v`, with it in front or at a terminal `more` behind
     it. Standard output and the status are the same each time, also where standard output alone is a terminal."""
@@ -1298,7 +1385,7 @@ def test_what_is_told_at_a_terminal():
     warned = scenario(["install 0 1", "install 0 7", "take 2"])
     lacks = "warning: a step installs version 7, which the catalogue lacks\n"
     bare = "warning: node 1 is live when packets come, and never has a version\n"
-    refused = "warning: 1 event refused, as an install of a version that isn't newer: simulate --list shows which\n"
+    refused = "warning: 1 event refused, as an install of a version that isn't newer, or isn't there: simulate --list shows which\n"
     for words in [["simulate", *files], ["run", *files], ["explain", *files[:2], "2", "3"], ["plan", "s.toml", "1", "2"]]:
         tells(f"{words[0]}, a scenario", words, "fault: BadKey\n", size, good.replace("size = 7", "size = 8"), capture("yz"))
         tells(f"{words[0]}, no scenario", words, "fault: OpenScenario\n", f"s.toml: {os.strerror(errno.ENOENT)} (os error 2)\n", None, capture("yz"))

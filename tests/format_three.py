@@ -484,6 +484,35 @@ def test_words_of_double_names():
         rows.says(name, text, HEAD, "DoubleName", f'{path}, line {number}: found "{word}", {expected}')
 
 
+def test_words_of_steps():
+    """`-v` names the first word of a step by time, or of one that may have a star, that is wrong."""
+    stars = "; * is all of them, and at most 100000 steps in all"
+    digits = "is no number of digits up to 4294967295 without leading zeros"
+    forms = {
+        "until": "until T, with T in seconds from 0 to 4294967295, and one to six digits behind a point or no point; {}",
+        "install": "install N V, with a balancer N from 0 to 1 and a version's number V; {}" + stars,
+        "take": "take K, with a number K of records; {}" + stars,
+        "restart": "restart N, with a balancer N from 0 to 1; {}" + stars,
+        "hold": "hold N, with a balancer N from 0 to 1; run doesn't know this step; {}",
+        "live": "live [N ..], with balancers N from 0 to 1, none twice; {}",
+    }
+    for step, wrong in [
+        *[(f"until {time}", f'"{time}" is no time') for time in ["x", "", "1.1234567", "1.", ".5", "01", "-1", "1.5.5", "4294967296", "4294967295.000001"]],
+        ("until", "a word is missing"),
+        ("until 1 2", '"2" is a word too many'),
+        ("install 9 1", '"9" is no balancer: there are 0 to 1'),
+        ("install * *", f'"*" {digits}'),
+        ("install *", "a word is missing"),
+        ("take * 1", '"1" is a word too many'),
+        ("take **", f'"**" {digits}'),
+        ("restart 2", '"2" is no balancer: there are 0 to 1'),
+        ("hold *", f'"*" {digits}'),
+        ("live *", f'"*" {digits}'),
+    ]:
+        line = f'steps[1], line 9: found "{step}", expected {forms[step.split(" ")[0]].format(wrong)}\n'
+        rows.says(f"the step {step!r}", three(scenario(["install * 1", step])), HEAD, "BadStep 1", line)
+
+
 def test_refusals():
     good = scenario(["install 0 1", "take 1"])
     for step in NO_STEPS + ["stop *", "stop 0", "stop * *"]:

@@ -88,24 +88,32 @@ impl<'a> Counts<'a> {
         self.forwarded <= self.received / 10
     }
 
-    /// The drops that are told first: those for the most frequent cause where few packets were sent, and else those at full
-    /// rings.
-    pub(crate) fn drops_to_tell(&self) -> Drops<'a> {
+    // The drops that are told first: those for the most frequent cause, where few packets were sent.
+    fn drops_told_first(&self) -> Drops<'a> {
         if self.are_few_sent() {
             return self.most;
         }
         Drops {
-            cause: "RingsFull",
-            count: self.rings_full,
+            cause: "",
+            count: 0,
         }
     }
 
-    /// How many packets were dropped because the capture has only their beginnings, where that isn't told first.
-    pub(crate) fn others_truncated(&self) -> u64 {
-        if self.drops_to_tell().cause == "Truncated" {
-            return 0;
-        }
-        self.truncated
+    // A cause, with how many packets were dropped for it, or none where that is told first.
+    fn drops_beside(&self, cause: &'a str, count: u64) -> Drops<'a> {
+        let is_told = self.drops_told_first().cause == cause;
+        let count = if is_told { 0 } else { count };
+        Drops { cause, count }
+    }
+
+    /// The drops that are told, each cause once: those for the most frequent one where few packets were sent, then those at
+    /// full rings, and those of packets of which the capture has only the beginnings.
+    pub(crate) fn drops_to_tell(&self) -> [Drops<'a>; 3] {
+        [
+            self.drops_told_first(),
+            self.drops_beside("RingsFull", self.rings_full),
+            self.drops_beside("Truncated", self.truncated),
+        ]
     }
 
     /// Those of the report that a text ends with, in lines or as an object.

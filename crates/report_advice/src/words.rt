@@ -50,18 +50,13 @@ fn advise_dropped(
     )
 }
 
-// Of packets that were nearly all dropped, or else of rings that were full, and of those of which the capture has only the
-// beginnings.
+// Of packets that were nearly all dropped, of rings that were full, and of packets of which the capture has only the beginnings.
 fn advise_drops(
     alloc: Global,
     counts: &Counts<'_>,
     advice: &mut Vec<String>,
 ) -> Result<(), AllocError> {
-    let truncated = Drops {
-        cause: "Truncated",
-        count: counts.others_truncated(),
-    };
-    for drops in [counts.drops_to_tell(), truncated] {
+    for drops in counts.drops_to_tell() {
         if drops.count > 0 {
             advise_dropped(alloc, counts.received, drops, advice)?;
         }
@@ -117,7 +112,7 @@ fn advise_refused(
     tell(
         advice,
         format!(in alloc;
-            "{refused} event{plural} refused, as an install of a version that isn't newer: simulate --list shows which"
+            "{refused} event{plural} refused, as an install of a version that isn't newer, or isn't there: simulate --list shows which"
         )?,
     )
 }

@@ -480,7 +480,7 @@ static SAID_OF_DIFFERENCES: [Said; 14] = [
     (
         "'install 0 1'",
         "'install 7 1'",
-        "steps[0], line 9: found 'install 7 1', expected install N V, with a balancer N from 0 to 0 and a version's number V; * is all of them, and at most 100000 steps in all",
+        "steps[0], line 9: found 'install 7 1', expected install N V, with a balancer N from 0 to 0 and a version's number V; \"7\" is no balancer: there are 0 to 0; * is all of them, and at most 100000 steps in all",
     ),
     (
         "'install 0 1'",
@@ -490,7 +490,7 @@ static SAID_OF_DIFFERENCES: [Said; 14] = [
     (
         "'until 1'",
         "'until 1.'",
-        "steps[1], line 9: found 'until 1.', expected until T, with T in seconds from 0 to 4294967295, and one to six digits behind a point or no point",
+        "steps[1], line 9: found 'until 1.', expected until T, with T in seconds from 0 to 4294967295, and one to six digits behind a point or no point; \"1.\" is no time",
     ),
 ];
 
