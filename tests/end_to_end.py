@@ -1410,7 +1410,7 @@ def test_what_is_told_at_a_terminal():
 def test_readers_that_go_away():
     """Where whoever reads standard output goes away the program ends quietly, with 141 as a program that the signal ends."""
     text = scenario(["install 0 1", "install 1 1", "take 2"])
-    for words in [
+    commands = [
         ["table", "--size", "7", "--hash", "sum", "A"],
         ["compare", "--size", "7", "--hash", "sum", "--old", "A@10.8.0.1", "--new", "B@10.8.0.2"],
         ["plan", "s.toml", "1", "2"],
@@ -1420,19 +1420,19 @@ def test_readers_that_go_away():
         ["simulate", "--list", "s.toml", "in.pcap", "out.pcap"],
         ["run", "s.toml", "in.pcap", "out.pcap"],
         ["simulate", "s.toml", "in.pcap", "-"],
-    ]:
-        for more in [[], ["-v"]]:
+    ]
+    lines = [[*words[:1], *more, *words[1:]] for words in commands for more in [[], ["-v"]]]
+    for words in [*lines, ["--help"], ["simulate", "--help"], ["help", "simulate"], ["--version"]]:
 
-            def broken(folder):
-                reading, writing = os.pipe()
-                os.close(reading)
-                command = [PROGRAM, *words[:1], *more, *words[1:]]
-                done = subprocess.run(command, stdin=subprocess.DEVNULL, stdout=writing, stderr=subprocess.PIPE, cwd=folder, timeout=600)
-                os.close(writing)
-                return done.returncode, done.stderr
+        def broken(folder):
+            reading, writing = os.pipe()
+            os.close(reading)
+            done = subprocess.run([PROGRAM, *words], stdin=subprocess.DEVNULL, stdout=writing, stderr=subprocess.PIPE, cwd=folder, timeout=600)
+            os.close(writing)
+            return done.returncode, done.stderr
 
-            answer = with_files(text, capture("yz"), broken)
-            check(f"a reader goes away: {' '.join(words + more)}", answer == (141, b""), answer)
+        answer = with_files(text, capture("yz"), broken)
+        check(f"a reader goes away: {' '.join(words)}", answer == (141, b""), answer)
 
 
 def test_captures_as_scenarios():

@@ -108,10 +108,12 @@ AGAIN = model.Run(BEGUN["s.toml"].decode(), BEGUN["in.pcap"]).begun_again()
 AGAIN_ON_THREADS = AGAIN.on_threads()
 # One node's part of it.
 PART = TOLD.part_of(1)
-# The same as objects, and its fault: where memory for the object is refused nothing is said.
+# The same as objects, and its fault.
 ASKED = ["--list", "--where", "--per-backend", "--per-node", "--summary"]
-IN_OBJECTS = [(1, b"", b'{"type":"fault","fault":"Memory","detail":null}\n'), (1, b"", b"")]
-LOST_OBJECT = (1, b"", b'{"type":"fault","fault":"ThreadLost","detail":"a thread couldn\'t be started: allow more threads, or take fewer balancers and workers"}\n')
+IN_OBJECTS = [(1, b"", b'{"type":"fault","fault":"Memory","detail":null}\n')]
+# A lost thread, of which nothing more is said where memory for that is refused too.
+WHY_LOST = b'"a thread couldn\'t be started: allow more threads, or take fewer balancers and workers"'
+LOST_OBJECTS = [(1, b"", b'{"type":"fault","fault":"ThreadLost","detail":%b}\n' % detail) for detail in [WHY_LOST, b"null"]]
 DOWN = model.compared(APART.decode(), 1, 2, "192.0.2.1:80/tcp")
 # Two servers of three are replaced, in two orders.
 REPLACED = SCENARIO + SCENARIO[SCENARIO.index(b"[[") :].replace(b"number = 1", b"number = 2").replace(b'"A@10.8.0.1", "B@10.8.0.2"', b'"D@10.8.0.4"')
@@ -170,7 +172,7 @@ CASES = [
     Case(["run", "--where", "--summary", "--pace", "s.toml", "in.pcap", "out.pcap"], RUN_PLACES + TWO + "audit agrees\n" + SUMMARY, files=SPLIT, faults=[LOST]),
     Case(["run", "--syn", "--where", "--summary", "s.toml", "in.pcap", "out.pcap"], AGAIN_ON_THREADS.splits(True) + AGAIN.report() + "audit agrees\n" + AGAIN_ON_THREADS.summary(), files=BEGUN, faults=[LOST]),
     Case(["simulate", "--json", *ASKED, "s.toml", "in.pcap", "out.pcap"], objects.text_of(objects.simulated(TOLD, *ASKED)), files=SPLIT, faults=IN_OBJECTS),
-    Case(["run", "--json", *ASKED[1:], "s.toml", "in.pcap", "out.pcap"], objects.text_of(objects.ran(TOLD, *ASKED[1:])), files=SPLIT, faults=[*IN_OBJECTS, LOST_OBJECT]),
+    Case(["run", "--json", *ASKED[1:], "s.toml", "in.pcap", "out.pcap"], objects.text_of(objects.ran(TOLD, *ASKED[1:])), files=SPLIT, faults=IN_OBJECTS + LOST_OBJECTS),
     Case(["simulate", "--per-backend", "--per-node", "s.toml", "in.pcap", "out.pcap"], TWO + SHARES, files=SPLIT),
     Case(["run", "--per-backend", "--per-node", "s.toml", "in.pcap", "out.pcap"], TWO + "audit agrees\n" + SHARES, files=SPLIT, faults=[LOST]),
     Case(["explain", "--json", "s.toml", "in.pcap", "3", "5"], objects.text_of(objects.explained(TOLD, 3, 5)), files=SPLIT, faults=IN_OBJECTS),

@@ -106,13 +106,14 @@ def man_page(whole, commands):
     page.pop()
     page += [".SH DESCRIPTION", roff("Formats, texts and the order of faults are in docs/FORMATS.md, and docs/USING.md says how to use captures.")]
     page += [".PP", roff("Where standard error is a terminal, more is said of a fault, and of what may not be meant, as with -v. maglev -v COMMAND is maglev COMMAND -v.")]
-    page.append(".SH COMMANDS")
+    files = commands[0].after[-1]
+    page += [".PP", roff(files), ".SH COMMANDS"]
     for one in commands:
         page += [f".SS {one.name}", roff(one.about) + "."]
         for word, text in one.parts["Arguments:"] + one.parts["Options:"]:
             page += [".TP", f".B {roff(word)}", roff(text)]
         for line in one.after:
-            page += after_help(line)
+            page += after_help(line) if line != files else []
     page += section("SCENARIO", "Keys", "A scenario is a TOML document with these keys. Each is required but ring, check and idle, and those of format 3 alone. Sections that are named are those of docs/FORMATS.md.")
     page += section("STEPS", "Steps", "Each step is a text. N is a node and W a worker, counted from 0; V is the number of a version.")
     page += [".SH EXIT STATUS", ".TP", "0", "Done.", ".TP", "1", "A fault, which a line on standard error names."]

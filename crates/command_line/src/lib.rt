@@ -4,8 +4,22 @@
 use clap::{Arg, ArgAction, Command, Error, value_parser};
 use std::alloc::{AllocError, Global};
 
+// A help's end, with where the files are that it names.
+macro_rules! with_files {
+    ($text:literal) => {
+        concat!(
+            $text,
+            "\n\nThe files of docs and examples are those of a clone. Where maglev is installed they are below PREFIX/share/doc/maglev."
+        )
+    };
+}
+
+/// The end of the program's help.
+const PROGRAM_HELP: &str =
+    "With -v a command says more on standard error: maglev -v COMMAND .. does what maglev COMMAND -v .. does.";
+
 /// The end of the help of `simulate`.
-const SIMULATE_HELP: &str =
+const SIMULATE_HELP: &str = with_files!(
     "Example: maglev simulate --list examples/failover.toml examples/failover.pcap sent.pcap
 
 SCENARIO, INPUT and OUTPUT may be -, which is standard input or output. Where OUTPUT is standard output the report is printed on standard error. With --syn or --syn-after INPUT is read twice, so that it can be neither - nor a pipe.
@@ -37,61 +51,72 @@ Faults, and what to do:
   TooLong                      shorten the scenario; or INPUT is damaged
   NoRandom                     let the program read random bytes of the system
   Write                        make room, or open standard output
-  Memory                       allow more memory, or take fewer slots, versions and entries
-
-The files of docs and examples are those of a clone. Where maglev is installed they are below PREFIX/share/doc/maglev.";
+  Memory                       allow more memory, or take fewer slots, versions and entries"
+);
 
 /// The end of the help of `run`.
-const RUN_HELP: &str = "Example: maglev run examples/failover.toml examples/failover.pcap sent.pcap
+const RUN_HELP: &str = with_files!(
+    "Example: maglev run examples/failover.toml examples/failover.pcap sent.pcap
 
 SCENARIO, INPUT and OUTPUT may be -, as for simulate. Steps are those of simulate but for full, hold and drain, which are BadStep. There is one more, which is BadStep in simulate: stop N, at which N's workers end before their next packet and begin anew, without what waits; in format 3 N may be * there too. With --splits events are numbered, and packets ordered, as in the run's history. That goes node by node: of each life first the node's commands and then the servings, worker by worker.
 
 Faults are those of simulate, and:
   ThreadLost           allow more threads, or take fewer nodes and workers
   Foreign, RingLost, BookLost
-                       report it as a bug: what the threads did isn't what was promised";
+                       report it as a bug: what the threads did isn't what was promised"
+);
 
 /// The end of the help of `explain`.
-const EXPLAIN_HELP: &str =
+const EXPLAIN_HELP: &str = with_files!(
     "Example: maglev explain examples/failover.toml examples/failover.pcap 13 15
 
-SCENARIO or INPUT may be -, which is standard input. Faults are those of simulate.";
+SCENARIO or INPUT may be -, which is standard input. Faults are those of simulate."
+);
 
 /// The end of the help of `plan`.
-const PLAN_HELP: &str = "Example: maglev plan examples/rolling.toml 1 2
+const PLAN_HELP: &str = with_files!(
+    "Example: maglev plan examples/rolling.toml 1 2
 
 Each service has a block. Of its slots that name another server, down counts those whose server isn't up any more, moved those whose server is; no table with the same counts changes fewer than least. Where a server drains in TO, drained counts the slots of such servers apart from down. Without TO the slots of the version FROM are printed alone. A version that lacks a service counts as one where it has no members.
 
 With --order the servers that leave from FROM to TO are replaced one by one, and with each the next by name that joins. Each order in which they can be has a line: how many slots name another server though theirs stays, over all steps and services, and the servers. The fewest come first. Of more than six servers there is one order, whose every step moves the fewest.
 
-SCENARIO may be -, which is standard input. Faults of the scenario are those of simulate. BadNumber comes also where it has no version FROM or TO.";
+SCENARIO may be -, which is standard input. Faults of the scenario are those of simulate. BadNumber comes also where it has no version FROM or TO."
+);
 
 /// The end of the help of `scenario`.
-const SCENARIO_HELP: &str = "Example: maglev scenario examples/rolling.pcap > scenario.toml
+const SCENARIO_HELP: &str = with_files!(
+    "Example: maglev scenario examples/rolling.pcap > scenario.toml
 
-INPUT may be -, which is standard input. The scenario has a service for each address, protocol and port to which more than 5 packets went, the most frequent first. A destination that is the other direction of another one, as a client's port is, is left out: docs/FORMATS.md has the rule. Fill in the members of each, and play it with simulate. Faults are those of simulate for INPUT, NoRandom, Write and Memory.";
+INPUT may be -, which is standard input. The scenario has a service for each address, protocol and port to which more than 5 packets went, the most frequent first. A destination that is the other direction of another one, as a client's port is, is left out: docs/FORMATS.md has the rule. Fill in the members of each, and play it with simulate. Faults are those of simulate for INPUT, NoRandom, Write and Memory."
+);
 
 /// The end of the help of `table`.
-const TABLE_HELP: &str = "Example: maglev table --size 7 --hash sum A B C
+const TABLE_HELP: &str = with_files!(
+    "Example: maglev table --size 7 --hash sum A B C
 
 With --scenario FILE --version V the table is that of a service of the scenario's version V: --service names it where there are several.
 
-Example: maglev table --scenario examples/failover.toml --version 1";
+Example: maglev table --scenario examples/failover.toml --version 1"
+);
 
 /// The end of the help of `compare`.
-const COMPARE_HELP: &str =
+const COMPARE_HELP: &str = with_files!(
     "Example: maglev compare --size 7 --hash sum --old 'A@10.8.0.1 B@10.8.0.2' --new 'A@10.8.0.1 B@10.8.0.2/down'
 
 With --scenario FILE --from V --to W the members are those of a service in the scenario's versions V and W: --service names it where there are several.
 
-Example: maglev compare --scenario examples/failover.toml --from 1 --to 2";
+Example: maglev compare --scenario examples/failover.toml --from 1 --to 2"
+);
 
 /// The end of the help of `pick`.
-const PICK_HELP: &str = "The datagram is read from standard input.
+const PICK_HELP: &str = with_files!(
+    "The datagram is read from standard input.
 
 Example: echo 4500001c000100004011aece0a000001c000020103e8003500080000 | maglev pick --size 7 --hash sum A B C
 
-With --scenario FILE --version V the backend is the one that a new flow gets in the scenario's version V.";
+With --scenario FILE --version V the backend is the one that a new flow gets in the scenario's version V."
+);
 
 fn size<'a>(alloc: Global) -> Result<Arg<'a>, AllocError> {
     Arg::new(alloc, "size")
@@ -612,6 +637,7 @@ pub fn command<'a>(alloc: Global, words: &[String]) -> Result<Command<'a>, Error
     let mut whole = Command::new(alloc, "maglev")
         .about("A cluster of layer 4 load balancers after Maglev (NSDI 2016), proved")
         .version("0.1.0")
+        .after_help(PROGRAM_HELP)
         .subcommand_required(true);
     for place in 0..COMMANDS.len() {
         let one = if is_named(words, place) {

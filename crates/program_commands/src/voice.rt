@@ -28,20 +28,16 @@ impl<'x> Voice<'x> {
         self.says_more
     }
 
-    // A text in quotes, as JSON has it, or null.
-    fn quoted(self, text: Option<String>) -> Option<String> {
-        match text {
-            Some(text) => serde_json::to_string(self.rt.alloc(), &text.as_str()).ok(),
-            None => String::from_str(self.rt.alloc(), "null").ok(),
-        }
-    }
-
-    // A fault as an object. Where memory is refused nothing is said of it.
+    // A fault as an object. Where memory for its detail in quotes is refused it is that of the fault Memory.
     fn fault_object(self, fault: CliFault, detail: Option<String>) -> u8 {
-        if let Some(detail) = self.quoted(detail) {
-            let line = r#"{"type":"fault","fault":""#;
-            let _ = writeln!(self.rt.stderr(), "{line}{fault}\",\"detail\":{detail}}}");
-        }
+        let quoted = detail.map(|text| serde_json::to_string(self.rt.alloc(), &text.as_str()));
+        let (fault, detail) = match &quoted {
+            Some(Ok(detail)) => (fault, detail.as_str()),
+            Some(Err(_)) => (CliFault::Memory, "null"),
+            None => (fault, "null"),
+        };
+        let line = r#"{"type":"fault","fault":""#;
+        let _ = writeln!(self.rt.stderr(), "{line}{fault}\",\"detail\":{detail}}}");
         1
     }
 

@@ -1,9 +1,10 @@
 //! Reads the command line, and says what is wrong with it.
-use crate::told;
+use crate::{GONE, told};
 use clap::error::ErrorKind;
 use clap::{ArgMatches, Error};
 use command_faults::CliFault;
 use command_line::command;
+use lazy_files::Refusal;
 use shown_text::shown;
 use std::alloc::{AllocError, Global};
 use std::{env, io};
@@ -28,7 +29,7 @@ fn complain(rt: &HostRuntime, words: &[String]) -> Result<(), AllocError> {
 }
 
 /// What is said of a command line that wasn't read: help, usage, or that memory was refused. A bad command line stays one
-/// where its text can't be written; help that can't be written is a fault.
+/// where its text can't be written. Help that can't be written is a fault, and of a reader that went away nothing is said.
 pub fn unread(rt: &HostRuntime, words: &[String], error: &Error) -> u8 {
     if error.kind() == ErrorKind::OutOfMemory {
         return refused(rt);
@@ -42,6 +43,7 @@ pub fn unread(rt: &HostRuntime, words: &[String], error: &Error) -> u8 {
     }
     match error.print(rt) {
         Ok(()) => status,
+        Err(error) if Refusal::of(&error).is_of_reader() => GONE,
         Err(_) => told(rt, CliFault::Write),
     }
 }
