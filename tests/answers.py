@@ -10,6 +10,7 @@ import random
 import subprocess
 import sys
 import tempfile
+from pathlib import Path
 
 import end_to_end as rows
 import format_three
@@ -185,6 +186,29 @@ def test_pages():
         check(f"USING.md: {' '.join(words[:3])}", printed and lines.startswith(printed) and not done.stderr, f"{done} {lines}")
     text, data, _ = rows.example("failover", "failover")
     check("the summary of USING.md", shown and shown[0][1] == model.Run(text, data).summary(), shown)
+
+
+def last(lines, count):
+    """The last lines of a text, as `tail` has them."""
+    return "".join(lines.splitlines(True)[-count:])
+
+
+def test_readme():
+    """README's commands over the example of the drain, run one after another in its order, print what is shown, which is what the model
+    says. Those of the page make one."""
+    _, _, found = rows.example("draining", "draining")
+    expected = [found.summary(), found.splits(True) + found.report(), last(found.taken(True), 8), last(found.taken(), 39), "", "", ""]
+    files = ("examples/draining.toml", "run.jsonl")
+    shown = [one for one in rows.commands_of((TOP / "README.md").read_text()) if set(files) & set(one[0])]
+    check("README has each", [lines for _, lines in shown] == expected, shown)
+    with tempfile.TemporaryDirectory() as folder:
+        for words, lines in shown:
+            made = [f"{folder}/{word}" if word in ("sent.pcap", "run.jsonl", "run.html") else word for word in words]
+            command = " ".join([PROGRAM if word == "bin/maglev" else word for word in made])
+            done = subprocess.run(command, shell=True, capture_output=True, cwd=TOP, timeout=600, check=False)
+            check(f"README: {' '.join(words[:4])}", (done.returncode, done.stdout.decode(), done.stderr) == (0, lines, b""), f"{done} {lines}")
+        page = (Path(folder) / "run.html").read_text()
+    check("README's page", "changed their server" in page and "What the plan moves" in page, page[:300])
 
 
 # tables of a scenario's services

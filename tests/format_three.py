@@ -865,17 +865,19 @@ def test_rollout():
 
 
 def test_pages():
-    """The pages show the example's steps and what is printed of it, with a drain and without one."""
+    """The pages show the example's steps and what is printed of it, with a drain and without one. tests/answers.py has README's
+    other commands."""
     text, data, drained = rows.example("draining", "draining")
-    runs = [drained, model.Run(text.replace("drain =", "down ="), data)]
-    counted = ["".join(line for line in run.splits().splitlines(True) if not line.startswith("split tcp")) for run in runs]
-    summed = ["".join(run.summary().splitlines(True)[:5]) for run in runs]
-    for name, expected in [("README.md", summed), ("docs/USING.md", counted[:1])]:
+    counted = "".join(line for line in drained.splits().splitlines(True) if not line.startswith("split tcp"))
+    for name, asked, expected in [("README.md", "--summary", drained.summary()), ("docs/USING.md", "--splits", counted)]:
         page = (rows.TOP / name).read_text()
-        shown = [lines for words, lines in rows.commands_of(page) if "examples/draining.pcap" in words]
-        check(f"the example's figures in {name}", shown == expected, f"{shown} {expected}")
+        shown = [lines for words, lines in rows.commands_of(page) if "examples/draining.pcap" in words and asked in words and "--json" not in words]
+        check(f"the example's figures in {name}", shown[0] == expected, f"{shown} {expected}")
         steps = [line for line in page.splitlines() if line.startswith('    "install *')]
         check(f"the example's steps in {name}", all(line in text.splitlines() for line in steps), repr(steps))
+    counts = dict(line.rsplit(" ", 1) for line in model.Run(text.replace("drain =", "down ="), data).summary().splitlines())
+    said = f"{counts['changed']} connections change their server {counts['changes']} times"
+    check("what README says without a drain", said in (rows.TOP / "README.md").read_text(), said)
 
 
 if __name__ == "__main__":

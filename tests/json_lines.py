@@ -24,6 +24,85 @@ def read_back(text):
     return [json.loads(line) for line in text.splitlines()]
 
 
+# The numbers behind each kind of event in a plain line.
+BEHIND = {"install": ["node", "version"], "arrive": ["node", "record"], "serve": ["node", "worker", "version"], "restart": ["node"]}
+# What stands behind an outcome there.
+REST = {"placed": ["worker"], "restarted": ["lost"], "drop": ["cause"], "refused": ["reason"]}
+
+
+def server_of(one):
+    return f"{one['backend']}@{one['address']}"
+
+
+def event_line(one):
+    """The plain line of an event."""
+    rest = [server_of(one), "from", one["chosen"]] if one["outcome"] == "forward" else [one[key] for key in REST.get(one["outcome"], [])]
+    numbers = [one[key] for key in BEHIND[one["kind"]]]
+    return f"{' '.join(map(str, [one['event'], one['kind'], *numbers]))}: {' '.join(map(str, [one['outcome'], *rest]))}\n"
+
+
+def halves_of(one):
+    return " ".join(f"version {half['version']} {server_of(half)}" for half in (one["first"], one["later"]))
+
+
+def split_line(one):
+    """The plain line of a split, with where both packets were sent, if the object has that."""
+    first, later = one["first"], one["later"]
+    at = [f"{send['record']} {send['time']:.6f} {send['node']} {send['worker']}" for send in (first, later) if "why" in one]
+    behind = f" at {' '.join(at)} {one['why']}" if at else ""
+    client = one["flow"].split(" ")[1].split(":")[0]
+    check(f"a client is its flow's source: {one['flow']}", one["client"] == client, one)
+    return f"split {one['flow']} events {first['event']} {later['event']} slot {one['slot']} {halves_of(one)} {one['cause']}{behind}\n"
+
+
+def counted(one, words):
+    return "".join(f"{word} {one[word]}\n" for word in words)
+
+
+def plain_line(one):
+    """The plain lines of an object, but that none is left out where nothing drains."""
+    kind = one["type"]
+    if kind == "event":
+        return event_line(one)
+    if kind == "split":
+        return split_line(one)
+    if kind == "splits":
+        return counted(one, ["flows", "split", "down", "moved", "drained"])
+    if kind == "report":
+        drops = "".join(f"drop {cause} {count}\n" for cause, count in one["dropped"].items() if count)
+        whole = one | {"cut": "yes" if one["cut"] else "no"}
+        words = ["packets", "lost", "unrouted", "skipped", "left", "cut", "received", "forwarded"]
+        return counted(whole, words) + drops + counted(one, ["waiting", "refused"])
+    if kind in ("backend", "node"):
+        who = f"backend {server_of(one)}" if kind == "backend" else f"node {one['node']}"
+        return f"{who} version {one['version']} packets {one['packets']} bytes {one['bytes']} flows {one['flows']}\n"
+    if kind == "summary":
+        return counted(one, ["connections", "changed", "changes"]) + "".join(f"changes {cause} {count}\n" for cause, count in one["why"].items())
+    if kind == "explain":
+        behind = f" slot {one['slot']} {halves_of(one)}{' drained' if one['drained'] else ''}" if one["verdict"] == "split" else ""
+        return f"{one['verdict']}{behind}\n"
+    return {"maglev": "", "audit": "audit agrees\n" if one.get("agrees") else "audit differs\n"}[kind]
+
+
+def says(name, printed, expected):
+    """What was printed, read back, says what the model's plain lines do."""
+    found = "".join(map(plain_line, read_back(printed.decode())))
+    check(f"{name}: read back", found == expected, f"{found!r} {expected!r}")
+
+
+def plain_splits(run, options):
+    """The model's lines of splits with these options, also that of drained ones where no member drains."""
+    if not {"--splits", "--where"} & set(options):
+        return ""
+    return run.splits("--where" in options) + ("" if run.drains() else "drained 0\n")
+
+
+def plain_behind(run, options):
+    """The model's lines behind a report."""
+    shares = [run.taken(option == "--per-node") for option in ("--per-backend", "--per-node") if option in options]
+    return "".join(shares) + (run.summary() if "--summary" in options else "")
+
+
 def prints(name, words, expected, text=None, stdin=b""):
     """A command prints these objects, and each line is read back."""
     answer = with_files(text, None, lambda folder: run(words, stdin=stdin, cwd=folder))
@@ -77,7 +156,11 @@ def test_against_the_model():
         expected = model.Run(text, data)
         options = source.sample(["--list", "--splits", "--where", "--per-backend", "--per-node", "--summary"], source.randrange(7))
         printed = objects.text_of(objects.simulated(expected, *options))
-        simulates(f"scenario {seed} {options}", text, data, printed, expected.output(), ["--json", *options])
+        status, out, err, made = rows.simulated(text, data, ["--json", *options])
+        check(f"scenario {seed} {options}", (status, out, err) == (0, printed.encode(), b""), f"{status} {out!r} {err!r}")
+        check(f"scenario {seed} {options}, what is written", made == expected.output(), repr(made))
+        lines = (expected.listing() if "--list" in options else "") + plain_splits(expected, options)
+        says(f"scenario {seed} {options}", out, lines + expected.report() + plain_behind(expected, options))
 
 
 def test_explained():
@@ -93,11 +176,15 @@ def test_explained():
             answer = with_files(text, data, lambda folder, words=words: run(words, cwd=folder))
             told = objects.text_of(objects.explained(expected, one, other))
             check(f"explain {seed} {one} {other}", answer == (0, told.encode(), b""), f"{answer} {told!r}")
+            says(f"explain {seed} {one} {other}", answer[1], expected.explained(one, other))
         one, other = source.randrange(len(expected.events)), source.randrange(len(expected.events) + 2)
         words = ["explain", "--json", "--list", "s.toml", "in.pcap", str(one), str(other)]
         answer = with_files(text, data, lambda folder, words=words: run(words, cwd=folder))
         told = objects.text_of(objects.explained(expected, one, other, "--list"))
         check(f"explain --list {seed} {one} {other}", answer == (0, told.encode(), b""), f"{answer} {told!r}")
+        lines = expected.listing().splitlines(True)
+        listed = "".join(lines[place] for place in sorted({one, other}) if place < len(lines))
+        says(f"explain --list {seed} {one} {other}", answer[1], listed + expected.explained(one, other))
 
 
 def test_on_threads():
@@ -106,9 +193,13 @@ def test_on_threads():
         source = random.Random(60_000 + seed)
         text, data = rows.random_scenario(source, ("", "*2"), rows.steps_by_lives, 20), rows.random_capture(source)
         options = source.sample(["--splits", "--where", "--per-backend", "--per-node", "--summary"], source.randrange(6))
-        told = objects.text_of(objects.ran(model.Run(text, data), *options)).encode()
+        expected = model.Run(text, data)
+        told = objects.text_of(objects.ran(expected, *options)).encode()
         answer = rows.ran(text, data, ["--json", *options])
         check(f"run {seed} {options}", answer[:3] == (0, told, b""), f"{answer} {told!r}")
+        history = expected.on_threads()
+        lines = plain_splits(history, options) + expected.report() + "audit agrees\n" + plain_behind(history, options)
+        says(f"run {seed} {options}", answer[1], lines)
 
 
 def test_tables():

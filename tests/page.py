@@ -1,13 +1,14 @@
 #!/usr/bin/env python3
 """page.py: the page that share/maglev/report.py makes of what `--json` prints.
 
-Its numbers are those of tests/model.py. Names with signs of HTML, other scripts, a million splits and shares of 300 versions are drawn
-too. Where Chromium is
-installed it draws the page, without a network, light and dark, and the texts and shapes are looked for in what it made. The last line
-is 'N passed, N failed'.
+Its numbers are those of tests/model.py. Names with signs of HTML, other scripts, a million splits, shares of 300 versions and a plan
+of 100,000 servers are drawn too. Where Chromium is installed it draws the page, without a network, light and dark, and the texts and
+shapes are looked for in what it made. The last line is 'N passed, N failed'.
 """
+import collections
 import html.parser
 import json
+import re
 import resource
 import shutil
 import subprocess
@@ -106,15 +107,22 @@ def test_what_the_program_prints():
     check("the program prints it", answer == (0, told.encode(), b""), answer[2])
 
 
+AWKWARD = "<q>\"&'</q> \u05d0\u4e2d"
+
+
+def awkward_names():
+    """Objects whose texts have signs of HTML and other scripts."""
+    send = {"event": 1, "version": 1, "backend": AWKWARD, "address": "10.8.0.1", "record": 0, "time": 1.5, "node": 0, "worker": 0}
+    told = [{"type": "maglev", "version": 1, "command": AWKWARD}]
+    told += [{"type": "split", "flow": AWKWARD, "client": AWKWARD, "slot": 1, "cause": "moved", "why": AWKWARD, "first": send, "later": send}]
+    told += [{"type": "service", "service": AWKWARD, "slots": 7}]
+    return told + [{"type": "member", "service": AWKWARD, "backend": AWKWARD, "address": "", "weight": 1, "slots": 7, "state": AWKWARD}]
+
+
 def test_awkward_names():
     """Signs of HTML and other scripts are shown as they are."""
-    name = "<q>\"&'</q> \u05d0\u4e2d"
-    send = {"event": 1, "version": 1, "backend": name, "address": "10.8.0.1", "record": 0, "time": 1.5, "node": 0, "worker": 0}
-    told = [{"type": "maglev", "version": 1, "command": name}]
-    told += [{"type": "split", "flow": name, "client": name, "slot": 1, "cause": "moved", "why": name, "first": send, "later": send}]
-    told += [{"type": "service", "service": name, "slots": 7}, {"type": "member", "service": name, "backend": name, "address": "", "weight": 1, "slots": 7, "state": name}]
-    _, shape = page_of("awkward names", "".join(json.dumps(one) + "\n" for one in told))
-    check("awkward names: no tag is made", "q" not in shape.tags and any(name in text for text in "".join(shape.texts).split("\n")), shape.tags)
+    _, shape = page_of("awkward names", "".join(json.dumps(one) + "\n" for one in awkward_names()))
+    check("awkward names: no tag is made", "q" not in shape.tags and any(AWKWARD in text for text in "".join(shape.texts).split("\n")), shape.tags)
 
 
 def test_what_is_unknown():
@@ -165,7 +173,14 @@ def cells_of(page):
     return [cells for cells in found if cells]
 
 
+def apart(page):
+    """The tables of a page that have the first version beside the last, and the page without them."""
+    found = ENDS.findall(page)
+    return [cells_of(one) for one in found], ENDS.sub("", page)
+
+
 HEADS = ["packets, share", "packets", "bytes", "bytes, share", "flows"]
+ENDS = re.compile("<h4>from version .*?(?=<h[34]>|</body>|$)")
 
 
 def test_shares_by_hand():
@@ -177,13 +192,18 @@ def test_shares_by_hand():
     servers += [["server", *HEADS], ["B@10.8.0.2", "100.0 %", "1,500", "60,000", "100.0 %", "1,200"]]
     balancers = [["balancer", *HEADS], ["balancer 0", "100.0 %", "4", "1,000", "100.0 %", "3"], ["balancer", *HEADS]]
     balancers += [["balancer 1", "66.7 %", "1,000", "40,000", "66.7 %", "1,000"], ["balancer 0", "33.3 %", "500", "20,000", "33.3 %", "400"]]
+    heads = ["first: version 1", "share", "packets", "flows", "last: version 12345", "share", "packets", "flows"]
+    server_ends = [["server", *heads], ["B@10.8.0.2", "75.0 %", "3", "2", "100.0 %", "1,500", "1,200"], ["A@10.8.0.1", "25.0 %", "1", "1", "0.0 %", "0", "0"]]
+    node_ends = [["balancer", *heads], ["balancer 1", "0.0 %", "0", "0", "66.7 %", "1,000", "1,000"], ["balancer 0", "100.0 %", "4", "3", "33.3 %", "500", "400"]]
     for name, told, expected in [("both", backends + nodes, servers + balancers), ("backends", backends, servers), ("nodes", nodes, balancers)]:
         page, shape = page_of(f"shares of {name}", objects.text_of([head, *told]))
+        ends, page = apart(page)
+        check(f"shares of {name}: first and last", ends == [one for kind, one in ((backends, server_ends), (nodes, node_ends)) if kind[0] in told], ends)
         check(f"shares of {name}: the rows", cells_of(page) == expected, cells_of(page))
         titles = [text for text in shape.texts if text.startswith(("Each ", "version "))]
         parts = [part for part, kind in (("Each server's share", backends), ("Each balancer's share", nodes)) if kind[0] in told]
         check(f"shares of {name}: the parts", titles == [title for part in parts for title in (part, "version 1", "version 12345")], titles)
-        check(f"shares of {name}: what they are of, once", page.count("<p>Of all services") == 1 and page.count("<p>Flows are") == 1, page[-900:])
+        check(f"shares of {name}: what they are of, once", page.count("<p>Of all services") == 1 and page.count("<p>A flow counts in each row") == 1, page[-900:])
         check(f"shares of {name}: no time line", "svg" not in shape.tags and '<i class="one" style="width:100.0%">' in page, shape.tags)
 
 
@@ -191,6 +211,25 @@ def modelled(found, by_node):
     """The name, packets, bytes and flows of each share by the model, version by version, those with the most packets first."""
     told = [(version, -packets, f"balancer {key}" if by_node else "@".join(key), size, flows) for version, key, packets, size, flows in found.shares(by_node)]
     return [[name, f"{-packets:,}", f"{size:,}", f"{flows:,}"] for _, packets, name, size, flows in sorted(told)]
+
+
+def modelled_ends(found, name, by_node):
+    """The first version's shares beside the last's, by the model, and the same without flows."""
+    told = collections.defaultdict(dict)
+    for version, key, packets, _, flows in found.shares(by_node):
+        told[f"balancer {key}" if by_node else "@".join(key)][version] = packets, flows
+    ends = min(map(min, told.values())), max(map(max, told.values()))
+    sums = [sum(of.get(version, (0, 0))[0] for of in told.values()) for version in ends]
+    rows, bare = [[name]], [[name]]
+    for place, version in enumerate(ends):
+        rows[0] += [f"{('first', 'last')[place]}: version {version}", "share", "packets", "flows"]
+        bare[0] += rows[0][-4:-1]
+    for key in sorted(told, key=lambda key: (-sum(told[key].get(version, (0, 0))[0] for version in ends), key)):
+        sides = [told[key].get(version, (0, 0)) for version in ends]
+        cells = [[f"{100 * packets / whole:.1f} %", f"{packets:,}", f"{flows:,}"] for (packets, flows), whole in zip(sides, sums)]
+        rows.append([key, *cells[0], *cells[1]])
+        bare.append([key, *cells[0][:2], *cells[1][:2]])
+    return rows, bare
 
 
 def test_shares_of_a_rollout():
@@ -201,8 +240,12 @@ def test_shares_of_a_rollout():
     pages = {name: page_of(f"a rollout by {name}", objects.text_of(objects.simulated(found, "--where", "--summary", *some)))[0] for name, some in words.items()}
     pages["a run"], _ = page_of("a rollout by a run", objects.text_of(objects.ran(found, "--where", *asked)))
     check("a rollout by neither: no shares", "share</h3>" not in pages["neither"] and "flows" not in pages["neither"])
-    listing, both = (cells_of(shares_in(pages[name])) for name in ("the listing", "both"))
+    (listed, listing), (ends, both) = (apart(shares_in(pages[name])) for name in ("the listing", "both"))
+    listing, both = cells_of(listing), cells_of(both)
     check("a rollout by both: the listing's numbers", [cells[:-1] for cells in both] == listing and len(both) > 20, both[:9])
+    expected = modelled_ends(found, "server", False), modelled_ends(found, "balancer", True)
+    check("a rollout by both: first and last", ends == [rows for rows, _ in expected] and ["0.0 %", "0", "0"] in [cells[1:4] for cells in ends[0]], ends)
+    check("a rollout by the listing: first and last", listed == [rows for _, rows in expected], listed)
     check("a rollout by both: nothing twice", pages["both"].count("share</h3>") == 2, pages["both"].count("share</h3>"))
     check("a rollout by the objects: the same", shares_in(pages["the objects"]) == shares_in(pages["both"]))
     half = pages["backends and the listing"]
@@ -226,6 +269,22 @@ def test_awkward_shares():
         check(f"awkward shares: {shown}", shown in "".join(shape.texts), shape.texts[-30:])
 
 
+def test_first_and_last():
+    """A server that is in another version alone stands there with zeros. Past 40 rows it is told how many more there are."""
+    told = [backend(2, "A", "10.8.0.1", 3, 300, 1), backend(3, "C", "10.8.0.3", 9, 900, 2), backend(5, "B", "10.8.0.2", 1, 100, 1), backend(5, "D", "10.8.0.4", 1, 100, 1)]
+    (found,), _ = apart(page_of("four servers", objects.text_of(told))[0])
+    expected = [["A@10.8.0.1", "100.0 %", "3", "1", "0.0 %", "0", "0"], ["B@10.8.0.2", "0.0 %", "0", "0", "50.0 %", "1", "1"]]
+    expected += [["D@10.8.0.4", "0.0 %", "0", "0", "50.0 %", "1", "1"], ["C@10.8.0.3", "0.0 %", "0", "0", "0.0 %", "0", "0"]]
+    check("four servers: first and last", found[1:] == expected and found[0][1::4] == ["first: version 2", "last: version 5"], found)
+    ends, _ = apart(page_of("one version", objects.text_of(told[:1]))[0])
+    check("one version: nothing to compare", ends == [], ends)
+    told = [node(version, place, version + place, 40, 1) for version in (1, 2) for place in range(45)]
+    page, _ = page_of("45 nodes", objects.text_of(told))
+    (found,), rest = apart(page)
+    check("45 nodes: those with the most packets", [cells[0] for cells in found[1:]] == [f"balancer {place}" for place in range(44, 4, -1)], found)
+    check("45 nodes: the others", (page.count("and 5 more"), rest.count("and 5 more")) == (3, 2), page.count("and 5 more"))
+
+
 def test_shares_of_many():
     """Of 300 versions the first 39 and the last are drawn, each with 40 of its servers, though the last has 400,000. The sums are of all."""
     with tempfile.TemporaryDirectory() as folder:
@@ -245,6 +304,9 @@ def test_shares_of_many():
     titles = [text for text in Shape(page).texts if text.startswith("version ")]
     check("shares of many: versions", titles == 2 * [f"version {version}" for version in [*range(1, 40), 300]], titles)
     check("shares of many: the others", page.count("<p>and 260 more versions, before the last</p><h4>version 300<") == 2, page.count("versions,"))
+    check("shares of many: too many to compare", page.count("<p>Not compared: there are more than 20,000 of them.</p>") == 1, page.count("Not compared"))
+    ends, page = apart(page)
+    check("shares of many: first and last", [len(rows) for rows in ends] == [0, 41] and ends[1][40][0] == "balancer 39", ends)
     counts = [page.count(text) for text in ("<tr>", "<p>and 60 more</p>", "<p>and 399,960 more</p>")]
     check("shares of many: rows", counts == [80 * 41, 79, 1], counts)
     greatest = ["web-000099@10.8.39.1", "2.0 %", "100", "100", "1.0 %", "1"], ["web-000060@10.8.39.1", "1.2 %", "61", "100", "1.0 %", "1"]
@@ -293,15 +355,66 @@ def test_a_million_splits():
     print(f"a million splits: {time.monotonic() - start:.1f} s, {size} bytes")
 
 
+def test_a_great_plan():
+    """Of a service's members and of a table's counts 500 are shown, and 40 services. It is told how many more there are."""
+    with tempfile.TemporaryDirectory() as folder:
+        with open(f"{folder}/in.jsonl", "w", encoding="utf-8") as lines:
+            lines.write('{"type":"maglev","version":1,"command":"plan"}\n')
+            for service in range(100):
+                lines.write('{"type":"service","service":"%d","slots":65537}\n' % service)
+                for place in range(1000):
+                    lines.write('{"type":"member","service":"%d","backend":"s%d-%d","address":"","weight":1,"slots":1,"state":"up"}\n' % (service, service, place))
+            lines.write('{"type":"maglev","version":1,"command":"table"}\n')
+            for place in range(100_000):
+                lines.write('{"type":"count","backend":"c%d","slots":1}\n' % place)
+        done = subprocess.run([sys.executable, TOOL, "in.jsonl", "out.html"], cwd=folder, capture_output=True, timeout=600, check=False)
+        page = (Path(folder) / "out.html").read_text() if done.returncode == 0 else ""
+    check("a great plan: drawn", done.returncode == 0 and 0 < len(page) < 6_000_000, f"{done} {len(page)}")
+    shown = [page.count(text) for text in ("<td>s", "<td>s39-499@", "<td>s39-500@", "<td>s40-", "<td>c", "<td>c499<", "<td>c500<")]
+    check("a great plan: the rows", shown == [40 * 500, 1, 0, 0, 500, 1, 0], shown)
+    more = [page.count(text) for text in ("<p>and 500 more</p>", "<p>and 60 more services</p>", "<p>and 99,500 more</p>")]
+    check("a great plan: the others", more == [40, 1, 1], more)
+
+
+def refused(name, data):
+    """These lines are refused with a word and no page is left, also none of an earlier time that is emptied."""
+    for before in (None, "a page"):
+        with tempfile.TemporaryDirectory() as folder:
+            out = Path(folder) / "out.html"
+            (Path(folder) / "in.jsonl").write_bytes(data)
+            if before:
+                out.write_text(before)
+            done = subprocess.run([sys.executable, TOOL, "in.jsonl", "out.html"], cwd=folder, capture_output=True, text=True, timeout=60, check=False)
+            left = out.read_text() if out.exists() else None
+        check(f"{name}: it is refused", done.returncode == 1 and "isn't of maglev --json" in done.stderr and "Traceback" not in done.stderr, done)
+        check(f"{name}: nothing is written", left == before, left)
+
+
+def test_what_cannot_be_read_or_written():
+    """Lines that are nested too deeply, and half a surrogate pair, in a text that is shown or in one that isn't."""
+    for depth in (2_000, 1_000_000):
+        refused(f"{depth} brackets", b'{"type":"later","rest":' + depth * b"[" + depth * b"]" + b"}\n")
+        refused(f"{depth} braces", depth * b'{"type":' + b"1" + depth * b"}" + b"\n")
+    for half in (b"\\ud800", b"\\udfff x", b"\\udc00\\ud800"):
+        refused(f"half a pair, {half.decode()}", b'{"type":"maglev","version":1,"command":"' + half + b'"}\n')
+        refused(f"half a pair in a name, {half.decode()}", b'{"type":"backend","version":1,"backend":"' + half + b'","address":"a","packets":1,"bytes":1,"flows":1}\n')
+    page, _ = page_of("a whole pair", '{"type":"maglev","version":1,"command":"\\ud83d\\ude00"}\n')
+    check("a whole pair: it is shown", "\U0001f600" in page, page[-80:])
+
+
 def test_in_a_browser():
-    """Chromium draws it, in both colours."""
+    """Chromium draws it, in both colours, and the page of awkward names."""
     browser = next((found for found in map(shutil.which, BROWSERS) if found), None)
     if not browser:
-        print("no Chromium is installed: the page isn't drawn")
+        print("no Chromium is installed: no page is drawn")
         return
     with tempfile.TemporaryDirectory() as folder:
-        drawn(lines_of_rolling(), Path(folder))
         quiet = [browser, "--headless", "--no-sandbox", "--disable-gpu", "--hide-scrollbars", f"--user-data-dir={folder}/profile"]
+        drawn(objects.text_of(awkward_names()), Path(folder))
+        found = subprocess.run([*quiet, "--dump-dom", f"file://{folder}/out.html"], capture_output=True, text=True, timeout=300, check=False).stdout
+        shape = Shape(found)
+        check("a browser: awkward names", "q" not in shape.tags and shape.texts.count(AWKWARD) > 5, shape.texts)
+        drawn(lines_of_rolling(), Path(folder))
         found = subprocess.run([*quiet, "--dump-dom", f"file://{folder}/out.html"], capture_output=True, text=True, timeout=300, check=False).stdout
         shape = Shape(found)
         check("a browser: texts", "changed their server" in found and "its server left" in found, found[:300])

@@ -11,12 +11,15 @@ import html
 import json
 import sys
 
-# The version of the objects, and the most splits, and else the most rows, that a table has, and the most versions with their shares.
-VERSION, MOST_SPLITS, MOST_ROWS = 1, 500, 40
+# The version of the objects; the most rows of a table of splits, of a plan's or of an answer's, and of any other, which is how many
+# versions have their shares too; and the most servers of which the first version is compared with the last.
+VERSION, MOST_SPLITS, MOST_ROWS, MOST_NAMES = 1, 500, 40, 20_000
 # The types of which a command prints one object.
 WHOLE = ("report", "summary", "splits", "audit", "orders", "table", "compare", "fault")
 # The most places of a time line, and the width and height of a drawing.
 MOST_BINS, WIDTH, HEIGHT = 120, 960, 150
+# What comes of lines that no command prints. A line of a thousand brackets is too deep to be read.
+NOT_TOLD = (ValueError, KeyError, TypeError, AttributeError, OverflowError, RecursionError)
 WHY = {
     "down": "its server left",
     "drained": "its server left after it had drained",
@@ -101,10 +104,12 @@ class Ranked:
 
 
 class Shares:
-    """The rows of each version. Versions ascend; where they are many the first are kept, and the last."""
+    """The rows of each version. Versions ascend; where they are many the first are kept, and the last. Of these two all rows are kept
+    by their keys, and the keys of all versions, while they aren't too many."""
 
     def __init__(self):
         self.versions, self.count = {}, 0
+        self.keys, self.first, self.last = set(), {}, {}
 
     def note(self, version, one):
         if version not in self.versions:
@@ -112,7 +117,29 @@ class Shares:
                 self.versions.popitem()
             self.versions[version] = Ranked()
             self.count += 1
+            self.last = {} if self.first else self.first
         self.versions[version].note(one)
+        if len(self.keys) <= MOST_NAMES:
+            self.keys.add(one[0])
+            self.last[one[0]] = one[1:]
+
+    def ends(self):
+        """Of each key what it has under the first version, and under the last. That may be nothing."""
+        none = [0] * max(map(len, [*self.first.values(), *self.last.values()]))
+        found = [(key, [*self.first.get(key, none)], [*self.last.get(key, none)]) for key in self.keys]
+        return sorted(found, key=lambda each: (-each[1][0] - each[2][0], each[0]))
+
+
+class Service:
+    """A service of a plan, with the first of its members."""
+
+    def __init__(self, one):
+        self.one, self.members, self.count = one, [], 0
+
+    def note(self, member):
+        self.count += 1
+        if len(self.members) < MOST_SPLITS:
+            self.members.append(member)
 
 
 def micros_of(time):
@@ -140,7 +167,9 @@ class Told:
         # what the objects of shares tell of the same
         self.server_shares, self.node_shares = Shares(), Shares()
         self.splits, self.split_count, self.why = [], 0, collections.Counter()
-        self.services, self.ways, self.rows = [], [], []
+        self.services, self.service_count, self.ways = [], 0, []
+        # what is said of a table, a comparison, a datagram or two packets
+        self.rows, self.row_count = [], 0
 
     def note(self, one):
         """Takes one object. What it doesn't know it leaves out, since later versions may tell more."""
@@ -190,32 +219,41 @@ class Told:
             self.splits.append(one)
 
     def note_service(self, one):
-        self.services.append((one, []))
+        self.service_count += 1
+        if len(self.services) < MOST_ROWS:
+            self.services.append(Service(one))
 
     def note_member(self, one):
-        if self.services:
-            self.services[-1][1].append(one)
+        if self.services and self.service_count == len(self.services):
+            self.services[-1].note(one)
 
     def note_order(self, one):
         if len(self.ways) < MOST_ROWS:
             self.ways.append(one)
 
+    def note_row(self, *cells):
+        self.row_count += 1
+        if len(self.rows) < MOST_SPLITS:
+            self.rows.append(cells)
+
     def note_count(self, one):
-        self.rows.append([one["backend"], one["slots"]])
+        self.note_row(one["backend"], one["slots"])
 
     def note_slot(self, one):
-        if "old" in one and len(self.rows) < MOST_SPLITS:
-            self.rows.append([one["slot"], *(server_of(one[word]) if one[word] else "nobody" for word in ("old", "new"))])
+        if "old" in one:
+            self.note_row(one["slot"], *(server_of(one[word]) if one[word] else "nobody" for word in ("old", "new")))
 
     def note_pick(self, one):
-        self.rows.append([one["flow"], one["backend"]])
+        self.note_row(one["flow"], one["backend"])
 
     def note_drop(self, one):
-        self.rows.append(["dropped", one["cause"]])
+        self.note_row("dropped", one["cause"])
 
     def note_explain(self, one):
-        self.rows.append(["verdict", one["verdict"]])
-        self.rows += [[word, f"version {one[word]['version']}, {server_of(one[word])}"] for word in ("first", "later") if word in one]
+        self.note_row("verdict", one["verdict"])
+        for word in ("first", "later"):
+            if word in one:
+                self.note_row(word, f"version {one[word]['version']}, {server_of(one[word])}")
 
 
 def server_of(one):
@@ -318,12 +356,35 @@ def ranked_of(name, version, found, words):
     return f"<h4>{text(f'version {version}')}</h4>{table(heads, rows)}{more_of(len(rows), found.count)}"
 
 
+def side_of(counts, most, packets, kind):
+    """The cells of a server's share under one version."""
+    return [bar(counts[0], most, kind), ("count", share(counts[0], packets)), counts[0], *counts[2:]]
+
+
+def ends_of(name, found, words):
+    """The first version's shares beside the last's, with a row for each server of any version."""
+    first, *_, last = found.versions
+    title = f"<h4>{text(f'from version {first} to version {last}')}</h4>"
+    if len(found.keys) > MOST_NAMES:
+        return f"{title}<p>Not compared: there are more than {MOST_NAMES:,} of them.</p>"
+    ends = found.ends()
+    most = max(max(before[0], after[0]) for _, before, after in ends)
+    sums = found.versions[first].packets, found.versions[last].packets
+    rows = [
+        row([words(key), *side_of(before, most, sums[0], "two"), *side_of(after, most, sums[1], "one")])
+        for key, before, after in ends[:MOST_ROWS]
+    ]
+    flows = [count_head("flows")] if len(ends[0][1]) > 2 else []
+    heads = [[("bar", text(each)), count_head("share"), count_head("packets"), *flows] for each in (f"first: version {first}", f"last: version {last}")]
+    return f"{title}{table([name, *heads[0], *heads[1]], rows)}{more_of(len(rows), len(ends))}"
+
+
 def shares_of(name, found, words):
-    """Each version's shares, one version after another."""
+    """The first version beside the last, and then each version's shares, one version after another."""
     parts = [ranked_of(name, version, each, words) for version, each in found.versions.items()]
     if found.count > len(parts):
         parts.insert(len(parts) - 1, f"<p>and {found.count - len(parts):,} more versions, before the last</p>")
-    return "".join(parts)
+    return "".join([ends_of(name, found, words) if found.count > 1 else "", *parts])
 
 
 def shares(told):
@@ -332,7 +393,7 @@ def shares(told):
     nodes = told.node_shares if told.node_shares.count else listed(told.nodes)
     said = "<p>Of all services together, by the version under which packets were served.</p>"
     if told.server_shares.count or told.node_shares.count:
-        said += "<p>Flows are connections, and count in each row that has packets of them.</p>"
+        said += "<p>A flow counts in each row that has packets of it. With --syn it may be several connections, and is counted once.</p>"
     drawn = []
     for name, found, words in [("server", servers, str), ("balancer", nodes, lambda node: f"balancer {node}")]:
         if found.count:
@@ -368,7 +429,8 @@ def splits(told):
     return f"<h3>Connections that changed their server</h3>{table(heads, rows)}{more_of(len(rows), told.split_count)}"
 
 
-def planned_of(service, members):
+def planned_of(told):
+    service, members = told.one, told.members
     counts = [(name, service[name]) for name in ("slots", "changed", "down", "moved", "drained", "least") if name in service]
     after = "after" if "least" in service else "slots"
     most = max([member[after] for member in members] + [member.get("before", 0) for member in members], default=0)
@@ -379,14 +441,16 @@ def planned_of(service, members):
     heads = ["server", count_head("weight")]
     heads += [("bar", "before"), count_head("slots")] if "least" in service else []
     heads += [("bar", "after" if "least" in service else ""), count_head("slots"), "state"]
-    return f"<h4>{text(service['service'])}</h4>{facts(counts)}{table(heads, rows)}"
+    return f"<h4>{text(service['service'])}</h4>{facts(counts)}{table(heads, rows)}{more_of(len(rows), told.count)}"
 
 
 def plans(told):
     if not told.services:
         return ""
-    moves = any("least" in service for service, _ in told.services)
-    return f"<h3>What the plan {'moves' if moves else 'shows'}</h3>{''.join(planned_of(*each) for each in told.services)}"
+    moves = any("least" in service.one for service in told.services)
+    drawn = "".join(map(planned_of, told.services))
+    more = more_of(len(told.services), told.service_count).replace("more<", "more services<")
+    return f"<h3>What the plan {'moves' if moves else 'shows'}</h3>{drawn}{more}"
 
 
 def orders(told):
@@ -404,7 +468,7 @@ def answers(told):
     found = told.whole.get("table") or told.whole.get("compare") or {}
     counts = [(word, count) for word, count in found.items() if word != "type"]
     shown = f'<div class="scroll"><table>{"".join(map(row, told.rows))}</table></div>' if told.rows else ""
-    return (facts(counts) if counts else "") + shown
+    return (facts(counts) if counts else "") + shown + more_of(len(told.rows), told.row_count)
 
 
 def totals(told):
@@ -462,13 +526,13 @@ def told_by(lines):
             if one["type"] == "maglev" or not commands:
                 commands.append(Told(one.get("command", "")))
             commands[-1].note(one)
-        except (ValueError, KeyError, TypeError, AttributeError, OverflowError) as fault:
+        except NOT_TOLD as fault:
             sys.exit(f"report.py: line {number} isn't of maglev --json: {fault}")
     return commands
 
 
 def opened(path, mode, stream):
-    return stream if path == "-" else open(path, mode, encoding="utf-8")
+    return stream if path == "-" else open(path, mode, encoding=None if "b" in mode else "utf-8")
 
 
 def main(words):
@@ -480,12 +544,13 @@ def main(words):
             commands = told_by(lines)
         if not commands:
             sys.exit(f"report.py: {words[0]} says nothing: the command before it may have failed")
-        drawn = page(commands)
-        with opened(words[1], "w", sys.stdout) as out:
+        # as bytes before anything is opened: a text may have half a surrogate pair, which is no text of UTF-8
+        drawn = page(commands).encode()
+        with opened(words[1], "wb", sys.stdout.buffer) as out:
             out.write(drawn)
     except OSError as fault:
         sys.exit(f"report.py: {fault}")
-    except (ValueError, KeyError, TypeError, AttributeError, OverflowError) as fault:
+    except NOT_TOLD as fault:
         sys.exit(f"report.py: {words[0]} isn't of maglev --json: {fault!r}")
     return 0
 
