@@ -10,7 +10,6 @@ import os
 import pathlib
 import random
 import re
-import shlex
 import shutil
 import struct
 import subprocess
@@ -1991,6 +1990,16 @@ def test_stop():
     is_made("stop", "make_stop.py")
 
 
+def prints_last(name, shown):
+    """A command of a page that ends in `| tail -N` prints what is shown."""
+    (_, *words), lines = shown
+    count = int(words.pop().removeprefix("-"))
+    with tempfile.TemporaryDirectory() as made:
+        words = [f"{made}/sent.pcap" if word == "sent.pcap" else str(TOP / word) if "/" in word else word for word in words[: words.index("|")]]
+        status, out, err = run(words)
+    check(name, (status, "".join(out.decode().splitlines(True)[-count:]), err) == (0, lines, b""), f"{out[-900:]} {lines}")
+
+
 def test_rolling():
     """What the page of the rolling change shows is printed, which is what the model says; the picture is drawn of it."""
     text, data, expected = example("rolling", "rolling")
@@ -2002,11 +2011,15 @@ def test_rolling():
     one, other = (int(word) for word in commands[1][0][-2:])
     check("its line explained", expected.explained(one, other) == commands[1][1], commands[1][1])
     prints("explain of the rolling change", [str(TOP / word) if "/" in word else word for word in commands[1][0][1:]], commands[1][1])
-    lines = expected.listing().splitlines(True)
-    check("its two events", lines[one] + lines[other] == commands[2][1], commands[2][1])
+    told = expected.splits(True) + expected.report()
+    check("its last lines with places", "".join(told.splitlines(True)[-15:]) == commands[2][1], commands[2][1])
+    prints_last("the rolling change with places", commands[2])
+    nodes, page = [expected.events[place][2].at.node for place in (one, other)], (EXAMPLES / "rolling.md").read_text()
+    said = f"balancer {nodes[0]} had the connection", f"the connection to balancer {nodes[1]}", f"All {expected.splits().count(' moved')} are"
+    check("its two balancers", all(words in page for words in said) and "changes node 131\n" in expected.summary(), f"{said} {expected.summary()}")
     with tempfile.TemporaryDirectory() as made:
         compared, split, picture = (pathlib.Path(made) / name for name in ("compared", "split", "moves.svg"))
-        words = shlex.split(" ".join(commands[3][0][2:-2]))
+        words = [str(TOP / word) if "/" in word else word for word in commands[3][0][2:-2]]
         status, out, _ = run(["compare", *words])
         check("compare of the rolling change", status == 0 and out.startswith(b"size 1021 old 4 new 6 "), repr(out[:60]))
         compared.write_bytes(out)

@@ -180,7 +180,7 @@ def apart(page):
 
 
 HEADS = ["packets, share", "packets", "bytes", "bytes, share", "flows"]
-ENDS = re.compile("<h4>from version .*?(?=<h[34]>|</body>|$)")
+ENDS = re.compile("<h4>from version .*?(?=<details>|<h[34]>|</body>|$)")
 
 
 def test_shares_by_hand():
@@ -272,9 +272,11 @@ def test_awkward_shares():
 def test_first_and_last():
     """A server that is in another version alone stands there with zeros. Past 40 rows it is told how many more there are."""
     told = [backend(2, "A", "10.8.0.1", 3, 300, 1), backend(3, "C", "10.8.0.3", 9, 900, 2), backend(5, "B", "10.8.0.2", 1, 100, 1), backend(5, "D", "10.8.0.4", 1, 100, 1)]
-    (found,), _ = apart(page_of("four servers", objects.text_of(told))[0])
+    page, _ = page_of("four servers", objects.text_of(told))
+    (found,), _ = apart(page)
     expected = [["A@10.8.0.1", "100.0 %", "3", "1", "0.0 %", "0", "0"], ["B@10.8.0.2", "0.0 %", "0", "0", "50.0 %", "1", "1"]]
     expected += [["D@10.8.0.4", "0.0 %", "0", "0", "50.0 %", "1", "1"], ["C@10.8.0.3", "0.0 %", "0", "0", "0.0 %", "0", "0"]]
+    check("four servers: the others' place", "</table></div><details><summary>By version</summary><h4>version 2</h4>" in page, page[-900:])
     check("four servers: first and last", found[1:] == expected and found[0][1::4] == ["first: version 2", "last: version 5"], found)
     ends, _ = apart(page_of("one version", objects.text_of(told[:1]))[0])
     check("one version: nothing to compare", ends == [], ends)

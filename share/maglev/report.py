@@ -41,7 +41,7 @@ body { margin: 0 auto; max-width: 1040px; padding: 24px 20px 60px; background: v
   font: 15px/1.5 system-ui, sans-serif }
 h1 { font-size: 24px; margin: 0 0 4px } h2 { font-size: 20px; margin: 30px 0 6px }
 h3 { font-size: 17px; margin: 30px 0 8px } h4 { font-size: 14px; margin: 16px 0 4px }
-p { margin: 4px 0 10px; color: var(--faint) }
+p { margin: 4px 0 10px; color: var(--faint) } summary { margin: 8px 0; color: var(--faint); cursor: pointer }
 .facts { display: flex; flex-wrap: wrap; gap: 10px; margin: 14px 0 }
 .fact { background: var(--card); border: 1px solid var(--rule); border-radius: 8px; padding: 8px 14px; min-width: 116px }
 .fact b { display: block; font-size: 21px; font-variant-numeric: tabular-nums } .fact span { color: var(--faint); font-size: 13px }
@@ -380,11 +380,12 @@ def ends_of(name, found, words):
 
 
 def shares_of(name, found, words):
-    """The first version beside the last, and then each version's shares, one version after another."""
+    """The first version beside the last, and each version's shares, one version after another, for those who open them."""
     parts = [ranked_of(name, version, each, words) for version, each in found.versions.items()]
     if found.count > len(parts):
         parts.insert(len(parts) - 1, f"<p>and {found.count - len(parts):,} more versions, before the last</p>")
-    return "".join([ends_of(name, found, words) if found.count > 1 else "", *parts])
+    drawn = "".join(parts)
+    return drawn if found.count < 2 else f"{ends_of(name, found, words)}<details><summary>By version</summary>{drawn}</details>"
 
 
 def shares(told):
