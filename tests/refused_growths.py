@@ -2,7 +2,7 @@
 """Refuses each growth of memory of a command in turn, and compares what the program then says.
 
 A run either never needed what was refused and prints its whole text, or it prints `fault: Memory` and nothing else, with
-status 1. Warnings of `-v` may be left out. Each allocation is refused alone, and once more with all that come behind it, from the
+status 1. Warnings of `-v`, and what it says of a fault, may be left out. Each allocation is refused alone, and once more with all that come behind it, from the
 first of the program to the last. `refuse.c` does it, which the kit's compiler makes into a library that is loaded in front of the
 program.
 
@@ -125,10 +125,12 @@ SOON_PART = model.Run(WITHIN.decode(), SOON["in.pcap"]).begun_again().part_of(1)
 # A step installs a version that isn't there.
 LACKING = {"s.toml": SCENARIO.replace(b'"take 1"', b'"install 1 7", "take 1"'), "in.pcap": CAPTURE}
 WARNED = "warning: a step installs version 7, which the catalogue lacks\nwarning: node 1 is live when packets come, and never has a version\n"
-WARNED += "warning: 1 event refused, as an install of a version that isn't newer: simulate --list shows which\n"
+WARNED += "warning: 1 event refused, as an install of a version that isn't newer, or isn't there: simulate --list shows which\n"
 # The sketch of six packets of which a snap length cut four bytes.
 CUT_SIX = SNAPPED["in.pcap"] + 5 * SNAPPED["in.pcap"][24:]
 SKETCHED_OF_CUT, _ = model.sketched(model.padded(CUT_SIX))
+# What is said of a capture that stands where a scenario should.
+CAPTURE_SAID = "in.pcap: found a capture, expected a scenario: SCENARIO comes before INPUT\n"
 # Where standard error is a file it gets a line of how far INPUT is read, which isn't always the same.
 READ = re.compile(rb"\d+ packets, [^\n]*\n")
 
@@ -147,16 +149,20 @@ class Case:
     faults: list = dataclasses.field(default_factory=list)
     # Whether a text is what it prints, where that isn't always the same.
     judge: object = None
-    # The status with which it ends, and the warnings behind its text.
+    # The status with which it ends, the line of its fault, and what is said behind that, or behind its text.
     status: int = 0
+    fault: str = ""
     said: str = ""
 
     def accepts(self, text):
         return self.judge(text) if self.judge else text == self.text
 
     def warns(self, said, was_refused):
-        """Whether all warnings were given. Where memory was refused some may be left out."""
-        return said == self.said or (was_refused and set(said.splitlines()) <= set(self.said.splitlines()))
+        """Whether a fault's line comes, and all that is said behind it. Where memory was refused some of that may be left out."""
+        if not said.startswith(self.fault):
+            return False
+        more = said[len(self.fault) :]
+        return more == self.said or (was_refused and set(more.splitlines()) <= set(self.said.splitlines()))
 
 
 CASES = [
@@ -199,8 +205,13 @@ CASES = [
     Case(["pick", "--json", "--size", "7", "--hash", "sum", "A", "B", "C"], objects.text_of(objects.picked(PICKED)), TCP, faults=IN_OBJECTS),
     Case(["simulate", "-v", "s.toml", "in.pcap", "out.pcap"], REPORT.replace("refused 0", "refused 1"), files=LACKING, said=WARNED),
     Case(["simulate", "--progress", "s.toml", "in.pcap", "out.pcap"], TWO, files=SPLIT),
+    Case(["run", "--progress", "s.toml", "in.pcap", "out.pcap"], TWO + "audit agrees\n", files=SPLIT, faults=[LOST]),
+    Case(["explain", "--progress", "s.toml", "in.pcap", "3", "5"], TOLD.explained(3, 5), files=SPLIT),
+    Case(["scenario", "--progress", "in.pcap"], SKETCHED, files={"in.pcap": CAPTURE + 5 * CAPTURE[24:]}),
+    Case(["simulate", "-v", "in.pcap", "s.toml", "out.pcap"], "", files=FILES, status=1, fault="fault: BadToml\n", said=CAPTURE_SAID),
     Case(["simulate", "--syn", "--node", "1", "--where", "s.toml", "in.pcap", "out.pcap"], SOON_PART.splits(True) + SOON_PART.report(), files=SOON),
     Case(["simulate", "--cut", "pad", "s.toml", "in.pcap", "out.pcap"], PADDED.report(), files=SNAPPED, written={"out.pcap": PADDED.output()}),
+    Case(["explain", "--cut", "pad", "s.toml", "in.pcap", "2", "2"], "same\n", files=SNAPPED),
     Case(["run", "--cut", "pad", "s.toml", "in.pcap", "out.pcap"], PADDED.report() + "audit agrees\n", files=SNAPPED, written={"out.pcap": PADDED.output()}, faults=[LOST]),
     Case(["run", "s.toml", "in.pcap", "out.pcap"], AUDITED, files=FILES, written={"out.pcap": SENT}, faults=[LOST]),
     Case(["run", "s.toml", "in.pcap", "out.pcap"], TWO + "audit agrees\n", files=NODES, written={"out.pcap": SENT_BY_TWO}, faults=[LOST]),
