@@ -808,6 +808,32 @@ def test_format_two_in_format_three():
         check(f"plan {seed} in format 3", old[0] == 0 and old == new, f"{old} {new}")
 
 
+# What else is asked of a run: the tables of the answers, and all of it as objects.
+ASKED = (["--splits", "--where", "--summary", "--per-backend", "--per-node"], ["--json", "--list", "--where", "--summary", "--per-node"])
+
+
+def explained(text, data, words):
+    """Status, standard output and standard error of `explain`."""
+    return rows.with_files(text, data, lambda folder: rows.run(["explain", *words[:-2], "s.toml", "in.pcap", *words[-2:]], cwd=folder))
+
+
+def test_answers_of_format_two_in_format_three():
+    """The same of all else that is told of a run, of its explanations, and of the orders of a plan."""
+    for name, text, data in of_format_two():
+        for words in ASKED:
+            old, new = (rows.simulated(one, data, words) for one in (text, three(text)))
+            check(f"{name} in format 3, {' '.join(words)}", old[0] == 0 and old == new, f"{old} {new}")
+    for seed in range(60):
+        source = random.Random(9000 + seed)
+        text, data = rows.random_scenario(source, source.choice([("",), ("", "*2", "*16")])), rows.random_capture(source)
+        words = ["--list", str(source.randrange(60)), str(source.randrange(60))]
+        old, new = (explained(one, data, words) for one in (text, three(text)))
+        check(f"explanation {seed} in format 3", old[0] == 0 and old == new, f"{old} {new}")
+        for words in (["1"], ["1", "2", "--order"], ["3", "1", "--order"]):
+            old, new = (rows.run(["plan", "-", *words], stdin=one.encode()) for one in (text, three(text)))
+            check(f"plan {seed} in format 3, {' '.join(words)}", old[0] == 0 and old == new, f"{old} {new}")
+
+
 def ends(expected):
     """Of each flow that was sent, where its first and its last packet come in the capture."""
     found = {}
