@@ -812,7 +812,7 @@ def test_format_two_in_format_three():
 ASKED = (["--splits", "--where", "--summary", "--per-backend", "--per-node"], ["--json", "--list", "--where", "--summary", "--per-node"])
 
 
-def explained(text, data, words):
+def explanation_of(text, data, words):
     """Status, standard output and standard error of `explain`."""
     return rows.with_files(text, data, lambda folder: rows.run(["explain", *words[:-2], "s.toml", "in.pcap", *words[-2:]], cwd=folder))
 
@@ -827,7 +827,7 @@ def test_answers_of_format_two_in_format_three():
         source = random.Random(9000 + seed)
         text, data = rows.random_scenario(source, source.choice([("",), ("", "*2", "*16")])), rows.random_capture(source)
         words = ["--list", str(source.randrange(60)), str(source.randrange(60))]
-        old, new = (explained(one, data, words) for one in (text, three(text)))
+        old, new = (explanation_of(one, data, words) for one in (text, three(text)))
         check(f"explanation {seed} in format 3", old[0] == 0 and old == new, f"{old} {new}")
         for words in (["1"], ["1", "2", "--order"], ["3", "1", "--order"]):
             old, new = (rows.run(["plan", "-", *words], stdin=one.encode()) for one in (text, three(text)))
