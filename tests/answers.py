@@ -188,16 +188,11 @@ def test_pages():
     check("the summary of USING.md", shown and shown[0][1] == model.Run(text, data).summary(), shown)
 
 
-def last(lines, count):
-    """The last lines of a text, as `tail` has them."""
-    return "".join(lines.splitlines(True)[-count:])
-
-
 def test_readme():
     """README's commands over the example of the drain, run one after another in its order, print what is shown, which is what the model
     says. Those of the page make one."""
     _, _, found = rows.example("draining", "draining")
-    expected = [found.summary(), found.splits(True) + found.report(), last(found.taken(True), 8), last(found.taken(), 39), "", "", ""]
+    expected = [found.summary(), found.splits(True) + found.report(), rows.last(found.taken(True), 8), rows.last(found.taken(), 39), "", "", ""]
     files = ("examples/draining.toml", "run.jsonl")
     shown = [one for one in rows.commands_of((TOP / "README.md").read_text()) if set(files) & set(one[0])]
     check("README has each", [lines for _, lines in shown] == expected, shown)

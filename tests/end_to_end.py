@@ -1990,6 +1990,11 @@ def test_stop():
     is_made("stop", "make_stop.py")
 
 
+def last(lines, count):
+    """The last lines of a text, as `tail` has them."""
+    return "".join(lines.splitlines(True)[-count:])
+
+
 def prints_last(name, shown):
     """A command of a page that ends in `| tail -N` prints what is shown."""
     (_, *words), lines = shown
@@ -1997,7 +2002,7 @@ def prints_last(name, shown):
     with tempfile.TemporaryDirectory() as made:
         words = [f"{made}/sent.pcap" if word == "sent.pcap" else str(TOP / word) if "/" in word else word for word in words[: words.index("|")]]
         status, out, err = run(words)
-    check(name, (status, "".join(out.decode().splitlines(True)[-count:]), err) == (0, lines, b""), f"{out[-900:]} {lines}")
+    check(name, (status, last(out.decode(), count), err) == (0, lines, b""), f"{out[-900:]} {lines}")
 
 
 def test_rolling():
@@ -2007,12 +2012,12 @@ def test_rolling():
     commands = commands_of((EXAMPLES / "rolling.md").read_text())
     names = [words[1] for words, _ in commands]
     check("the commands of the rolling change", names == ["simulate", "explain", "simulate", "compare", "simulate", "examples/moves.py"], repr(names))
-    check("its last lines", "".join((expected.splits() + expected.report()).splitlines(True)[-15:]) == commands[0][1], commands[0][1])
+    check("its last lines", last(expected.splits() + expected.report(), 15) == commands[0][1], commands[0][1])
     one, other = (int(word) for word in commands[1][0][-2:])
     check("its line explained", expected.explained(one, other) == commands[1][1], commands[1][1])
     prints("explain of the rolling change", [str(TOP / word) if "/" in word else word for word in commands[1][0][1:]], commands[1][1])
     told = expected.splits(True) + expected.report()
-    check("its last lines with places", "".join(told.splitlines(True)[-15:]) == commands[2][1], commands[2][1])
+    check("its last lines with places", last(told, 15) == commands[2][1], commands[2][1])
     prints_last("the rolling change with places", commands[2])
     nodes, page = [expected.events[place][2].at.node for place in (one, other)], (EXAMPLES / "rolling.md").read_text()
     said = f"balancer {nodes[0]} had the connection", f"the connection to balancer {nodes[1]}", f"All {expected.splits().count(' moved')} are"

@@ -10,7 +10,6 @@ import html.parser
 import json
 import re
 import resource
-import shutil
 import subprocess
 import sys
 import tempfile
@@ -23,8 +22,10 @@ import objects
 from end_to_end import run
 from harness import TOP, check, run_tests
 
+sys.path.append(str(TOP / "tools"))
+import page_picture  # noqa: E402
+
 TOOL = TOP / "share" / "maglev" / "report.py"
-BROWSERS = ("chromium", "chromium-browser", "google-chrome")
 
 
 class Shape(html.parser.HTMLParser):
@@ -416,12 +417,11 @@ def draws(quiet, folder):
 
 def test_in_a_browser():
     """Chromium draws it, in both colours, and the page of awkward names."""
-    browser = next((found for found in map(shutil.which, BROWSERS) if found), None)
-    if not browser:
-        print("no Chromium is installed: no page is drawn")
-        return
     with tempfile.TemporaryDirectory() as folder:
-        quiet = [browser, "--headless", "--no-sandbox", "--disable-gpu", "--hide-scrollbars", f"--user-data-dir={folder}/profile"]
+        quiet = page_picture.quietly(f"{folder}/profile")
+        if not quiet:
+            print("no Chromium is installed: no page is drawn")
+            return
         if not draws(quiet, folder):
             print("Chromium draws no page here: none is drawn")
             return
@@ -436,8 +436,7 @@ def test_in_a_browser():
         check("a browser: shapes", shape.tags.get("svg") == 2 and shape.tags.get("rect", 0) > 20, shape.tags)
         sizes = []
         for dark in (False, True):
-            words = ["--window-size=1080,1400", f"--screenshot={folder}/page.png", *(["--blink-settings=preferredColorScheme=0"] if dark else [])]
-            subprocess.run([*quiet, *words, f"file://{folder}/out.html"], capture_output=True, timeout=300, check=False)
+            page_picture.draw(quiet, f"{folder}/out.html", f"{folder}/page.png", 1400, dark)
             picture = (Path(folder) / "page.png").read_bytes()
             sizes.append(len(picture))
             check(f"a browser: a picture, dark {dark}", picture[:4] == b"\x89PNG" and len(picture) > 20_000, len(picture))

@@ -28,16 +28,27 @@ def page(folder):
     subprocess.run([sys.executable, f"{TOP}/share/maglev/report.py", f"{folder}/run.jsonl", f"{folder}/run.html"], check=True)
 
 
-def main():
+def quietly(profile):
+    """The words that run Chromium without a window, with its files in a folder; none where it isn't installed."""
     browser = next((found for found in map(shutil.which, BROWSERS) if found), None)
-    if not browser:
-        sys.exit("page_picture.py: Chromium isn't installed")
+    return browser and [browser, "--headless", "--no-sandbox", "--disable-gpu", "--hide-scrollbars", f"--user-data-dir={profile}"]
+
+
+def draw(quiet, shown, picture, tall, dark):
+    """Draws a page into a picture so tall, by the words that run Chromium, in the dark colours or the light ones. Whether it did."""
+    words = [f"--window-size={WIDTH},{tall}", f"--screenshot={picture}", *(["--blink-settings=preferredColorScheme=0"] if dark else [])]
+    return subprocess.run([*quiet, *words, f"file://{shown}"], capture_output=True, timeout=300, check=False).returncode == 0
+
+
+def main():
     with tempfile.TemporaryDirectory() as folder:
+        quiet = quietly(f"{folder}/profile")
+        if not quiet:
+            sys.exit("page_picture.py: Chromium isn't installed")
         page(folder)
-        quiet = [browser, "--headless", "--no-sandbox", "--disable-gpu", "--hide-scrollbars", f"--user-data-dir={folder}/profile"]
-        for colour, words in [("light", []), ("dark", ["--blink-settings=preferredColorScheme=0"])]:
-            words = [*words, f"--window-size={WIDTH},{TALL}", f"--screenshot={TOP}/examples/page-{colour}.png"]
-            subprocess.run([*quiet, *words, f"file://{folder}/run.html"], capture_output=True, timeout=300, check=True)
+        for colour in ("light", "dark"):
+            if not draw(quiet, f"{folder}/run.html", f"{TOP}/examples/page-{colour}.png", TALL, colour == "dark"):
+                sys.exit("page_picture.py: Chromium drew nothing")
 
 
 if __name__ == "__main__":

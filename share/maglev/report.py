@@ -117,7 +117,7 @@ class Shares:
                 self.versions.popitem()
             self.versions[version] = Ranked()
             self.count += 1
-            self.last = {} if self.first else self.first
+            self.last = self.first if self.count == 1 else {}
         self.versions[version].note(one)
         if len(self.keys) <= MOST_NAMES:
             self.keys.add(one[0])
@@ -332,8 +332,8 @@ def over_time(told):
     return f"<h3>Over time</h3><p>From the earliest of them on.</p>{lines}"
 
 
-def more_of(shown, count):
-    return f"<p>and {count - shown:,} more</p>" if count > shown else ""
+def more_of(shown, count, of=""):
+    return f"<p>and {count - shown:,} more{of}</p>" if count > shown else ""
 
 
 def listed(counts):
@@ -450,7 +450,7 @@ def plans(told):
         return ""
     moves = any("least" in service.one for service in told.services)
     drawn = "".join(map(planned_of, told.services))
-    more = more_of(len(told.services), told.service_count).replace("more<", "more services<")
+    more = more_of(len(told.services), told.service_count, " services")
     return f"<h3>What the plan {'moves' if moves else 'shows'}</h3>{drawn}{more}"
 
 
