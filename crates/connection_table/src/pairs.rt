@@ -2,7 +2,7 @@
 ghost use Rattle.std.specs.Prelude.{◌≡◌, ◌<◌, ◌≤◌, ◌+◌, ◌-◌, ◌∷◌, [], length, take, IfOk, IsOk, OnOk, OnErr, MatchOption, None, slice_get, slice_index};
 ghost use Rattle.connection_table.specs.Picked.{pair_at};
 ghost use Rattle.connection_table.specs.Recency.{retouched};
-ghost use Rattle.connection_table.specs.Tied.{AreTied, IsPlaceOf, is_of, touches_of};
+ghost use Rattle.connection_table.specs.Tied.{AreTied, IsPlaceOf, flow_hash, is_of, touches_of};
 ghost use Rattle.connection_table.specs.Touches.{last_touch, without};
 
 use crate::key::TableKey;
@@ -62,10 +62,19 @@ impl Pairs {
         self.pairs.len()
     }
 
-    /// The place of a flow's pair.
+    /// The hash of a flow.
     #[inline(always)]
-    pub(crate) fn place_of(&self, flow: &Flow) -> Option<u32>
-        requires { AreTied self.now }
+    pub(crate) fn hash_of(&self, flow: &Flow) -> u32
+        ensures { result ≡ flow_hash self.now.key flow.now }
+    {
+        self.key.hash_of(flow)
+    }
+
+    /// The place of a flow's pair, by the flow's hash.
+    #[inline(always)]
+    pub(crate) fn place_by(&self, hash: u32, flow: &Flow) -> Option<u32>
+        requires tied { AreTied self.now }
+        requires hash { hash ≡ flow_hash self.now.key flow.now }
         ensures { MatchOption result (last_touch flow.now (touches_of self.now) ≡ None) (λ p. IsPlaceOf flow.now self.now p) }
     {
         self.order.are_places();
@@ -74,7 +83,16 @@ impl Pairs {
             requires { 0 < place }
             ensures { result ≡ is_of flow.entry.now (slice_get pairs.entry.now.items (place - 1)) }
         { is_at(pairs, place, flow) };
-        self.buckets.find(self.key.hash_of(flow), is_its)
+        self.buckets.find(hash, is_its)
+    }
+
+    /// The place of a flow's pair.
+    #[inline(always)]
+    pub(crate) fn place_of(&self, flow: &Flow) -> Option<u32>
+        requires { AreTied self.now }
+        ensures { MatchOption result (last_touch flow.now (touches_of self.now) ≡ None) (λ p. IsPlaceOf flow.now self.now p) }
+    {
+        self.place_by(self.hash_of(flow), flow)
     }
 
     /// The entry at a place.
@@ -117,9 +135,10 @@ impl Pairs {
         self.pairs[place as usize - 1] = (flow, entry);
     }
 
-    /// Puts a pair in the place of the one that was used longest ago. Takes no memory.
-    pub(crate) fn replace_oldest(&mut self, flow: Flow, entry: Entry)
+    /// Puts a pair, whose flow has this hash, in the place of the one that was used longest ago. Takes no memory.
+    pub(crate) fn replace_oldest(&mut self, hash: u32, flow: Flow, entry: Entry)
         requires tied { AreTied self.old }
+        requires hash { hash ≡ flow_hash self.old.key flow }
         requires some { 0 < length self.old.pairs.items }
         requires absent { last_touch flow (touches_of self.old) ≡ None }
         ensures tied { AreTied self.new }
@@ -129,7 +148,7 @@ impl Pairs {
     {
         self.order.are_places();
         let place = self.order.oldest();
-        self.buckets.rehash(place, self.key.hash_of(&flow));
+        self.buckets.rehash(place, hash);
         self.order.promote(place);
         self.pairs[place as usize - 1] = (flow, entry);
     }
@@ -151,9 +170,10 @@ impl Pairs {
         self.buckets.add(hash)
     }
 
-    /// Puts a pair at a place of its own. Where memory is refused the pairs are as they were.
-    pub(crate) fn push(&mut self, flow: Flow, entry: Entry) -> Result<(), AllocError>
+    /// Puts a pair, whose flow has this hash, at a place of its own. Where memory is refused the pairs are as they were.
+    pub(crate) fn push(&mut self, hash: u32, flow: Flow, entry: Entry) -> Result<(), AllocError>
         requires tied { AreTied self.old }
+        requires hash { hash ≡ flow_hash self.old.key flow }
         requires few { length self.old.pairs.items < 1000000 }
         requires absent { last_touch flow (touches_of self.old) ≡ None }
         ensures tied { AreTied self.new }
@@ -161,10 +181,9 @@ impl Pairs {
         ensures key { self.new.key ≡ self.old.key }
         ensures err { OnErr result ((touches_of self.new ≡ touches_of self.old) × (length self.new.pairs.items ≡ length self.old.pairs.items)) }
     {
-        let key = self.key;
         self.order.are_places();
         self.pairs.reserve()?;
-        self.hash_next(key.hash_of(&flow))?;
+        self.hash_next(hash)?;
         self.order.add()?;
         self.pairs.push_reserved((flow, entry));
         Ok(())

@@ -1,6 +1,7 @@
 //! A table whose entries stand at places, with links between them.
 ghost use Rattle.std.specs.Prelude.{◌≡◌, ◌<◌, ◌≤◌, [], length, IfOk, IsOk, OnOk, OnErr, Some, None};
 ghost use Rattle.connection_table.specs.Recency.{Keyed, stored};
+ghost use Rattle.connection_table.specs.Tied.{flow_hash};
 ghost use Rattle.connection_table.specs.Touches.{last_touch};
 
 use crate::key::TableKey;
@@ -42,18 +43,19 @@ impl fmt::Debug for PlaceTable {
 }
 
 impl PlaceTable {
-    // Puts the pair of a flow that has none in front. In a full table the last one goes.
-    fn insert(&mut self, flow: Flow, entry: Entry) -> Result<(), AllocError>
-        requires { last_touch flow self.old.pairs ≡ None }
+    // Puts the pair of a flow that has none, and has this hash, in front. In a full table the last one goes.
+    fn insert(&mut self, hash: u32, flow: Flow, entry: Entry) -> Result<(), AllocError>
+        requires absent { last_touch flow self.old.pairs ≡ None }
+        requires hash { hash ≡ flow_hash self.old.key flow }
         ensures ok { OnOk result (self.new ≡ record self.old { pairs = stored self.old.limit flow entry self.old.pairs }) }
         ensures err { OnErr result (self.new ≡ self.old) }
         ensures full { length self.old.pairs ≡ self.old.limit → IsOk result }
     {
         if self.pairs.len() == self.limit as usize {
-            self.pairs.replace_oldest(flow, entry);
+            self.pairs.replace_oldest(hash, flow, entry);
             return Ok(());
         }
-        self.pairs.push(flow, entry)
+        self.pairs.push(hash, flow, entry)
     }
 }
 
@@ -90,12 +92,13 @@ impl ConnTable for PlaceTable {
     }
 
     fn store(&mut self, flow: Flow, entry: Entry) -> Result<(), AllocError> {
-        match self.pairs.place_of(&flow) {
+        let hash = self.pairs.hash_of(&flow);
+        match self.pairs.place_by(hash, &flow) {
             Some(place) => {
                 self.pairs.write(place, flow, entry);
                 Ok(())
             }
-            None => self.insert(flow, entry),
+            None => self.insert(hash, flow, entry),
         }
     }
 
@@ -106,10 +109,11 @@ impl ConnTable for PlaceTable {
         keeps: K,
         makes: M,
     ) -> Renewed {
-        let Some(place) = self.pairs.place_of(&flow) else {
+        let hash = self.pairs.hash_of(&flow);
+        let Some(place) = self.pairs.place_by(hash, &flow) else {
             let entry = makes();
             let lent = &entry;
-            let stored = self.insert(flow, *lent).is_ok();
+            let stored = self.insert(hash, flow, *lent).is_ok();
             return Renewed::Made { entry, stored };
         };
         let entry = self.pairs.entry_at(place);

@@ -18,7 +18,7 @@ returns-clause-tied c =
     let o = c.oldest-place.ensures in
     let i : ℕ = c.oldest-place.result - 1 in
     let hash : ℕ = flow_hash c.args.self.now.key c.args.flow in
-    let hashes : c.rehash.new.self ≡ set c.args.self.now.buckets i hash = c.rehash.ensures ∙ ap (λ (n : ℕ). set c.args.self.now.buckets i n) c.hash_of.ensures in
+    let hashes : c.rehash.new.self ≡ set c.args.self.now.buckets i hash = c.rehash.ensures ∙ ap (λ (n : ℕ). set c.args.self.now.buckets i n) c.requires.hash in
     let long : length (set c.args.self.now.pairs.items i (c.args.flow, c.args.entry)) ≡ length c.args.self.now.pairs.items = length-set c.args.self.now.pairs.items i (c.args.flow, c.args.entry) in
     record {
       ordered = c.promote.ensures.len ∙ t.ordered ∙ sym long;
