@@ -7,6 +7,12 @@ use Rattle.pool_versions.specs.declared.catalogue.PoolFault.{PoolFault}
 use Rattle.pool_versions.specs.declared.catalogue.PoolFault.TheVariants as pool
 use Rattle.pcap_file.specs.declared.format.PcapFault.{PcapFault}
 use Rattle.pcap_file.specs.declared.format.PcapFault.TheVariants as capture
+use Rattle.scenario.specs.declared.fault.ScenarioFault.{ScenarioFault}
+use Rattle.scenario.specs.declared.fault.ScenarioFault.TheVariants as read
+use Rattle.simulation.specs.declared.fault.SimulationFault.{SimulationFault}
+use Rattle.simulation.specs.declared.fault.SimulationFault.TheVariants as run
+use Rattle.thread_roles.specs.declared.fault.RunFault.{RunFault}
+use Rattle.thread_roles.specs.declared.fault.RunFault.TheVariants as threads
 use Rattle.command_faults.specs.declared.fault.CliFault.{CliFault}
 use Rattle.command_faults.specs.declared.fault.CliFault.TheVariants.{BadSize, BadHash, BadName, DoubleName, TooMany, Write, BadHex, TooLong, Read, BadMember, BadToml, BadFormat, BadKey, Pool, BadStep, BadService, BadScheme, Capture, OpenScenario, OpenInput, OpenOutput, ReadScenario, NoRandom, ThreadLost, Foreign, RingLost, BookLost, Memory}
 
@@ -36,6 +42,31 @@ pool_fault fault = Pool fault
 abbrev pub capture_fault : PcapFault → CliFault
 capture_fault capture.Memory = Memory
 capture_fault fault = Capture fault
+
+-- the fault of a scenario, as the command's
+abbrev pub scenario_fault : ScenarioFault → CliFault
+scenario_fault read.TooLong = TooLong
+scenario_fault read.BadToml = BadToml
+scenario_fault read.BadFormat = BadFormat
+scenario_fault read.BadKey = BadKey
+scenario_fault read.BadMember = BadMember
+scenario_fault (read.Pool fault) = pool_fault fault
+scenario_fault (read.BadStep step) = BadStep step
+scenario_fault read.Memory = Memory
+
+-- the fault of a run over a capture
+abbrev pub run_fault : SimulationFault → CliFault
+run_fault (run.Capture fault) = capture_fault fault
+run_fault run.Write = Write
+run_fault run.Memory = Memory
+
+-- the fault of a run on threads
+abbrev pub threads_fault : RunFault → CliFault
+threads_fault threads.Foreign = Foreign
+threads_fault threads.RingLost = RingLost
+threads_fault threads.ThreadLost = ThreadLost
+threads_fault threads.BookLost = BookLost
+threads_fault threads.Memory = Memory
 
 -- a fault's name, for one of the pools or of a capture the name of that, for a step its number behind
 abbrev pub fault_name : CliFault → List ℕ

@@ -1,9 +1,8 @@
 ghost use Rattle.std.specs.Prelude.{◌≡◌, ◌++◌};
-ghost use Rattle.command_faults.specs.Faults.{pool_name, capture_name, pool_fault, capture_fault, fault_name, number_text};
+ghost use Rattle.command_faults.specs.Faults.{pool_name, capture_name, fault_name, number_text};
 
 use pcap_file::PcapFault;
 use pool_versions::PoolFault;
-use std::alloc::AllocError;
 use std::fmt;
 use thiserror::Error;
 
@@ -98,26 +97,6 @@ fn capture_name(fault: PcapFault) -> &'static str
     }
 }
 
-/// The fault of a command whose versions were refused.
-pub fn pool_fault(fault: PoolFault) -> CliFault
-    ensures { result ≡ pool_fault fault }
-{
-    match fault {
-        PoolFault::Memory => CliFault::Memory,
-        fault => CliFault::Pool(fault),
-    }
-}
-
-/// The fault of a command that couldn't read or write a capture.
-pub fn capture_fault(fault: PcapFault) -> CliFault
-    ensures { result ≡ capture_fault fault }
-{
-    match fault {
-        PcapFault::Memory => CliFault::Memory,
-        fault => CliFault::Capture(fault),
-    }
-}
-
 /// The words of a fault, up to its number, if it has one.
 pub(crate) fn word_of(fault: &CliFault) -> &'static str
     ensures { fault_name fault.now ≡ result.now ++ number_text fault.now }
@@ -166,16 +145,5 @@ impl fmt::Display for CliFault {
             CliFault::BadStep(step) => write!(f, "{step}"),
             _ => Ok(()),
         }
-    }
-}
-
-impl From<AllocError> for CliFault {
-    ghost use Rattle.command_faults.specs.declared.fault.CliFault.TheVariants.{Memory};
-    ghost use Rattle.std.specs.Prelude.{◌≡◌};
-
-    ghost from_gives = { λ _ fault. fault ≡ Memory };
-
-    fn from(_error: AllocError) -> CliFault {
-        CliFault::Memory
     }
 }

@@ -3,8 +3,6 @@ use Rattle.std.specs.Prelude.{◌≡◌, ◌⊎◌, Bool, false, List, ℕ, Opti
 use Rattle.std.specs.Io.KnownBytes.{Appends}
 use Rattle.pcap_file.specs.Device.{Tape, Unfailed, PutRefused}
 use Rattle.thread_records.specs.Paced.{NoneRefused}
-use Rattle.thread_roles.specs.declared.fault.RunFault.{RunFault}
-use Rattle.thread_roles.specs.declared.fault.RunFault.TheVariants as threads
 use Rattle.scenario.specs.declared.playing.Played.TheVariants.{OnThreads}
 use Rattle.scenario.specs.declared.plan.Scenario.{Scenario}
 use Rattle.scenario.specs.Meaning.{Means}
@@ -18,17 +16,10 @@ use Rattle.run_scenario.specs.Kept.{KeepsPromises}
 use Rattle.run_scenario.specs.Turned.{RanBy}
 use Rattle.connection_starts.specs.declared.ordinals.Ordinals.{Ordinals}
 use Rattle.scenario_faults.specs.Refusals.{ScenarioFails}
-use Rattle.scenario_commands.specs.Scenarios.{run_fault}
+use Rattle.command_faults.specs.Faults.{run_fault, threads_fault}
 use Rattle.change_share.specs.declared.counts.ChangeCounts.{ChangeCounts}
 use Rattle.command_faults.specs.declared.fault.CliFault.{CliFault}
-use Rattle.command_faults.specs.declared.fault.CliFault.TheVariants.{Write, Foreign, RingLost, ThreadLost, BookLost, Memory}
-
-abbrev pub threads_fault : RunFault → CliFault
-threads_fault threads.Foreign = Foreign
-threads_fault threads.RingLost = RingLost
-threads_fault threads.ThreadLost = ThreadLost
-threads_fault threads.BookLost = BookLost
-threads_fault threads.Memory = Memory
+use Rattle.command_faults.specs.declared.fault.CliFault.TheVariants.{Write}
 
 -- the fault of a run that stopped, as the command's
 abbrev pub failure_fault : RunFailure → CliFault

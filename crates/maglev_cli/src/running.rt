@@ -2,40 +2,26 @@
 ghost use Rattle.std.specs.Prelude.{◌≡◌, true, IfOk, IfErr, OnOk};
 ghost use Rattle.scenario.specs.declared.playing.Played.TheVariants.{OnThreads};
 ghost use Rattle.scenario_faults.specs.Refusals.{IsPlaced};
-ghost use Rattle.maglev_cli.specs.Runs.{Runs, CountedRuns, PacedRuns, RunCommandFails, failure_fault, only_splits, threads_fault};
+ghost use Rattle.maglev_cli.specs.Runs.{Runs, CountedRuns, PacedRuns, RunCommandFails, failure_fault, only_splits};
 
 use change_share::ChangeCounts;
 use command_faults::{CliFault, put_text};
 use connection_table::TableKey;
 use json_lines::Form;
-use node_threads::RunFault;
 use pcap_file::{Sink, Source};
 use run_scenario::{RunFailure, RunOptions, run_scenario};
-use scenario_commands::run_fault;
 use scenario_faults::{PlacedFault, thread_scenario_in};
 use std::alloc::Global;
 use std::sync::Wait;
 use std::thread::Threads;
-
-fn threads_fault(fault: RunFault) -> CliFault
-    ensures { result ≡ threads_fault fault }
-{
-    match fault {
-        RunFault::Foreign => CliFault::Foreign,
-        RunFault::RingLost => CliFault::RingLost,
-        RunFault::ThreadLost => CliFault::ThreadLost,
-        RunFault::BookLost => CliFault::BookLost,
-        RunFault::Memory => CliFault::Memory,
-    }
-}
 
 /// The fault of a run that stopped, as the command's.
 pub(crate) fn failure_fault(stop: RunFailure) -> CliFault
     ensures { result ≡ failure_fault stop }
 {
     match stop {
-        RunFailure::Simulation(fault) => run_fault(fault),
-        RunFailure::Threads(fault) => threads_fault(fault),
+        RunFailure::Simulation(fault) => CliFault::from(fault),
+        RunFailure::Threads(fault) => CliFault::from(fault),
     }
 }
 

@@ -14,8 +14,8 @@ use Rattle.simulation.specs.Simulated.{Stopped}
 use Rattle.command_faults.specs.declared.fault.CliFault.{CliFault}
 use Rattle.command_faults.specs.declared.fault.CliFault.TheVariants.{Write}
 use Rattle.simulation.specs.Wires.{unkept}
-use Rattle.command_faults.specs.Faults.{capture_fault}
-use Rattle.scenario_commands.specs.Scenarios.{RunFails, run_fault}
+use Rattle.command_faults.specs.Faults.{capture_fault, run_fault}
+use Rattle.scenario_commands.specs.Scenarios.{RunFails}
 
 no_end : (n : ℕ) (a : Tape) → a.failures ≡ 0 → GivenUp n a unkept → ⊥
 no_end n a e (inl f) = omega (arith, e, f.0)

@@ -11,7 +11,7 @@ use Rattle.simulate_scenario.specs.Answers.{AnswersIn}
 use Rattle.command_faults.specs.declared.fault.CliFault.{CliFault}
 use Rattle.command_faults.specs.declared.fault.CliFault.TheVariants.{Write}
 use Rattle.scenario_faults.specs.Refusals.{ScenarioFails}
-use Rattle.scenario_commands.specs.Scenarios.{run_fault}
+use Rattle.command_faults.specs.Faults.{run_fault}
 
 -- the fault of the run, or Write, where the device of the listing refused a page
 abbrev pub IsListingFault : SimulationFault → CliFault → Type 0

@@ -6,7 +6,6 @@ use Rattle.scenario.specs.declared.playing.Played.TheVariants.{InTurn}
 use Rattle.scenario.specs.declared.plan.Scenario.{Scenario}
 use Rattle.scenario.specs.Meaning.{Means}
 use Rattle.simulation.specs.declared.fault.SimulationFault.{SimulationFault}
-use Rattle.simulation.specs.declared.fault.SimulationFault.TheVariants as run
 use Rattle.simulation.specs.Wires.{unkept}
 use Rattle.simulate_scenario.specs.declared.asking.Query.{Query}
 use Rattle.simulate_scenario.specs.Described.{StoppedIn}
@@ -14,15 +13,9 @@ use Rattle.simulate_scenario.specs.Answers.{AnswersIn, counts_for}
 use Rattle.simulate_scenario.specs.Kept.{KeepsPromises}
 use Rattle.change_share.specs.declared.counts.ChangeCounts.{ChangeCounts}
 use Rattle.command_faults.specs.declared.fault.CliFault.{CliFault}
-use Rattle.command_faults.specs.declared.fault.CliFault.TheVariants.{Write, Memory}
-use Rattle.command_faults.specs.Faults.{capture_fault}
+use Rattle.command_faults.specs.declared.fault.CliFault.TheVariants.{Write}
+use Rattle.command_faults.specs.Faults.{run_fault}
 use Rattle.scenario_faults.specs.Refusals.{ScenarioFails}
-
--- the fault of its run
-abbrev pub run_fault : SimulationFault → CliFault
-run_fault (run.Capture fault) = capture_fault fault
-run_fault run.Write = Write
-run_fault run.Memory = Memory
 
 -- the scenario that the text means, which is played in turn, was played over the input, the output got what was sent, and the
 -- report the text that answers what was asked; and the run keeps the promises

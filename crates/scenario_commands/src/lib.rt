@@ -9,5 +9,5 @@ mod turning;
 
 pub use listing::simulate_listed;
 pub use parting::simulate_part;
-pub use playing::{answer_keyed, explain_run, run_fault, simulate, simulate_keyed};
+pub use playing::{answer_keyed, explain_run, simulate, simulate_keyed};
 pub use turning::{ordinals_in, simulate_turned, thread_ordinals_in};

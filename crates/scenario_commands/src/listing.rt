@@ -3,10 +3,9 @@ ghost use Rattle.std.specs.Prelude.{◌≡◌, IfOk, IfErr};
 ghost use Rattle.scenario.specs.declared.playing.Played.TheVariants.{InTurn};
 ghost use Rattle.scenario_faults.specs.Refusals.{IsPlaced};
 ghost use Rattle.simulate_scenario.specs.declared.asking.Query.TheVariants.{Report};
-ghost use Rattle.scenario_commands.specs.Scenarios.{CountedPlays, run_fault};
+ghost use Rattle.scenario_commands.specs.Scenarios.{CountedPlays};
 ghost use Rattle.scenario_commands.specs.Listings.{IsListingFault, ListingFails};
 
-use crate::playing::run_fault;
 use change_share::ChangeCounts;
 use command_faults::{CliFault, put_text};
 use connection_table::TableKey;
@@ -22,7 +21,7 @@ pub(crate) fn listing_fault<R: Sink + Drop>(given_up: ListingGivenUp<Streamed<R>
 {
     match given_up.pages {
         Some(pages) if pages.is_refused => CliFault::Write,
-        _ => run_fault(given_up.fault),
+        _ => CliFault::from(given_up.fault),
     }
 }
 

@@ -4,28 +4,17 @@ ghost use Rattle.simulation.specs.Wires.{unkept};
 ghost use Rattle.json_lines.specs.declared.forms.Form.TheVariants.{Plain};
 ghost use Rattle.scenario.specs.declared.playing.Played.TheVariants.{InTurn};
 ghost use Rattle.scenario_faults.specs.Refusals.{IsPlaced};
-ghost use Rattle.scenario_commands.specs.Scenarios.{Plays, CountedPlays, PlayFails, ExplainFails, run_fault};
+ghost use Rattle.scenario_commands.specs.Scenarios.{Plays, CountedPlays, PlayFails, ExplainFails};
 
 use change_share::ChangeCounts;
-use command_faults::{CliFault, capture_fault, put_text};
+use command_faults::{CliFault, put_text};
 use connection_table::TableKey;
 use json_lines::Form;
 use pcap_file::{Sink, Source};
 use scenario_faults::{PlacedFault, scenario_in};
 use simulate_scenario::{Query, TwoEvents, Wanted, play_scenario};
-use simulation::{Nowhere, Outlet, SimulationFault};
+use simulation::{Nowhere, Outlet};
 use std::alloc::Global;
-
-/// The fault of a command whose run over a capture stopped.
-pub fn run_fault(fault: SimulationFault) -> CliFault
-    ensures { result ≡ run_fault fault }
-{
-    match fault {
-        SimulationFault::Capture(fault) => capture_fault(fault),
-        SimulationFault::Write => CliFault::Write,
-        SimulationFault::Memory => CliFault::Memory,
-    }
-}
 
 // Plays the scenario that a text means, writes what was asked of it, and answers the counts of its connections.
 fn play<I: Source, O: Outlet, R: Sink>(
@@ -52,7 +41,7 @@ fn play<I: Source, O: Outlet, R: Sink>(
         Ok(answer) => answer,
         Err(fault) => {
             return Err(PlacedFault {
-                fault: run_fault(fault),
+                fault: CliFault::from(fault),
                 place: None,
             });
         }

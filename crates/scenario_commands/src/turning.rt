@@ -8,7 +8,7 @@ ghost use Rattle.scenario_commands.specs.Turned.{OrdinalsIn, OrdinalsFail, Ordin
 use crate::listing::listing_fault;
 use crate::parting::has_node;
 use change_share::ChangeCounts;
-use command_faults::{CliFault, capture_fault, put_text};
+use command_faults::{CliFault, put_text};
 use connection_starts::{Ordinals, StartRules, read_ordinals};
 use connection_table::TableKey;
 use node_part::PartSetup;
@@ -35,7 +35,7 @@ fn ordinals_by<I: Source>(
     match read_ordinals(alloc, key, rules, input) {
         Ok(ordinals) => Ok(ordinals),
         Err(fault) => {
-            let fault = capture_fault(fault);
+            let fault = CliFault::from(fault);
             Err(PlacedFault { fault, place: None })
         }
     }

@@ -1,7 +1,6 @@
 -- When a command refuses a scenario, by which fault, and at which place.
 use Rattle.std.specs.Prelude.{◌≡◌, ◌⊎◌, ℕ, List, Option, None}
 use Rattle.scenario.specs.declared.fault.ScenarioFault.{ScenarioFault}
-use Rattle.scenario.specs.declared.fault.ScenarioFault.TheVariants as read
 use Rattle.scenario.specs.declared.playing.Played.{Played}
 use Rattle.scenario.specs.declared.plan.Scenario.{Scenario}
 use Rattle.scenario.specs.declared.refused.Refused.{Refused}
@@ -9,20 +8,8 @@ use Rattle.scenario.specs.Meaning.{Means, IsRefused}
 use Rattle.scenario.specs.Places.{IsAt}
 use Rattle.version_drafts.specs.declared.place.Place.{Place}
 use Rattle.command_faults.specs.declared.fault.CliFault.{CliFault}
-use Rattle.command_faults.specs.declared.fault.CliFault.TheVariants.{TooLong, BadMember, BadToml, BadFormat, BadKey, BadStep, Memory}
-use Rattle.command_faults.specs.Faults.{pool_fault}
+use Rattle.command_faults.specs.Faults.{scenario_fault}
 use Rattle.scenario_faults.specs.declared.PlacedFault.{PlacedFault}
-
--- the fault of a scenario, as the command's
-abbrev pub scenario_fault : ScenarioFault → CliFault
-scenario_fault read.TooLong = TooLong
-scenario_fault read.BadToml = BadToml
-scenario_fault read.BadFormat = BadFormat
-scenario_fault read.BadKey = BadKey
-scenario_fault read.BadMember = BadMember
-scenario_fault (read.Pool fault) = pool_fault fault
-scenario_fault (read.BadStep step) = BadStep step
-scenario_fault read.Memory = Memory
 
 -- the text is no scenario that is played so, for this fault
 pub record ScenarioFails (played : Played) (fault : CliFault) (text : List ℕ) : Type 0 where

@@ -4,12 +4,10 @@
 ghost use Rattle.std.specs.Prelude.{◌≡◌, ◌≢◌, IfOk, IfErr};
 ghost use Rattle.scenario.specs.declared.playing.Played.TheVariants.{InTurn, OnThreads, NotAtAll};
 ghost use Rattle.scenario.specs.Meaning.{Means};
-ghost use Rattle.scenario_faults.specs.Refusals.{ScenarioFails, IsPlaced, scenario_fault, placed_fault};
+ghost use Rattle.scenario_faults.specs.Refusals.{ScenarioFails, IsPlaced};
 
-use command_faults::{CliFault, pool_fault};
-use scenario::{
-    Place, Played, Refused, Scenario, ScenarioFault, ThreadScenario, read_for_threads, read_placed,
-};
+use command_faults::CliFault;
+use scenario::{Place, Played, Refused, Scenario, ThreadScenario, read_for_threads, read_placed};
 use std::alloc::Global;
 
 /// Why a command over a scenario gave up, and where in the scenario that is.
@@ -21,28 +19,16 @@ pub struct PlacedFault {
     pub place: Option<Place>,
 }
 
-// The fault of a command whose scenario was refused.
-fn scenario_fault(fault: ScenarioFault) -> CliFault
-    ensures { result ≡ scenario_fault fault }
-{
-    match fault {
-        ScenarioFault::TooLong => CliFault::TooLong,
-        ScenarioFault::BadToml => CliFault::BadToml,
-        ScenarioFault::BadFormat => CliFault::BadFormat,
-        ScenarioFault::BadKey => CliFault::BadKey,
-        ScenarioFault::BadMember => CliFault::BadMember,
-        ScenarioFault::Pool(fault) => pool_fault(fault),
-        ScenarioFault::BadStep(step) => CliFault::BadStep(step),
-        ScenarioFault::Memory => CliFault::Memory,
-    }
-}
+impl From<Refused> for PlacedFault {
+    ghost use Rattle.scenario_faults.specs.Refusals.{placed_fault};
 
-fn placed_fault(refused: Refused) -> PlacedFault
-    ensures { result ≡ placed_fault refused }
-{
-    PlacedFault {
-        fault: scenario_fault(refused.fault),
-        place: refused.place,
+    ghost from_gives = { λ refused placed. placed ≡ placed_fault refused };
+
+    fn from(refused: Refused) -> PlacedFault {
+        PlacedFault {
+            fault: CliFault::from(refused.fault),
+            place: refused.place,
+        }
     }
 }
 
@@ -53,10 +39,7 @@ pub fn scenario_in(alloc: Global, text: &[u8]) -> Result<Scenario, PlacedFault>
     ensures devices { IfErr result (λ r. (r.fault ≢ CliFault.Read) × (r.fault ≢ CliFault.Write)) }
     ensures place { IfErr result (IsPlaced InTurn text.now) }
 {
-    match read_placed(alloc, Played::InTurn, text) {
-        Ok(scenario) => Ok(scenario),
-        Err(refused) => Err(placed_fault(refused)),
-    }
+    Ok(read_placed(alloc, Played::InTurn, text)?)
 }
 
 /// The same of a scenario that isn't played, which may have any step.
@@ -66,10 +49,7 @@ pub fn unplayed_scenario_in(alloc: Global, text: &[u8]) -> Result<Scenario, Plac
     ensures devices { IfErr result (λ r. (r.fault ≢ CliFault.Read) × (r.fault ≢ CliFault.Write)) }
     ensures place { IfErr result (IsPlaced NotAtAll text.now) }
 {
-    match read_placed(alloc, Played::NotAtAll, text) {
-        Ok(scenario) => Ok(scenario),
-        Err(refused) => Err(placed_fault(refused)),
-    }
+    Ok(read_placed(alloc, Played::NotAtAll, text)?)
 }
 
 /// The same of a scenario that is played on threads.
@@ -79,8 +59,5 @@ pub fn thread_scenario_in(alloc: Global, text: &[u8]) -> Result<ThreadScenario, 
     ensures devices { IfErr result (λ r. (r.fault ≢ CliFault.Read) × (r.fault ≢ CliFault.Write)) }
     ensures place { IfErr result (IsPlaced OnThreads text.now) }
 {
-    match read_for_threads(alloc, text) {
-        Ok(scenario) => Ok(scenario),
-        Err(refused) => Err(placed_fault(refused)),
-    }
+    Ok(read_for_threads(alloc, text)?)
 }

@@ -9,7 +9,7 @@ use crate::ranking::ranked;
 use crate::reading::count_records;
 use crate::sketch_text::{SketchCounts, sketch_text};
 use crate::tally::Tally;
-use command_faults::{CliFault, capture_fault, put_text};
+use command_faults::{CliFault, put_text};
 use connection_table::TableKey;
 use pcap_file::{Sink, Source, read_start};
 use std::alloc::Global;
@@ -21,16 +21,10 @@ fn text_of<I: Source>(alloc: Global, key: TableKey, input: &mut I) -> Result<Str
     ensures fault { IfErr result (λ fault. SketchFails fault (I.tape input.old) (I.tape input.new)) }
     ensures unwritten { IfErr result (λ fault. fault ≢ CliFault.Write) }
 {
-    let head = match read_start(input) {
-        Ok(head) => head,
-        Err(fault) => return Err(capture_fault(fault)),
-    };
+    let head = read_start(input)?;
     let mut tally = Tally::new(alloc, key);
     let mut origins = Origins::new(alloc, key);
-    let records = match count_records(alloc, input, head, &mut tally, &mut origins) {
-        Ok(records) => records,
-        Err(fault) => return Err(capture_fault(fault)),
-    };
+    let records = count_records(alloc, input, head, &mut tally, &mut origins)?;
     let ranked = ranked(alloc, &tally)?;
     let services = listed(alloc, &tally, &origins, ranked.as_slice())?;
     let counts = SketchCounts {

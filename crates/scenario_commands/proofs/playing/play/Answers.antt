@@ -35,7 +35,7 @@ returns-in-Err-play_scenario-clause-stopped g c =
         scenario = c.in-Ok.scenario;
         means = c.in-Ok.ensures.means;
         why = c.in-Err-play_scenario.fault;
-        named = c.run_fault.ensures;
+        named = c.from.ensures;
         stopped = c.in-Err-play_scenario.ensures.stopped;
       },
       refl,
