@@ -1,14 +1,10 @@
 //! What may not be as it was meant in a scenario that is one.
-#![tactic(auto)]
-
-ghost use Rattle.std.specs.Prelude.{◌≡◌, ◌++◌, ◌==◌, ◌≤◌, List, IfOk, OnOk, length, true, string_bytes};
+ghost use Rattle.std.specs.Prelude.{◌≡◌, ◌++◌, IfOk, OnOk};
 ghost use Rattle.std.specs.List.{list_any, flat_map};
-ghost use Rattle.scenario_warnings.specs.Warnings.{is_known, gives, live_after, delivers, comes, tells, lacking, told_of, told_after, unknown_after, bare_at, bare_below, empty_at, empty_in, warnings_of};
-ghost use Rattle.scenario_warnings.specs.Texts.{unknown_text, bare_text, empty_text, warning_text};
+ghost use Rattle.scenario_diagnostics.specs.Warnings.{tells, told_of, told_after, unknown_after, bare_at, bare_below, empty_at, empty_in, warnings_of};
 
-use event_trace::ScenarioStep;
+use crate::step_facts::{comes, give, lacking};
 use pool_versions::{Catalogue, Service, ServiceKey, Version};
-use rollout_plan::ServiceText;
 use scenario::{Scenario, TimedStep};
 use std::alloc::{AllocError, Global};
 
@@ -23,66 +19,6 @@ pub enum Warning {
     NoMembers { version: u32, service: ServiceKey },
 }
 
-// Whether the catalogue has a version.
-fn is_known(catalogue: &Catalogue, version: u32) -> bool
-    ensures { result ≡ is_known catalogue.now version }
-{
-    catalogue.get(version).is_some()
-}
-
-// Whether a step installs a version of the catalogue on a node.
-fn gives(catalogue: &Catalogue, node: u16, step: &TimedStep) -> bool
-    ensures { result ≡ gives catalogue.now node step.now }
-{
-    match step {
-        TimedStep::Counted(ScenarioStep::Install { node: at, version }) => {
-            *at == node && is_known(catalogue, *version)
-        }
-        _ => false,
-    }
-}
-
-// Whether one of the steps does.
-fn give(catalogue: &Catalogue, node: u16, steps: &[TimedStep]) -> bool
-    ensures { result ≡ list_any (λ s. gives catalogue.now node s) steps.now }
-{
-    steps.iter().any(|step| gives(catalogue, node, step))
-}
-
-// Whether a node is live behind a step.
-fn live_after(node: u16, is_live: bool, step: &TimedStep) -> bool
-    ensures { result ≡ live_after node is_live step.now }
-{
-    match step {
-        TimedStep::Counted(ScenarioStep::Live(nodes)) => nodes.contains(&node),
-        _ => is_live,
-    }
-}
-
-// Whether a step delivers packets.
-fn delivers(step: &TimedStep) -> bool
-    ensures { result ≡ delivers step.now }
-{
-    matches!(
-        step,
-        TimedStep::Counted(ScenarioStep::Take(_) | ScenarioStep::Again(_)) | TimedStep::Until(_)
-    )
-}
-
-// Whether a node is live at a step that delivers packets.
-fn comes(node: u16, steps: &[TimedStep]) -> bool
-    ensures { result ≡ comes node true steps.now }
-{
-    let mut is_live = true;
-    for step in steps {
-        if is_live && delivers(step) {
-            return true;
-        }
-        is_live = live_after(node, is_live, step);
-    }
-    false
-}
-
 // Whether a version was warned of.
 fn is_told(version: u32, warnings: &[Warning]) -> bool
     ensures { result ≡ list_any (tells version) warnings.now }
@@ -90,22 +26,6 @@ fn is_told(version: u32, warnings: &[Warning]) -> bool
     warnings.iter().any(|warning| {
         matches!(warning, Warning::UnknownVersion { version: told } if *told == version)
     })
-}
-
-// The version that a step installs, where the catalogue lacks it.
-fn lacking(catalogue: &Catalogue, step: &TimedStep) -> Option<u32>
-    ensures { result ≡ lacking catalogue.now step.now }
-{
-    match *step {
-        TimedStep::Counted(ScenarioStep::Install { version, .. }) => {
-            if is_known(catalogue, version) {
-                None
-            } else {
-                Some(version)
-            }
-        }
-        _ => None,
-    }
 }
 
 // Warns of a version, unless that was done.
@@ -225,34 +145,4 @@ pub fn warnings(alloc: Global, scenario: &Scenario) -> Result<Vec<Warning>, Allo
     warn_of_nodes(catalogue, steps, scenario.nodes.len() as u16, &mut warnings)?;
     warn_of_versions(catalogue.versions(), &mut warnings)?;
     Ok(warnings)
-}
-
-fn unknown_text(alloc: Global, version: u32) -> Result<String, AllocError>
-    ensures { IfOk result (λ s. string_bytes s ≡ unknown_text version) }
-{
-    format!(in alloc; "a step installs version {version}, which the catalogue lacks")
-}
-
-fn bare_text(alloc: Global, node: u16) -> Result<String, AllocError>
-    ensures { IfOk result (λ s. string_bytes s ≡ bare_text node) }
-{
-    format!(in alloc; "node {node} is live when packets come, and never has a version")
-}
-
-fn empty_text(alloc: Global, version: u32, key: ServiceKey) -> Result<String, AllocError>
-    ensures { IfOk result (λ s. string_bytes s ≡ empty_text version key) }
-{
-    let service = ServiceText(key);
-    format!(in alloc; "service {service} of version {version} has no members")
-}
-
-/// A warning as text.
-pub fn warning_text(alloc: Global, warning: &Warning) -> Result<String, AllocError>
-    ensures { IfOk result (λ s. string_bytes s ≡ warning_text warning.now) }
-{
-    match *warning {
-        Warning::UnknownVersion { version } => unknown_text(alloc, version),
-        Warning::NoVersion { node } => bare_text(alloc, node),
-        Warning::NoMembers { version, service } => empty_text(alloc, version, service),
-    }
 }

@@ -1,7 +1,7 @@
 use Rattle.std.proofs.Common.{◌≡◌, ◌++◌, drop}
 use Rattle.std.specs.List.{flat_map}
-use Rattle.scenario_warnings.specs.Warnings.{empty_at, empty_in}
-use Rattle.scenario_warnings.proofs.warn_of_services.Given as goal
+use Rattle.scenario_diagnostics.specs.Warnings.{empty_at, empty_in}
+use Rattle.scenario_diagnostics.proofs.warned.warn_of_services.Given as goal
 
 -- what is warned of is that of the services so far
 abbrev pub invariant-loop-service : goal.invariant-loop-service

@@ -1,6 +1,6 @@
 use Rattle.std.proofs.Common.{◌≡◌, drop}
-use Rattle.scenario_warnings.specs.Warnings.{unknown_after}
-use Rattle.scenario_warnings.proofs.warn_of_steps.Given as goal
+use Rattle.scenario_diagnostics.specs.Warnings.{unknown_after}
+use Rattle.scenario_diagnostics.proofs.warned.warn_of_steps.Given as goal
 
 -- what the steps that are left add to the warnings so far is what all add to those at first
 abbrev pub invariant-loop-step : goal.invariant-loop-step

@@ -3,8 +3,8 @@ use Rattle.std.specs.Prelude.{ℕ, List, ◌++◌, codes}
 use Rattle.std.specs.Fmt.{decimal}
 use Rattle.pool_versions.specs.declared.key.ServiceKey.{ServiceKey}
 use Rattle.rollout_plan.specs.Text.{service_word}
-use Rattle.scenario_warnings.specs.declared.Warning.{Warning}
-use Rattle.scenario_warnings.specs.declared.Warning.TheVariants.{UnknownVersion, NoVersion, NoMembers}
+use Rattle.scenario_diagnostics.specs.declared.warned.Warning.{Warning}
+use Rattle.scenario_diagnostics.specs.declared.warned.Warning.TheVariants.{UnknownVersion, NoVersion, NoMembers}
 
 abbrev pub unknown_text : ℕ → List ℕ
 unknown_text v = codes "a step installs version " ++ (decimal v ++ codes ", which the catalogue lacks")

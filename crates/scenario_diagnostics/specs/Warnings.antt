@@ -9,8 +9,8 @@ use Rattle.event_trace.specs.declared.steps.ScenarioStep.TheVariants as steps
 use Rattle.timed_steps.specs.declared.TimedStep.{TimedStep}
 use Rattle.timed_steps.specs.declared.TimedStep.TheVariants.{Counted, Until}
 use Rattle.scenario.specs.declared.plan.Scenario.{Scenario}
-use Rattle.scenario_warnings.specs.declared.Warning.{Warning}
-use Rattle.scenario_warnings.specs.declared.Warning.TheVariants.{UnknownVersion, NoVersion, NoMembers}
+use Rattle.scenario_diagnostics.specs.declared.warned.Warning.{Warning}
+use Rattle.scenario_diagnostics.specs.declared.warned.Warning.TheVariants.{UnknownVersion, NoVersion, NoMembers}
 
 -- the catalogue has a version of this number
 abbrev pub is_known : Catalogue → ℕ → Bool

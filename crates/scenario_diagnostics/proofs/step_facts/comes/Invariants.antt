@@ -1,6 +1,6 @@
 use Rattle.std.proofs.Common.{◌≡◌, true, drop}
-use Rattle.scenario_warnings.specs.Warnings.{comes}
-use Rattle.scenario_warnings.proofs.comes.Given as goal
+use Rattle.scenario_diagnostics.specs.Warnings.{comes}
+use Rattle.scenario_diagnostics.proofs.step_facts.comes.Given as goal
 
 -- what is left decides
 abbrev pub invariant-loop-step : goal.invariant-loop-step
