@@ -131,6 +131,13 @@ CUT_SIX = SNAPPED["in.pcap"] + 5 * SNAPPED["in.pcap"][24:]
 SKETCHED_OF_CUT, _ = model.sketched(model.padded(CUT_SIX))
 # What is said of a capture that stands where a scenario should.
 CAPTURE_SAID = "in.pcap: found a capture, expected a scenario: SCENARIO comes before INPUT\n"
+# A member that is none, a version of the number 0, and a scenario without a capacity, with what is said of each.
+NO_MEMBER = {"s.toml": SCENARIO.replace(b"B@", b"B-"), "in.pcap": CAPTURE}
+MEMBER_SAID = 'versions[0].services[0].members[1], line 12: found "B-10.8.0.2", expected NAME@ADDRESS or NAME@ADDRESS/down\n'
+ZERO = {"s.toml": SCENARIO.replace(b"number = 1", b"number = 0"), "in.pcap": CAPTURE}
+ZERO_SAID = "versions[0].number, line 11: found 0, expected a number from 1\n"
+NO_CAPACITY = {"s.toml": SCENARIO.replace(b"capacity = 2\n", b""), "in.pcap": CAPTURE}
+CAPACITY_SAID = "capacity is missing, expected a number from 1 to 1000000\n"
 # Where standard error is a file it gets a line of how far INPUT is read, which isn't always the same.
 READ = re.compile(rb"\d+ packets, [^\n]*\n")
 
@@ -209,6 +216,9 @@ CASES = [
     Case(["explain", "--progress", "s.toml", "in.pcap", "3", "5"], TOLD.explained(3, 5), files=SPLIT),
     Case(["scenario", "--progress", "in.pcap"], SKETCHED, files={"in.pcap": CAPTURE + 5 * CAPTURE[24:]}),
     Case(["simulate", "-v", "in.pcap", "s.toml", "out.pcap"], "", files=FILES, status=1, fault="fault: BadToml\n", said=CAPTURE_SAID),
+    Case(["simulate", "-v", "s.toml", "in.pcap", "out.pcap"], "", files=NO_MEMBER, status=1, fault="fault: BadMember\n", said=MEMBER_SAID),
+    Case(["simulate", "-v", "s.toml", "in.pcap", "out.pcap"], "", files=ZERO, status=1, fault="fault: BadNumber\n", said=ZERO_SAID),
+    Case(["simulate", "-v", "s.toml", "in.pcap", "out.pcap"], "", files=NO_CAPACITY, status=1, fault="fault: BadKey\n", said=CAPACITY_SAID),
     Case(["simulate", "--syn", "--node", "1", "--where", "s.toml", "in.pcap", "out.pcap"], SOON_PART.splits(True) + SOON_PART.report(), files=SOON),
     Case(["simulate", "--cut", "pad", "s.toml", "in.pcap", "out.pcap"], PADDED.report(), files=SNAPPED, written={"out.pcap": PADDED.output()}),
     Case(["explain", "--cut", "pad", "s.toml", "in.pcap", "2", "2"], "same\n", files=SNAPPED),

@@ -160,6 +160,7 @@ fn bad_number(alloc: Global, files: &Files<'_, '_>, place: Option<Place>) -> Opt
     let fault = ScenarioFault::Pool(PoolFault::BadNumber);
     match words_of(alloc, files.text, fault, place) {
         Some(words) => Some(words),
+        None if place.is_some() => None,
         None if has_input(files.paths.input) => plain(
             alloc,
             "--node: expected the number of a balancer that the scenario has, counted from 0",

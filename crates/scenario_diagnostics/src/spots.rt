@@ -91,59 +91,74 @@ pub fn below(alloc: Global, table: &str, key: &str) -> Option<String> {
     }
 }
 
-// The element of an array that leads to the wanted value, with its path. The text begins after the bracket.
+// The element of an array that leads to the wanted value, with its path, if there is one. The text begins after the bracket.
 fn in_array<'a>(
     alloc: Global,
     text: &'a str,
     path: &str,
     wanted: &str,
-) -> Option<(String, &'a str)> {
+) -> Option<Option<(String, &'a str)>> {
     let mut rest = text;
     for n in 0..text.len() {
         rest = skip_blank(rest, true);
+        if first(rest) == b']' {
+            break;
+        }
         let element = format!(in alloc; "{path}[{n}]").ok()?;
         if leads_to(element.as_str(), wanted) {
-            return Some((element, rest));
+            return Some(Some((element, rest)));
         }
         rest = after_element(alloc, rest)?;
     }
-    None
+    Some(None)
 }
 
-// The member of a table that leads to the wanted value, with its path. The text begins after the bracket.
+// The member of a table that leads to the wanted value, with its path, if there is one. The text begins after the bracket.
 fn in_table<'a>(
     alloc: Global,
     text: &'a str,
     path: &str,
     wanted: &str,
-) -> Option<(String, &'a str)> {
+) -> Option<Option<(String, &'a str)>> {
     let mut rest = text;
     for _ in 0..text.len() {
-        let (key, after) = dotted_key(alloc, skip_blank(rest, true)).ok()?;
+        rest = skip_blank(rest, true);
+        if first(rest) == b'}' {
+            break;
+        }
+        let (key, after) = dotted_key(alloc, rest).ok()?;
         let member = joined(alloc, path, &key)?;
         let value = skip_blank(stepped(after)?, true);
         if leads_to(member.as_str(), wanted) {
-            return Some((member, value));
+            return Some(Some((member, value)));
         }
         rest = after_element(alloc, value)?;
     }
-    None
+    Some(None)
 }
 
-// The wanted value, at or inside a value of this path.
-fn inside<'a>(alloc: Global, value: &'a str, path: String, wanted: &str) -> Option<&'a str> {
+// The wanted value, at or inside a value of this path, if it is there.
+fn inside<'a>(
+    alloc: Global,
+    value: &'a str,
+    path: String,
+    wanted: &str,
+) -> Option<Option<&'a str>> {
     let mut path = path;
     let mut rest = value;
     for _ in 0..RECURSION_LIMIT {
         if path.as_str() == wanted {
-            return Some(rest);
+            return Some(Some(rest));
         }
-        let (next, after) = match first(rest) {
+        let next = match first(rest) {
             b'[' => in_array(alloc, stepped(rest)?, path.as_str(), wanted)?,
             b'{' => in_table(alloc, stepped(rest)?, path.as_str(), wanted)?,
-            _ => return None,
+            _ => None,
         };
-        path = next;
+        let Some((deeper, after)) = next else {
+            return Some(None);
+        };
+        path = deeper;
         rest = after;
     }
     None
@@ -226,8 +241,8 @@ pub fn line_of(document: &[u8], place: usize) -> usize {
         .saturating_add(1)
 }
 
-/// Where the value or the table of this path is. None where the document has none, or memory was refused.
-pub fn spot_of<'a>(alloc: Global, text: &'a str, wanted: &str) -> Option<Spot<'a>> {
+/// Where the value or the table of this path is, if the document has it. None where memory was refused.
+pub fn spot_of<'a>(alloc: Global, text: &'a str, wanted: &str) -> Option<Option<Spot<'a>>> {
     let mut headers = Headers {
         versions: 0,
         services: 0,
@@ -236,10 +251,13 @@ pub fn spot_of<'a>(alloc: Global, text: &'a str, wanted: &str) -> Option<Spot<'a
     let mut rest = text;
     for _ in 0..text.len() {
         rest = skip_blank(rest, true);
+        if rest.is_empty() {
+            break;
+        }
         if first(rest) == b'[' {
             let (path, after) = headers.read(alloc, rest)?;
             if path.as_str() == wanted {
-                return Some(Spot::Header(rest));
+                return Some(Some(Spot::Header(rest)));
             }
             table = path;
             rest = after;
@@ -248,12 +266,12 @@ pub fn spot_of<'a>(alloc: Global, text: &'a str, wanted: &str) -> Option<Spot<'a
             let path = joined(alloc, table.as_str(), &key)?;
             let value = skip_ws(stepped(after)?);
             if leads_to(path.as_str(), wanted) {
-                return Some(Spot::Value(inside(alloc, value, path, wanted)?));
+                return Some(inside(alloc, value, path, wanted)?.map(Spot::Value));
             }
             rest = after_value(alloc, value)?;
         }
     }
-    None
+    Some(None)
 }
 
 // The value that a text begins with, as it is written there.

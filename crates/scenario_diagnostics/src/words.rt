@@ -58,7 +58,7 @@ fn bad_toml(alloc: Global, text: &[u8], error: &toml::de::Error) -> Option<Strin
 // What was found at a path, and what was expected there.
 fn at(alloc: Global, text: &str, path: &str, expected: &str) -> Option<String> {
     let place = shown(alloc, path).ok()?;
-    let Some(spot) = spot_of(alloc, text, path) else {
+    let Some(spot) = spot_of(alloc, text, path)? else {
         return format!(in alloc; "{place} is missing, expected {expected}").ok();
     };
     let line = spot.line(text);
