@@ -1318,14 +1318,46 @@ def test_warnings():
     warns("explain", ["install 0 1", "take 2"], [bare.format(1)], ("explain", "-v", "s.toml", "in.pcap", "1", "2"))
 
 
-def advises(name, steps, data, told, command="simulate", versions=(ALL,), more=""):
+def advises(name, steps, data, told, command="simulate", versions=(ALL,), more="", helps=HELPS):
     """With `-v` a command warns of these drops alone, each a cause with how many there were, in this order. Gives what it prints."""
     text = scenario(["live 0", "install 0 1", *steps], versions, more=more)
     status, out, err = with_files(text, data, lambda folder: run([command, "-v", "s.toml", "in.pcap", "out.pcap"], cwd=folder))
     received = re.search(r"^received (\d+)$", out.decode(), re.MULTILINE)[1]
     wanted = told(out.decode()) if callable(told) else told
-    lines = "".join(f"warning: of {received} packets {count} were dropped as {cause}: {HELPS[cause]}\n" for cause, count in wanted)
+    lines = "".join(f"warning: of {received} packets {count} were dropped as {cause}: {helps[cause]}\n" for cause, count in wanted)
     check(f"advised: {name}, by {command}", (status, err.decode()) == (0, lines), f"{out!r} {err!r}")
+
+
+# What a first frame is of which the EtherType isn't that of IPv4.
+FRAMES = {
+    "a VLAN tag": ("810000010800", "the first frame has a VLAN tag (EtherType 0x8100), which isn't read: USING has commands that take tags off"),
+    "two VLAN tags": ("88a80005810000070800", "the first frame has a VLAN tag (EtherType 0x88a8), which isn't read: USING has commands that take tags off"),
+    "IPv6": ("86dd60000000", "the first frame is IPv6 (EtherType 0x86dd), which isn't read"),
+    "ARP": ("08060001", "the first frame is ARP (EtherType 0x0806), which isn't read"),
+    "MPLS": ("884700001140", "the first frame has the EtherType 0x8847, which isn't read"),
+    "spanning tree": ("0026424203", "the first frame has a length in place of an EtherType, which isn't read"),
+}
+
+
+def test_advice_of_the_first_frame():
+    """Where nearly no packet is IPv4, what the first frame is, in either byte order; where that says nothing, what is said of any."""
+    plain = bytes(12) + b"\x08\x00" + P
+    tagged = bytes(12) + bytes.fromhex("810000010800") + P
+    ethernet = HEAD[:23] + b"\x01"
+
+    def swapped(frames):
+        head = bytes.fromhex("4d3cb2a1020004000000000000000000ffff000001000000")
+        return head + b"".join(struct.pack("<4I", 1, 999999999, len(frame), len(frame)) + frame for frame in frames)
+
+    for name, (front, words) in FRAMES.items():
+        frame = bytes(12) + bytes.fromhex(front) + P
+        helps = HELPS | {"NotIpv4": words}
+        advises(name, ["take 3"], ethernet + 3 * record(frame), [("NotIpv4", 3)], helps=helps)
+        advises(f"{name}, little endian", ["take 3"], swapped(3 * [frame]), [("NotIpv4", 3)], helps=helps)
+        advises(f"{name} in front of a tag", ["take 2"], swapped([frame, tagged]), [("NotIpv4", 2)], "run", helps=helps)
+    advises("IPv4 in front", ["take 11"], ethernet + record(plain) + 10 * record(tagged), [("NotIpv4", 10)])
+    advises("a frame without an EtherType in front", ["take 4"], ethernet + record(bytes(13)) + 3 * record(tagged), [("NotIpv4", 3), ("Truncated", 1)])
+    advises("raw IPv6", ["take 2"], HEAD + 2 * record(b"\x60" + bytes(39)), [("NotIpv4", 2)])
 
 
 def test_advice_of_drops():
@@ -1335,7 +1367,7 @@ def test_advice_of_drops():
     ethernet = HEAD[:23] + b"\x01"
     down = [[f"{member}/down" for member in ALL]]
     for command in ("simulate", "run"):
-        advises("frames with tags", ["take 3"], ethernet + 3 * tagged, [("NotIpv4", 3)], command)
+        advises("frames with tags", ["take 3"], ethernet + 3 * tagged, [("NotIpv4", 3)], command, helps=HELPS | {"NotIpv4": FRAMES["a VLAN tag"][1]})
         advises("one frame of nine without a tag", ["take 9"], ethernet + 8 * tagged + plain, [], command)
         advises("nobody is up", ["take 3"], capture("yzx"), [("NoBackend", 3)], command, down)
     for name, letters, cut, told in [

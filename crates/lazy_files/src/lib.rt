@@ -115,10 +115,10 @@ fn noted<T>(answer: io::Result<T>, refusal: &mut Option<Refusal>) -> io::Result<
     answer
 }
 
-/// The bytes of a capture's file header, as far as they were read.
+/// The bytes of a capture's file header, of its first record's and of an Ethernet header, as far as they were read.
 #[derive(Clone, Copy)]
 pub struct FirstBytes {
-    bytes: [u8; 24],
+    bytes: [u8; 54],
     length: usize,
 }
 
@@ -126,7 +126,7 @@ impl FirstBytes {
     /// No byte yet.
     pub fn empty() -> FirstBytes {
         FirstBytes {
-            bytes: [0; 24],
+            bytes: [0; 54],
             length: 0,
         }
     }

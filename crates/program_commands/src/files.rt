@@ -8,7 +8,7 @@ use command_faults::CliFault;
 use connection_starts::Ordinals;
 use connection_table::TableKey;
 use lazy_files::{
-    FileFault, InputFile, OutputFile, Refusal, ReportText, StandardOutput, is_standard,
+    FileFault, FirstBytes, InputFile, OutputFile, Refusal, ReportText, StandardOutput, is_standard,
     is_standard_output,
 };
 use padded_capture::{CaptureSource, Padded};
@@ -159,10 +159,12 @@ fn print_report(rt: &HostRuntime, text: &[u8], to_error: bool) -> Result<(), Tro
     done.map_err(|error| Trouble::of_report(&error))
 }
 
-/// What a command printed, and how many connections there were and changed their server, where that was counted.
+/// What a command printed, with how INPUT begins, and how many connections there were and changed their server, where that was
+/// counted.
 #[derive(Drop)]
 pub(crate) struct Printed<'x> {
     pub(crate) report: ReportText<'x>,
+    pub(crate) head: FirstBytes,
     pub(crate) counts: Option<ChangeCounts>,
 }
 
@@ -184,7 +186,12 @@ fn finished<'x>(
             if !report.is_printed() {
                 print_report(rt, report.text(), is_standard_output(rt, files.output))?;
             }
-            return Ok(Printed { report, counts });
+            let head = input.head();
+            return Ok(Printed {
+                report,
+                head,
+                counts,
+            });
         }
         (Ok(()), Err(stopped)) if report.refusal().is_some() => {
             return Err(Trouble {

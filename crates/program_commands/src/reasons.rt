@@ -269,11 +269,11 @@ fn form_of(head: &[u8]) -> (&'static str, &'static str) {
 
 // The link type of a header that is whole, in its own byte order.
 fn link_number(head: &[u8]) -> Option<u32> {
-    let [first, .., a, b, c, d] = head else {
+    let [a, b, c, d] = head.get(20..24)? else {
         return None;
     };
     let bytes = [*a, *b, *c, *d];
-    if *first == 0xa1 {
+    if head.starts_with(&[0xa1]) {
         Some(u32::from_be_bytes(bytes))
     } else {
         Some(u32::from_le_bytes(bytes))

@@ -76,9 +76,9 @@ fn warn(rt: &HostRuntime, voice: Voice<'_>, played: Played, text: &[u8]) -> Resu
 /// More bytes than a report has.
 const REPORT: usize = 4096;
 
-// Tells what may be amiss in a run, by its report.
-fn advise(rt: &HostRuntime, voice: Voice<'_>, report: &ReportText<'_>) -> Result<(), AllocError> {
-    let Ok(text) = str::from_utf8(report.text()) else {
+// Tells what may be amiss in a run, by its report and by how INPUT begins.
+fn advise(rt: &HostRuntime, voice: Voice<'_>, printed: &Printed<'_>) -> Result<(), AllocError> {
+    let Ok(text) = str::from_utf8(printed.report.text()) else {
         return Ok(());
     };
     let text = up_to_report(text).as_bytes();
@@ -86,7 +86,7 @@ fn advise(rt: &HostRuntime, voice: Voice<'_>, report: &ReportText<'_>) -> Result
     let Ok(text) = str::from_utf8(&text[start..]) else {
         return Ok(());
     };
-    let advice = advice_of(rt.alloc(), text)?;
+    let advice = advice_of(rt.alloc(), text, printed.head.bytes())?;
     for line in advice.iter() {
         voice.warn(line.as_str());
     }
@@ -160,7 +160,7 @@ fn judged_end(
         Ok(printed) => {
             ended(rt, voice, paths, played, text, &Ok(()));
             if voice.says_more() {
-                let _ = advise(rt, voice, &printed.report);
+                let _ = advise(rt, voice, &printed);
             }
             judged(voice, limit, printed.counts)
         }

@@ -1,5 +1,6 @@
 //! What is said of a report's counts.
 use crate::counts::{Counts, Drops};
+use crate::first_frame::frame_words;
 use std::alloc::{AllocError, Global};
 
 // Why packets are dropped for a cause, and what helps.
@@ -35,15 +36,28 @@ fn tell(advice: &mut Vec<String>, line: String) -> Result<(), AllocError> {
     Ok(())
 }
 
+// What is known of the first frame of a capture that begins so, where packets were dropped since they aren't IPv4.
+fn frame_help(alloc: Global, cause: &str, head: &[u8]) -> Result<Option<String>, AllocError> {
+    match cause {
+        "NotIpv4" => frame_words(alloc, head),
+        _ => Ok(None),
+    }
+}
+
 // Of packets that were dropped for a cause.
 fn advise_dropped(
     alloc: Global,
     received: u64,
     drops: Drops<'_>,
+    head: &[u8],
     advice: &mut Vec<String>,
 ) -> Result<(), AllocError> {
     let Drops { cause, count } = drops;
-    let help = help_for(cause);
+    let told = frame_help(alloc, cause, head)?;
+    let help = match &told {
+        Some(words) => words.as_str(),
+        None => help_for(cause),
+    };
     tell(
         advice,
         format!(in alloc; "of {received} packets {count} were dropped as {cause}: {help}")?,
@@ -54,11 +68,12 @@ fn advise_dropped(
 fn advise_drops(
     alloc: Global,
     counts: &Counts<'_>,
+    head: &[u8],
     advice: &mut Vec<String>,
 ) -> Result<(), AllocError> {
     for drops in counts.drops_to_tell() {
         if drops.count > 0 {
-            advise_dropped(alloc, counts.received, drops, advice)?;
+            advise_dropped(alloc, counts.received, drops, head, advice)?;
         }
     }
     Ok(())
@@ -117,11 +132,12 @@ fn advise_refused(
     )
 }
 
-/// A line for each thing that may be amiss in a run, by the report that a text ends with: no line where nothing is.
-pub fn advice_of(alloc: Global, report: &str) -> Result<Vec<String>, AllocError> {
+/// A line for each thing that may be amiss in a run over a capture, by the report that a text ends with and by the capture's first
+/// bytes, up to its first frame's Ethernet header: no line where nothing is.
+pub fn advice_of(alloc: Global, report: &str, head: &[u8]) -> Result<Vec<String>, AllocError> {
     let counts = Counts::of_report(report);
     let mut advice = Vec::new(alloc);
-    advise_drops(alloc, &counts, &mut advice)?;
+    advise_drops(alloc, &counts, head, &mut advice)?;
     advise_unrouted(alloc, &counts, &mut advice)?;
     advise_left(alloc, &counts, &mut advice)?;
     advise_refused(alloc, &counts, &mut advice)?;
