@@ -223,7 +223,7 @@ impl Read for Reader<'_> {
 pub struct InputFile<'a> {
     rt: &'a HostRuntime,
     path: &'a str,
-    showing: Option<Showing>,
+    showing: Option<Showing<'a>>,
     ahead: Ahead,
     counts: CallCounts,
     reader: Option<Reader<'a>>,
@@ -233,7 +233,7 @@ pub struct InputFile<'a> {
 
 impl<'a> InputFile<'a> {
     /// The file of this path, not opened yet. How far it is, is shown so.
-    pub fn new(rt: &'a HostRuntime, path: &'a str, showing: Option<Showing>) -> InputFile<'a> {
+    pub fn new(rt: &'a HostRuntime, path: &'a str, showing: Option<Showing<'a>>) -> InputFile<'a> {
         InputFile {
             rt,
             path,
@@ -413,7 +413,7 @@ pub struct OutputFile<'a> {
     rt: &'a HostRuntime,
     path: &'a str,
     read: [&'a str; 2],
-    showing: Option<Showing>,
+    showing: Option<Showing<'a>>,
     writer: Option<Writer<'a>>,
     refusal: Option<Refusal>,
 }
@@ -424,7 +424,7 @@ impl<'a> OutputFile<'a> {
         rt: &'a HostRuntime,
         path: &'a str,
         read: [&'a str; 2],
-        showing: Option<Showing>,
+        showing: Option<Showing<'a>>,
     ) -> OutputFile<'a> {
         OutputFile {
             rt,

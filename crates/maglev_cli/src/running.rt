@@ -8,8 +8,9 @@ use change_share::ChangeCounts;
 use command_faults::{CliFault, put_text};
 use connection_table::TableKey;
 use json_lines::Form;
+use node_threads::{Gate, OpenGate};
 use pcap_file::{Sink, Source};
-use run_scenario::{RunFailure, RunOptions, run_scenario};
+use run_scenario::{Host, RunFailure, RunOptions, run_scenario};
 use scenario_faults::{PlacedFault, thread_scenario_in};
 use std::alloc::Global;
 use std::sync::Wait;
@@ -57,16 +58,19 @@ pub fn run<T: Threads + Wait + Sync, I: Source, O: Sink, R: Sink>(
         paced: false,
         form: Form::Plain,
     };
-    match run_keyed(rt, alloc, key, scenario, options, input, output, report) {
+    let gate = &OpenGate;
+    let host = Host { rt, gate };
+    match run_keyed(&host, alloc, key, scenario, options, input, output, report) {
         Ok(_) => Ok(()),
         Err(stopped) => Err(stopped.fault),
     }
 }
 
 /// The same, with a key for the hash of the connection tables. Where drivers are paced no ring refuses a packet. Where the
-/// changes are kept, it also answers how many connections there were, and how many of them changed their server.
-pub fn run_keyed<T: Threads + Wait + Sync, I: Source, O: Sink, R: Sink>(
-    rt: &T,
+/// changes are kept, it also answers how many connections there were, and how many of them changed their server. The workers call
+/// the host's gate, which has no say in any of this.
+pub fn run_keyed<T: Threads + Wait + Sync, G: Gate + Sync, I: Source, O: Sink, R: Sink>(
+    host: &Host<'_, T, G>,
     alloc: Global,
     key: TableKey,
     scenario: &[u8],
@@ -90,7 +94,7 @@ pub fn run_keyed<T: Threads + Wait + Sync, I: Source, O: Sink, R: Sink>(
         Ok(scenario) => scenario,
         Err(stopped) => return Err(stopped),
     };
-    let answer = match run_scenario(rt, alloc, key, &scenario, options, input, output) {
+    let answer = match run_scenario(host, alloc, key, &scenario, options, input, output) {
         Ok(answer) => answer,
         Err(stop) => {
             return Err(PlacedFault {

@@ -7,8 +7,9 @@ ghost use Rattle.maglev_cli.specs.Runs.{TurnedRuns, TurnedRunFails};
 use crate::running::failure_fault;
 use change_share::ChangeCounts;
 use command_faults::put_text;
+use node_threads::Gate;
 use pcap_file::{Sink, Source};
-use run_scenario::TurnedRun;
+use run_scenario::{Host, TurnedRun};
 use scenario_faults::{PlacedFault, thread_scenario_in};
 use std::alloc::Global;
 use std::sync::Wait;
@@ -17,8 +18,8 @@ use std::thread::Threads;
 /// The command `run` of the scenario that a text means, as of `run_keyed`. In what is told of connections, which are the splits and
 /// the summary, a flow that begins again is another connection: which one of its flow a packet belongs to is the ordinal of its
 /// record.
-pub fn run_turned<T: Threads + Wait + Sync, I: Source, O: Sink, R: Sink>(
-    rt: &T,
+pub fn run_turned<T: Threads + Wait + Sync, G: Gate + Sync, I: Source, O: Sink, R: Sink>(
+    host: &Host<'_, T, G>,
     alloc: Global,
     run: TurnedRun<&[u8]>,
     input: &mut I,
@@ -48,7 +49,7 @@ pub fn run_turned<T: Threads + Wait + Sync, I: Source, O: Sink, R: Sink>(
         options,
         ordinals,
     };
-    let answer = match run_scenario::run_turned(rt, alloc, turned, input, output) {
+    let answer = match run_scenario::run_turned(host, alloc, turned, input, output) {
         Ok(answer) => answer,
         Err(stop) => {
             return Err(PlacedFault {

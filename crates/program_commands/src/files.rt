@@ -28,7 +28,11 @@ use std::random::RandomSource;
 pub type CaptureFile<'x> = CaptureSource<InputFile<'x>>;
 
 // INPUT, with or without zeros where bytes are missing.
-fn capture_file<'x>(rt: &'x HostRuntime, path: &'x str, reading: ReadingManner) -> CaptureFile<'x> {
+fn capture_file<'x>(
+    rt: &'x HostRuntime,
+    path: &'x str,
+    reading: ReadingManner<'x>,
+) -> CaptureFile<'x> {
     let input = InputFile::new(rt, path, reading.showing);
     if reading.is_padded {
         CaptureSource::Padded(Padded::new(input))
@@ -39,11 +43,11 @@ fn capture_file<'x>(rt: &'x HostRuntime, path: &'x str, reading: ReadingManner) 
 
 /// How a command reads its capture.
 #[derive(Clone, Copy)]
-pub(crate) struct ReadingManner {
+pub(crate) struct ReadingManner<'a> {
     /// Records that a snap length cut are read as they were.
     pub(crate) is_padded: bool,
     /// How it is shown how far the reading is.
-    pub(crate) showing: Option<Showing>,
+    pub(crate) showing: Option<Showing<'a>>,
 }
 
 /// The paths of a command's files. `explain` has no output.
@@ -210,17 +214,18 @@ fn finished<'x>(
 
 /// How a command reads its capture, and prints its report.
 #[derive(Clone, Copy)]
-pub(crate) struct Manner {
-    pub(crate) reading: ReadingManner,
+pub(crate) struct Manner<'a> {
+    pub(crate) reading: ReadingManner<'a>,
     /// The report is printed as it comes.
     pub(crate) is_streamed: bool,
 }
 
-impl Manner {
+impl<'a> Manner<'a> {
     // How it is shown how far the writing is. Where the capture is written as it is read, the reading shows it.
-    fn writing(self) -> Option<Showing> {
-        match self.reading.showing {
-            Some(showing) if showing.at_end == AtEnd::Running => Some(showing),
+    fn writing(self) -> Option<Showing<'a>> {
+        let showing = self.reading.showing?;
+        match showing.at_end {
+            AtEnd::Running(_) => Some(showing),
             _ => None,
         }
     }
@@ -241,7 +246,7 @@ impl Manner {
 pub(crate) fn between_files<'x, F>(
     rt: &'x HostRuntime,
     files: &Paths<'x>,
-    manner: Manner,
+    manner: Manner<'x>,
     text: &[u8],
     play: F,
 ) -> Result<Printed<'x>, Trouble>
@@ -277,7 +282,7 @@ where
 #[derive(Clone, Copy)]
 pub struct FirstReading<'a> {
     pub(crate) path: &'a str,
-    pub(crate) reading: ReadingManner,
+    pub(crate) reading: ReadingManner<'a>,
     pub(crate) played: Played,
     pub(crate) idle: Option<u64>,
 }
@@ -347,7 +352,7 @@ fn outcome_over(
 pub(crate) fn explain_files(
     rt: &HostRuntime,
     files: &Paths<'_>,
-    reading: ReadingManner,
+    reading: ReadingManner<'_>,
     text: &[u8],
     asked: Query,
 ) -> Result<(), Trouble> {
@@ -362,7 +367,7 @@ pub(crate) fn explain_files(
 pub(crate) fn sketch_file(
     rt: &HostRuntime,
     path: &str,
-    reading: ReadingManner,
+    reading: ReadingManner<'_>,
 ) -> Result<(), Trouble> {
     let key = table_key(rt)?;
     let mut input = capture_file(rt, path, reading);

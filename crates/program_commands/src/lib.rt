@@ -20,6 +20,7 @@ use pcap_file::ToWrite;
 pub use scenario::Played;
 pub use scenarios::{asks_summary, between_captures, form_of};
 use scenarios::{run_explain, run_plan, run_simulate, run_sketch};
+pub use showing::showing_of;
 pub use starting::{Starting, first_reading, starting_of};
 use tables::{run_compare, run_pick, run_table};
 pub use words::{matches_of, refused, unread, words_of};

@@ -39,12 +39,12 @@ pub(crate) fn paths_of<'a>(matches: &'a ArgMatches<'_>, output: &'a str) -> Opti
 }
 
 /// How a command reads its capture.
-pub(crate) fn reading_of(
+pub(crate) fn reading_of<'a>(
     rt: &HostRuntime,
     matches: &ArgMatches<'_>,
     prints: bool,
-    at_end: AtEnd,
-) -> ReadingManner {
+    at_end: AtEnd<'a>,
+) -> ReadingManner<'a> {
     ReadingManner {
         is_padded: matches.get_str("cut").is_some(),
         showing: showing_of(rt, matches, prints, at_end),
@@ -178,11 +178,13 @@ struct Ending<'x> {
 
 /// A command that plays a scenario from one capture to another, as the command line says. `play` plays it, with the tables'
 /// key, the scenario's text, the input, the output, and what keeps the report, or prints it as it comes where it `is_streamed`.
+/// Where it is shown how far the reading is, `at_end` is what the line says at its end.
 pub fn between_captures<'x, F>(
     rt: &'x HostRuntime,
     matches: &'x ArgMatches<'_>,
     played: Played,
     is_streamed: bool,
+    at_end: AtEnd<'x>,
     play: F,
 ) -> u8
 where
@@ -211,10 +213,6 @@ where
     };
     let (text, read) = read_scenario(rt, paths.scenario);
     let text = text.as_slice();
-    let at_end = match played {
-        Played::OnThreads => AtEnd::Running,
-        _ => AtEnd::Read,
-    };
     let manner = Manner {
         reading: reading_of(rt, matches, is_streamed, at_end),
         is_streamed,
@@ -271,6 +269,7 @@ fn run_turned(rt: &HostRuntime, matches: &ArgMatches<'_>, idle: Option<u64>) -> 
         matches,
         Played::InTurn,
         wanted.list,
+        AtEnd::Read,
         |key, text, input, output, report| {
             let ordinals = match ordinals_of(rt, first, key, text) {
                 Ok(ordinals) => ordinals,
@@ -295,6 +294,7 @@ fn run_plain(rt: &HostRuntime, matches: &ArgMatches<'_>) -> u8 {
         matches,
         Played::InTurn,
         wanted.list,
+        AtEnd::Read,
         |key, text, input, output, report| {
             let alloc = rt.alloc();
             let done = match only {

@@ -1,4 +1,4 @@
-//! Where it is shown how far a command has read its capture.
+//! Where it is shown how far a command is.
 use clap::ArgMatches;
 use lazy_files::is_pipe;
 use read_progress::{AtEnd, Place, Showing};
@@ -16,12 +16,12 @@ fn place_of(rt: &HostRuntime, is_asked: bool) -> Option<Place> {
 }
 
 /// How a command shows how far it is. Where it `prints` lines on a terminal meanwhile, nothing is shown.
-pub(crate) fn showing_of(
+pub fn showing_of<'a>(
     rt: &HostRuntime,
     matches: &ArgMatches<'_>,
     prints: bool,
-    at_end: AtEnd,
-) -> Option<Showing> {
+    at_end: AtEnd<'a>,
+) -> Option<Showing<'a>> {
     if prints && rt.stdout().is_terminal() {
         return None;
     }

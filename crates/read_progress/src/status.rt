@@ -30,19 +30,12 @@ fn rate(packets: u64, taken: Duration) -> u64 {
     scaled(packets, 1000, millis(taken))
 }
 
-impl Reading {
-    // The packets of a second, so far.
-    fn rate(&self) -> u64 {
-        rate(self.packets, self.taken)
-    }
-
-    // How many of a hundred bytes were read, and the seconds that the others will take.
-    fn rest(&self) -> Option<(u64, u64)> {
-        let whole = self.whole.filter(|whole| *whole > 0)?;
-        let left = whole.saturating_sub(self.bytes);
-        let seconds = scaled(millis(self.taken), left, self.bytes) / 1000;
-        Some((scaled(self.bytes, 100, whole).min(100), seconds))
-    }
+// How many of a hundred are done, and the seconds that the others will take.
+fn rest(done: u64, whole: Option<u64>, taken: Duration) -> Option<(u64, u64)> {
+    let whole = whole.filter(|whole| *whole > 0)?;
+    let left = whole.saturating_sub(done);
+    let seconds = scaled(millis(taken), left, done) / 1000;
+    Some((scaled(done, 100, whole).min(100), seconds))
 }
 
 // A time in words: 4 s, 3 min 20 s, 2 h 5 min.
@@ -59,9 +52,14 @@ fn time_text(alloc: Global, seconds: u64) -> Result<String, AllocError> {
 
 /// A reading in words, on less than a line of 80 columns.
 pub fn status_text(alloc: Global, reading: &Reading) -> Result<String, AllocError> {
-    let Reading { packets, .. } = *reading;
-    let rate = reading.rate();
-    match reading.rest() {
+    let Reading {
+        packets,
+        bytes,
+        whole,
+        taken,
+    } = *reading;
+    let rate = rate(packets, taken);
+    match rest(bytes, whole, taken) {
         None => format!(in alloc; "{packets} packets, {rate} a second"),
         Some((share, seconds)) => {
             let left = time_text(alloc, seconds)?;
@@ -78,4 +76,23 @@ pub(crate) fn sent_text(
 ) -> Result<String, AllocError> {
     let rate = rate(packets, taken);
     format!(in alloc; "{packets} packets sent, {rate} a second")
+}
+
+/// A playing in words, on less than a line of 80 columns: the packets that were played, of as many as INPUT has, where that is known.
+pub fn played_text(
+    alloc: Global,
+    packets: u64,
+    whole: Option<u64>,
+    taken: Duration,
+) -> Result<String, AllocError> {
+    let rate = rate(packets, taken);
+    match rest(packets, whole, taken) {
+        None => format!(in alloc; "{packets} packets played, {rate} a second"),
+        Some((share, seconds)) => {
+            let left = time_text(alloc, seconds)?;
+            format!(in alloc;
+                "{packets} packets played, {share} % of INPUT, {rate} a second, {left} left"
+            )
+        }
+    }
 }

@@ -1,65 +1,11 @@
 //! A reader and a writer whose progress is shown.
 use crate::counting::RecordCount;
+use crate::showing::{AtEnd, Showing};
 use crate::status::{Reading, sent_text, status_text};
 use std::alloc::AllocError;
 use std::io;
 use std::io::{Read, Write};
 use std::time::{Duration, Instant};
-
-/// Where it is shown how far a reading or a writing is.
-#[derive(Clone, Copy, Debug, PartialEq, Eq)]
-pub enum Place {
-    /// On one line of a terminal, which is written again four times a second.
-    Line,
-    /// On lines that stay, one in ten seconds.
-    Lines,
-}
-
-/// What a line says at the end of a reading.
-#[derive(Clone, Copy, Debug, PartialEq, Eq)]
-pub enum AtEnd {
-    /// Nothing: it goes.
-    Gone,
-    /// That INPUT is read. It stays until it is cleared.
-    Read,
-    /// The same, and that the balancers run now.
-    Running,
-}
-
-/// How it is shown how far a reading or a writing is.
-#[derive(Clone, Copy, Debug, PartialEq, Eq)]
-pub struct Showing {
-    pub place: Place,
-    /// The line is there from the first bytes on, and not from half a second on.
-    pub is_eager: bool,
-    pub at_end: AtEnd,
-}
-
-impl Showing {
-    // How long nothing is shown at first.
-    fn delay(self) -> Duration {
-        match self.place {
-            Place::Line if self.is_eager => Duration::from_millis(0),
-            Place::Line => Duration::from_millis(500),
-            Place::Lines => Duration::from_secs(10),
-        }
-    }
-
-    // The time from one status to the next.
-    fn pause(self) -> Duration {
-        match self.place {
-            Place::Line => Duration::from_millis(250),
-            Place::Lines => Duration::from_secs(10),
-        }
-    }
-
-    fn is_line(self) -> bool {
-        self.place == Place::Line
-    }
-}
-
-/// What a terminal gets to begin its line again: the cursor goes to its start, and what stands there is cleared (ECMA-48, EL).
-const CLEARED: &str = "\r\u{1b}[K";
 
 // What goes on.
 #[derive(Clone, Copy)]
@@ -73,7 +19,7 @@ enum Going {
 #[derive(Drop)]
 struct Progress<'a> {
     rt: &'a HostRuntime,
-    showing: Showing,
+    showing: Showing<'a>,
     going: Going,
     start: Instant,
     due: Duration,
@@ -84,8 +30,13 @@ struct Progress<'a> {
 }
 
 impl<'a> Progress<'a> {
-    // Of what begins now. Where there is no clock there is none.
-    fn new(rt: &'a HostRuntime, showing: Showing, going: Going) -> Option<Progress<'a>> {
+    // Of what begins now. Without a way to show it, or a clock, there is none.
+    fn new(
+        rt: &'a HostRuntime,
+        showing: Option<Showing<'a>>,
+        going: Going,
+    ) -> Option<Progress<'a>> {
+        let showing = showing?;
         let start = Instant::now(rt).ok()?;
         Some(Progress {
             rt,
@@ -102,13 +53,7 @@ impl<'a> Progress<'a> {
 
     // Shows a text in place of what is shown.
     fn put(&mut self, text: &str) -> Result<(), AllocError> {
-        let alloc = self.rt.alloc();
-        let line = if self.showing.is_line() {
-            format!(in alloc; "{CLEARED}{text}")?
-        } else {
-            format!(in alloc; "{text}\n")?
-        };
-        let _ = self.rt.stderr().write_all(line.as_bytes());
+        self.showing.put(self.rt, text)?;
         self.is_shown = true;
         Ok(())
     }
@@ -144,15 +89,18 @@ impl<'a> Progress<'a> {
             return;
         }
         self.is_over = true;
-        let stays = self.is_shown && self.showing.at_end != AtEnd::Gone;
-        if self.showing.is_line() && !stays {
+        let records = self.records.records();
+        let (goes, behind) = match self.showing.at_end {
+            AtEnd::Gone => (true, ""),
+            AtEnd::Read => (false, ""),
+            AtEnd::Running(mark) => {
+                mark.tell(records);
+                (false, ", the balancers run")
+            }
+        };
+        if self.showing.is_line() && (goes || !self.is_shown) {
             return self.clear();
         }
-        let records = self.records.records();
-        let behind = match self.showing.at_end {
-            AtEnd::Running => ", the balancers run",
-            _ => "",
-        };
         if let Ok(text) = format!(in self.rt.alloc(); "{records} packets, INPUT is read{behind}") {
             let _ = self.put(text.as_str());
         }
@@ -171,8 +119,8 @@ impl<'a> Progress<'a> {
 
     // Clears the line of a terminal.
     fn clear(&mut self) {
-        if self.is_shown && self.showing.is_line() {
-            let _ = self.rt.stderr().write_all(CLEARED.as_bytes());
+        if self.is_shown {
+            self.showing.clear(self.rt);
         }
         self.is_shown = false;
     }
@@ -190,12 +138,12 @@ impl<'a, R> Watched<'a, R> {
     pub fn new(
         rt: &'a HostRuntime,
         reader: R,
-        showing: Option<Showing>,
+        showing: Option<Showing<'a>>,
         whole: Option<u64>,
     ) -> Watched<'a, R> {
         Watched {
             reader,
-            progress: showing.and_then(|showing| Progress::new(rt, showing, Going::Reading(whole))),
+            progress: Progress::new(rt, showing, Going::Reading(whole)),
         }
     }
 
@@ -246,10 +194,14 @@ pub struct WatchedWriter<'a, W> {
 
 impl<'a, W> WatchedWriter<'a, W> {
     /// A writer to which nothing is written yet. Without a way to show it nothing is shown.
-    pub fn new(rt: &'a HostRuntime, writer: W, showing: Option<Showing>) -> WatchedWriter<'a, W> {
+    pub fn new(
+        rt: &'a HostRuntime,
+        writer: W,
+        showing: Option<Showing<'a>>,
+    ) -> WatchedWriter<'a, W> {
         WatchedWriter {
             writer,
-            progress: showing.and_then(|showing| Progress::new(rt, showing, Going::Writing)),
+            progress: Progress::new(rt, showing, Going::Writing),
         }
     }
 

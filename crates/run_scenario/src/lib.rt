@@ -6,6 +6,7 @@ mod blocks;
 mod failure;
 mod firsts;
 mod histories;
+mod host;
 mod orders;
 mod reading;
 mod records;
@@ -18,4 +19,5 @@ mod threads;
 mod turned_histories;
 
 pub use failure::RunFailure;
+pub use host::Host;
 pub use running::{RunOptions, TurnedRun, run_scenario, run_turned};

@@ -15,6 +15,7 @@ ghost use Rattle.run_scenario.specs.PrivateHistories.{RanOver};
 
 use crate::failure::RunFailure;
 use crate::histories::{Told, totals_of};
+use crate::host::Host;
 use crate::orders::{kept_for, orders_of};
 use crate::reading::{Captured, packets_of, read_whole};
 use crate::report::audited_report;
@@ -27,6 +28,7 @@ use connection_table::TableKey;
 use event_trace::Tally;
 use ip_headers::Link;
 use json_lines::Form;
+use node_threads::Gate;
 use pcap_file::{Sink, Source};
 use scenario::{Scenario, ThreadScenario};
 use simulate_scenario::Answer;
@@ -127,8 +129,8 @@ struct Asked {
 }
 
 // Runs the cluster over a capture that was read.
-fn run_over<R: Threads + Wait + Sync>(
-    rt: &R,
+fn run_over<R: Threads + Wait + Sync, G: Gate + Sync>(
+    host: &Host<'_, R, G>,
     alloc: Global,
     scenario: &Scenario,
     captured: &Captured,
@@ -159,7 +161,7 @@ fn run_over<R: Threads + Wait + Sync>(
         commands: orders.commands.as_slice(),
         options,
     };
-    let audited = run_named(rt, alloc, &task, turns)?;
+    let audited = run_named(host, alloc, &task, turns)?;
     let Audited { run, agrees, told } = audited;
     let Told {
         before,
@@ -185,8 +187,8 @@ fn run_over<R: Threads + Wait + Sync>(
 }
 
 // Runs the cluster over a capture, which is read whole, and writes what the nodes sent.
-fn run_by<R: Threads + Wait + Sync, I: Source, O: Sink>(
-    rt: &R,
+fn run_by<R: Threads + Wait + Sync, G: Gate + Sync, I: Source, O: Sink>(
+    host: &Host<'_, R, G>,
     alloc: Global,
     scenario: &ThreadScenario,
     asked: Asked,
@@ -201,7 +203,7 @@ fn run_by<R: Threads + Wait + Sync, I: Source, O: Sink>(
     let _slots = scenario.size.slots();
     scenario.catalogue.keeps_doubles_out();
     let captured = read_whole(alloc, input, kept_for(scenario.steps.as_slice()))?;
-    let done = run_over(rt, alloc, scenario, &captured, asked)?;
+    let done = run_over(host, alloc, scenario, &captured, asked)?;
     let wire = wire_of(scenario, captured.head.link);
     let nodes = done.nodes.as_slice();
     let records = &captured.records;
@@ -240,8 +242,10 @@ fn run_by<R: Threads + Wait + Sync, I: Source, O: Sink>(
 /// Where the run is paced, a driver that comes to a full ring waits for room there. It doesn't try the other workers, and
 /// drops nothing. So no arrival in a node's history marks a worker as refusing, and each packet that is steered goes to its
 /// home worker (`paced`).
-pub fn run_scenario<R: Threads + Wait + Sync, I: Source, O: Sink>(
-    rt: &R,
+///
+/// The workers call the host's gate, which has no say in any of this.
+pub fn run_scenario<R: Threads + Wait + Sync, G: Gate + Sync, I: Source, O: Sink>(
+    host: &Host<'_, R, G>,
     alloc: Global,
     key: TableKey,
     scenario: &ThreadScenario,
@@ -269,7 +273,7 @@ pub fn run_scenario<R: Threads + Wait + Sync, I: Source, O: Sink>(
         options,
         turns: None,
     };
-    match run_by(rt, alloc, scenario, asked, input, output) {
+    match run_by(host, alloc, scenario, asked, input, output) {
         Ok(answer) => Ok(answer),
         Err(stop) => Err(stop),
     }
@@ -289,8 +293,8 @@ pub struct TurnedRun<S> {
 
 /// The same run as of [`run_scenario`]. In what is told of connections, which are the splits and the summary, a flow that begins again
 /// is another connection: which one of its flow a packet belongs to is the ordinal of its record.
-pub fn run_turned<R: Threads + Wait + Sync, I: Source, O: Sink>(
-    rt: &R,
+pub fn run_turned<R: Threads + Wait + Sync, G: Gate + Sync, I: Source, O: Sink>(
+    host: &Host<'_, R, G>,
     alloc: Global,
     run: TurnedRun<&ThreadScenario>,
     input: &mut I,
@@ -311,7 +315,7 @@ pub fn run_turned<R: Threads + Wait + Sync, I: Source, O: Sink>(
         options,
         turns: Some(ordinals),
     };
-    match run_by(rt, alloc, scenario, asked, input, output) {
+    match run_by(host, alloc, scenario, asked, input, output) {
         Ok(answer) => Ok(answer),
         Err(stop) => Err(stop),
     }

@@ -15,6 +15,7 @@ ghost use Rattle.run_scenario.specs.PrivateHistories.{AreEven, TellsOf};
 
 use crate::failure::RunFailure;
 use crate::histories::{Telling, Told, outcome_count};
+use crate::host::Host;
 use crate::running::RunOptions;
 use cluster_core::Setup;
 use cluster_node::Packet;
@@ -22,7 +23,7 @@ use connection_starts::Ordinals;
 use connection_table::{PlaceTable, TableKey};
 use hash_laws::AnyHash;
 use named_scheme::{NamedScheme, scheme_of};
-use node_threads::{NodesRun, OpenGate, RingRules, RunFault, run_each};
+use node_threads::{Gate, NodesRun, RingRules, RunFault, run_each};
 use scenario::Scenario;
 use shared_versions::{Auditor, SharedVersions, audit_nodes};
 use std::alloc::{AllocError, Global};
@@ -99,8 +100,8 @@ fn judged<R: Threads + Sync>(
 
 /// Runs the cluster with the scheme that the scenario names, each node by its list of commands, and replays its history. What
 /// is told beside the report is made meanwhile, of connections by the ordinals of the records, where there are any.
-pub(crate) fn run_named<R: Threads + Wait + Sync>(
-    rt: &R,
+pub(crate) fn run_named<R: Threads + Wait + Sync, G: Gate + Sync>(
+    host: &Host<'_, R, G>,
     alloc: Global,
     task: &Task<'_>,
     turns: Option<Ordinals>,
@@ -136,8 +137,8 @@ pub(crate) fn run_named<R: Threads + Wait + Sync>(
     };
     let catalogue = &scenario.catalogue;
     let prepared = SharedVersions::prepare(alloc, &setup, catalogue, task.commands)?;
-    let run = run_each::<NamedScheme, AnyHash, PlaceTable, OpenGate, R>(
-        rt,
+    let run = run_each::<NamedScheme, AnyHash, PlaceTable, G, R>(
+        host.rt,
         alloc,
         &setup,
         catalogue,
@@ -145,13 +146,13 @@ pub(crate) fn run_named<R: Threads + Wait + Sync>(
         task.packets,
         task.commands,
         rings,
-        &OpenGate,
+        host.gate,
     )?;
     let Some(_) = outcome_count(run.nodes.as_slice()) else {
         return Err(RunFailure::Threads(RunFault::Memory));
     };
     let auditor = Auditor::new(alloc, &setup, catalogue, &prepared)?;
-    let (agrees, told) = judged(rt, alloc, &auditor, task, run.nodes.as_slice(), turns);
+    let (agrees, told) = judged(host.rt, alloc, &auditor, task, run.nodes.as_slice(), turns);
     Ok(Audited {
         run,
         agrees: agrees?,
