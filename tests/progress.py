@@ -1,5 +1,6 @@
 #!/usr/bin/env python3
-"""Tests of what is shown while a capture is read or written: how far it is, on a terminal that this makes, and never in a pipe.
+"""Tests of what is shown while a capture is read, played on threads or written: how far it is, on a terminal that this makes, and
+never in a pipe.
 
 What stands on the terminal is worked out from the bytes that it got, as a terminal does it. The last line is 'N passed, N failed'.
 """
@@ -26,6 +27,8 @@ COMMANDS = {
 # What a status says, of a file that has a length and of another.
 SHARED = re.compile(r"(\d+) packets, (\d+) % of INPUT, (\d+) a second, (?:\d+ h )?(?:\d+ min ?)?(?:\d+ s )?left")
 PLAIN = re.compile(r"(\d+) packets, (\d+) a second")
+# What a status says of what the threads of `run` play.
+PLAYED = re.compile(r"(\d+) packets played, (\d+) % of INPUT, (\d+) a second, (?:\d+ h )?(?:\d+ min ?)?(?:\d+ s )?left")
 # What a status says of what `run` writes.
 SENT = re.compile(r"(\d+) packets sent, (\d+) a second")
 # What is said behind the reading.
@@ -86,6 +89,27 @@ def many(records):
     data = EXAMPLE.with_suffix(".pcap").read_bytes()
     length = 16 + struct.unpack_from("<I", data, 24 + 8)[0]
     return data[:24] + data[24:24 + length] * records
+
+
+def spread(records):
+    """The same, of 256 flows: each 256 records differ in their source ports, which no checksum that is looked at covers."""
+    data = many(256)
+    length = (len(data) - 24) // 256
+    block = bytearray(data[24:])
+    for flow in range(256):
+        # Behind the record's, Ethernet's and IP's headers.
+        struct.pack_into(">H", block, flow * length + 16 + 14 + 20, 1024 + flow)
+    return data[:24] + bytes(block) * (records // 256)
+
+
+def threaded(folder, nodes, workers, records):
+    """The example's scenario and a capture of so many records, which all nodes play under version 1, in a folder."""
+    text = EXAMPLE.with_suffix(".toml").read_text()
+    installs = ", ".join(f'"install {node} 1"' for node in range(nodes))
+    text = re.sub(r"(?ms)^steps = .*?\]\n", f'steps = [{installs}, "take {records}"]\n', text)
+    text = re.sub(r"(?m)^nodes = .*$", f'nodes = {["10.9.0.1", "10.9.0.2"][:nodes]}'.replace("'", '"'), text)
+    (folder / "s.toml").write_text(re.sub(r"(?m)^workers = .*$", f"workers = {workers}", text))
+    (folder / "in.pcap").write_bytes(spread(records))
 
 
 def statuses(shown, form):
@@ -200,6 +224,92 @@ def test_what_run_writes():
         read = shown[: shown.rfind("INPUT") + 1]  # empty where the reading was too short to be shown
         check("what run writes: behind the reading", "sent" not in read, repr(shown[:500]))
         check("what run writes: no trace", screen(shown)[-1] == "", repr(screen(shown)[-2:]))
+
+
+def is_of(played, records):
+    """Whether each of the statuses of a playing is of 1,024s of these records with its share, and more than the one before."""
+    packets = [found for found, _, _ in played]
+    shares = all(found % 1024 == 0 and found <= records and share == 100 * found // records for found, share, _ in played)
+    return shares and packets == sorted(set(packets))
+
+
+def check_playing(name, words, folder, records):
+    """A run on a terminal that is asked how far it is: what it printed."""
+    terminal = Terminal([words[0], "--progress", *words[1:]], folder)
+    status, out, shown = terminal.ended()
+    found = statuses(shown, PLAYED)
+    forwarded = re.search(rb"(?m)^forwarded (\d+)$", out)
+    most = int(forwarded[1]) if forwarded else 0
+    check(f"{name}: status", status == 0 and out.endswith(b"audit agrees\n"), repr(out[-300:]))
+    check(f"{name}: each of its share", len(found) >= 2 and is_of(found, records) and found[-1][0] <= most, repr(found))
+    check(f"{name}: all of it", "--pace" not in words or most == records, repr(out))
+    times = [at for at, piece in terminal.pieces if "played" in piece]
+    fast = max((sum(at <= other < at + 1 for other in times) for at in times), default=0)
+    check(f"{name}: at most five a second", 0 < fast <= 5, repr(times))
+    kinds = re.findall(r"is read|played|sent", shown)
+    check(f"{name}: read, played, sent", kinds == sorted(kinds, key=["is read", "played", "sent"].index), repr(kinds))
+    left = [line for line in screen(shown) if "a second" in line or "INPUT" in line]
+    check(f"{name}: no trace", not left, repr(left))
+    return out
+
+
+def test_what_run_plays():
+    """`run` shows how many packets its workers have served, of those in INPUT: at most five times a second, behind the reading and
+    before what it writes, and nothing of it stays. A pipe gets none of it, and a file one line in ten seconds."""
+    records = 2_000_128
+    for nodes, workers, paced in [(1, 3, True), (2, 2, False), (2, 2, True)]:
+        with tempfile.TemporaryDirectory() as made:
+            folder = pathlib.Path(made)
+            threaded(folder, nodes, workers, records)
+            words = ["run", *["--pace"] * paced, "s.toml", "in.pcap", os.devnull]
+            name = f"what run plays, {nodes} nodes" + ", paced" * paced
+            out = check_playing(name, words, folder, records)
+            if nodes == 2 and paced:
+                asked = [words[0], "--progress", *words[1:]]
+                piped = subprocess.run([PROGRAM, *asked], cwd=folder, capture_output=True, check=False)
+                check(f"{name}: a pipe", piped.stderr == b"" and piped.stdout == out, repr(piped.stderr[:300]))
+                with (folder / "log").open("wb") as log:
+                    start = time.monotonic()
+                    subprocess.run([PROGRAM, *asked], cwd=folder, stdout=subprocess.DEVNULL, stderr=log, check=False)
+                lines = (folder / "log").read_text().splitlines()
+                slow = [line for line in lines if PLAYED.fullmatch(line)]
+                check(f"{name}: a file", f"{records} packets, INPUT is read, the balancers run" in lines, repr(lines))
+                check(f"{name}: a line in ten seconds", len(slow) <= (time.monotonic() - start) // 10, repr(lines))
+
+
+def test_a_playing_that_is_not_asked():
+    """A terminal that isn't asked shows a playing from half a second on, each status of its share, and nothing of it stays."""
+    records = 3_000_064
+    with tempfile.TemporaryDirectory() as made:
+        folder = pathlib.Path(made)
+        threaded(folder, 1, 1, records)
+        start = time.monotonic()
+        terminal = Terminal(["run", "--pace", "s.toml", "in.pcap", os.devnull], folder)
+        status, out, shown = terminal.ended()
+        found = statuses(shown, PLAYED)
+        times = [at for at, piece in terminal.pieces if "played" in piece]
+        check("a playing, not asked: status", status == 0 and out.endswith(b"audit agrees\n"), repr(out))
+        check("a playing, not asked: each of its share", found and is_of(found, records), repr(found))
+        check("a playing, not asked: not at first", times and times[0] - start >= 0.5, repr(times[:1]))
+        left = [line for line in screen(shown) if "a second" in line or "INPUT" in line]
+        check("a playing, not asked: no trace", not left, repr(left))
+
+
+def test_a_short_playing():
+    """With `--progress` a terminal shows a playing from the first 1,024 packets of a worker on, also where flows begin again and INPUT
+    is read twice. A terminal that isn't asked shows nothing of a short one."""
+    with tempfile.TemporaryDirectory() as made:
+        folder = pathlib.Path(made)
+        threaded(folder, 1, 1, 4096)
+        words = ["run", "--pace", "s.toml", "in.pcap", "out.pcap"]
+        plain = subprocess.run([PROGRAM, *words], cwd=folder, capture_output=True, check=False)
+        quiet = Terminal(words, folder).ended()
+        check("a short playing, not asked", quiet[:2] == (0, plain.stdout) and CLEARED not in quiet[2], repr(quiet))
+        for more in ([], ["--syn"]):
+            status, out, shown = Terminal([words[0], "--progress", *more, *words[1:]], folder).ended()
+            found = [packets[:2] for packets in statuses(shown, PLAYED)]
+            check(f"a short playing {more}", (status, out) == (0, plain.stdout) and found[:1] == [(1024, 25)], repr(shown))
+            check(f"a short playing {more}: no trace", screen(shown) == screen(quiet[2]), repr(shown))
 
 
 def test_pipes_and_files():
