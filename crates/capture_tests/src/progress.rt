@@ -1,5 +1,5 @@
-//! A capture in pieces of any length, and what is shown of a reading.
-use read_progress::{Reading, RecordCount, status_text};
+//! A capture in pieces of any length, and what is shown of a reading and of a playing.
+use read_progress::{Reading, RecordCount, played_text, status_text};
 use std::alloc::Global;
 use std::process::Abort;
 use std::time::Duration;
@@ -85,5 +85,25 @@ fn a_status_has_the_share_the_rate_and_the_time_left(rt: HostRuntime) {
     let text = shown(&rt, rt.alloc(), (5, 100, None, 0));
     assert_eq!(&rt; text.as_str(), "5 packets, 0 a second");
     let text = shown(&rt, rt.alloc(), (u64::MAX, u64::MAX, Some(1), u64::MAX));
+    assert!(&rt; text.len() < 80);
+}
+
+// What is shown of a playing that took so many milliseconds.
+fn shown_played(rt: &impl Abort, alloc: Global, playing: (u64, Option<u64>, u64)) -> String {
+    let (packets, whole, millis) = playing;
+    let taken = Duration::from_millis(millis);
+    played_text(alloc, packets, whole, taken).expect(rt, "memory")
+}
+
+#[test]
+fn a_playing_has_the_share_of_the_packets(rt: HostRuntime) {
+    let text = shown_played(&rt, rt.alloc(), (1_228_800, Some(2_800_000), 1024));
+    assert_eq!(&rt;
+        text.as_str(),
+        "1228800 packets played, 43 % of INPUT, 1200000 a second, 1 s left"
+    );
+    let text = shown_played(&rt, rt.alloc(), (5, None, 0));
+    assert_eq!(&rt; text.as_str(), "5 packets played, 0 a second");
+    let text = shown_played(&rt, rt.alloc(), (u64::MAX, Some(1), u64::MAX));
     assert!(&rt; text.len() < 80);
 }
