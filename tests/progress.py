@@ -241,8 +241,10 @@ def check_playing(name, words, folder, records):
     forwarded = re.search(rb"(?m)^forwarded (\d+)$", out)
     most = int(forwarded[1]) if forwarded else 0
     check(f"{name}: status", status == 0 and out.endswith(b"audit agrees\n"), repr(out[-300:]))
-    check(f"{name}: each of its share", len(found) >= 2 and is_of(found, records) and found[-1][0] <= most, repr(found))
-    check(f"{name}: all of it", "--pace" not in words or most == records, repr(out))
+    # Where rings are full packets are dropped at once, so that a run is soon over.
+    paced = "--pace" in words
+    check(f"{name}: each of its share", len(found) > paced and is_of(found, records) and found[-1][0] <= most, repr(found))
+    check(f"{name}: all of it", not paced or most == records, repr(out))
     times = [at for at, piece in terminal.pieces if "played" in piece]
     fast = max((sum(at <= other < at + 1 for other in times) for at in times), default=0)
     check(f"{name}: at most five a second", 0 < fast <= 5, repr(times))
