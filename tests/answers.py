@@ -192,7 +192,8 @@ def test_readme():
     """README's commands over the example of the drain, run one after another in its order, print what is shown, which is what the model
     says. Those of the page make one."""
     _, _, found = rows.example("draining", "draining")
-    expected = [found.summary(), found.splits(True) + found.report(), rows.last(found.taken(True), 8), rows.last(found.taken(), 39), "", "", ""]
+    third = "".join(line for line in found.taken().splitlines(keepends=True) if line.startswith("backend web-3@"))
+    expected = [found.summary(), found.splits(True) + found.report(), rows.last(found.taken(True), 8), third, "", "", ""]
     files = ("examples/draining.toml", "run.jsonl")
     shown = [one for one in rows.commands_of((TOP / "README.md").read_text()) if set(files) & set(one[0])]
     check("README has each", [lines for _, lines in shown] == expected, shown)
