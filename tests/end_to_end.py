@@ -1117,7 +1117,11 @@ def test_verbose_of_a_scenario():
         ("another format", good.replace("format = 1", "format = 4"), "BadFormat", "format, line 1: found 4, expected the number 1, 2 or 3\n"),
         ("a weight in format 1", good.replace("10.8.0.1", "10.8.0.1*2", 1), "BadMember", f'{service}.members[0], line 16: found "A@10.8.0.1*2", expected NAME@ADDRESS or'),
         ("an unknown key", "color = 1\n" + good, "BadKey", f"color, line 1: found 1, expected no key but {root}\n"),
-        ("idle in format 1", good.replace("size = 7", "size = 7\nidle = 5"), "BadKey", f"idle, line 3: found 5, expected no key but {root}\n"),
+        ("idle in format 1", good.replace("size = 7", "size = 7\nidle = 5"), "BadKey", f"idle, line 3: found 5, expected no key but {root}; that key is of format 2\n"),
+        ("servers in format 1", "servers = {}\n" + good, "BadKey", f"servers, line 1: found a table, expected no key but {root}; that key is of format 3\n"),
+        ("a base in format 1", good.replace("number = 2", "number = 2\nbase = 1"), "BadKey", "versions[1].base, line 19: found 1, expected no key but number, services; that key is of format 3\n"),
+        ("a member that drains in format 1", good.replace("10.8.0.1", "10.8.0.1/drain", 1), "BadMember", f'{service}.members[0], line 16: found "A@10.8.0.1/drain", expected NAME@ADDRESS or NAME@ADDRESS/down; *W is of format 2, /drain and a NAME alone of format 3\n'),
+        ("a step by time in format 1", scenario(["install 0 1", "until 5"]), "BadStep 1", 'steps[1], line 9: found "until 5", expected install N V, live [N ..],'),
         ("idle", limited(good, -1), "BadKey", "idle, line 2: found -1, expected a number from 0 to 4294967295000000\n"),
         ("an unknown key in format 2", limited(good, 5).replace("idle", "idel"), "BadKey", f"idel, line 2: found 5, expected no key but {root.replace('check', 'check, idle')}\n"),
         ("a missing key", good.replace("capacity = 2\n", ""), "BadKey", "capacity is missing, expected a number from 1 to 1000000\n"),
@@ -1196,7 +1200,8 @@ def test_words_of_steps():
         ("restart 0 ", '"" is a word too many'),
         ("stop 5", '"5" is no balancer: there are 0 to 1'),
     ]:
-        line = f'steps[1], line 9: found "{step}", expected {forms[step.split(" ")[0]]}; {wrong}\n'
+        later = "; until and * are of format 3" * (step == "take *")
+        line = f'steps[1], line 9: found "{step}", expected {forms[step.split(" ")[0]]}; {wrong}{later}\n'
         says(f"the step {step!r}", scenario(["install 0 1", step], workers=4), HEAD, "BadStep 1", line)
 
 
@@ -1242,13 +1247,19 @@ def test_verbose_of_words():
 
 
 HELPS = {
-    "NotIpv4": "their frames aren't IPv4: VLAN tags and IPv6 aren't read, and USING has commands that take tags off",
+    "NotIpv4": "their frames aren't IPv4: VLAN tags and IPv6 aren't read, and docs/USING.md has commands that take tags off",
     "Truncated": "the capture has only the beginnings of its packets: play them as they were by --cut pad, or capture whole ones, with tcpdump -s 0",
     "NoService": "SCENARIO has no service of their address, protocol and port: maglev scenario INPUT lists those that INPUT has",
     "NoBackend": "their service had no member, or every member was down or drained",
     "NoVersion": "their balancer had no version yet: begin with a step install",
-    "RingsFull": "every ring was full: give more places by ring in SCENARIO, or play it by run --pace, whose drivers wait for room",
+    "RingsFull": "every ring was full: by a step full; in run give more places by ring in SCENARIO, or --pace, whose drivers wait for room",
+    "LostAtRestart": "they waited on a balancer that was restarted",
 }
+
+
+def were(count):
+    """What so many packets did."""
+    return "was" if count == 1 else "were"
 
 
 def advised(text):
@@ -1259,7 +1270,7 @@ def advised(text):
     most = max(causes, key=lambda one: one[1], default=None) if few else None
     told = [most] if most else []
     told += [one for cause in ("RingsFull", "Truncated") for one in causes if one[0] == cause and one != most]
-    lines = [f"of {count['received']} packets {dropped} were dropped as {cause}: {HELPS[cause]}" for cause, dropped in told]
+    lines = [f"of {count['received']} packets {dropped} {were(dropped)} dropped as {cause}: {HELPS[cause]}" for cause, dropped in told]
     for word, what in [
         ("unrouted", "{} packet{} came when no balancer was live"),
         ("left", "{} record{} at the end of INPUT: no step reads them"),
@@ -1306,7 +1317,7 @@ def test_warnings():
         check(f"advised: {name}", len(lines) == 1 and answer[2].decode() == f"warning: {lines[0]}\n", f"{answer} {lines}")
     text, data = scenario(["live 0", "install 0 1", "take 3"]), HEAD + record(packet("y")) + record(packet("z")) + record(P[:28])
     answer = with_files(text, data, lambda folder: run(["simulate", "-v", "s.toml", "in.pcap", "out.pcap"], cwd=folder))
-    line = f"warning: of 3 packets 1 were dropped as Truncated: {HELPS['Truncated']}\n"
+    line = f"warning: of 3 packets 1 was dropped as Truncated: {HELPS['Truncated']}\n"
     check("advised: one of three is cut", answer[2].decode() == line, f"{answer}")
     many = [lacks.format(version) for version in range(7, 32)]
     warns("many", [f"install 0 {version}" for version in range(7, 32)], many[:20] + ["5 more of these"])
@@ -1324,14 +1335,15 @@ def advises(name, steps, data, told, command="simulate", versions=(ALL,), more="
     status, out, err = with_files(text, data, lambda folder: run([command, "-v", "s.toml", "in.pcap", "out.pcap"], cwd=folder))
     received = re.search(r"^received (\d+)$", out.decode(), re.MULTILINE)[1]
     wanted = told(out.decode()) if callable(told) else told
-    lines = "".join(f"warning: of {received} packets {count} were dropped as {cause}: {helps[cause]}\n" for cause, count in wanted)
+    lines = "".join(f"warning: of {received} packets {count} {were(count)} dropped as {cause}: {helps[cause]}\n" for cause, count in wanted)
     check(f"advised: {name}, by {command}", (status, err.decode()) == (0, lines), f"{out!r} {err!r}")
 
 
 # What a first frame is of which the EtherType isn't that of IPv4.
 FRAMES = {
-    "a VLAN tag": ("810000010800", "the first frame has a VLAN tag (EtherType 0x8100), which isn't read: USING has commands that take tags off"),
-    "two VLAN tags": ("88a80005810000070800", "the first frame has a VLAN tag (EtherType 0x88a8), which isn't read: USING has commands that take tags off"),
+    "a VLAN tag": ("810000010800", "the first frame has a VLAN tag (EtherType 0x8100), which isn't read: docs/USING.md has commands that take tags off"),
+    "two VLAN tags": ("88a80005810000070800", "the first frame has a VLAN tag (EtherType 0x88a8), which isn't read: docs/USING.md has commands that take tags off"),
+    "an older tag": ("910000050800", "the first frame has a VLAN tag (EtherType 0x9100), which isn't read: docs/USING.md has commands that take tags off"),
     "IPv6": ("86dd60000000", "the first frame is IPv6 (EtherType 0x86dd), which isn't read"),
     "ARP": ("08060001", "the first frame is ARP (EtherType 0x0806), which isn't read"),
     "MPLS": ("884700001140", "the first frame has the EtherType 0x8847, which isn't read"),
@@ -1370,6 +1382,7 @@ def test_advice_of_drops():
         advises("frames with tags", ["take 3"], ethernet + 3 * tagged, [("NotIpv4", 3)], command, helps=HELPS | {"NotIpv4": FRAMES["a VLAN tag"][1]})
         advises("one frame of nine without a tag", ["take 9"], ethernet + 8 * tagged + plain, [], command)
         advises("nobody is up", ["take 3"], capture("yzx"), [("NoBackend", 3)], command, down)
+    advises("a restart of both balancers", ["hold 0", "live 0", "take 3", "restart 0"], capture("yzx"), [("LostAtRestart", 3)])
     for name, letters, cut, told in [
         ("a worker that refuses one packet of five", "yyyy|y", 0, [("RingsFull", 1)]),
         ("one that refuses all", "|yyy", 0, [("RingsFull", 3)]),

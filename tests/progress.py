@@ -227,9 +227,9 @@ def test_what_run_writes():
 
 
 def is_of(played, records):
-    """Whether each of the statuses of a playing is of 1,024s of these records with its share, and more than the one before."""
+    """Whether each of the statuses of a playing is of 64s of these records with its share, and more than the one before."""
     packets = [found for found, _, _ in played]
-    shares = all(found % 1024 == 0 and found <= records and share == 100 * found // records for found, share, _ in played)
+    shares = all(found % 64 == 0 and found <= records and share == 100 * found // records for found, share, _ in played)
     return shares and packets == sorted(set(packets))
 
 
@@ -298,7 +298,7 @@ def test_a_playing_that_is_not_asked():
 
 
 def test_a_short_playing():
-    """With `--progress` a terminal shows a playing from the first 1,024 packets of a worker on, also where flows begin again and INPUT
+    """With `--progress` a terminal shows a playing from the first 64 packets of a worker on, also where flows begin again and INPUT
     is read twice. A terminal that isn't asked shows nothing of a short one."""
     with tempfile.TemporaryDirectory() as made:
         folder = pathlib.Path(made)
@@ -310,7 +310,7 @@ def test_a_short_playing():
         for more in ([], ["--syn"]):
             status, out, shown = Terminal([words[0], "--progress", *more, *words[1:]], folder).ended()
             found = [packets[:2] for packets in statuses(shown, PLAYED)]
-            check(f"a short playing {more}", (status, out) == (0, plain.stdout) and found[:1] == [(1024, 25)], repr(shown))
+            check(f"a short playing {more}", (status, out) == (0, plain.stdout) and found[:1] == [(64, 1)], repr(shown))
             check(f"a short playing {more}: no trace", screen(shown) == screen(quiet[2]), repr(shown))
 
 

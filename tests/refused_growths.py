@@ -126,6 +126,11 @@ SOON_PART = model.Run(WITHIN.decode(), SOON["in.pcap"]).begun_again().part_of(1)
 LACKING = {"s.toml": SCENARIO.replace(b'"take 1"', b'"install 1 7", "take 1"'), "in.pcap": CAPTURE}
 WARNED = "warning: a step installs version 7, which the catalogue lacks\nwarning: node 1 is live when packets come, and never has a version\n"
 WARNED += "warning: 1 event refused, as an install of a version that isn't newer, or isn't there: simulate --list shows which\n"
+# A frame of Ethernet with a VLAN tag.
+TAGGED_FRAME = bytes(12) + bytes.fromhex("810000010800") + CAPTURE[40:]
+TAGGED = {"s.toml": SCENARIO, "in.pcap": CAPTURE[:23] + b"\x01" + CAPTURE[24:32] + 2 * len(TAGGED_FRAME).to_bytes(4, "big") + TAGGED_FRAME}
+TAG_SAID = WARNED.splitlines(keepends=True)[1] + "warning: of 1 packets 1 was dropped as NotIpv4: the first frame has a VLAN tag (EtherType 0x8100), "
+TAG_SAID += "which isn't read: docs/USING.md has commands that take tags off\n"
 # The sketch of six packets of which a snap length cut four bytes.
 CUT_SIX = SNAPPED["in.pcap"] + 5 * SNAPPED["in.pcap"][24:]
 SKETCHED_OF_CUT, _ = model.sketched(model.padded(CUT_SIX))
@@ -133,7 +138,7 @@ SKETCHED_OF_CUT, _ = model.sketched(model.padded(CUT_SIX))
 CAPTURE_SAID = "in.pcap: found a capture, expected a scenario: SCENARIO comes before INPUT\n"
 # A member that is none, a version of the number 0, and a scenario without a capacity, with what is said of each.
 NO_MEMBER = {"s.toml": SCENARIO.replace(b"B@", b"B-"), "in.pcap": CAPTURE}
-MEMBER_SAID = 'versions[0].services[0].members[1], line 12: found "B-10.8.0.2", expected NAME@ADDRESS or NAME@ADDRESS/down\n'
+MEMBER_SAID = 'versions[0].services[0].members[1], line 12: found "B-10.8.0.2", expected NAME@ADDRESS or NAME@ADDRESS/down; *W is of format 2, /drain and a NAME alone of format 3\n'
 ZERO = {"s.toml": SCENARIO.replace(b"number = 1", b"number = 0"), "in.pcap": CAPTURE}
 ZERO_SAID = "versions[0].number, line 11: found 0, expected a number from 1\n"
 NO_CAPACITY = {"s.toml": SCENARIO.replace(b"capacity = 2\n", b""), "in.pcap": CAPTURE}
@@ -211,6 +216,7 @@ CASES = [
     Case(["compare", "--json", "--scenario", "s.toml", "--from", "1", "--to", "2"], objects.text_of(objects.compared(DOWN)), files=SPLIT, faults=IN_OBJECTS),
     Case(["pick", "--json", "--size", "7", "--hash", "sum", "A", "B", "C"], objects.text_of(objects.picked(PICKED)), TCP, faults=IN_OBJECTS),
     Case(["simulate", "-v", "s.toml", "in.pcap", "out.pcap"], REPORT.replace("refused 0", "refused 1"), files=LACKING, said=WARNED),
+    Case(["simulate", "-v", "s.toml", "in.pcap", "out.pcap"], model.Run(SCENARIO.decode(), TAGGED["in.pcap"]).report(), files=TAGGED, said=TAG_SAID),
     Case(["simulate", "--progress", "s.toml", "in.pcap", "out.pcap"], TWO, files=SPLIT),
     Case(["run", "--progress", "s.toml", "in.pcap", "out.pcap"], TWO + "audit agrees\n", files=SPLIT, faults=[LOST]),
     Case(["explain", "--progress", "s.toml", "in.pcap", "3", "5"], TOLD.explained(3, 5), files=SPLIT),

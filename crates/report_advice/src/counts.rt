@@ -37,6 +37,7 @@ fn is_cause(word: &str) -> bool {
             | "NoBackend"
             | "NoVersion"
             | "RingsFull"
+            | "LostAtRestart"
     )
 }
 

@@ -38,7 +38,9 @@ fn first_ethertype(head: &[u8]) -> Option<u16> {
 // What a frame of an EtherType is. Numbers below 0x0600 are lengths.
 fn kind_of(alloc: Global, ethertype: u16) -> Result<String, AllocError> {
     match ethertype {
-        0x8100 | 0x88a8 => format!(in alloc; "has a VLAN tag (EtherType 0x{ethertype:04x})"),
+        0x8100 | 0x88a8 | 0x9100 => format!(in alloc;
+            "has a VLAN tag (EtherType 0x{ethertype:04x})"
+        ),
         0x86dd => String::from_str(alloc, "is IPv6 (EtherType 0x86dd)"),
         0x0806 => String::from_str(alloc, "is ARP (EtherType 0x0806)"),
         0x0000..=0x05ff => String::from_str(alloc, "has a length in place of an EtherType"),
@@ -54,7 +56,7 @@ pub(crate) fn frame_words(alloc: Global, head: &[u8]) -> Result<Option<String>, 
     };
     let kind = kind_of(alloc, ethertype)?;
     let help = match ethertype {
-        0x8100 | 0x88a8 => ": USING has commands that take tags off",
+        0x8100 | 0x88a8 | 0x9100 => ": docs/USING.md has commands that take tags off",
         _ => "",
     };
     let words = format!(in alloc; "the first frame {kind}, which isn't read{help}")?;

@@ -7,7 +7,7 @@ use std::alloc::{AllocError, Global};
 fn help_for(cause: &str) -> &'static str {
     match cause {
         "NotIpv4" =>
-            "their frames aren't IPv4: VLAN tags and IPv6 aren't read, and USING has commands that take tags off",
+            "their frames aren't IPv4: VLAN tags and IPv6 aren't read, and docs/USING.md has commands that take tags off",
         "Truncated" =>
             "the capture has only the beginnings of its packets: play them as they were by --cut pad, or capture whole ones, with tcpdump -s 0",
         "BadHeader" | "BadTransport" => "their headers aren't those of a datagram",
@@ -20,14 +20,20 @@ fn help_for(cause: &str) -> &'static str {
             "SCENARIO has no service of their address, protocol and port: maglev scenario INPUT lists those that INPUT has",
         "NoBackend" => "their service had no member, or every member was down or drained",
         "NoVersion" => "their balancer had no version yet: begin with a step install",
+        "LostAtRestart" => "they waited on a balancer that was restarted",
         _ =>
-            "every ring was full: give more places by ring in SCENARIO, or play it by run --pace, whose drivers wait for room",
+            "every ring was full: by a step full; in run give more places by ring in SCENARIO, or --pace, whose drivers wait for room",
     }
 }
 
 // One in how many is one.
 fn plural(count: u64) -> &'static str {
     if count == 1 { "" } else { "s" }
+}
+
+// What so many of them did.
+fn were(count: u64) -> &'static str {
+    if count == 1 { "was" } else { "were" }
 }
 
 // One thing more.
@@ -58,9 +64,10 @@ fn advise_dropped(
         Some(words) => words.as_str(),
         None => help_for(cause),
     };
+    let were = were(count);
     tell(
         advice,
-        format!(in alloc; "of {received} packets {count} were dropped as {cause}: {help}")?,
+        format!(in alloc; "of {received} packets {count} {were} dropped as {cause}: {help}")?,
     )
 }
 

@@ -11,7 +11,7 @@ use std::time::{Duration, Instant};
 use thread_roles::Gate;
 
 /// How many servings of a worker are counted at once.
-const AT_ONCE: u64 = 1024;
+const AT_ONCE: u64 = 64;
 
 // A time in milliseconds.
 fn millis(time: Duration) -> u64 {
@@ -111,7 +111,7 @@ impl<'a> Progress<'a> {
     }
 }
 
-/// A gate that may show how far the workers are. It counts each 1,024 servings of a worker, and holds no other up.
+/// A gate that may show how far the workers are. It counts each 64 servings of a worker, and holds no other up.
 #[derive(Drop)]
 pub struct Playing<'a> {
     progress: Option<Progress<'a>>,
