@@ -15,6 +15,7 @@ import re
 import subprocess
 import sys
 import tempfile
+import tty
 
 import soak_run
 import model
@@ -143,8 +144,13 @@ ZERO = {"s.toml": SCENARIO.replace(b"number = 1", b"number = 0"), "in.pcap": CAP
 ZERO_SAID = "versions[0].number, line 11: found 0, expected a number from 1\n"
 NO_CAPACITY = {"s.toml": SCENARIO.replace(b"capacity = 2\n", b""), "in.pcap": CAPTURE}
 CAPACITY_SAID = "capacity is missing, expected a number from 1 to 1000000\n"
-# Where standard error is a file it gets a line of how far INPUT is read, which isn't always the same.
+# Where standard error is a file it gets a line of how far INPUT is read, which isn't always the same. A terminal's line is written anew.
 READ = re.compile(rb"\d+ packets, [^\n]*\n")
+SHOWN_THERE = re.compile(rb"\r\x1b\[K(\d+ packets[^\r\n]*)?")
+# So many packets that a worker of each node shows how many were played.
+MANY = {"s.toml": APART.replace(b"take 2", b"take 128"), "in.pcap": CAPTURE + 127 * CAPTURE[24:]}
+MANY_TOLD = model.Run(MANY["s.toml"].decode(), MANY["in.pcap"]).report() + "audit agrees\n"
+WHY_LOST_LINE = WHY_LOST[1:-1] + b"\n"
 
 
 @dataclasses.dataclass
@@ -161,6 +167,8 @@ class Case:
     faults: list = dataclasses.field(default_factory=list)
     # Whether a text is what it prints, where that isn't always the same.
     judge: object = None
+    # Whether standard error is a terminal.
+    on_terminal: bool = False
     # The status with which it ends, the line of its fault, and what is said behind that, or behind its text.
     status: int = 0
     fault: str = ""
@@ -219,6 +227,7 @@ CASES = [
     Case(["simulate", "-v", "s.toml", "in.pcap", "out.pcap"], model.Run(SCENARIO.decode(), TAGGED["in.pcap"]).report(), files=TAGGED, said=TAG_SAID),
     Case(["simulate", "--progress", "s.toml", "in.pcap", "out.pcap"], TWO, files=SPLIT),
     Case(["run", "--progress", "s.toml", "in.pcap", "out.pcap"], TWO + "audit agrees\n", files=SPLIT, faults=[LOST]),
+    Case(["run", "--pace", "--progress", "s.toml", "in.pcap", "out.pcap"], MANY_TOLD, files=MANY, on_terminal=True, faults=[LOST, (1, b"", LOST[2] + WHY_LOST_LINE)]),
     Case(["explain", "--progress", "s.toml", "in.pcap", "3", "5"], TOLD.explained(3, 5), files=SPLIT),
     Case(["scenario", "--progress", "in.pcap"], SKETCHED, files={"in.pcap": CAPTURE + 5 * CAPTURE[24:]}),
     Case(["simulate", "-v", "in.pcap", "s.toml", "out.pcap"], "", files=FILES, status=1, fault="fault: BadToml\n", said=CAPTURE_SAID),
@@ -246,9 +255,33 @@ def compiled(folder, source="refuse.c"):
     return library
 
 
+def read_terminal(end):
+    """What a terminal got, once nobody writes there any more."""
+    got = b""
+    try:
+        while piece := os.read(end, 65536):
+            got += piece
+    except OSError:
+        pass
+    os.close(end)
+    return got
+
+
+def answered_there(case, folder, env, descriptor):
+    """What a command answers whose standard error is a terminal, without what was shown there of its progress."""
+    end, writing = os.openpty()
+    tty.setraw(writing)
+    words = [PROGRAM, *case.arguments]
+    done = subprocess.run(words, input=case.stdin, stdout=subprocess.PIPE, stderr=writing, cwd=folder, env=env, pass_fds=[descriptor], timeout=60)
+    os.close(writing)
+    return done.returncode, done.stdout, SHOWN_THERE.sub(b"", read_terminal(end))
+
+
 def answered(case, folder, env, descriptor):
     """What a command answers: its status and both outputs. Where it shows its progress standard error is a file, and what was
     shown is left out."""
+    if case.on_terminal:
+        return answered_there(case, folder, env, descriptor)
     shows = "--progress" in case.arguments
     with tempfile.TemporaryFile() as said:
         done = subprocess.run(
