@@ -120,19 +120,19 @@ def measured(programs, job, folder):
     return seconds
 
 
-def table(words, jobs, what):
-    """Prints a row for each job, of the programs that a script's words name, by inputs from a seed."""
+def table(words, jobs, what, head, told):
+    """Prints a row for each job, as it is told, of the programs that a script's words name, by inputs from a seed."""
     if len(words) not in (2, 3):
         raise Failure(f"usage: bench/{what} OLD NEW [SEED]")
     programs = [program(word) for word in words[:2]]
     seed = seed_of(f"bench/{what}", words[2:])
     with tempfile.TemporaryDirectory(prefix=f"{what}.") as folder:
-        print(f"| {what} | {HEAD}", flush=True)
+        print(f"| {what} | {head}", flush=True)
         for job in jobs(random.Random(int(seed))):
-            print(row(job.name, *measured(programs, job, pathlib.Path(folder))), flush=True)
+            print(told(job.name, *measured(programs, job, pathlib.Path(folder))), flush=True)
 
 
-def started(page, jobs, what):
+def started(page, jobs, what, head=HEAD, told=row):
     """Does what a script's words ask for."""
     # So that the temporary folder goes where this is ended, too.
     signal.signal(signal.SIGTERM, lambda *_: sys.exit(143))
@@ -141,6 +141,6 @@ def started(page, jobs, what):
         print(page.strip())
         return
     try:
-        table(words, jobs, what)
+        table(words, jobs, what, head, told)
     except (Failure, OSError) as failure:
         sys.exit(str(failure))

@@ -3,6 +3,8 @@ import os
 import statistics
 
 HEAD = "old, s | new, s | old / new |\n|---|---|---|---|"
+# The same of least times, and of the ratios of the turns.
+PAIRED = "old, s | new, s | new / old | turn by turn |\n|---|---|---|---|---|"
 
 
 class Failure(Exception):
@@ -28,3 +30,9 @@ def row(name, before, after):
     """The row of the seconds of all turns."""
     one, other = statistics.median(before), statistics.median(after)
     return f"| {name} | {one:.3f} | {other:.3f} | {one / other:.2f} |"
+
+
+def paired_row(name, before, after):
+    """The row of the least seconds of all turns, and of the median of what the new one takes of the old one in each turn."""
+    each = statistics.median(new / old for old, new in zip(before, after))
+    return f"| {name} | {min(before):.3f} | {min(after):.3f} | {min(after) / min(before):.2f} | {each:.2f} |"
