@@ -145,8 +145,8 @@ def test_standard_input():
     with tempfile.TemporaryDirectory() as made:
         folder = pathlib.Path(made)
         example(folder)
-        terminal = Terminal(["simulate", "s.toml", "-", "out.pcap"], folder, subprocess.PIPE)
         start = time.monotonic()
+        terminal = Terminal(["simulate", "s.toml", "-", "out.pcap"], folder, subprocess.PIPE)
         # 70 bytes are a record: so many of each piece's bytes are whole headers.
         for at in range(0, len(data), 65536):
             terminal.done.stdin.write(data[at:at + 65536])
