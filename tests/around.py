@@ -219,6 +219,15 @@ def test_layers():
     check("the sections are the same", [head.strip("* ") for head in heads] == sections, f"{heads} {sections}")
 
 
+def as_put(name):
+    """A document as it is installed: links to share/maglev lead to where that is put, and what isn't put has no link."""
+    data = (TOP / name).read_bytes()
+    if name.parent.name == "docs" and name.suffix == ".md":
+        data = data.replace(b"](../share/maglev/", b"](../../../maglev/")
+        data = re.sub(rb"\[([^]]*)\]\((\.\./)?(crates|dist)[^)]*\)", rb"\1", data)
+    return data
+
+
 def test_install():
     """The program, its page and its completions are put below a prefix, and the program runs there."""
     with tempfile.TemporaryDirectory() as made:
@@ -236,7 +245,10 @@ def test_install():
         named = re.sub(r"(?m)(^|[ (])(docs|examples)/", lambda found: f"{found[1]}{str(there).replace('-', chr(92) + '-')}/{found[2]}/", page)
         check("the man page names files where they are", (prefix / "share" / "man" / "man1" / "maglev.1").read_text() == named != page)
         documents = [path.relative_to(TOP) for folder in ("docs", "examples") for path in (TOP / folder).rglob("*") if path.is_file() and "__pycache__" not in path.parts]
-        check("the documents", documents and all((there / name).read_bytes() == (TOP / name).read_bytes() for name in documents))
+        check("the documents", documents and all((there / name).read_bytes() == as_put(name) for name in documents))
+        links = [(page, link) for page in there.rglob("*.md") for link in re.findall(r"\]\(([^)#]+)", page.read_text()) if "://" not in link]
+        lost = [f"{page.name}: {link}" for page, link in links if not (page.parent / link).exists()]
+        check("each link of the installed pages leads somewhere", links and not lost, lost)
         check("the licences", (there / "LICENSE").exists() and (there / "LICENSE-MIT").exists() and (there / "LICENSE-APACHE").exists())
     check("bin/install of nothing", did([TOP / "bin" / "install"])[0] == 2)
 
