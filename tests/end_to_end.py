@@ -21,26 +21,13 @@ import tty
 
 import model
 import soak_run
-from harness import PROGRAM, TOP, check, run_tests
+from harness import PROGRAM, TOP, all_shown, check, run_tests
 
 
 def run(arguments, stdin=b"", cwd=None, stdout=subprocess.PIPE):
     """Runs the program, and gives status, standard output and standard error."""
     done = subprocess.run([PROGRAM, *arguments], input=stdin, stdout=stdout, stderr=subprocess.PIPE, cwd=cwd, timeout=600)
     return done.returncode, done.stdout, done.stderr
-
-
-def all_shown(reading):
-    """All that comes through a terminal until nobody has it open any more."""
-    found = b""
-    while True:
-        try:
-            piece = os.read(reading, 4096)
-        except OSError:
-            return found
-        if not piece:
-            return found
-        found += piece
 
 
 def run_at_terminal(arguments, cwd=None, stream="stderr"):

@@ -15,7 +15,7 @@ import time
 import tty
 
 import model
-from harness import PROGRAM, TOP, check, run_tests
+from harness import PROGRAM, TOP, all_shown, check, run_tests
 
 EXAMPLE = TOP / "examples" / "failover"
 COMMANDS = {
@@ -347,15 +347,7 @@ def test_beside_other_texts():
         words = [PROGRAM, "simulate", "--list", "--progress", "s.toml", "in.pcap", "out.pcap"]
         done = subprocess.Popen(words, cwd=folder, stdin=subprocess.DEVNULL, stdout=writing, stderr=writing)
         os.close(writing)
-        shown = b""
-        while True:
-            try:
-                piece = os.read(reading, 65536)
-            except OSError:
-                break
-            if not piece:
-                break
-            shown += piece
+        shown = all_shown(reading)
         os.close(reading)
         check("a listing on a terminal", done.wait() == 0 and CLEARED.encode() not in shown and b"packets " in shown, repr(shown[:300]))
 

@@ -20,7 +20,7 @@ import tty
 import soak_run
 import model
 import objects
-from harness import TOP, told
+from harness import TOP, all_shown, told
 
 sys.path.append(str(TOP / "bin"))
 import build
@@ -255,26 +255,16 @@ def compiled(folder, source="refuse.c"):
     return library
 
 
-def read_terminal(end):
-    """What a terminal got, once nobody writes there any more."""
-    got = b""
-    try:
-        while piece := os.read(end, 65536):
-            got += piece
-    except OSError:
-        pass
-    os.close(end)
-    return got
-
-
 def answered_there(case, folder, env, descriptor):
     """What a command answers whose standard error is a terminal, without what was shown there of its progress."""
-    end, writing = os.openpty()
+    reading, writing = os.openpty()
     tty.setraw(writing)
     words = [PROGRAM, *case.arguments]
     done = subprocess.run(words, input=case.stdin, stdout=subprocess.PIPE, stderr=writing, cwd=folder, env=env, pass_fds=[descriptor], timeout=60)
     os.close(writing)
-    return done.returncode, done.stdout, SHOWN_THERE.sub(b"", read_terminal(end))
+    shown = all_shown(reading)
+    os.close(reading)
+    return done.returncode, done.stdout, SHOWN_THERE.sub(b"", shown)
 
 
 def answered(case, folder, env, descriptor):
