@@ -1,5 +1,6 @@
 pub mod Whole
 pub mod Walks
+pub mod Chunks
 pub mod Stores
 pub mod Ruled
 pub mod InWords

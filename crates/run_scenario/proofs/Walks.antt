@@ -36,13 +36,7 @@ module _ {X : Type 0} (f : X → List Sending) (xs : List X) (i : ℕ) (x : X) (
 pub wrote_all : {X : Type 0} (f : X → List Sending) (xs : List X) (i : ℕ) (a b : Tape) → length xs ≤ i → Wrote a b (flat_map f (take i xs)) → Wrote a b (flat_map f xs)
 wrote_all {X} f xs i a b le h = subst (λ (l : List X). Wrote a b (flat_map f l)) (take_all i xs le) h
 
--- the packet of one record more
-pub packets_more : (link : Link) (check : Bool) (rs : List Record) (i : ℕ) (r : Record) → i < length rs → slice_get rs i ≡ Some r → packets_of link check (take (i + 1) rs) ≡ packets_of link check (take i rs) ++ packet_in link check r ∷ []
-packets_more link check rs i r lt is =
-    ap (λ (l : List Record). packets_of link check l) (take_more rs i r lt ∙ ap (λ (q : Record). take i rs ++ q ∷ []) (get_or_from_slice_get rs i r r is))
-    ∙ map_push (packet_in link check) (take i rs) r
-
--- its time
+-- the time of one record more
 pub times_more : (rs : List Record) (i : ℕ) (r : Record) → i < length rs → slice_get rs i ≡ Some r → map time_of (take (i + 1) rs) ≡ map time_of (take i rs) ++ time_of r ∷ []
 times_more rs i r lt is =
     ap (λ (l : List Record). map time_of l) (take_more rs i r lt ∙ ap (λ (q : Record). take i rs ++ q ∷ []) (get_or_from_slice_get rs i r r is))

@@ -1,19 +1,22 @@
 //! A capture is read to its end, and its first records are kept.
-ghost use Rattle.std.specs.Prelude.{◌≡◌, ◌≤◌, List, IfOk, IfErr, OnOk, length};
+ghost use Rattle.std.specs.Prelude.{◌≡◌, ◌≤◌, ◌<◌, ◌+◌, ℕ, List, IfOk, IfErr, OnOk, length, slice_index_or};
 ghost use Rattle.pcap_file.specs.Device.{Unfailed};
 ghost use Rattle.pcap_file.specs.Format.{Record, max_records};
 ghost use Rattle.pcap_file.specs.Text.{IsTold, AllRefused};
 ghost use Rattle.cluster_core.specs.Cluster.{WereRead};
+ghost use Rattle.cluster_node.specs.declared.packets.Packet.{Packet};
 ghost use Rattle.simulation.specs.Sent.{packets_of};
 ghost use Rattle.run_scenario.specs.Firsts.{IsSplit};
 ghost use Rattle.run_scenario.specs.Inputs.{IsReadWhole, ReadingFails};
 
 use crate::firsts::FirstRecords;
 use crate::records::Records;
-use cluster_node::Packet;
+use cluster_node::{Cause, Packet};
 use pcap_file::{Ending, Frame, Head, InputEnd, PcapFault, Source, read_record_into, read_start};
 use simulation::{SimulationFault, Wire};
 use std::alloc::{AllocError, Global};
+use std::thread;
+use std::thread::Threads;
 
 /// A capture's header, its first records, how many others it has, and whether it ends inside a further one.
 #[derive(Drop)]
@@ -83,8 +86,46 @@ pub(crate) fn read_whole<I: Source>(
     }
 }
 
+// A thread reads so many records at least.
+const READ_AT_ONCE: usize = 16_384;
+
+// So many threads read at most.
+const READING_THREADS: usize = 32;
+
+// The packets of the records from a place on, in place of what is there.
+fn read_into(wire: &Wire<'_>, records: &Records, from: usize, packets: &mut [Packet])
+    requires { from + length packets.old ≤ length records.now }
+    ensures many { length packets.new ≡ length packets.old }
+    ensures each { (k : ℕ) (p : Packet) → k < length packets.old →
+        slice_index_or packets.new k p ≡ slice_index_or (packets_of wire.now.link wire.now.check records.now) (from + k) p }
+{
+    let _all = records.len();
+    for at in 0..packets.len() {
+        packets[at] = wire.packet(records.at(from + at));
+    }
+}
+
+// The packets of all records, in place of what is there. Where there are many, they are read on several threads.
+fn read_all<R: Threads + Sync>(rt: &R, wire: &Wire<'_>, records: &Records, packets: &mut [Packet])
+    requires { length packets.old ≡ length records.now }
+    ensures { packets.new ≡ packets_of wire.now.link wire.now.check records.now }
+{
+    let size = packets.len().div_ceil(READING_THREADS).max(READ_AT_ONCE);
+    thread::for_each_chunk_mut(
+        rt,
+        packets,
+        size,
+        &|from: usize, some: &mut [Packet]|
+            requires { from + length some.now ≤ length records.now }
+            ensures { let all = packets_of wire.entry.now.link wire.entry.now.check records.entry.now in (k : ℕ) (p : Packet) →
+                k < length some.entry.now → slice_index_or some.exit.now k p ≡ slice_index_or all (from + k) p }
+        { read_into(wire, records, from, some) },
+    );
+}
+
 /// The packets that records are.
-pub(crate) fn packets_of(
+pub(crate) fn packets_of<R: Threads + Sync>(
+    rt: &R,
     alloc: Global,
     wire: &Wire<'_>,
     records: &Records,
@@ -93,9 +134,8 @@ pub(crate) fn packets_of(
     ensures read { IfOk result (λ v. WereRead v.items) }
     ensures count { IfOk result (λ v. length v.items ≡ length records.now) }
 {
-    let mut packets = Vec::with_capacity(alloc, records.len())?;
-    for at in 0..records.len() {
-        packets.push(wire.packet(records.at(at)))?;
-    }
+    let unread = Packet::Bad(Cause::NotIpv4);
+    let mut packets = vec![in alloc; unread; records.len()]?;
+    read_all(rt, wire, records, packets.as_mut_slice());
     Ok(packets)
 }

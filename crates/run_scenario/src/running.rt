@@ -152,7 +152,7 @@ fn run_over<R: Threads + Wait + Sync, G: Gate + Sync>(
         turns,
     } = asked;
     let wire = wire_of(scenario, captured.head.link);
-    let packets = packets_of(alloc, &wire, &captured.records)?;
+    let packets = packets_of(host.rt, alloc, &wire, &captured.records)?;
     let orders = orders_of(alloc, scenario, &captured.records, packets.as_slice())?;
     let task = Task {
         key,
