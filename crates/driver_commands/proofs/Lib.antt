@@ -1,4 +1,5 @@
 pub mod Telling
+pub mod Taking
 pub mod Alike
 pub mod Offered
 pub mod Unmarked

@@ -1,9 +1,11 @@
 //! The commands of each node's driver.
-ghost use Rattle.std.specs.Prelude.{◌≡◌, ◌<◌, ◌^◌, ◌++◌, ℕ, List, [], length, map, replicate, IfOk, OnOk, All};
+ghost use Rattle.std.specs.Prelude.{◌≡◌, ◌<◌, ◌-◌, ◌^◌, ◌++◌, ℕ, List, [], length, map, replicate, IfOk, OnOk, All};
 ghost use Rattle.cluster_node.specs.declared.events.Event.{Event};
 ghost use Rattle.cluster_core.specs.Cluster.{Cluster, WereRead};
+ghost use Rattle.event_trace.specs.declared.steps.ScenarioStep.TheVariants.{Take};
+ghost use Rattle.event_trace.specs.Going.{GoesOver};
 ghost use Rattle.event_trace.specs.Room.{Counted};
-ghost use Rattle.event_trace.specs.Steps.{below, run, world_of};
+ghost use Rattle.event_trace.specs.Steps.{SameChoice, after, below, run, world_of};
 ghost use Rattle.event_trace.specs.Tally.{tally_of};
 ghost use Rattle.thread_records.specs.Losses.{as_written, drained_lives};
 ghost use Rattle.driver_commands.specs.Noting.{noting};
@@ -74,7 +76,104 @@ fn tell_all(commands: &mut Vec<Vec<Command>>, events: &[LogEntry]) -> Result<(),
     Ok(())
 }
 
-// Plays the steps, and tells the drivers after each what follows from it: so the events of no more than one step are kept.
+// So many records are taken at once at most, so that few events are kept.
+const TAKEN_AT_ONCE: u32 = 1024;
+
+// Plays a step, and tells the drivers what follows from it. The events that were there make room for its own.
+fn tell_step<P: Spread>(
+    alloc: Global,
+    play: &mut Play<P>,
+    packets: &[Packet],
+    step: &ScenarioStep,
+    events: &mut Vec<LogEntry>,
+    commands: &mut Vec<Vec<Command>>,
+) -> Result<(), AllocError>
+    requires read { WereRead packets.now }
+    requires places { length packets.now < 2 ^ 32 }
+    requires room { Counted (length packets.now) (2 ^ 32) play.old.trace }
+    ensures choice { SameChoice (P.choice play.old.spread) (P.choice play.new.spread) }
+    ensures after { OnOk result (GoesOver packets.now noting (P.choice play.old.spread) (λ w. after w step.now) play.old.trace play.new.trace) }
+    ensures told { (nodes : ℕ) → map (λ c. c.items) commands.old.items ≡ orders_in nodes (events_of play.old.trace) →
+        OnOk result (map (λ c. c.items) commands.new.items ≡ orders_in nodes (events_of play.new.trace)) }
+{
+    events.clear();
+    play.step(alloc, &mut IdleCore, &(), packets, step, events)?;
+    tell_all(commands, events.as_slice())?;
+    Ok(())
+}
+
+// The same where so many records are taken.
+fn tell_taken<P: Spread>(
+    alloc: Global,
+    play: &mut Play<P>,
+    packets: &[Packet],
+    count: u32,
+    events: &mut Vec<LogEntry>,
+    commands: &mut Vec<Vec<Command>>,
+) -> Result<(), AllocError>
+    requires read { WereRead packets.now }
+    requires places { length packets.now < 2 ^ 32 }
+    requires room { Counted (length packets.now) (2 ^ 32) play.old.trace }
+    ensures choice { SameChoice (P.choice play.old.spread) (P.choice play.new.spread) }
+    ensures after { OnOk result (GoesOver packets.now noting (P.choice play.old.spread) (λ w. after w (Take count)) play.old.trace play.new.trace) }
+    ensures told { (nodes : ℕ) → map (λ c. c.items) commands.old.items ≡ orders_in nodes (events_of play.old.trace) →
+        OnOk result (map (λ c. c.items) commands.new.items ≡ orders_in nodes (events_of play.new.trace)) }
+{
+    let step = ScenarioStep::Take(count);
+    tell_step(alloc, play, packets, &step, events, commands)?;
+    Ok(())
+}
+
+// The same, and the records are taken some at a time: so the events of a few are kept, however many are taken.
+fn tell_in_parts<P: Spread>(
+    alloc: Global,
+    play: &mut Play<P>,
+    packets: &[Packet],
+    count: u32,
+    events: &mut Vec<LogEntry>,
+    commands: &mut Vec<Vec<Command>>,
+) -> Result<(), AllocError>
+    requires read { WereRead packets.now }
+    requires places { length packets.now < 2 ^ 32 }
+    requires room { Counted (length packets.now) (2 ^ 32 - 1) play.old.trace }
+    ensures choice { SameChoice (P.choice play.old.spread) (P.choice play.new.spread) }
+    ensures after { OnOk result (GoesOver packets.now noting (P.choice play.old.spread) (λ w. after w (Take count)) play.old.trace play.new.trace) }
+    ensures told { (nodes : ℕ) → map (λ c. c.items) commands.old.items ≡ orders_in nodes (events_of play.old.trace) →
+        OnOk result (map (λ c. c.items) commands.new.items ≡ orders_in nodes (events_of play.new.trace)) }
+{
+    let taken = count.min(play.tally(packets.len() as u32).left);
+    for _ in 0..taken / TAKEN_AT_ONCE {
+        tell_taken(alloc, play, packets, TAKEN_AT_ONCE, events, commands)?;
+    }
+    let others = taken % TAKEN_AT_ONCE;
+    tell_taken(alloc, play, packets, others, events, commands)?;
+    Ok(())
+}
+
+// The same of a step, however many records it takes.
+fn tell_next<P: Spread>(
+    alloc: Global,
+    play: &mut Play<P>,
+    packets: &[Packet],
+    step: &ScenarioStep,
+    events: &mut Vec<LogEntry>,
+    commands: &mut Vec<Vec<Command>>,
+) -> Result<(), AllocError>
+    requires read { WereRead packets.now }
+    requires places { length packets.now < 2 ^ 32 }
+    requires room { Counted (length packets.now) (2 ^ 32 - 1) play.old.trace }
+    ensures choice { SameChoice (P.choice play.old.spread) (P.choice play.new.spread) }
+    ensures after { OnOk result (GoesOver packets.now noting (P.choice play.old.spread) (λ w. after w step.now) play.old.trace play.new.trace) }
+    ensures told { (nodes : ℕ) → map (λ c. c.items) commands.old.items ≡ orders_in nodes (events_of play.old.trace) →
+        OnOk result (map (λ c. c.items) commands.new.items ≡ orders_in nodes (events_of play.new.trace)) }
+{
+    match step {
+        ScenarioStep::Take(count) => tell_in_parts(alloc, play, packets, *count, events, commands),
+        _ => tell_step(alloc, play, packets, step, events, commands),
+    }
+}
+
+// Plays the steps, and tells the drivers what follows from each.
 fn tell_steps<P: Spread>(
     alloc: Global,
     play: &mut Play<P>,
@@ -93,9 +192,7 @@ fn tell_steps<P: Spread>(
 {
     let mut events = Vec::new(alloc);
     for step in steps {
-        events.clear();
-        play.step(alloc, &mut IdleCore, &(), packets, step, &mut events)?;
-        tell_all(commands, events.as_slice())?;
+        tell_next(alloc, play, packets, step, &mut events, commands)?;
     }
     Ok(())
 }
