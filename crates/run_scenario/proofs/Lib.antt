@@ -1,5 +1,6 @@
 pub mod Whole
 pub mod Walks
+pub mod Numbers
 pub mod Stores
 pub mod Ruled
 pub mod InWords
