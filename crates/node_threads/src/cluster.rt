@@ -38,7 +38,7 @@ use std::marker::Brand;
 use std::sync::{Mutex, Wait};
 use std::thread;
 use std::thread::{Promise, PromisedHandle, Scope, Threads};
-use thread_records::{Command, History, NodeRecord, join_runs};
+use thread_records::{Command, History, LeanRecord, NodeRecord, join_runs, open_all};
 use thread_roles::{Gate, RunFault};
 
 // Parts of the counts for 64 drivers and 16 workers of each, and one more.
@@ -47,8 +47,8 @@ const PARTS: u64 = 64 * 17 + 1;
 /// What the nodes of a cluster did, each for itself.
 #[derive(Debug, Drop)]
 pub struct NodesRun {
-    /// Each node's own record, in the order of the nodes.
-    pub nodes: Vec<NodeRecord>,
+    /// Each node's own record as it is kept, in the order of the nodes.
+    pub nodes: Vec<LeanRecord>,
     /// The counts of the run.
     pub stats: Stats,
 }
@@ -139,7 +139,7 @@ impl ClusterRun {
         let nodes = self.nodes.as_slice();
         let prepared = SharedVersions::none(alloc);
         let auditor = Auditor::new(alloc, setup, catalogue, &prepared)?;
-        audit_nodes::<S, H, T, R>(rt, alloc, nodes, &auditor, packets)
+        audit_nodes::<S, H, T, R, NodeRecord>(rt, alloc, nodes, &auditor, packets)
     }
 }
 
@@ -172,14 +172,14 @@ struct Drivers<'e, S: Scheme, H: FlowHash, B: Names> {
 // What all nodes did, and what was counted.
 #[derive(Drop)]
 struct Gathered<B: Names> {
-    nodes: Vec<NodeRecord>,
+    nodes: Vec<LeanRecord>,
     shares: Shares<B>,
 }
 
 // What was joined so far. Once there is a fault the rest is kept for nothing.
 #[derive(Drop)]
 struct Joined<B: Names> {
-    nodes: Vec<NodeRecord>,
+    nodes: Vec<LeanRecord>,
     shares: Shares<B>,
     fault: Option<RunFault>,
 }
@@ -541,9 +541,10 @@ where
         rt, alloc, setup, catalogue, &prepared, packets, commands, rings, gate,
     )?;
     let NodesRun { nodes, stats } = run;
-    let history = join_runs(alloc, nodes.as_slice())?;
+    let opened = open_all(alloc, nodes)?;
+    let history = join_runs(alloc, opened.as_slice())?;
     Ok(ClusterRun {
-        nodes,
+        nodes: opened,
         history,
         stats,
     })

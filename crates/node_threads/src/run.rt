@@ -14,13 +14,13 @@ use selection::Scheme;
 use stats_book::{Names, Shares, Stats};
 use std::alloc::{AllocError, Global};
 use std::fmt;
-use thread_records::NodeRecord;
+use thread_records::{LeanRecord, NodeRecord};
 
 /// A node's record, and the shares of a book on which its run was counted.
 #[derive(Drop)]
 pub struct CountedRun<B: Names> {
     /// What the node did.
-    pub record: NodeRecord,
+    pub record: LeanRecord,
     /// What its threads counted.
     pub shares: Shares<B>,
 }

@@ -1,6 +1,7 @@
 pub mod Whole
 pub mod Walks
 pub mod Chunks
+pub mod Numbers
 pub mod Stores
 pub mod Ruled
 pub mod InWords

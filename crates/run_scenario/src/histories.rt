@@ -31,7 +31,7 @@ use node_threads::NodesRun;
 use run_report::SplitBook;
 use scenario::Scenario;
 use std::alloc::{AllocError, Global};
-use thread_records::NodeRecord;
+use thread_records::LeanRecord;
 
 // A length and one more. None where no list is as long as both.
 fn longer(length: usize, more: usize) -> Option<usize>
@@ -44,12 +44,12 @@ fn longer(length: usize, more: usize) -> Option<usize>
 }
 
 /// How many outcomes all nodes have. None where one list couldn't have them.
-pub(crate) fn outcome_count(nodes: &[NodeRecord]) -> Option<usize>
+pub(crate) fn outcome_count(nodes: &[LeanRecord]) -> Option<usize>
     ensures { IfSome result (λ n. (n ≡ length (all_outcomes nodes.now)) × (n < 2 ^ 63)) }
 {
     let mut count = 0;
     for node in nodes {
-        count = longer(count, node.outcomes.len())?;
+        count = longer(count, node.outcomes().len())?;
     }
     Some(count)
 }
@@ -75,13 +75,13 @@ fn refused_in(outcomes: &[Outcome]) -> u64
 }
 
 // How many events of all nodes were refused.
-fn refused_by(nodes: &[NodeRecord]) -> u64
+fn refused_by(nodes: &[LeanRecord]) -> u64
     requires { length (all_outcomes nodes.now) < 2 ^ 63 }
     ensures { result ≡ how_many (λ o. is_refused o) (all_outcomes nodes.now) }
 {
     let mut refused = 0u64;
     for node in nodes {
-        refused += refused_in(node.outcomes.as_slice());
+        refused += refused_in(node.outcomes());
     }
     refused
 }
@@ -103,13 +103,13 @@ pub(crate) fn totals_of(run: &NodesRun) -> Totals
 }
 
 // The book of the splits.
-fn book_of(alloc: Global, key: TableKey, nodes: &[NodeRecord]) -> Result<SplitBook<()>, AllocError>
+fn book_of(alloc: Global, key: TableKey, nodes: &[LeanRecord]) -> Result<SplitBook<()>, AllocError>
     requires { AreEven nodes.now }
     ensures { IfOk result (λ b. IsBookOf (said_by nodes.now) b) }
 {
     let mut book = SplitBook::new(alloc, key);
     for node in nodes {
-        book.note_all(node.events.as_slice(), node.outcomes.as_slice())?;
+        book.note_all(node.events(), node.outcomes())?;
     }
     book.settle()?;
     Ok(book)
@@ -135,15 +135,15 @@ fn changes_of(
     alloc: Global,
     key: TableKey,
     packets: &[Packet],
-    nodes: &[NodeRecord],
+    nodes: &[LeanRecord],
 ) -> Result<ChangeBook, AllocError>
     requires { AreEven nodes.now }
     ensures { IfOk result (λ b. IsChangeBookOf (said_whole packets.now nodes.now) b) }
 {
     let mut book = ChangeBook::new(alloc, key);
     for node in nodes {
-        let events = node.events.as_slice();
-        note_node(&mut book, packets, events, node.outcomes.as_slice())?;
+        let events = node.events();
+        note_node(&mut book, packets, events, node.outcomes())?;
     }
     book.settle()?;
     Ok(book)
@@ -168,7 +168,7 @@ fn splits_alone(
     alloc: Global,
     key: TableKey,
     scenario: &Scenario,
-    nodes: &[NodeRecord],
+    nodes: &[LeanRecord],
     options: RunOptions,
 ) -> Result<String, AllocError>
     requires even { AreEven nodes.now }
@@ -253,7 +253,7 @@ impl Telling<'_> {
     }
 
     // The shares, where they are asked for.
-    fn shares(&self, alloc: Global, nodes: &[NodeRecord]) -> Result<String, AllocError>
+    fn shares(&self, alloc: Global, nodes: &[LeanRecord]) -> Result<String, AllocError>
         requires even { AreEven nodes.now }
         ensures { IfOk result (λ s. string_bytes s ≡ shares_as self.now.options.form (asked_shares self.now.options) (said_whole self.now.packets.now nodes.now)) }
     {
@@ -263,7 +263,7 @@ impl Telling<'_> {
     }
 
     // What is told where the changes are kept.
-    fn tell_changes(&self, alloc: Global, nodes: &[NodeRecord]) -> Result<Told, AllocError>
+    fn tell_changes(&self, alloc: Global, nodes: &[LeanRecord]) -> Result<Told, AllocError>
         requires even { AreEven nodes.now }
         ensures { keeps_changes self.now.options.places self.now.options.summary ≡ true → IfOk result (TellsOf None self.now.options self.now.scenario.now self.now.packets.now nodes.now) }
     {
@@ -281,7 +281,7 @@ impl Telling<'_> {
     }
 
     // What is told where they aren't.
-    fn tell_splits(&self, alloc: Global, nodes: &[NodeRecord]) -> Result<Told, AllocError>
+    fn tell_splits(&self, alloc: Global, nodes: &[LeanRecord]) -> Result<Told, AllocError>
         requires even { AreEven nodes.now }
         ensures { keeps_changes self.now.options.places self.now.options.summary ≡ false → IfOk result (TellsOf None self.now.options self.now.scenario.now self.now.packets.now nodes.now) }
     {
@@ -297,7 +297,7 @@ impl Telling<'_> {
     fn tell_turned(
         &self,
         alloc: Global,
-        nodes: &[NodeRecord],
+        nodes: &[LeanRecord],
         ordinals: Ordinals,
     ) -> Result<Told, AllocError>
         requires even { AreEven nodes.now }
@@ -321,7 +321,7 @@ impl Telling<'_> {
     }
 
     // What is told where each flow is one connection.
-    fn tell_flows(&self, alloc: Global, nodes: &[NodeRecord]) -> Result<Told, AllocError>
+    fn tell_flows(&self, alloc: Global, nodes: &[LeanRecord]) -> Result<Told, AllocError>
         requires even { AreEven nodes.now }
         ensures { IfOk result (TellsOf None self.now.options self.now.scenario.now self.now.packets.now nodes.now) }
     {
@@ -337,7 +337,7 @@ impl Telling<'_> {
     pub(crate) fn tell(
         &self,
         alloc: Global,
-        nodes: &[NodeRecord],
+        nodes: &[LeanRecord],
         turns: Option<Ordinals>,
     ) -> Result<Told, AllocError>
         requires even { AreEven nodes.now }

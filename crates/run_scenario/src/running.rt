@@ -36,7 +36,7 @@ use simulation::Wire;
 use std::alloc::Global;
 use std::sync::Wait;
 use std::thread::Threads;
-use thread_records::NodeRecord;
+use thread_records::LeanRecord;
 use traffic_shares::AskedShares;
 
 /// What is asked of a run beside its scenario.
@@ -89,7 +89,7 @@ impl RunOptions {
 #[derive(Drop)]
 struct Done {
     packets: Vec<Packet>,
-    nodes: Vec<NodeRecord>,
+    nodes: Vec<LeanRecord>,
     answer: Answer,
 }
 

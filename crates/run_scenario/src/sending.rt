@@ -1,9 +1,10 @@
 //! What the nodes sent is written.
-ghost use Rattle.std.specs.Prelude.{OnOk, IfErr};
+ghost use Rattle.std.specs.Prelude.{map, OnOk, IfErr};
 ghost use Rattle.std.specs.Io.KnownBytes.{Appends};
 ghost use Rattle.pcap_file.specs.Device.{Unfailed};
 ghost use Rattle.simulation.specs.Sent.{sent_by, capture_text, Wrote, WroteUntil};
 ghost use Rattle.simulation.specs.Simulated.{IsOfRun, CaptureUntil};
+ghost use Rattle.thread_records.specs.Lean.{send_of};
 ghost use Rattle.run_scenario.specs.PrivateSends.{traffic_by};
 ghost use Rattle.run_scenario.specs.Sends.{sent_of, sent_by_lives, sent_by_nodes};
 
@@ -12,7 +13,7 @@ use cluster_node::Outcome;
 use pcap_file::{Sink, write_head};
 use simulation::SimulationFault;
 use std::alloc::Global;
-use thread_records::NodeRecord;
+use thread_records::LeanRecord;
 
 impl Sender<'_> {
     // Sends the packet that an outcome sends. The datagram is wrapped in the room, which is used again.
@@ -47,19 +48,20 @@ impl Sender<'_> {
         }
     }
 
-    // Sends what was sent in one life.
+    // Sends what a node sent in one life, by the numbers of its events.
     fn send_life<O: Sink>(
         &self,
         room: &mut Vec<u8>,
         output: &mut O,
-        life: &[Outcome],
+        node: &LeanRecord,
+        life: &[u32],
     ) -> Result<(), SimulationFault>
-        ensures ok { OnOk result (Wrote (O.tape output.old) (O.tape output.new) (sent_of (traffic_by self.now) life.now)) }
+        ensures ok { OnOk result (Wrote (O.tape output.old) (O.tape output.new) (sent_of (traffic_by self.now) (map (λ n. send_of node.now.outcomes.items n) life.now))) }
         ensures named { IfErr result IsOfRun }
-        ensures cut { IfErr result (λ fault. WroteUntil fault (O.tape output.old) (O.tape output.new) (sent_of (traffic_by self.now) life.now)) }
+        ensures cut { IfErr result (λ fault. WroteUntil fault (O.tape output.old) (O.tape output.new) (sent_of (traffic_by self.now) (map (λ n. send_of node.now.outcomes.items n) life.now))) }
     {
-        for outcome in life {
-            self.send_outcome(room, output, outcome)?;
+        for number in life {
+            self.send_outcome(room, output, &node.send_of(*number))?;
         }
         Ok(())
     }
@@ -69,14 +71,15 @@ impl Sender<'_> {
         &self,
         room: &mut Vec<u8>,
         output: &mut O,
-        lives: &[Vec<Outcome>],
+        node: &LeanRecord,
     ) -> Result<(), SimulationFault>
-        ensures ok { OnOk result (Wrote (O.tape output.old) (O.tape output.new) (sent_by_lives (traffic_by self.now) lives.now)) }
+        ensures ok { OnOk result (Wrote (O.tape output.old) (O.tape output.new) (sent_by_lives (traffic_by self.now) node.now.sent.items)) }
         ensures named { IfErr result IsOfRun }
-        ensures cut { IfErr result (λ fault. WroteUntil fault (O.tape output.old) (O.tape output.new) (sent_by_lives (traffic_by self.now) lives.now)) }
+        ensures cut { IfErr result (λ fault. WroteUntil fault (O.tape output.old) (O.tape output.new) (sent_by_lives (traffic_by self.now) node.now.sent.items)) }
     {
+        let lives = node.sent();
         for life in lives {
-            self.send_life(room, output, life.as_slice())?;
+            self.send_life(room, output, node, life.as_slice())?;
         }
         Ok(())
     }
@@ -86,14 +89,14 @@ impl Sender<'_> {
         &self,
         room: &mut Vec<u8>,
         output: &mut O,
-        nodes: &[NodeRecord],
+        nodes: &[LeanRecord],
     ) -> Result<(), SimulationFault>
         ensures ok { OnOk result (Wrote (O.tape output.old) (O.tape output.new) (sent_by_nodes (traffic_by self.now) nodes.now)) }
         ensures named { IfErr result IsOfRun }
         ensures cut { IfErr result (λ fault. WroteUntil fault (O.tape output.old) (O.tape output.new) (sent_by_nodes (traffic_by self.now) nodes.now)) }
     {
         for node in nodes {
-            self.send_lives(room, output, node.sent.as_slice())?;
+            self.send_lives(room, output, node)?;
         }
         Ok(())
     }
@@ -105,7 +108,7 @@ pub(crate) fn write_capture<O: Sink>(
     alloc: Global,
     output: &mut O,
     sender: &Sender<'_>,
-    nodes: &[NodeRecord],
+    nodes: &[LeanRecord],
 ) -> Result<(), SimulationFault>
     ensures written { OnOk result (Appends (O.tape output.old).bytes (O.tape output.new).bytes (capture_text (sent_by_nodes (traffic_by sender.now) nodes.now)) × Unfailed (O.tape output.old) (O.tape output.new)) }
     ensures named { IfErr result IsOfRun }

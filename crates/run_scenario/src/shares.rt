@@ -12,7 +12,7 @@ use cluster_node::{Event, Outcome, Packet};
 use connection_table::TableKey;
 use json_lines::Form;
 use std::alloc::{AllocError, Global};
-use thread_records::NodeRecord;
+use thread_records::LeanRecord;
 use traffic_shares::{AskedShares, ShareBooks};
 
 // A node's history goes into the books, event by event, with the packets that arrivals name.
@@ -37,15 +37,15 @@ fn books_of(
     key: TableKey,
     asked: AskedShares,
     packets: &[Packet],
-    nodes: &[NodeRecord],
+    nodes: &[LeanRecord],
 ) -> Result<ShareBooks, AllocError>
     requires { AreEven nodes.now }
     ensures { IfOk result (λ b. AreShareBooksOf asked (said_whole packets.now nodes.now) b) }
 {
     let mut books = ShareBooks::new(alloc, key, asked);
     for node in nodes {
-        let events = node.events.as_slice();
-        note_node(&mut books, packets, events, node.outcomes.as_slice())?;
+        let events = node.events();
+        note_node(&mut books, packets, events, node.outcomes())?;
     }
     Ok(books)
 }
@@ -57,7 +57,7 @@ pub(crate) fn shares_told(
     form: Form,
     asked: AskedShares,
     packets: &[Packet],
-    nodes: &[NodeRecord],
+    nodes: &[LeanRecord],
 ) -> Result<String, AllocError>
     requires { AreEven nodes.now }
     ensures { IfOk result (λ s. string_bytes s ≡ shares_as form asked (said_whole packets.now nodes.now)) }

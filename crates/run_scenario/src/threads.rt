@@ -30,7 +30,7 @@ use std::alloc::{AllocError, Global};
 use std::sync::Wait;
 use std::thread;
 use std::thread::Threads;
-use thread_records::{Command, NodeRecord};
+use thread_records::{Command, LeanRecord};
 
 /// What is to be run: a scenario's cluster over packets that were read, each node by its list of commands. The tables and the
 /// books of splits and changes hash by the key.
@@ -58,7 +58,7 @@ fn judged<R: Threads + Sync>(
     alloc: Global,
     auditor: &Auditor<'_, NamedScheme, AnyHash>,
     task: &Task<'_>,
-    nodes: &[NodeRecord],
+    nodes: &[LeanRecord],
     turns: Option<Ordinals>,
 ) -> (Result<bool, AllocError>, Result<Told, AllocError>)
     requires read { WereRead task.now.packets.now }
@@ -78,7 +78,11 @@ fn judged<R: Threads + Sync>(
         requires { WereRead packets.now }
         ensures { let rules = rules_of (λ s z. pick_of s z) (λ h. plain_of h) auditor.entry.now in
             IfOk result (λ b. IsTrue b ↔ All (λ r. r.outcomes.items ≡ verdicts rules [] packets.entry.now r.events.items) nodes.entry.now) }
-    { audit_nodes::<NamedScheme, AnyHash, PlaceTable, R>(rt, alloc, nodes, auditor, packets) };
+    {
+        audit_nodes::<NamedScheme, AnyHash, PlaceTable, R, LeanRecord>(
+            rt, alloc, nodes, auditor, packets,
+        )
+    };
     let told = move || -> Result<Told, AllocError>
         requires { AreEven nodes.now }
         ensures { IfOk result (TellsOf turns options scenario.entry.now packets.entry.now nodes.entry.now) }

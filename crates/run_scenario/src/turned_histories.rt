@@ -19,7 +19,7 @@ use connection_changes::{Account, TurnedBook};
 use json_lines::Form;
 use scenario::Scenario;
 use std::alloc::{AllocError, Global};
-use thread_records::NodeRecord;
+use thread_records::LeanRecord;
 
 // A node's history goes into the book, event by event, with the packets that arrivals name.
 fn note_node(
@@ -41,14 +41,14 @@ fn note_node(
 pub(crate) fn note_nodes(
     book: &mut TurnedBook,
     packets: &[Packet],
-    nodes: &[NodeRecord],
+    nodes: &[LeanRecord],
 ) -> Result<(), AllocError>
     requires { AreEven nodes.now }
     ensures { (o : Ordinals) → IsTurnedBookOf o [] book.old → OnOk result (IsTurnedBookOf o (said_whole packets.now nodes.now) book.new) }
 {
     for node in nodes {
-        let events = node.events.as_slice();
-        note_node(book, packets, events, node.outcomes.as_slice())?;
+        let events = node.events();
+        note_node(book, packets, events, node.outcomes())?;
     }
     Ok(())
 }

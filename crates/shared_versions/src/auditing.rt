@@ -4,7 +4,6 @@ ghost use Rattle.cluster_core.specs.Deployed.{Deployed, rules_of};
 ghost use Rattle.cluster_core.specs.Runs.{verdicts};
 ghost use Rattle.cluster_node.specs.declared.packets.Packet.{Packet};
 ghost use Rattle.cluster_node.specs.Records.{WasRead};
-ghost use Rattle.thread_records.specs.declared.nodes.NodeRecord.{NodeRecord};
 ghost use Rattle.shared_versions.specs.PrivateAudits.{IsGiven};
 
 use crate::auditor::Auditor;
@@ -15,7 +14,7 @@ use selection::Scheme;
 use std::alloc::{AllocError, Global};
 use std::thread;
 use std::thread::Threads;
-use thread_records::NodeRecord;
+use thread_records::Recorded;
 
 // Whether all audits agreed. Memory is refused where one of them was refused it.
 fn all_agree(audits: Vec<Result<bool, AllocError>>) -> Result<bool, AllocError>
@@ -38,10 +37,11 @@ pub fn audit_nodes<
     H: FlowHash + Send + Sync,
     T: ConnTable + Send,
     R: Threads + Sync,
+    N: Recorded + Sync,
 >(
     rt: &R,
     alloc: Global,
-    nodes: &[NodeRecord],
+    nodes: &[N],
     auditor: &Auditor<'_, S, H>,
     packets: &[Packet],
 ) -> Result<bool, AllocError>
@@ -49,7 +49,7 @@ where
     S::Prepared: Send + Sync,
     requires read { (k : ℕ) (p : Packet) → slice_get packets.now k ≡ Some p → WasRead (Some p) }
     ensures { let rules = rules_of (λ s z. S.pick s z) (λ h. H.plain h) auditor.now in
-        IfOk result (λ b. IsTrue b ↔ All (λ r. r.outcomes.items ≡ verdicts rules [] packets.now r.events.items) nodes.now) }
+        IfOk result (λ b. IsTrue b ↔ All (λ r. (N.record_of r).outcomes.items ≡ verdicts rules [] packets.now (N.record_of r).events.items) nodes.now) }
 {
     let audits = thread::map_indices(
         rt,
@@ -58,9 +58,9 @@ where
         &|at| -> Result<bool, AllocError>
             requires { (at < length nodes.now) × ((k : ℕ) (p : Packet) → slice_get packets.now k ≡ Some p → WasRead (Some p)) }
             ensures { let rules = rules_of (λ s z. S.pick s z) (λ h. H.plain h) auditor.entry.now in
-                (d : NodeRecord) → IfOk result (λ b. IsTrue b ↔
-                ((slice_index_or nodes.entry.now at d).outcomes.items ≡ verdicts rules [] packets.entry.now (slice_index_or nodes.entry.now at d).events.items)) }
-        { auditor.agrees::<T>(alloc, &nodes[at], packets) },
+                (d : N) → IfOk result (λ b. IsTrue b ↔ ((N.record_of (slice_index_or nodes.entry.now at d)).outcomes.items
+                ≡ verdicts rules [] packets.entry.now (N.record_of (slice_index_or nodes.entry.now at d)).events.items)) }
+        { auditor.agrees::<T, N>(alloc, &nodes[at], packets) },
     )?;
     all_agree(audits)
 }

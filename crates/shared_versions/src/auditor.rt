@@ -18,7 +18,7 @@ use selection::{PreparedVersion, PreparedVersions, Scheme};
 use std::alloc::{AllocError, Global};
 use std::fmt;
 use std::marker::Model;
-use thread_records::NodeRecord;
+use thread_records::{Recorded, agrees};
 
 /// A cluster, with versions of its catalogue that were prepared for it. Histories of its nodes are replayed on them, any number at
 /// once.
@@ -96,22 +96,22 @@ fn are_held<S: Scheme>(
 
 // Whether a replay of the events over these versions gives the outcomes. Each is compared as it comes, so that no second list is
 // made.
-fn agrees_over<S: Scheme, H: FlowHash, T: ConnTable>(
+fn agrees_over<S: Scheme, H: FlowHash, T: ConnTable, N: Recorded>(
     alloc: Global,
     setup: &Setup<S, H>,
     catalogue: &Catalogue,
     versions: &PreparedVersions<S>,
-    node: &NodeRecord,
+    node: &N,
     packets: &[Packet],
 ) -> Result<bool, AllocError>
     requires good { AreGood (λ s z. S.pick s z) (rules_for (λ s z. S.pick s z) (λ h. H.plain h) setup.now catalogue.now) versions.now }
-    requires held { are_held catalogue.now versions.now node.now.events.items ≡ true }
+    requires held { are_held catalogue.now versions.now (N.record_of node.now).events.items ≡ true }
     requires read { (k : ℕ) (p : Packet) → slice_get packets.now k ≡ Some p → WasRead (Some p) }
     ensures { let rules = rules_for (λ s z. S.pick s z) (λ h. H.plain h) setup.now catalogue.now in
-        IfOk result (λ b. IsTrue b ↔ (node.now.outcomes.items ≡ verdicts rules [] packets.now node.now.events.items)) }
+        IfOk result (λ b. IsTrue b ↔ ((N.record_of node.now).outcomes.items ≡ verdicts rules [] packets.now (N.record_of node.now).events.items)) }
 {
-    let events = node.events.as_slice();
-    let outcomes = node.outcomes.as_slice();
+    let events = node.history();
+    let outcomes = node.outcomes();
     let mut replay: Replay<'_, S, T> = Replay::make(alloc, setup, catalogue, versions)?;
     let many = events.len();
     let mut agree = many == outcomes.len();
@@ -182,25 +182,27 @@ impl<'e, S: Scheme, H: FlowHash> Auditor<'e, S, H> {
     /// Whether a node's outcomes are those of its events in this cluster, one after another, as
     /// [`NodeRecord::audit`](thread_records::NodeRecord::audit) has it. A record that installs another version of the catalogue
     /// than those that were shared is replayed on versions of its own. The packets were read.
-    pub fn agrees<T: ConnTable>(
+    pub fn agrees<T: ConnTable, N: Recorded>(
         &self,
         alloc: Global,
-        node: &NodeRecord,
+        node: &N,
         packets: &[Packet],
     ) -> Result<bool, AllocError>
         requires read { (k : ℕ) (p : Packet) → slice_get packets.now k ≡ Some p → WasRead (Some p) }
         ensures { let rules = rules_of (λ s z. S.pick s z) (λ h. H.plain h) self.now in
-            IfOk result (λ b. IsTrue b ↔ (node.now.outcomes.items ≡ verdicts rules [] packets.now node.now.events.items)) }
+            IfOk result (λ b. IsTrue b ↔ ((N.record_of node.now).outcomes.items ≡ verdicts rules [] packets.now (N.record_of node.now).events.items)) }
     {
         let Auditor {
             setup,
             catalogue,
             versions,
         } = self;
-        if are_held(catalogue, versions, node.events.as_slice()) {
-            agrees_over::<S, H, T>(alloc, setup, catalogue, versions, node, packets)
+        let events = node.history();
+        if are_held(catalogue, versions, events) {
+            agrees_over::<S, H, T, N>(alloc, setup, catalogue, versions, node, packets)
         } else {
-            node.audit::<S, H, T>(alloc, setup, catalogue, packets)
+            let outcomes = node.outcomes();
+            agrees::<S, H, T>(alloc, setup, catalogue, packets, events, outcomes)
         }
     }
 }

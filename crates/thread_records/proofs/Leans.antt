@@ -12,8 +12,9 @@ use Rattle.thread_records.specs.declared.nodes.NodeRecord.{NodeRecord}
 use Rattle.thread_records.specs.Histories.{past_of, AreOf, commands_of, is_by_lives, ServesAreAccepted, MarksAreDue, NoneWaits}
 use Rattle.thread_records.specs.Losses.{drained_lives, losses, KeepDrained}
 use Rattle.thread_records.specs.Merges.{lives_of, AreMerges}
-use Rattle.thread_records.specs.Runs.{IsRunOf}
-use Rattle.thread_records.specs.Lean.{made_by, SameLists}
+use Rattle.thread_records.specs.Joins.{all_outcomes}
+use Rattle.thread_records.specs.Runs.{IsRunOf, AreRuns}
+use Rattle.thread_records.specs.Lean.{made_by, SameLists, AreSameLists}
 
 pub lists_told : {A B : Type 0} (f : A → B) (vs : List (Vec A)) → map (λ v. v.items) (map (λ v. made_by f v) vs) ≡ map (λ v. map f v.items) vs
 lists_told f [] = refl
@@ -40,3 +41,25 @@ same_is_run rules packets n ring cs r l same run = record {
   due = subst (λ (es : List Event). MarksAreDue ring (past_of rules packets n es)) (sym same.events) run.due;
   merged = subst (λ (ss : List (List Outcome)). AreMerges ss (lives_of r.outcomes.items)) (sym same.sent) (subst (λ (os : List Outcome). AreMerges (map (λ v. v.items) l.sent.items) (lives_of os)) (sym same.outcomes) run.merged);
 }
+
+-- one record more
+pub same_more : (rs ls : List NodeRecord) (r l : NodeRecord) → AreSameLists rs ls → SameLists r l → AreSameLists (rs ++ r ∷ []) (ls ++ l ∷ [])
+same_more [] [] r l had same = (same, tt)
+same_more [] (y ∷ ys) r l had same = absurd had
+same_more (x ∷ xs) [] r l had same = absurd had
+same_more (x ∷ xs) (y ∷ ys) r l had same = (had.0, same_more xs ys r l had.1 same)
+
+-- records with the lists of those of runs are ones of these runs
+pub same_are_runs : (rules : Rules) (packets : List Packet) (ring k : ℕ) (cs : List (List Command)) (rs ls : List NodeRecord) → AreSameLists rs ls → AreRuns rules packets ring k cs ls → AreRuns rules packets ring k cs rs
+same_are_runs rules packets ring k cs [] [] same runs = runs
+same_are_runs rules packets ring k cs [] (l ∷ ls) same runs = absurd same
+same_are_runs rules packets ring k cs (r ∷ rs) [] same runs = absurd same
+same_are_runs rules packets ring k [] (r ∷ rs) (l ∷ ls) same runs = absurd runs
+same_are_runs rules packets ring k (c ∷ cs) (r ∷ rs) (l ∷ ls) same runs = (same_is_run rules packets k ring c r l same.0 runs.0, same_are_runs rules packets ring (k + 1) cs rs ls same.1 runs.1)
+
+-- and the outcomes of all are the same
+pub same_outcomes : (rs ls : List NodeRecord) → AreSameLists rs ls → all_outcomes rs ≡ all_outcomes ls
+same_outcomes [] [] same = refl
+same_outcomes [] (l ∷ ls) same = absurd same
+same_outcomes (r ∷ rs) [] same = absurd same
+same_outcomes (r ∷ rs) (l ∷ ls) same = ap (λ (os : List Outcome). os ++ all_outcomes rs) same.0.outcomes ∙ ap (λ (os : List Outcome). l.outcomes.items ++ os) (same_outcomes rs ls same.1)

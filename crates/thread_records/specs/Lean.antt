@@ -1,5 +1,5 @@
 -- A node's record as it is kept: what was sent stands there by the numbers of events.
-use Rattle.std.specs.Prelude.{◌≡◌, ℕ, List, map, slice_index_or}
+use Rattle.std.specs.Prelude.{◌≡◌, ℕ, List, [], ◌∷◌, map, slice_index_or}
 use Rattle.std.proofs.Common.{◌∙◌, sym}
 use Rattle.std.specs.Global.{Vec}
 use Rattle.std.proofs.lemmas.List.{length-map}
@@ -29,3 +29,10 @@ pub record SameLists (r l : NodeRecord) : Type 0 where
   pub events : r.events.items ≡ l.events.items
   pub outcomes : r.outcomes.items ≡ l.outcomes.items
   pub sent : map (λ v. v.items) r.sent.items ≡ map (λ v. v.items) l.sent.items
+
+-- So have some records, each the lists of the other at its place.
+abbrev pub AreSameLists : List NodeRecord → List NodeRecord → Type 0
+AreSameLists [] [] = Unit {0}
+AreSameLists [] (l ∷ ls) = ⊥
+AreSameLists (r ∷ rs) [] = ⊥
+AreSameLists (r ∷ rs) (l ∷ ls) = SameLists r l × AreSameLists rs ls

@@ -25,8 +25,9 @@ fn is_at(outcomes: &[Outcome], at: usize, outcome: &Outcome) -> bool
     }
 }
 
-// Whether a replay of the events gives these outcomes. Each is compared as it comes, so that no second list is made.
-fn agrees<S: Scheme, H: FlowHash, T: ConnTable>(
+/// Whether a replay of the events, on tables of its own, gives these outcomes. Each is compared as it comes, so that no second list
+/// is made. The packets were read, and the catalogue is one for the cluster's table size.
+pub fn agrees<S: Scheme, H: FlowHash, T: ConnTable>(
     alloc: Global,
     setup: &Setup<S, H>,
     catalogue: &Catalogue,

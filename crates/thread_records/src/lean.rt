@@ -1,8 +1,8 @@
 //! A node's record as it is kept.
 ghost use Rattle.std.specs.Prelude.{◌≡◌, map, IfOk};
-ghost use Rattle.thread_records.specs.Lean.{send_of, sends_told, SameLists};
+ghost use Rattle.thread_records.specs.Lean.{send_of, sends_told, SameLists, AreSameLists};
 
-use crate::nodes::NodeRecord;
+use crate::nodes::{NodeRecord, Recorded};
 use cluster_node::{Event, Outcome};
 use std::alloc::{AllocError, Global};
 use std::fmt;
@@ -104,6 +104,20 @@ impl LeanRecord {
         self.outcomes.as_slice()
     }
 
+    /// For each life the numbers of the events that sent, in the order in which what they sent was gathered.
+    pub fn sent(&self) -> &[Vec<u32>]
+        ensures { sends_told self.now.outcomes.items result.now ≡ map (λ v. v.items) self.now.sent.items }
+    {
+        self.sent.as_slice()
+    }
+
+    /// What the event of a number sent. Where there is no such event the outcome is one that sends nothing.
+    pub fn send_of(&self, number: u32) -> Outcome
+        ensures { result ≡ send_of self.now.outcomes.items number }
+    {
+        send_of(self.outcomes.as_slice(), number)
+    }
+
     /// The same record with its lists written out.
     pub fn open(self, alloc: Global) -> Result<NodeRecord, AllocError>
         ensures { IfOk result (λ r. SameLists r self) }
@@ -120,4 +134,27 @@ impl LeanRecord {
             sent,
         })
     }
+}
+
+impl Recorded for LeanRecord {
+    ghost record_of = { λ r. r };
+
+    fn history(&self) -> &[Event] {
+        self.events()
+    }
+
+    fn outcomes(&self) -> &[Outcome] {
+        self.outcomes.as_slice()
+    }
+}
+
+/// The same records, one after another, with their lists written out.
+pub fn open_all(alloc: Global, nodes: Vec<LeanRecord>) -> Result<Vec<NodeRecord>, AllocError>
+    ensures { IfOk result (λ rs. AreSameLists rs.items nodes.items) }
+{
+    let mut opened = Vec::with_capacity(alloc, nodes.len())?;
+    for node in nodes {
+        opened.push(node.open(alloc)?)?;
+    }
+    Ok(opened)
 }

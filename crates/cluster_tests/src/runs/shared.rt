@@ -8,14 +8,13 @@ use selection::Maglev;
 use shared_versions::{Auditor, SharedVersions, audit_nodes};
 use std::alloc::Global;
 use std::process::Abort;
-use thread_records::{Command, NodeRecord};
+use thread_records::{Command, LeanRecord};
 
 // The outcomes of two nodes, one after the other.
-fn are_by_nodes(rt: &impl Abort, alloc: Global, nodes: &[NodeRecord]) {
+fn are_by_nodes(rt: &impl Abort, alloc: Global, nodes: &[LeanRecord]) {
     let mut all = Vec::new(alloc);
     for node in nodes {
-        all.extend_from_slice(node.outcomes.as_slice())
-            .expect(rt, "memory");
+        all.extend_from_slice(node.outcomes()).expect(rt, "memory");
     }
     same_outcomes(rt, all.as_slice(), &by_nodes(rt));
 }
@@ -54,9 +53,9 @@ fn two_nodes_take_one_version(rt: HostRuntime) {
     for shared in [&prepared, &none] {
         let auditor = Auditor::new(alloc, &setup, &catalogue, shared).expect(&rt, "memory");
         let nodes = run.nodes.as_slice();
-        let agrees = audit_nodes::<_, _, PlainTable, _>(&rt, alloc, nodes, &auditor, &packets);
+        let agrees = audit_nodes::<_, _, PlainTable, _, _>(&rt, alloc, nodes, &auditor, &packets);
         holds(&rt, agrees.expect(&rt, "memory"), "the audit");
-        let agrees = audit_nodes::<_, _, PlainTable, _>(&rt, alloc, nodes, &auditor, &[]);
+        let agrees = audit_nodes::<_, _, PlainTable, _, _>(&rt, alloc, nodes, &auditor, &[]);
         holds(
             &rt,
             !agrees.expect(&rt, "memory"),

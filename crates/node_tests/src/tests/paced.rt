@@ -16,7 +16,7 @@ use std::process::Abort;
 use std::sync::Wait;
 use std::thread;
 use std::thread::Threads;
-use thread_records::{Command, NodeRecord};
+use thread_records::{Command, LeanRecord};
 
 /// A gate that holds each serving up, so that drivers come to full rings.
 #[derive(Drop)]
@@ -113,10 +113,10 @@ fn is_at_home(event: &Event, outcome: &Outcome) -> bool {
     }
 }
 
-fn all_at_home(node: &NodeRecord) -> bool {
-    node.events
+fn all_at_home(node: &LeanRecord) -> bool {
+    node.events()
         .iter()
-        .zip(node.outcomes.iter())
+        .zip(node.outcomes().iter())
         .all(|(event, outcome)| is_at_home(event, outcome))
 }
 
@@ -131,7 +131,7 @@ fn paced_drivers_wait_at_full_rings(rt: HostRuntime) {
     holds(&rt, run.nodes.len() == 3, "nodes");
     for node in run.nodes.iter() {
         holds(&rt, all_at_home(node), "at home");
-        holds(&rt, node.sent.len() == 3, "lives");
+        holds(&rt, node.sent().len() == 3, "lives");
     }
     let stats = run.stats;
     let lost = stats.dropped[12];

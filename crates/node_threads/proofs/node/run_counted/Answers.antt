@@ -9,7 +9,6 @@ use Rattle.thread_records.specs.declared.nodes.NodeRecord.{NodeRecord}
 use Rattle.thread_records.specs.Journals.{JournalView}
 use Rattle.thread_records.specs.Paced.{AreUnmarked}
 use Rattle.thread_records.specs.Runs.{IsRunOf}
-use Rattle.thread_records.proofs.Leans.{same_is_run}
 use Rattle.thread_roles.specs.Counts.{Counts, counted}
 use Rattle.thread_roles.specs.Going.{Going, IsLived, IsLast, Asked, asked_by}
 use Rattle.thread_roles.specs.declared.fault.RunFault.TheVariants.{Memory, BookLost}
@@ -55,10 +54,9 @@ returns-then-progress-commands-clause-run g c =
     let lived : IsLived rules asked c.loop-sent.life.start c.loop-sent.life.parts p.at p.journal p.tally.lost p.tally.shares
     = subst (λ (a : Asked _ _). IsLived (rules_for (λ s z. g.S.Scheme.pick s z) (λ h. g.H.FlowHash.plain h) a.setup a.catalogue) a c.loop-sent.life.start c.loop-sent.life.parts p.at p.journal p.tally.lost p.tally.shares) c.loop-sent.invariant.asked c.in_ok-lived.ensures in
     let last : IsLast rules asked.packets asked.commands asked.node asked.ring p.journal = lived.ended.last (omega (arith, c.if-progress-commands.true)) in
-    let done : NodeRecord = c.in_ok-open.field-0 in
+    let done : NodeRecord = c.in_ok-kept.kept in
     let is : IsRunOf rules asked.packets asked.node asked.ring asked.commands done
-    = same_is_run rules asked.packets asked.node asked.ring asked.commands done c.in_ok-kept.kept c.in_ok-open.ensures
-    (same_run rules asked.packets p.journal.node asked.node p.journal.ring asked.ring asked.commands c.in_ok-kept.kept last.own last.ring (c.in_ok-kept.ensures.run rules asked.packets asked.commands last.tells last.drained last.obeyed last.kept)) in
+    = same_run rules asked.packets p.journal.node asked.node p.journal.ring asked.ring asked.commands done last.own last.ring (c.in_ok-kept.ensures.run rules asked.packets asked.commands last.tells last.drained last.obeyed last.kept) in
     IfOk-weaker c.unless_lost.result
     (λ r. (r.record ≡ done) × (r.shares ≡ p.tally.shares) × (p.tally.lost ≡ false))
     (λ r. IsRunOf rules asked.packets asked.node asked.ring asked.commands r.record)
@@ -73,7 +71,7 @@ returns-then-progress-commands-clause-parts g c =
     let lived : IsLived rules asked c.loop-sent.life.start c.loop-sent.life.parts p.at p.journal p.tally.lost p.tally.shares
     = subst (λ (a : Asked _ _). IsLived (rules_for (λ s z. g.S.Scheme.pick s z) (λ h. g.H.FlowHash.plain h) a.setup a.catalogue) a c.loop-sent.life.start c.loop-sent.life.parts p.at p.journal p.tally.lost p.tally.shares) c.loop-sent.invariant.asked c.in_ok-lived.ensures in
     IfOk-weaker c.unless_lost.result
-    (λ r. (r.record ≡ c.in_ok-open.field-0) × (r.shares ≡ p.tally.shares) × (p.tally.lost ≡ false))
+    (λ r. (r.record ≡ c.in_ok-kept.kept) × (r.shares ≡ p.tally.shares) × (p.tally.lost ≡ false))
     (λ r. r.shares.parts ≡ c.args.task.shares.parts)
     (λ r h. ap (λ (s : Counted). s.parts) h.1 ∙ lived.parts_are ∙ c.loop-sent.invariant.parts)
     c.unless_lost.ensures.is
@@ -85,9 +83,9 @@ returns-then-progress-commands-clause-counts g c = λ read.
     let p = c.in_ok-lived.lived.progress in
     let lived : IsLived rules asked c.loop-sent.life.start c.loop-sent.life.parts p.at p.journal p.tally.lost p.tally.shares
     = subst (λ (a : Asked _ _). IsLived (rules_for (λ s z. g.S.Scheme.pick s z) (λ h. g.H.FlowHash.plain h) a.setup a.catalogue) a c.loop-sent.life.start c.loop-sent.life.parts p.at p.journal p.tally.lost p.tally.shares) c.loop-sent.invariant.asked c.in_ok-lived.ensures in
-    let done : NodeRecord = c.in_ok-open.field-0 in
+    let done : NodeRecord = c.in_ok-kept.kept in
     let shares : Counted = p.tally.shares in
-    let same : done.outcomes.items ≡ p.journal.outcomes = c.in_ok-open.ensures.outcomes ∙ c.in_ok-kept.ensures.is.0 in
+    let same : done.outcomes.items ≡ p.journal.outcomes = c.in_ok-kept.ensures.is.0 in
     IfOk-weaker c.unless_lost.result
     (λ r. (r.record ≡ done) × (r.shares ≡ shares) × (p.tally.lost ≡ false))
     (λ r. r.shares ≡ counted r.shares.parts r.record.outcomes.items)
@@ -104,8 +102,8 @@ returns-then-progress-commands-clause-unmarked g c = λ paced.
     let p = c.in_ok-lived.lived.progress in
     let lived : IsLived rules asked c.loop-sent.life.start c.loop-sent.life.parts p.at p.journal p.tally.lost p.tally.shares
     = subst (λ (a : Asked _ _). IsLived (rules_for (λ s z. g.S.Scheme.pick s z) (λ h. g.H.FlowHash.plain h) a.setup a.catalogue) a c.loop-sent.life.start c.loop-sent.life.parts p.at p.journal p.tally.lost p.tally.shares) c.loop-sent.invariant.asked c.in_ok-lived.ensures in
-    let done : NodeRecord = c.in_ok-open.field-0 in
-    let same : done.events.items ≡ p.journal.events = c.in_ok-open.ensures.events ∙ c.in_ok-kept.ensures.is.1 in
+    let done : NodeRecord = c.in_ok-kept.kept in
+    let same : done.events.items ≡ p.journal.events = c.in_ok-kept.ensures.is.1 in
     let none : AreUnmarked done.events.items = subst (λ (es : List Event). AreUnmarked es) (sym same) (lived.unmarked paced) in
     IfOk-weaker c.unless_lost.result
     (λ r. (r.record ≡ done) × (r.shares ≡ p.tally.shares) × (p.tally.lost ≡ false))
@@ -121,10 +119,9 @@ returns-then-progress-commands-clause-told g c =
     let lived : IsLived rules asked c.loop-sent.life.start c.loop-sent.life.parts p.at p.journal p.tally.lost p.tally.shares
     = subst (λ (a : Asked _ _). IsLived (rules_for (λ s z. g.S.Scheme.pick s z) (λ h. g.H.FlowHash.plain h) a.setup a.catalogue) a c.loop-sent.life.start c.loop-sent.life.parts p.at p.journal p.tally.lost p.tally.shares) c.loop-sent.invariant.asked c.in_ok-lived.ensures in
     let last : IsLast rules asked.packets asked.commands asked.node asked.ring p.journal = lived.ended.last (omega (arith, c.if-progress-commands.true)) in
-    let done : NodeRecord = c.in_ok-open.field-0 in
+    let done : NodeRecord = c.in_ok-kept.kept in
     let is : IsRunOf rules asked.packets asked.node asked.ring asked.commands done
-    = same_is_run rules asked.packets asked.node asked.ring asked.commands done c.in_ok-kept.kept c.in_ok-open.ensures
-    (same_run rules asked.packets p.journal.node asked.node p.journal.ring asked.ring asked.commands c.in_ok-kept.kept last.own last.ring (c.in_ok-kept.ensures.run rules asked.packets asked.commands last.tells last.drained last.obeyed last.kept)) in
+    = same_run rules asked.packets p.journal.node asked.node p.journal.ring asked.ring asked.commands done last.own last.ring (c.in_ok-kept.ensures.run rules asked.packets asked.commands last.tells last.drained last.obeyed last.kept) in
     IfErr-weaker c.unless_lost.result (λ f. f ≡ BookLost) (λ f. NodeTells (λ x y. g.S.PartialEq.eq x y) rules asked f) (λ f e. book_tells (λ x y. g.S.PartialEq.eq x y) rules asked done f is e) c.unless_lost.ensures.lost
 
 pub returns-in_err-life-clause-told : goal.returns-in_err-life-clause-told
@@ -158,9 +155,3 @@ returns-in_err-kept-clause-told g c =
     let last : IsLast rules asked.packets asked.commands asked.node asked.ring p.journal = lived.ended.last (omega (arith, c.if-progress-commands.true)) in
     let e = c.in_err-kept.field-0.0 in
     err_exit _ c.from_residual-in_err-kept.result e c.from_residual-in_err-kept.ensures.1 (run_tells (λ x y. g.S.PartialEq.eq x y) rules asked p.journal _ e last c.in_err-kept.ensures.told)
-
-pub returns-in_err-open-clause-told : goal.returns-in_err-open-clause-told
-returns-in_err-open-clause-told g c =
-    let rules : Rules = rules_for (λ s z. g.S.Scheme.pick s z) (λ h. g.H.FlowHash.plain h) c.args.task.setup.now c.args.task.catalogue.now in
-    let asked : Asked _ _ = asked_by c.args.task.setup.now c.args.task.catalogue.now c.args.task.packets.now c.args.task.node c.args.task.ring c.args.task.paced c.args.task.commands.now in
-    err_exit _ c.from_residual-in_err-open.result Memory c.from_residual-in_err-open.ensures.1 (memory_tells (λ x y. g.S.PartialEq.eq x y) rules asked)

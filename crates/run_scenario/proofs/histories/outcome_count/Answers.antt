@@ -1,4 +1,5 @@
-use Rattle.std.proofs.Common.{◌≡◌, ◌+◌, length, take, ◌∙◌, arith}
+use Rattle.std.proofs.Common.{◌≡◌, ◌+◌, List, length, take, ap, arith}
+use Rattle.cluster_node.specs.declared.outcomes.Outcome.{Outcome}
 use Rattle.thread_records.specs.declared.nodes.NodeRecord.{NodeRecord}
 use Rattle.thread_records.specs.Joins.{all_outcomes}
 use Rattle.run_scenario.proofs.OneByOne.{count_more}
@@ -9,5 +10,5 @@ loop-node-preserved c =
     let item : NodeRecord = c.node-item.result in
     let more : length (all_outcomes (take (c.loop-node.node-index + 1) c.args.nodes.now)) ≡ length (all_outcomes (take c.loop-node.node-index c.args.nodes.now)) + length item.outcomes.items =
     count_more c.args.nodes.now c.loop-node.node-index item c.loop-node-test.true c.node-item.is in
-    let long : c.len.result ≡ length item.outcomes.items = c.len.ensures ∙ item.outcomes.ok.0 in
+    let long : length c.outcomes.result.now ≡ length item.outcomes.items = ap (λ (l : List Outcome). length l) c.outcomes.ensures in
     (omega (arith, c.in_ok-count.ensures.0, c.loop-node.invariant.0, more, long), c.in_ok-count.ensures.1)

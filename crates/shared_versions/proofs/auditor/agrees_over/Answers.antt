@@ -19,8 +19,8 @@ loop-at-init g c =
     let rules : Rules = rules_for (λ s z. g.S.Scheme.pick s z) (λ h. g.H.FlowHash.plain h) c.args.setup.now c.args.catalogue.now in (
       [],
       refl,
-      kept_first (λ s z. g.S.Scheme.pick s z) rules c.args.packets.now c.as_slice-events.result.now _ _ refl (c.in_ok-replay.ensures.stands c.requires.good),
-      agrees_first (length c.as_slice-events.result.now) c.as_slice-outcomes.result.now,
+      kept_first (λ s z. g.S.Scheme.pick s z) rules c.args.packets.now c.history-events.result.now _ _ refl (c.in_ok-replay.ensures.stands c.requires.good),
+      agrees_first (length c.history-events.result.now) c.outcomes-outcomes.result.now,
       c.in_ok-replay.ensures.versions,
     )
 
@@ -29,17 +29,17 @@ loop-at-preserved g c =
     let rules : Rules = rules_for (λ s z. g.S.Scheme.pick s z) (λ h. g.H.FlowHash.plain h) c.args.setup.now c.args.catalogue.now in
     let was = c.loop-at.invariant in
     let o = c.in_ok-outcome.outcome in
-    let events = c.as_slice-events.result.now in
+    let events = c.history-events.result.now in
     let long : length (was.0 ++ o ∷ []) ≡ c.loop-at.at + 1 = omega (arith, length_push was.0 o, was.1) in
     let few : length events < 2 ^ 64 = omega arith in
-    let all : are_held c.args.catalogue.now c.args.versions.now events ≡ true = subst (λ (es : List Event). are_held c.args.catalogue.now c.args.versions.now es ≡ true) (sym c.as_slice-events.ensures.value) c.requires.held in
+    let all : are_held c.args.catalogue.now c.args.versions.now events ≡ true = subst (λ (es : List Event). are_held c.args.catalogue.now c.args.versions.now es ≡ true) (sym c.history-events.ensures) c.requires.held in
     let held : is_held c.args.catalogue.now c.loop-at.replay.versions (get_or events c.loop-at.at (Install 0 0)) ≡ true =
     subst (λ (vs : List (Readied g.row.S.Denot)). is_held c.args.catalogue.now vs (get_or events c.loop-at.at (Install 0 0)) ≡ true) (sym was.4) (each_held c.args.catalogue.now c.args.versions.now events c.loop-at.at (Install 0 0) c.loop-at-test.true all) in (
       was.0 ++ o ∷ [],
       long,
       kept_more (λ s z. g.S.Scheme.pick s z) rules c.args.packets.now events c.loop-at.at was.0 _ c.loop-at.replay c.step.new.self (Install 0 0) _ o
           c.loop-at-test.true few c.packet_at.ensures refl (λ past less st. c.in_ok-outcome.ensures.verdict past less held st) was.2,
-      agrees_more c.loop-at.agree c.is_at-agree.result (length events) c.as_slice-outcomes.result.now was.0 c.loop-at.at o c.loop-at-test.true was.3 c.is_at-agree.ensures,
+      agrees_more c.loop-at.agree c.is_at-agree.result (length events) c.outcomes-outcomes.result.now was.0 c.loop-at.at o c.loop-at-test.true was.3 c.is_at-agree.ensures,
       c.in_ok-outcome.ensures.versions ∙ was.4,
     )
 
@@ -47,9 +47,9 @@ pub returns : goal.returns
 returns g c =
     let rules : Rules = rules_for (λ s z. g.S.Scheme.pick s z) (λ h. g.H.FlowHash.plain h) c.args.setup.now c.args.catalogue.now in
     let was = c.loop-at.invariant in
-    let events = c.as_slice-events.result.now in
-    let outcomes = c.as_slice-outcomes.result.now in
+    let events = c.history-events.result.now in
+    let outcomes = c.outcomes-outcomes.result.now in
     let is = agrees_all c.loop-at.agree (length events) outcomes was.0 (verdicts rules [] c.args.packets.now events) c.loop-at.at c.loop-at-test.false was.1 (omega (arith, c.loop-at.auto.at-end))
     (kept_whole (λ s z. g.S.Scheme.pick s z) rules c.args.packets.now events c.loop-at.at was.0 c.loop-at.replay c.loop-at-test.false was.2) was.3 in
-    subst (λ (es : List Event). (c.loop-at.agree ≡ true) ↔ (c.args.node.now.outcomes.items ≡ verdicts rules [] c.args.packets.now es)) c.as_slice-events.ensures.value
-    (subst (λ (os : List Outcome). (c.loop-at.agree ≡ true) ↔ (os ≡ verdicts rules [] c.args.packets.now events)) c.as_slice-outcomes.ensures.value is)
+    subst (λ (es : List Event). (c.loop-at.agree ≡ true) ↔ ((g.N.Recorded.record_of c.args.node.now).outcomes.items ≡ verdicts rules [] c.args.packets.now es)) c.history-events.ensures
+    (subst (λ (os : List Outcome). (c.loop-at.agree ≡ true) ↔ (os ≡ verdicts rules [] c.args.packets.now events)) c.outcomes-outcomes.ensures is)
