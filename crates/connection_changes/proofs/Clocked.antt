@@ -1,14 +1,16 @@
 -- The times, lives and clocks after one event more.
-use Rattle.std.proofs.Common.{◌≡◌, ℕ, zero, suc, Bool, true, false, List, [], ◌∷◌, ◌++◌, Option, Some, None, Result, Ok, Err, refl, ap, ◌∙◌, subst}
+use Rattle.std.proofs.Common.{◌≡◌, ℕ, zero, suc, Bool, true, false, List, [], ◌∷◌, ◌++◌, Option, Some, None, Result, Ok, Err, refl, sym, ap, ◌∙◌, subst}
 use Rattle.std.specs.Prelude.{◌==◌, ◌&&◌, max, slice_get, slice_index, OnOk, if◌then◌else◌}
 use Rattle.std.proofs.lemmas.Bool.{eqb-true}
 use Rattle.cluster_node.specs.declared.events.LogEntry.{LogEntry}
+use Rattle.cluster_node.specs.declared.outcomes.Outcome.{Outcome}
+use Rattle.cluster_node.specs.declared.outcomes.Outcome.TheVariants.{Installed, Placed, Forward, Dropped, Restarted, Refused}
 use Rattle.connection_changes.specs.declared.clocks.Clocks.{Clocks}
 use Rattle.connection_changes.specs.declared.numbers.Numbers.{Numbers}
 use Rattle.connection_changes.specs.declared.sites.Arrived.{Arrived}
 use Rattle.connection_changes.specs.declared.sites.Served.{Served}
-use Rattle.connection_changes.specs.Sites.{arrived_by, time_with, time_of, begun_by, life_with, life_of, served_by, clock_begun, clock_with, clock_of}
-use Rattle.connection_changes.specs.Books.{number_in, life_in, clock_in, AreClocksOf}
+use Rattle.connection_changes.specs.Sites.{arrived_by, time_with, time_of, begun_by, life_with, life_of, served_by, clock_begun, clock_with, clock_of, is_sent, nowhere, site_in}
+use Rattle.connection_changes.specs.Books.{number_in, life_in, clock_in, site_served, AreClocksOf}
 
 both : (a b : Bool) → (a && b) ≡ true → (a ≡ true) × (b ≡ true)
 both true b h = (refl, h)
@@ -63,12 +65,21 @@ module _ (s : LogEntry) (past : List LogEntry) (a b c d : Clocks) (was : AreCloc
         ∙ ap (λ (t : ℕ). clock_with (served_by s.event s.outcome) (λ k. time_of (s ∷ past) k) n w t) (new_clock n w);
   }
 
-  pub clocks_noted : {E : Type 0} (r : Result (Unit {0}) E) → OnOk r ((n w : ℕ) → clock_in d n w ≡ clock_with (served_by s.event s.outcome) (λ k. slice_index c.times.all.items k) n w (clock_in c n w)) → OnOk r (AreClocksOf (s ∷ past) d)
+  pub clocks_noted : {A E : Type 0} (r : Result A E) → OnOk r ((n w : ℕ) → clock_in d n w ≡ clock_with (served_by s.event s.outcome) (λ k. slice_index c.times.all.items k) n w (clock_in c n w)) → OnOk r (AreClocksOf (s ∷ past) d)
   clocks_noted (Ok u) clocks = clocks_more clocks
   clocks_noted (Err e) clocks = tt
 
+-- the place of a packet that was sent is where it was served
+pub sent_here : (s : LogEntry) (past : List LogEntry) (d : Clocks) (o : Outcome) → AreClocksOf (s ∷ past) d → (if is_sent o then site_served (served_by s.event o) d else nowhere) ≡ site_in (s ∷ past) o
+sent_here s past d Installed h = refl
+sent_here s past d (Placed w f) h = refl
+sent_here s past d (Forward n w k x b v) h = rw (sym (h.times k), sym (h.lives n), sym (h.clocks n w)) refl
+sent_here s past d (Dropped k c) h = refl
+sent_here s past d (Restarted l) h = refl
+sent_here s past d (Refused r) h = refl
+
 -- the same, by what was told of the event
-pub noted_by : {E : Type 0} (r : Result (Unit {0}) E) (s : LogEntry) (past : List LogEntry) (a b c d : Clocks) (arrived : Option Arrived) (begun : Option ℕ) (served : Option Served) → AreClocksOf past a
+pub noted_by : {A E : Type 0} (r : Result A E) (s : LogEntry) (past : List LogEntry) (a b c d : Clocks) (arrived : Option Arrived) (begun : Option ℕ) (served : Option Served) → AreClocksOf past a
     → arrived ≡ arrived_by s.event s.packet → begun ≡ begun_by s.event s.outcome → served ≡ served_by s.event s.outcome
     → ((k : ℕ) → slice_index b.times.all.items k ≡ time_with arrived k (slice_index a.times.all.items k)) → b ≡ record a { times = b.times }
     → ((n : ℕ) → life_in c n ≡ life_with begun n (life_in b n)) → ((n w : ℕ) → clock_in c n w ≡ clock_begun begun n (clock_in b n w)) → c.times ≡ b.times

@@ -11,7 +11,7 @@ use Rattle.connection_table.proofs.Standing.{same_flow-true, same_flow-refl}
 use Rattle.cluster_node.specs.declared.events.LogEntry.{LogEntry}
 use Rattle.run_report.specs.declared.noted.Beside.{Beside}
 use Rattle.run_report.specs.declared.sending.Split.{Split}
-use Rattle.run_report.specs.Books.{HasNoted, IsNotedBookOf, IsBookOf}
+use Rattle.run_report.specs.Books.{IsSettledAs, IsBookOf}
 use Rattle.run_report.specs.Noting.{noted_by, besides_noted}
 use Rattle.run_report.specs.Splits.{splits_of}
 use Rattle.connection_changes.specs.declared.book.ChangeBook.{ChangeBook}
@@ -87,13 +87,13 @@ changes_end cs ps bs whole none h = sym (append-nil cs) ∙ ap (λ (l : List Cha
 
 -- one event more is noted
 pub event_noted : {E : Type 0} (r : Result (Unit {0}) E) (s : LogEntry) (past : List LogEntry) (number : ℕ) (site : Site) (b : ChangeBook) (new : ChangeBook) → number ≡ length past
-    → site ≡ site_in (s ∷ past) s.outcome → AreClocksOf (s ∷ past) new.clocks → OnOk r (IsNotedBookOf (s ∷ past) new.splits)
-    → OnOk r (HasNoted (noted_by number s.event s.outcome site (placed_of past)) new.splits) → OnOk r (IsNotedChangeBookOf (s ∷ past) new)
+    → site ≡ site_in (s ∷ past) s.outcome → AreClocksOf (s ∷ past) new.clocks → OnOk r (IsBookOf (s ∷ past) new.splits)
+    → OnOk r (IsSettledAs (noted_by number s.event s.outcome site (placed_of past)) new.splits) → OnOk r (IsNotedChangeBookOf (s ∷ past) new)
 event_noted (Err e) s past number site b new at here clocks splits placed = tt
 event_noted (Ok u) s past number site b new at here clocks splits placed = record {
   splits = splits;
-  placed = subst (λ (k : ℕ). HasNoted (noted_by k s.event s.outcome (site_in (s ∷ past) s.outcome) (placed_of past)) new.splits) at
-      (subst (λ (x : Site). HasNoted (noted_by number s.event s.outcome x (placed_of past)) new.splits) here placed);
+  placed = subst (λ (k : ℕ). IsSettledAs (noted_by k s.event s.outcome (site_in (s ∷ past) s.outcome) (placed_of past)) new.splits) at
+      (subst (λ (x : Site). IsSettledAs (noted_by number s.event s.outcome x (placed_of past)) new.splits) here placed);
   clocks = clocks;
 }
 

@@ -8,16 +8,17 @@ use Rattle.cluster_node.specs.declared.events.LogEntry.{LogEntry}
 use Rattle.run_report.specs.declared.noted.Beside.{Beside}
 use Rattle.run_report.specs.declared.noted.Noted.{Noted}
 use Rattle.run_report.specs.declared.sending.Split.{Split}
-use Rattle.run_report.specs.Books.{HasNoted, IsNotedBookOf, IsBookOf}
+use Rattle.run_report.specs.Books.{IsSettledAs, IsBookOf}
 use Rattle.run_report.specs.Noting.{noted_by}
 use Rattle.connection_changes.specs.declared.book.ChangeBook.{ChangeBook}
 use Rattle.connection_changes.specs.declared.causes.Change.{Change}
 use Rattle.connection_changes.specs.declared.changed.ChangedFlows.{ChangedFlows}
 use Rattle.connection_changes.specs.declared.clocks.Clocks.{Clocks}
 use Rattle.connection_changes.specs.declared.numbers.Numbers.{Numbers}
+use Rattle.connection_changes.specs.declared.sites.Served.{Served}
 use Rattle.connection_changes.specs.declared.sites.Site.{Site}
 use Rattle.connection_changes.specs.declared.worker_numbers.WorkerNumbers.{WorkerNumbers}
-use Rattle.connection_changes.specs.Sites.{time_of, life_of, clock_of, site_in}
+use Rattle.connection_changes.specs.Sites.{time_of, life_of, clock_of, nowhere, site_in}
 use Rattle.connection_changes.specs.Changes.{changed_of, changes_of}
 
 -- the number of a worker, where its node has any
@@ -33,6 +34,12 @@ life_in c n = slice_index c.lives.all.items n
 
 abbrev pub clock_in : Clocks → ℕ → ℕ → ℕ
 clock_in c n w = worker_number c.clocks n w
+
+-- where a packet was served
+abbrev pub site_served : Option Served → Clocks → Site
+site_served None c = nowhere
+site_served (Some s) c =
+    record { packet = s.packet; time = slice_index c.times.all.items s.packet; node = s.node; worker = s.worker; life = life_in c s.node; clock = clock_in c s.node s.worker }
 
 pub record AreClocksOf (past : List LogEntry) (c : Clocks) : Type 0 where
   pub times : (k : ℕ) → slice_index c.times.all.items k ≡ time_of past k
@@ -57,8 +64,8 @@ placed_of (s ∷ past) = noted_by (length past) s.event s.outcome (site_in (s �
 
 -- the events of a record were noted
 pub record IsNotedChangeBookOf (past : List LogEntry) (b : ChangeBook) : Type 0 where
-  pub splits : IsNotedBookOf past b.splits
-  pub placed : HasNoted (placed_of past) b.splits
+  pub splits : IsBookOf past b.splits
+  pub placed : IsSettledAs (placed_of past) b.splits
   pub clocks : AreClocksOf past b.clocks
 
 pub record IsChangeBookOf (past : List LogEntry) (b : ChangeBook) : Type 0 where

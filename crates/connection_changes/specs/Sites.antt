@@ -1,5 +1,5 @@
 -- Where packets were sent, read off the record of all events. A record has the newest event in front.
-use Rattle.std.specs.Prelude.{ℕ, ◌+◌, ◌==◌, ◌&&◌, max, List, [], ◌∷◌, length, Option, Some, None, if◌then◌else◌}
+use Rattle.std.specs.Prelude.{ℕ, ◌+◌, ◌==◌, ◌&&◌, Bool, true, false, max, List, [], ◌∷◌, length, Option, Some, None, if◌then◌else◌}
 use Rattle.five_tuple.specs.declared.Flow.{Flow}
 use Rattle.cluster_node.specs.declared.packets.Packet.{Packet}
 use Rattle.cluster_node.specs.declared.packets.Packet.TheVariants.{Good, Bad}
@@ -86,6 +86,15 @@ clock_with (Some s) time n w clock = if s.node == n && s.worker == w then max cl
 abbrev pub clock_of : List LogEntry → ℕ → ℕ → ℕ
 clock_of [] n w = 0
 clock_of (s ∷ past) n w = clock_with (served_by s.event s.outcome) (λ k. time_of (s ∷ past) k) n w (clock_begun (begun_by s.event s.outcome) n (clock_of past n w))
+
+-- whether a packet was sent
+abbrev pub is_sent : Outcome → Bool
+is_sent Installed = false
+is_sent (Placed w f) = false
+is_sent (Forward n w k x b v) = true
+is_sent (Dropped k c) = false
+is_sent (Restarted l) = false
+is_sent (Refused r) = false
 
 -- where nothing was sent
 abbrev pub nowhere : Site

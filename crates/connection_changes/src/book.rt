@@ -91,16 +91,14 @@ impl ChangeBook {
     ) -> Result<(), AllocError>
         ensures { (past : List LogEntry) → IsNotedChangeBookOf past self.old → OnOk result (IsNotedChangeBookOf (said_by event.now (option_copied packet.entry) outcome.now ∷ past) self.new) }
     {
-        self.clocks.note(event, packet, outcome)?;
-        let site = self.clocks.site(outcome);
+        let site = self.clocks.note(event, packet, outcome)?;
         self.splits.note(event, outcome, site)
     }
 
-    /// What was noted is compared, and the book answers it. Where memory is refused nothing more is known of the book.
+    /// The book answers what was noted. Where memory is refused nothing more is known of the book.
     pub fn settle(&mut self) -> Result<(), AllocError>
         ensures { (past : List LogEntry) → IsNotedChangeBookOf past self.old → OnOk result (IsChangeBookOf past self.new) }
     {
-        self.splits.settle()?;
         let splits = self.splits.splits();
         self.changes = changes_from(self.alloc, splits, self.splits.besides())?;
         self.changed = ChangedFlows::of_splits(self.alloc, self.key, splits)?;

@@ -3,10 +3,10 @@ ghost use Rattle.std.specs.Prelude.{◌≡◌, ◌==◌, ◌&&◌, ◌+◌, ◌�
 ghost use Rattle.cluster_node.specs.declared.events.LogEntry.{LogEntry};
 ghost use Rattle.event_trace.specs.Noting.{said_by};
 ghost use Rattle.connection_changes.specs.Sites.{time_with, life_with, clock_begun, clock_with, site_in};
-ghost use Rattle.connection_changes.specs.Books.{life_in, clock_in, AreClocksOf};
+ghost use Rattle.connection_changes.specs.Books.{life_in, clock_in, site_served, AreClocksOf};
 
 use crate::numbers::Numbers;
-use crate::sites::{Arrived, Served, Site, arrived_by, begun_by, served_by};
+use crate::sites::{Arrived, Served, Site, arrived_by, begun_by, is_sent, nowhere, served_by};
 use crate::worker_numbers::WorkerNumbers;
 use cluster_node::{Event, Outcome, Packet};
 use std::alloc::{AllocError, Global};
@@ -41,13 +41,6 @@ impl Clocks {
         }
     }
 
-    // A worker's clock.
-    fn clock(&self, node: u16, worker: u16) -> u64
-        ensures { result ≡ clock_in self.now node worker }
-    {
-        self.clocks.at(node, worker)
-    }
-
     // A record's time is known.
     fn arrive(&mut self, arrived: Option<Arrived>) -> Result<(), AllocError>
         ensures times { OnOk result ((k : ℕ) → slice_index self.new.times.all.items k ≡ time_with arrived k (slice_index self.old.times.all.items k)) }
@@ -77,68 +70,54 @@ impl Clocks {
         }
     }
 
-    // A worker serves a packet.
+    // A worker serves a packet. The answer is where.
     #[inline(always)]
-    fn serve(&mut self, served: Option<Served>) -> Result<(), AllocError>
+    fn serve(&mut self, served: Option<Served>) -> Result<Site, AllocError>
         ensures clocks { OnOk result ((n w : ℕ) → clock_in self.new n w ≡ clock_with served (λ k. slice_index self.old.times.all.items k) n w (clock_in self.old n w)) }
         ensures rest { self.new ≡ record self.old { clocks = self.new.clocks } }
+        ensures site { IfOk result (λ x. x ≡ site_served served self.new) }
     {
-        match served {
-            None => Ok(()),
-            Some(served) => {
-                let Served {
-                    node,
-                    worker,
-                    packet,
-                } = served;
-                let clock = self.clock(node, worker).max(self.times.at(packet));
-                self.clocks.put(node, worker, clock)
-            }
-        }
+        let Some(served) = served else {
+            return Ok(nowhere());
+        };
+        let Served {
+            node,
+            worker,
+            packet,
+        } = served;
+        let time = self.times.at(packet);
+        let clock = self.clocks.raise(node, worker, time)?;
+        let life = self.lives.at(u32::from(node));
+        Ok(Site {
+            packet,
+            node,
+            worker,
+            time,
+            life,
+            clock,
+        })
     }
 
-    /// One event more, with the packet that it names where it is an arrival, and its outcome. Where memory is refused nothing
-    /// more is known of these.
+    /// One event more, with the packet that it names where it is an arrival, and its outcome. The answer is where the event's
+    /// packet was sent; where none was sent all numbers are 0. Where memory is refused nothing more is known of these.
     #[inline(always)]
     pub(crate) fn note(
         &mut self,
         event: &Event,
         packet: Option<&Packet>,
         outcome: &Outcome,
-    ) -> Result<(), AllocError>
-        ensures { (past : List LogEntry) → AreClocksOf past self.old → OnOk result (AreClocksOf (said_by event.now (option_copied packet.entry) outcome.now ∷ past) self.new) }
+    ) -> Result<Site, AllocError>
+        ensures clocks { (past : List LogEntry) → AreClocksOf past self.old → OnOk result (AreClocksOf (said_by event.now (option_copied packet.entry) outcome.now ∷ past) self.new) }
+        ensures site { (past : List LogEntry) → AreClocksOf past self.old →
+            IfOk result (λ x. x ≡ site_in (said_by event.now (option_copied packet.entry) outcome.now ∷ past) outcome.now) }
     {
         self.arrive(arrived_by(event, packet))?;
         self.begin(begun_by(event, outcome))?;
-        self.serve(served_by(event, outcome))
-    }
-
-    /// Where a packet was sent, at the last event, which has this outcome. Where none was sent all numbers are 0.
-    pub(crate) fn site(&self, outcome: &Outcome) -> Site
-        ensures { (past : List LogEntry) → AreClocksOf past self.now → result ≡ site_in past outcome.now }
-    {
-        match *outcome {
-            Outcome::Forward {
-                node,
-                worker,
-                packet,
-                ..
-            } => Site {
-                packet,
-                time: self.times.at(packet),
-                node,
-                worker,
-                life: self.lives.at(u32::from(node)),
-                clock: self.clock(node, worker),
-            },
-            _ => Site {
-                packet: 0,
-                time: 0,
-                node: 0,
-                worker: 0,
-                life: 0,
-                clock: 0,
-            },
+        let site = self.serve(served_by(event, outcome))?;
+        if is_sent(outcome) {
+            Ok(site)
+        } else {
+            Ok(nowhere())
         }
     }
 }

@@ -1,5 +1,5 @@
 //! Numbers, each at a place.
-ghost use Rattle.std.specs.Prelude.{◌≡◌, ◌≤◌, ◌==◌, ℕ, OnOk, slice_index, vec_len, if◌then◌else◌};
+ghost use Rattle.std.specs.Prelude.{◌≡◌, ◌≤◌, ◌==◌, ℕ, IfOk, OnOk, max, slice_index, vec_len, if◌then◌else◌};
 
 use std::alloc::{AllocError, Global};
 
@@ -50,15 +50,31 @@ impl Numbers {
     }
 
     /// Puts a number at a place. Where memory is refused the others are as they were.
+    #[inline(always)]
     pub(crate) fn put(&mut self, place: u32, number: u64) -> Result<(), AllocError>
         ensures { OnOk result ((k : ℕ) → slice_index self.new.all.items k ≡ (if place == k then number else slice_index self.old.all.items k)) }
     {
         let at = place as usize;
+        if at < self.all.len() {
+            self.all[at] = number;
+            return Ok(());
+        }
         if at == self.all.len() {
             return self.push(number);
         }
         self.reach(at + 1)?;
         self.all[at] = number;
         Ok(())
+    }
+
+    /// Raises the number at a place to this one where it is lower. The answer is the number that stands there then.
+    #[inline(always)]
+    pub(crate) fn raise(&mut self, place: u32, number: u64) -> Result<u64, AllocError>
+        ensures value { IfOk result (λ m. m ≡ max (slice_index self.old.all.items place) number) }
+        ensures numbers { OnOk result ((k : ℕ) → slice_index self.new.all.items k ≡ (if place == k then max (slice_index self.old.all.items place) number else slice_index self.old.all.items k)) }
+    {
+        let raised = self.at(place).max(number);
+        self.put(place, raised)?;
+        Ok(raised)
     }
 }

@@ -1,6 +1,6 @@
 //! Where packets were sent, and what events tell of it.
 ghost use Rattle.std.specs.Prelude.{◌≡◌, option_copied};
-ghost use Rattle.connection_changes.specs.Sites.{arrived_by, begun_by, served_by};
+ghost use Rattle.connection_changes.specs.Sites.{arrived_by, begun_by, served_by, is_sent, nowhere};
 
 use cluster_node::{Event, Outcome, Packet};
 
@@ -30,6 +30,29 @@ pub(crate) struct Served {
     pub(crate) node: u16,
     pub(crate) worker: u16,
     pub(crate) packet: u32,
+}
+
+/// Where nothing was sent: all numbers are 0.
+#[inline(always)]
+pub(crate) fn nowhere() -> Site
+    ensures { result ≡ nowhere }
+{
+    Site {
+        packet: 0,
+        node: 0,
+        worker: 0,
+        time: 0,
+        life: 0,
+        clock: 0,
+    }
+}
+
+/// Whether a packet was sent.
+#[inline(always)]
+pub(crate) fn is_sent(outcome: &Outcome) -> bool
+    ensures { result ≡ is_sent outcome.now }
+{
+    matches!(*outcome, Outcome::Forward { .. })
 }
 
 /// The time of a record, where an event tells it.

@@ -171,7 +171,7 @@ impl TurnedBook {
         ensures { (o : Ordinals) (past : List LogEntry) → IsTurnedBookOf o past self.old →
             OnOk result (IsTurnedBookOf o (said_by event.now (option_copied packet.entry) outcome.now ∷ past) self.new) }
     {
-        self.clocks.note(event, packet, outcome)?;
+        let beside = self.clocks.note(event, packet, outcome)?;
         let number = next(self.number)?;
         match sent_by(self.number, event, outcome) {
             None => {
@@ -179,7 +179,6 @@ impl TurnedBook {
                 Ok(())
             }
             Some(sending) => {
-                let beside = self.clocks.site(outcome);
                 self.send(&Noted { sending, beside })?;
                 self.number = number;
                 Ok(())

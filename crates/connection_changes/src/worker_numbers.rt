@@ -1,5 +1,5 @@
 //! Numbers of the workers of each node.
-ghost use Rattle.std.specs.Prelude.{◌≡◌, ◌≤◌, ◌==◌, ◌&&◌, ℕ, OnOk, length, if◌then◌else◌};
+ghost use Rattle.std.specs.Prelude.{◌≡◌, ◌≤◌, ◌==◌, ◌&&◌, ℕ, IfOk, OnOk, length, max, if◌then◌else◌};
 ghost use Rattle.connection_changes.specs.Books.{worker_number};
 
 use crate::numbers::Numbers;
@@ -23,16 +23,6 @@ impl WorkerNumbers {
         }
     }
 
-    /// The number of a node's worker.
-    pub(crate) fn at(&self, node: u16, worker: u16) -> u64
-        ensures { result ≡ worker_number self.now node worker }
-    {
-        match self.nodes.get(usize::from(node)) {
-            None => 0,
-            Some(workers) => workers.at(u32::from(worker)),
-        }
-    }
-
     // Makes room for so many nodes.
     fn reach(&mut self, len: usize) -> Result<(), AllocError>
         ensures room { OnOk result (len ≤ length self.new.nodes.items) }
@@ -46,13 +36,17 @@ impl WorkerNumbers {
         Ok(())
     }
 
-    /// Puts the number of a node's worker.
-    pub(crate) fn put(&mut self, node: u16, worker: u16, number: u64) -> Result<(), AllocError>
-        ensures { OnOk result ((n w : ℕ) → worker_number self.new n w ≡ (if node == n && worker == w then number else worker_number self.old n w)) }
+    /// Raises the number of a node's worker to this one where it is lower. The answer is the worker's number then.
+    #[inline(always)]
+    pub(crate) fn raise(&mut self, node: u16, worker: u16, number: u64) -> Result<u64, AllocError>
+        ensures value { IfOk result (λ m. m ≡ max (worker_number self.old node worker) number) }
+        ensures numbers { OnOk result ((n w : ℕ) → worker_number self.new n w ≡ (if node == n && worker == w then max (worker_number self.old node worker) number else worker_number self.old n w)) }
     {
         let at = usize::from(node);
-        self.reach(at + 1)?;
-        self.nodes[at].put(u32::from(worker), number)
+        if at >= self.nodes.len() {
+            self.reach(at + 1)?;
+        }
+        self.nodes[at].raise(u32::from(worker), number)
     }
 
     /// Forgets the numbers of a node's workers.

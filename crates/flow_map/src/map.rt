@@ -103,6 +103,16 @@ impl<V> FlowMap<V> {
             Some(pair) => Some(&pair.1),
         }
     }
+
+    /// The value of a flow that stands at this place.
+    #[inline(always)]
+    pub fn value_at(&self, place: u32, flow: &Flow) -> &V
+        requires { StandsAt flow.now self.now place }
+        ensures { StandsWith flow.now self.now place result.now }
+    {
+        let _ = flow;
+        &self.pairs[place as usize - 1].1
+    }
 }
 
 impl<V: Drop> FlowMap<V> {

@@ -138,7 +138,6 @@ fn book_of(rt: &impl Abort, alloc: Global, rows: &[Row]) -> SplitBook<()> {
         let outcome = outcome_of(rt, row);
         book.note(&serve(row.0), &outcome, ()).expect(rt, "memory");
     }
-    book.settle().expect(rt, "memory");
     book
 }
 
@@ -169,7 +168,6 @@ fn nothing_was_sent(rt: HostRuntime) {
     };
     book.note(&installed, &Outcome::Installed, ())
         .expect(&rt, "memory");
-    book.settle().expect(&rt, "memory");
     tells(&rt, rt.alloc(), &book, counts);
     holds(&rt, book.flows() == 0, "no flows");
     holds(&rt, book.splits().is_empty(), "no splits");
@@ -238,7 +236,6 @@ fn book_with_numbers(rt: &impl Abort, alloc: Global, servings: u32) -> SplitBook
         let outcome = outcome_at(rt, number);
         book.note(&serve(1), &outcome, number).expect(rt, "memory");
     }
-    book.settle().expect(rt, "memory");
     book
 }
 

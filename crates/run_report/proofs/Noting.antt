@@ -1,7 +1,7 @@
 -- What noted sends tell is what their record tells.
-use Rattle.std.proofs.Common.{◌≡◌, ℕ, ◌+◌, ◌<◌, Bool, true, false, List, [], ◌∷◌, ◌++◌, length, map, reverse, take, get_or, Option, Some, None, Result, Ok, Err, refl, sym, ap, ◌∙◌, subst, arith}
+use Rattle.std.proofs.Common.{◌≡◌, ℕ, ◌+◌, Bool, true, false, List, [], ◌∷◌, ◌++◌, length, map, Option, Some, None, Result, Ok, Err, refl, sym, ap, ◌∙◌, subst, arith}
 use Rattle.std.specs.Prelude.{option_map, is_some, OnOk, if◌then◌else◌}
-use Rattle.std.proofs.lemmas.List.{append-nil, reverse-append, take_more}
+use Rattle.std.proofs.lemmas.List.{append-nil}
 use Rattle.five_tuple.specs.declared.Flow.{Flow}
 use Rattle.connection_table.specs.Touches.{same_flow}
 use Rattle.selection.specs.Readied.{same_backend}
@@ -15,8 +15,8 @@ use Rattle.run_report.specs.declared.noted.Noted.{Noted}
 use Rattle.run_report.specs.declared.sending.Sending.{Sending}
 use Rattle.run_report.specs.declared.sending.Split.{Split}
 use Rattle.run_report.specs.Splits.{sent_by, last_after, last_sent, split_after, split_by, splits_of, flows_with, flows_of}
-use Rattle.run_report.specs.Noting.{last_noted, split_with, beside_with, splits_noted, count_noted, sends_with, sends_of}
-use Rattle.run_report.specs.Books.{AreLast, with_send, RenewedAs, HasNoted, IsSettledAs, IsBookOf}
+use Rattle.run_report.specs.Noting.{last_noted, split_with, beside_with, splits_noted, count_noted, noted_with, noted_by, sends_with, sends_of}
+use Rattle.run_report.specs.Books.{AreLast, with_send, RenewedAs, IsSettledAs, IsBookOf}
 
 -- ---- what sends tell without what is kept beside them
 
@@ -112,31 +112,29 @@ module _ {T : Type 0} where
   pub settled_is : (past : List LogEntry) (b : SplitBook T) (all : List (Noted T)) → bare all ≡ sends_of past → b.number ≡ length past → IsSettledAs all b → IsBookOf past b
   settled_is past b all is number s = record {
     number = number;
+    all = all;
+    settled = s;
+    sends = is;
     flows = s.flows ∙ count_bare all ∙ ap (λ (ss : List Sending). count_in ss) is ∙ count_record past;
     splits = s.splits ∙ splits_told past all is;
   }
 
-  -- one send more of a record
-  pub noted_one : (s : LogEntry) (past : List LogEntry) (number : ℕ) (sending : Sending) (all : List (Noted T)) → number ≡ length past → sent_by number s.event s.outcome ≡ Some sending → bare all ≡ sends_of past
-      → sending ∷ bare all ≡ sends_of (s ∷ past)
-  noted_one s past number sending all at is same =
-      ap (λ (ss : List Sending). sending ∷ ss) same
-      ∙ sym (ap (λ (o : Option Sending). sends_with o (sends_of past)) is)
-      ∙ ap (λ (k : ℕ). sends_with (sent_by k s.event s.outcome) (sends_of past)) at
+  bare_more : (o : Option Sending) (beside : T) (all : List (Noted T)) (ss : List Sending) → bare all ≡ ss → bare (noted_with o beside all) ≡ sends_with o ss
+  bare_more None beside all ss h = h
+  bare_more (Some t) beside all ss h = ap (λ (rest : List Sending). t ∷ rest) h
 
-  -- what is settled depends on nothing that waits
-  pub settled_yet : (done : List (Noted T)) (a b : SplitBook T) → b ≡ record a { noted = b.noted } → IsSettledAs done a → IsSettledAs done b
+  -- one event more
+  pub noted_more : (s : LogEntry) (past : List LogEntry) (a b : SplitBook T) (beside : T) → IsBookOf past a → b.number ≡ a.number + 1
+      → ((all : List (Noted T)) → IsSettledAs all a → IsSettledAs (noted_by a.number s.event s.outcome beside all) b) → IsBookOf (s ∷ past) b
+  noted_more s past a b beside h more settled =
+      let number : a.number ≡ length past = h.number in
+      settled_is (s ∷ past) b (noted_by a.number s.event s.outcome beside h.all)
+      (bare_more (sent_by a.number s.event s.outcome) beside h.all (sends_of past) h.sends ∙ ap (λ (k : ℕ). sends_with (sent_by k s.event s.outcome) (sends_of past)) number)
+      (omega (arith, more, number)) (settled h.all h.settled)
+
+  -- what is settled doesn't depend on the number of events
+  pub settled_yet : (done : List (Noted T)) (a b : SplitBook T) → b ≡ record a { number = b.number } → IsSettledAs done a → IsSettledAs done b
   settled_yet done a b is s = subst (λ (z : SplitBook T). IsSettledAs done z) (sym is) (record { last = s.last; flows = s.flows; splits = s.splits; besides = s.besides })
-
-  -- one send more waits
-  pub waits : (all : List (Noted T)) (later : Noted T) (a b : SplitBook T) → b ≡ record a { noted = b.noted } → b.noted.items ≡ a.noted.items ++ later ∷ [] → HasNoted all a → HasNoted (later ∷ all) b
-  waits all later a b is pushed h = record {
-    done = h.done;
-    settled = settled_yet h.done a b is h.settled;
-    waiting =
-        ap (λ (ns : List (Noted T)). reverse ns ++ h.done) pushed ∙ ap (λ (ns : List (Noted T)). ns ++ h.done) (reverse-append a.noted.items (later ∷ []))
-        ∙ ap (λ (ns : List (Noted T)). later ∷ ns) h.waiting;
-  }
 
   -- one send more is compared
   pub settled_more : (done : List (Noted T)) (later : Noted T) (a b : SplitBook T) → IsSettledAs done a → AreLast (with_send (λ x. last_noted done x) later) b.last
@@ -188,26 +186,6 @@ module _ {T : Type 0} where
       settled_more done later a b s (subst (λ (l : LastSends T). AreLast (with_send (λ x. last_noted done x) later) l) (sym same) h) (ap (λ (l : LastSends T). length l.sends) same ∙ flows)
       (splits ∙ ap (λ (o : Option (Noted T)). a.splits.items ++ split_with o later) (sym is)) (besides ∙ ap (λ (o : Option (Noted T)). a.besides.items ++ beside_with o later) (sym is))
 
-  -- sends more, one after another
-  pub one_of_all : (noted : List (Noted T)) (i : ℕ) (one : Noted T) (done : List (Noted T)) (b : SplitBook T) → i < length noted → one ≡ get_or noted i one → IsSettledAs (one ∷ (reverse (take i noted) ++ done)) b
-      → IsSettledAs (reverse (take (i + 1) noted) ++ done) b
-  one_of_all noted i one done b low is s =
-      subst (λ (ns : List (Noted T)). IsSettledAs ns b)
-      (ap (λ (n : Noted T). n ∷ (reverse (take i noted) ++ done)) is
-      ∙ sym (ap (λ (ns : List (Noted T)). reverse ns ++ done) (take_more noted i one low) ∙ ap (λ (ns : List (Noted T)). ns ++ done) (reverse-append (take i noted) (get_or noted i one ∷ [])))) s
-
-  -- what waited is settled, and nothing waits
-  pub all_settled : (all : List (Noted T)) (a b : SplitBook T) (noted : List (Noted T)) → noted ≡ a.noted.items → HasNoted all a
-      → ((done : List (Noted T)) → IsSettledAs done a → IsSettledAs (reverse noted ++ done) b) → IsSettledAs all b
-  all_settled all a b noted is h more = subst (λ (ns : List (Noted T)). IsSettledAs ns b) (ap (λ (ns : List (Noted T)). reverse ns ++ h.done) is ∙ h.waiting) (more h.done h.settled)
-
-  pub none_waits : (all : List (Noted T)) (b : SplitBook T) → b.noted.items ≡ [] → IsSettledAs all b → HasNoted all b
-  none_waits all b none s = record { done = all; settled = s; waiting = ap (λ (ns : List (Noted T)). reverse ns ++ all) none }
-
   -- no send was noted
-  pub none_noted : (b : SplitBook T) → AreLast (λ x. None) b.last → length b.last.sends ≡ 0 → b.splits.items ≡ [] → b.besides.items ≡ [] → b.noted.items ≡ [] → HasNoted [] b
-  none_noted b last flows splits besides noted = record {
-    done = [];
-    settled = record { last = record { each = last.each }; flows = flows; splits = splits; besides = besides };
-    waiting = ap (λ (ns : List (Noted T)). reverse ns ++ []) noted;
-  }
+  pub none_settled : (b : SplitBook T) → AreLast (λ x. None) b.last → length b.last.sends ≡ 0 → b.splits.items ≡ [] → b.besides.items ≡ [] → IsSettledAs [] b
+  none_settled b last flows splits besides = record { last = record { each = last.each }; flows = flows; splits = splits; besides = besides }

@@ -1,5 +1,5 @@
 -- A book of each flow's last send, and of the splits so far, is that of a record.
-use Rattle.std.specs.Prelude.{◌≡◌, ℕ, Bool, true, false, List, ◌++◌, length, map, reverse, Option, Some, option_map, slice_get, if◌then◌else◌}
+use Rattle.std.specs.Prelude.{◌≡◌, ℕ, Bool, true, false, List, length, map, Option, Some, option_map, slice_get, if◌then◌else◌}
 use Rattle.five_tuple.specs.declared.Flow.{Flow}
 use Rattle.connection_table.specs.Touches.{same_flow}
 use Rattle.flow_map.specs.Maps.{value_of}
@@ -42,20 +42,11 @@ pub record IsSettledAs {T : Type 0} (done : List (Noted T)) (b : SplitBook T) : 
   pub splits : b.splits.items ≡ splits_noted done
   pub besides : b.besides.items ≡ besides_noted done
 
--- These sends were noted. The book answers what some of them tell, and the others wait in it.
-pub record HasNoted {T : Type 0} (all : List (Noted T)) (b : SplitBook T) : Type 0 where
-  pub done : List (Noted T)
-  pub settled : IsSettledAs done b
-  pub waiting : reverse b.noted.items ++ done ≡ all
-
--- the sends of a record were noted
-pub record IsNotedBookOf {T : Type 0} (past : List LogEntry) (b : SplitBook T) : Type 0 where
-  pub number : b.number ≡ length past
-  pub all : List (Noted T)
-  pub noted : HasNoted all b
-  pub sends : map (λ n. n.sending) all ≡ sends_of past
-
+-- the book is that of a record
 pub record IsBookOf {T : Type 0} (past : List LogEntry) (b : SplitBook T) : Type 0 where
   pub number : b.number ≡ length past
+  pub all : List (Noted T)
+  pub settled : IsSettledAs all b
+  pub sends : map (λ n. n.sending) all ≡ sends_of past
   pub flows : length b.last.sends ≡ length (flows_of past)
   pub splits : b.splits.items ≡ splits_of past

@@ -12,8 +12,8 @@ use std::collections::BTreeMap;
 #[derive(Drop)]
 pub(crate) struct Backends {
     all: Vec<Backend>,
-    // Where each was put.
-    places: BTreeMap<(Name, u32), usize>,
+    // Where each was put. Addresses stand in front: mostly they differ, and are compared at once.
+    places: BTreeMap<(u32, Name), usize>,
 }
 
 impl Backends {
@@ -48,7 +48,7 @@ impl Backends {
     fn find(&self, backend: &Backend) -> Option<usize>
         ensures { IfSome result (λ place. slice_get self.now.all.items place ≡ Some backend.now) }
     {
-        let place = *self.places.get(&(backend.name, backend.addr))?;
+        let place = *self.places.get(&(backend.addr, backend.name))?;
         self.is_at(place, backend).then_some(place)
     }
 
@@ -58,7 +58,7 @@ impl Backends {
         ensures others { OnOk result (Keeps self.old.all.items self.new.all.items) }
     {
         let place = self.all.len();
-        let Ok(_) = self.places.insert((backend.name, backend.addr), place) else {
+        let Ok(_) = self.places.insert((backend.addr, backend.name), place) else {
             return Err(AllocError);
         };
         let Ok(()) = self.all.push(*backend) else {

@@ -49,14 +49,6 @@ impl<T: Copy> LastSends<T> {
         self.sends.len()
     }
 
-    /// The place of a flow of which a packet was sent. There it stays.
-    #[inline(always)]
-    pub(crate) fn place_of(&self, flow: &Flow) -> Option<u32>
-        ensures { (sent : Flow → Option (Noted T)) → AreLast sent self.now → is_some result ≡ is_some (sent flow.now) }
-    {
-        self.sends.place_of(flow)
-    }
-
     // The send that a flow's entry represents.
     fn told(&self, flow: &Flow, last: &LastSend<T>) -> Option<Noted<T>>
         ensures { result ≡ told self.now.backends.all.items flow.now last.now }
@@ -75,17 +67,16 @@ impl<T: Copy> LastSends<T> {
         })
     }
 
-    /// Takes a send as its flow's last where its flow stands at a place, and the send before it went to the same backend. Whether
-    /// it did.
+    /// Takes a send as its flow's last where the one before it went to the same backend. Whether it did.
     #[inline(always)]
-    pub(crate) fn renew(&mut self, at: u32, later: &Noted<T>) -> bool
+    pub(crate) fn renew(&mut self, later: &Noted<T>) -> bool
         ensures { (sent : Flow → Option (Noted T)) → AreLast sent self.old → RenewedAs result sent later.now self.old self.new }
     {
         let sending = &later.sending;
-        let Some(last) = self.sends.at(at, &sending.flow) else {
+        let Some(at) = self.sends.place_of(&sending.flow) else {
             return false;
         };
-        let place = last.place;
+        let place = self.sends.value_at(at, &sending.flow).place;
         if !self.backends.is_at(place, &sending.backend) {
             return false;
         }

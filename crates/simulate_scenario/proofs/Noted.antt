@@ -11,7 +11,7 @@ use Rattle.event_trace.specs.declared.counts.Counts.{Counts}
 use Rattle.event_trace.specs.Counting.{CountsAre, totals_by}
 use Rattle.event_trace.proofs.Counted.{counted_turned, outcomes_turned}
 use Rattle.run_report.specs.declared.book.SplitBook.{SplitBook}
-use Rattle.run_report.specs.Books.{IsNotedBookOf, IsBookOf}
+use Rattle.run_report.specs.Books.{IsBookOf, IsBookOf}
 use Rattle.run_report.specs.Splits.{sent_by, sent_at}
 use Rattle.run_report.specs.declared.sending.Sending.{Sending}
 use Rattle.simulate_scenario.specs.declared.notes.Notebook.{Notebook}
@@ -19,7 +19,7 @@ use Rattle.simulate_scenario.specs.declared.asking.Query.{Query}
 use Rattle.simulate_scenario.specs.declared.asking.TwoEvents.{TwoEvents}
 use Rattle.simulate_scenario.specs.declared.asking.Wanted.{Wanted}
 use Rattle.simulate_scenario.specs.declared.asking.Query.TheVariants.{Report, Events}
-use Rattle.simulate_scenario.specs.Notebooks.{Lists, ListsIf, NotedIf, NotedChangesIf, BookIf, ChangesIf, KeepsMore, KeepsBooks, KeepsTwo, AreOf}
+use Rattle.simulate_scenario.specs.Notebooks.{Lists, ListsIf, BookIf, NotedChangesIf, ChangesIf, KeepsMore, KeepsBooks, KeepsTwo, AreOf}
 use Rattle.json_lines.specs.declared.forms.Form.{Form}
 use Rattle.json_lines.specs.declared.forms.Form.TheVariants.{Plain, Json}
 use Rattle.json_lines.specs.Forms.{event_as, listing_as}
@@ -41,7 +41,7 @@ none_listed n Plain k l true = record { number = k; lines = l }
 none_listed n Json k l true = record { number = k; lines = l ∙ sym (append-nil (begun Json)) }
 none_listed n form k l false = l
 
-none_booked : (b : SplitBook (Unit {0})) → IsNotedBookOf [] b → (splits : Bool) → NotedIf splits [] b
+none_booked : (b : SplitBook (Unit {0})) → IsBookOf [] b → (splits : Bool) → BookIf splits [] b
 none_booked b h true = h
 none_booked b h false = tt
 
@@ -49,7 +49,7 @@ none_changed : (b : ChangeBook) → IsNotedChangeBookOf [] b → (changes : Bool
 none_changed b h true = h
 none_changed b h false = tt
 
-pub none_noted : (n : Notebook) (asked : Query) → n.is_plain ≡ is_report_alone asked → n.only_changes ≡ is_report_of_changes asked → CountsAre [] n.counts → n.number ≡ 0 → string_bytes n.lines ≡ begun_for asked → IsNotedBookOf [] n.book → IsNotedChangeBookOf [] n.changes → AreShareBooksOf (shares_in asked) [] n.shares → n.one ≡ None → n.other ≡ None → n.first ≡ None → n.later ≡ None → AreOf asked [] n
+pub none_noted : (n : Notebook) (asked : Query) → n.is_plain ≡ is_report_alone asked → n.only_changes ≡ is_report_of_changes asked → CountsAre [] n.counts → n.number ≡ 0 → string_bytes n.lines ≡ begun_for asked → IsBookOf [] n.book → IsNotedChangeBookOf [] n.changes → AreShareBooksOf (shares_in asked) [] n.shares → n.one ≡ None → n.other ≡ None → n.first ≡ None → n.later ≡ None → AreOf asked [] n
 none_noted n (Report wanted) e f c k l b d a o p q r =
     (c, (none_listed n wanted.form k l wanted.list, none_booked n.book b (keeps_splits (keeps_changes wanted.places wanted.summary) wanted.splits), none_changed n.changes d (keeps_changes wanted.places wanted.summary), a), e, f)
 none_noted n (Events two) e f c k l b d a o p q r = record { number = k; lines = l; one_is = o; other_is = p; first_is = q; later_is = r }
@@ -74,8 +74,8 @@ pub plain_more : (w : Wanted) (past : List LogEntry) (s : LogEntry) (n m : Noteb
 plain_more w past s n m plain e f g k = go w.list w.splits w.places w.backends w.nodes w.summary plain k
   where
     go : (l t p a b u : Bool) → not (l || t || p || a || b || u) ≡ true
-        → ListsIf w.form l past n × NotedIf (keeps_splits (keeps_changes p u) t) past n.book × NotedChangesIf (keeps_changes p u) past n.changes × AreShareBooksOf (record { backends = a; nodes = b }) past n.shares
-        → ListsIf w.form l (s ∷ past) m × NotedIf (keeps_splits (keeps_changes p u) t) (s ∷ past) m.book × NotedChangesIf (keeps_changes p u) (s ∷ past) m.changes × AreShareBooksOf (record { backends = a; nodes = b }) (s ∷ past) m.shares
+        → ListsIf w.form l past n × BookIf (keeps_splits (keeps_changes p u) t) past n.book × NotedChangesIf (keeps_changes p u) past n.changes × AreShareBooksOf (record { backends = a; nodes = b }) past n.shares
+        → ListsIf w.form l (s ∷ past) m × BookIf (keeps_splits (keeps_changes p u) t) (s ∷ past) m.book × NotedChangesIf (keeps_changes p u) (s ∷ past) m.changes × AreShareBooksOf (record { backends = a; nodes = b }) (s ∷ past) m.shares
     go false false false false false false h k = (ap string_bytes f ∙ k.0, tt, tt, record { these = ap (λ (x : ShareBooks). x.asked) g ∙ k.3.these; backends = tt; nodes = tt })
     go true t p a b u h k = absurd cc
     go false true p a b u h k = absurd cc
@@ -93,8 +93,8 @@ changes_more r w past s n m only e f g more k = go w.list w.splits w.places w.ba
     shares h = record { these = ap (λ (x : ShareBooks). x.asked) g ∙ h.these; backends = tt; nodes = tt }
 
     go : (l t p a b u : Bool) → (not (l || a || b) && keeps_changes p u) ≡ true
-        → ListsIf w.form l past n × NotedIf (keeps_splits (keeps_changes p u) t) past n.book × NotedChangesIf (keeps_changes p u) past n.changes × AreShareBooksOf (record { backends = a; nodes = b }) past n.shares
-        → OnOk r (ListsIf w.form l (s ∷ past) m × NotedIf (keeps_splits (keeps_changes p u) t) (s ∷ past) m.book × NotedChangesIf (keeps_changes p u) (s ∷ past) m.changes × AreShareBooksOf (record { backends = a; nodes = b }) (s ∷ past) m.shares)
+        → ListsIf w.form l past n × BookIf (keeps_splits (keeps_changes p u) t) past n.book × NotedChangesIf (keeps_changes p u) past n.changes × AreShareBooksOf (record { backends = a; nodes = b }) past n.shares
+        → OnOk r (ListsIf w.form l (s ∷ past) m × BookIf (keeps_splits (keeps_changes p u) t) (s ∷ past) m.book × NotedChangesIf (keeps_changes p u) (s ∷ past) m.changes × AreShareBooksOf (record { backends = a; nodes = b }) (s ∷ past) m.shares)
     go false t true false false u h k = on_ok_weaker r (λ changes. (ap string_bytes f ∙ k.0, tt, changes, shares k.3)) (more k.2)
     go false t false false false true h k = on_ok_weaker r (λ changes. (ap string_bytes f ∙ k.0, tt, changes, shares k.3)) (more k.2)
     go false t false false false false h k = absurd cc
@@ -106,7 +106,7 @@ changes_more r w past s n m only e f g more k = go w.list w.splits w.places w.ba
 pub more_told : {E : Type 0} (r : Result (Unit {0}) E) (w : Wanted) (past : List LogEntry) (s : LogEntry) (n a b d f : Notebook) (splits changes : Bool) → KeepsMore w past n
     → splits ≡ keeps_splits (keeps_changes w.places w.summary) w.splits → changes ≡ keeps_changes w.places w.summary
     → (ListsIf w.form w.list past n → ListsIf w.form w.list (s ∷ past) a) → a.book ≡ n.book → a.changes ≡ n.changes → a.shares ≡ n.shares
-    → (NotedIf splits past a.book → NotedIf splits (s ∷ past) b.book) → b.number ≡ a.number → b.lines ≡ a.lines → b.changes ≡ a.changes → b.shares ≡ a.shares
+    → (BookIf splits past a.book → BookIf splits (s ∷ past) b.book) → b.number ≡ a.number → b.lines ≡ a.lines → b.changes ≡ a.changes → b.shares ≡ a.shares
     → (NotedChangesIf changes past b.changes → NotedChangesIf changes (s ∷ past) d.changes) → d ≡ record b { changes = d.changes }
     → (AreShareBooksOf (asked_shares w) past d.shares → OnOk r (AreShareBooksOf (asked_shares w) (s ∷ past) f.shares)) → f ≡ record d { shares = f.shares } → OnOk r (KeepsMore w (s ∷ past) f)
 more_told {E} r w past s n a b d f splits changes k splits_is changes_is lists a_book a_changes a_shares books b_number b_lines b_changes b_shares change d_is share f_is = on_ok_weaker r (λ shares. (listed, booked, changed, shares)) (share shares_before)
@@ -121,10 +121,10 @@ more_told {E} r w past s n a b d f splits changes k splits_is changes_is lists a
     listed = lists_same w.form w.list (s ∷ past) a f
         (ap (λ (x : Notebook). x.number) f_is ∙ ap (λ (x : Notebook). x.number) d_is ∙ b_number) (ap (λ (x : Notebook). x.lines) f_is ∙ ap (λ (x : Notebook). x.lines) d_is ∙ b_lines) (lists k.0)
 
-    booked : NotedIf (keeps_splits (keeps_changes w.places w.summary) w.splits) (s ∷ past) f.book
-    booked = subst (λ (x : SplitBook (Unit {0})). NotedIf (keeps_splits (keeps_changes w.places w.summary) w.splits) (s ∷ past) x) (sym (ap (λ (x : Notebook). x.book) f_is ∙ ap (λ (x : Notebook). x.book) d_is))
-        (subst (λ (t : Bool). NotedIf t (s ∷ past) b.book) splits_is
-        (books (subst (λ (x : SplitBook (Unit {0})). NotedIf splits past x) (sym a_book) (subst (λ (t : Bool). NotedIf t past n.book) (sym splits_is) k.1))))
+    booked : BookIf (keeps_splits (keeps_changes w.places w.summary) w.splits) (s ∷ past) f.book
+    booked = subst (λ (x : SplitBook (Unit {0})). BookIf (keeps_splits (keeps_changes w.places w.summary) w.splits) (s ∷ past) x) (sym (ap (λ (x : Notebook). x.book) f_is ∙ ap (λ (x : Notebook). x.book) d_is))
+        (subst (λ (t : Bool). BookIf t (s ∷ past) b.book) splits_is
+        (books (subst (λ (x : SplitBook (Unit {0})). BookIf splits past x) (sym a_book) (subst (λ (t : Bool). BookIf t past n.book) (sym splits_is) k.1))))
 
     changed : NotedChangesIf (keeps_changes w.places w.summary) (s ∷ past) f.changes
     changed = subst (λ (x : ChangeBook). NotedChangesIf (keeps_changes w.places w.summary) (s ∷ past) x) (sym (ap (λ (x : Notebook). x.changes) f_is)) (subst (λ (t : Bool). NotedChangesIf t (s ∷ past) d.changes) changes_is (change before))
@@ -198,21 +198,18 @@ keeps_more two past s n m k e l f g h i = record {
 }
 
 -- the books answer what was noted
-pub settled : {E : Type 0} (r : Result (Unit {0}) E) (w : Wanted) (past : List LogEntry) (n a b : Notebook) (splits changes : Bool) → KeepsMore w past n
-    → splits ≡ keeps_splits (keeps_changes w.places w.summary) w.splits → changes ≡ keeps_changes w.places w.summary
-    → (NotedIf splits past n.book → BookIf splits past a.book) → a ≡ record n { book = a.book }
-    → (NotedChangesIf changes past a.changes → OnOk r (ChangesIf changes past b.changes)) → b ≡ record a { changes = b.changes } → OnOk r (KeepsBooks w past b)
-settled {E} r w past n a b splits changes k splits_is changes_is books a_is change b_is = on_ok_weaker r (λ changed. (booked, subst (λ (t : Bool). ChangesIf t past b.changes) changes_is changed, shares)) (change noted)
+pub settled : {E : Type 0} (r : Result (Unit {0}) E) (w : Wanted) (past : List LogEntry) (n b : Notebook) (changes : Bool) → KeepsMore w past n
+    → changes ≡ keeps_changes w.places w.summary → (NotedChangesIf changes past n.changes → OnOk r (ChangesIf changes past b.changes)) → b ≡ record n { changes = b.changes } → OnOk r (KeepsBooks w past b)
+settled {E} r w past n b changes k changes_is change b_is = on_ok_weaker r (λ changed. (booked, subst (λ (t : Bool). ChangesIf t past b.changes) changes_is changed, shares)) (change noted)
   where
-    noted : NotedChangesIf changes past a.changes
-    noted = subst (λ (x : ChangeBook). NotedChangesIf changes past x) (sym (ap (λ (x : Notebook). x.changes) a_is)) (subst (λ (t : Bool). NotedChangesIf t past n.changes) (sym changes_is) k.2)
+    noted : NotedChangesIf changes past n.changes
+    noted = subst (λ (t : Bool). NotedChangesIf t past n.changes) (sym changes_is) k.2
 
     booked : BookIf (keeps_splits (keeps_changes w.places w.summary) w.splits) past b.book
-    booked = subst (λ (x : SplitBook (Unit {0})). BookIf (keeps_splits (keeps_changes w.places w.summary) w.splits) past x) (sym (ap (λ (x : Notebook). x.book) b_is))
-        (subst (λ (t : Bool). BookIf t past a.book) splits_is (books (subst (λ (t : Bool). NotedIf t past n.book) (sym splits_is) k.1)))
+    booked = subst (λ (x : SplitBook (Unit {0})). BookIf (keeps_splits (keeps_changes w.places w.summary) w.splits) past x) (sym (ap (λ (x : Notebook). x.book) b_is)) k.1
 
     shares : AreShareBooksOf (asked_shares w) past b.shares
-    shares = subst (λ (x : ShareBooks). AreShareBooksOf (asked_shares w) past x) (sym (ap (λ (x : Notebook). x.shares) b_is ∙ ap (λ (x : Notebook). x.shares) a_is)) k.3
+    shares = subst (λ (x : ShareBooks). AreShareBooksOf (asked_shares w) past x) (sym (ap (λ (x : Notebook). x.shares) b_is)) k.3
 
 -- the totals of a history, by the counts of its record
 pub totals_told : (past : List LogEntry) (c : Counts) → CountsAre (outcomes_of past) c → totals_by c ≡ totals_in (outcomes_of (reverse past))

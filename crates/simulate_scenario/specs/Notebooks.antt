@@ -4,7 +4,7 @@ use Rattle.cluster_node.specs.declared.events.LogEntry.{LogEntry}
 use Rattle.cluster_core.specs.Histories.{outcomes_of}
 use Rattle.event_trace.specs.Counting.{CountsAre}
 use Rattle.run_report.specs.declared.book.SplitBook.{SplitBook}
-use Rattle.run_report.specs.Books.{IsNotedBookOf, IsBookOf}
+use Rattle.run_report.specs.Books.{IsBookOf}
 use Rattle.run_report.specs.Splits.{sent_at}
 use Rattle.connection_changes.specs.declared.book.ChangeBook.{ChangeBook}
 use Rattle.connection_changes.specs.Books.{IsNotedChangeBookOf, IsChangeBookOf}
@@ -28,20 +28,15 @@ abbrev pub ListsIf : Form → Bool → List LogEntry → Notebook → Type 0
 ListsIf form true past n = Lists form past n
 ListsIf form false past n = string_bytes n.lines ≡ begun form
 
--- the events of a record were noted in a book of splits, where these are asked for
-abbrev pub NotedIf : Bool → List LogEntry → SplitBook (Unit {0}) → Type 0
-NotedIf true past b = IsNotedBookOf past b
-NotedIf false past b = Unit {0}
-
--- the same of a book of changes
-abbrev pub NotedChangesIf : Bool → List LogEntry → ChangeBook → Type 0
-NotedChangesIf true past b = IsNotedChangeBookOf past b
-NotedChangesIf false past b = Unit {0}
-
 -- a book of splits is the record's, where they are asked for
 abbrev pub BookIf : Bool → List LogEntry → SplitBook (Unit {0}) → Type 0
 BookIf true past b = IsBookOf past b
 BookIf false past b = Unit {0}
+
+-- the events of a record were noted in a book of changes, where these are asked for
+abbrev pub NotedChangesIf : Bool → List LogEntry → ChangeBook → Type 0
+NotedChangesIf true past b = IsNotedChangeBookOf past b
+NotedChangesIf false past b = Unit {0}
 
 -- a book of changes is the record's, where they are asked for
 abbrev pub ChangesIf : Bool → List LogEntry → ChangeBook → Type 0
@@ -67,7 +62,7 @@ KeepsBooks wanted past n =
 -- what is kept beside the counts of a report
 abbrev pub KeepsMore : Wanted → List LogEntry → Notebook → Type 0
 KeepsMore wanted past n =
-    ListsIf wanted.form wanted.list past n × NotedIf (keeps_splits (keeps_changes wanted.places wanted.summary) wanted.splits) past n.book
+    ListsIf wanted.form wanted.list past n × BookIf (keeps_splits (keeps_changes wanted.places wanted.summary) wanted.splits) past n.book
     × NotedChangesIf (keeps_changes wanted.places wanted.summary) past n.changes × AreShareBooksOf (asked_shares wanted) past n.shares
 
 -- the notes are those of a record, for what is asked, and know whether a report alone is, or one beside which only the changes are kept

@@ -88,7 +88,7 @@ fn push_event_if(
 }
 
 impl Notebook {
-    ghost use Rattle.simulate_scenario.specs.Notebooks.{Lists, ListsIf, NotedIf, NotedChangesIf, BookIf, ChangesIf, KeepsMore, KeepsBooks, KeepsTwo, AreOf};
+    ghost use Rattle.simulate_scenario.specs.Notebooks.{Lists, ListsIf, NotedChangesIf, BookIf, ChangesIf, KeepsMore, KeepsBooks, KeepsTwo, AreOf};
 
     /// Nothing was noted, for what is asked. The books hash flows by the key.
     pub(crate) fn make(alloc: Global, key: TableKey, asked: &Query) -> Result<Notebook, AllocError>
@@ -162,7 +162,7 @@ impl Notebook {
     // An event goes into the book, where splits are asked for.
     #[inline(always)]
     fn book_if(&mut self, splits: bool, event: &Event, outcome: &Outcome) -> Result<(), AllocError>
-        ensures books { (past : List LogEntry) (packet : Option Packet) → NotedIf splits past self.old.book → OnOk result (NotedIf splits (said_by event.now packet outcome.now ∷ past) self.new.book) }
+        ensures books { (past : List LogEntry) (packet : Option Packet) → BookIf splits past self.old.book → OnOk result (BookIf splits (said_by event.now packet outcome.now ∷ past) self.new.book) }
         ensures lines { self.new.lines ≡ self.old.lines }
         ensures number { self.new.number ≡ self.old.number }
         ensures is_plain { self.new.is_plain ≡ self.old.is_plain }
@@ -250,15 +250,7 @@ impl Notebook {
         self.more(*wanted, event, packet, outcome)
     }
 
-    // The book of splits answers what was noted, where it is asked for.
-    fn settle_book_if(&mut self, splits: bool) -> Result<(), AllocError>
-        ensures books { (past : List LogEntry) → NotedIf splits past self.old.book → OnOk result (BookIf splits past self.new.book) }
-        ensures rest { self.new ≡ record self.old { book = self.new.book } }
-    {
-        if splits { self.book.settle() } else { Ok(()) }
-    }
-
-    // The same of the book of changes.
+    // The book of changes answers what was noted, where it is asked for.
     fn settle_changes_if(&mut self, changes: bool) -> Result<(), AllocError>
         ensures books { (past : List LogEntry) → NotedChangesIf changes past self.old.changes → OnOk result (ChangesIf changes past self.new.changes) }
         ensures rest { self.new ≡ record self.old { changes = self.new.changes } }
@@ -273,9 +265,8 @@ impl Notebook {
     /// The books answer what was noted for a report. Where memory is refused nothing more is known of them.
     pub(crate) fn settle(&mut self, wanted: Wanted) -> Result<(), AllocError>
         ensures books { (past : List LogEntry) → KeepsMore wanted past self.old → OnOk result (KeepsBooks wanted past self.new) }
-        ensures rest { self.new ≡ record self.old { book = self.new.book; changes = self.new.changes } }
+        ensures rest { self.new ≡ record self.old { changes = self.new.changes } }
     {
-        self.settle_book_if(wanted.keeps_splits())?;
         self.settle_changes_if(wanted.keeps_changes())
     }
 

@@ -4,6 +4,5 @@ use Rattle.connection_changes.proofs.book.ChangeBook.settle.Goals as goal
 
 pub returns : goal.returns
 returns c = λ past b.
-    let book = c.in_ok-settle.ensures.book past b.splits in
-    settled past _ c.splits-splits.result.now c.besides.result.now book (c.splits-splits.ensures past book) (c.besides.ensures (placed_of past) (c.in_ok-settle.ensures.settled (placed_of past) b.placed))
+    settled past _ c.splits-splits.result.now c.besides.result.now b.splits (c.splits-splits.ensures past b.splits) (c.besides.ensures (placed_of past) b.placed)
     c.in_ok-self.ensures c.in_ok-self-2.ensures

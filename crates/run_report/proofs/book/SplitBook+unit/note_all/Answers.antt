@@ -6,7 +6,7 @@ use Rattle.cluster_node.specs.declared.events.Event.{Event}
 use Rattle.cluster_node.specs.declared.events.LogEntry.{LogEntry}
 use Rattle.cluster_node.specs.declared.outcomes.Outcome.{Outcome}
 use Rattle.run_report.specs.Splits.{said_of}
-use Rattle.run_report.specs.Books.{IsNotedBookOf}
+use Rattle.run_report.specs.Books.{IsBookOf}
 use Rattle.run_report.proofs.SplitWalks.{said_more, said_behind}
 use Rattle.run_report.proofs.book.SplitBook+unit.note_all.Goals as goal
 
@@ -27,6 +27,6 @@ loop-event-preserved c = λ first is.
 pub returns : goal.returns
 returns c = λ first is.
     let was = c.loop-event.invariant first is in
-    subst (λ (past : List LogEntry). IsNotedBookOf past c.loop-event.self)
+    subst (λ (past : List LogEntry). IsBookOf past c.loop-event.self)
     (said_behind first was.0 _ _ _ (either_empty_from_Zip c.loop-event.event-iterator c.next.new.self c.next.result c.in-None.is c.next.ensures.steps) was.2)
     was.1

@@ -7,7 +7,7 @@ use Rattle.run_report.proofs.Lasts.{entry_of, last_more, first_is}
 use Rattle.run_report.proofs.last_sends.LastSends.renew.Goals as goal
 
 pub set-requires : goal.set-requires
-set-requires g c = (c.in-Some.last.now, c.in-Some.ensures)
+set-requires g c = c.in-Some.ensures
 
 pub returns-in_default : goal.returns-in_default
 returns-in_default g c sent h = (h, refl)
@@ -18,10 +18,10 @@ returns-then-not-is_at g c sent h = (h, refl)
 pub returns : goal.returns
 returns g c sent h =
     let later = c.args.later.now in
-    let first = c.in-Some.last.now in
+    let first = c.value_at.result.now in
     let sends = c.args.self.now.sends in
     let at : slice_get c.args.self.now.backends.all.items first.place ≡ Some later.sending.backend = c.is_at.ensures c.if-not-is_at.false in
-    let known : value_of later.sending.flow sends ≡ Some first = c.in-Some.ensures.known in
+    let known : value_of later.sending.flow sends ≡ Some first = c.value_at.ensures.known in
     let count : length sends + (if is_some (value_of later.sending.flow sends) then 0 else 1) ≡ length sends =
     ap (λ (o : Option (LastSend g.row.T.Denot)). length sends + (if is_some o then 0 else 1)) known ∙ (let e : length sends + 0 ≡ length sends = omega arith in e) in (
       _,

@@ -3,5 +3,5 @@ use Rattle.simulate_scenario.proofs.notes.Notebook.settle.Goals as goal
 
 pub returns-clause-books : goal.returns-clause-books
 returns-clause-books c = λ past k.
-    settled c.settle_changes_if.result c.args.wanted past c.args.self.now c.settle_book_if.new.self c.settle_changes_if.new.self c.keeps_splits.result c.keeps_changes.result k c.keeps_splits.ensures c.keeps_changes.ensures
-    (c.in_ok-settle_book_if.ensures.books past) c.in_ok-settle_book_if.ensures.rest (c.settle_changes_if.ensures.books past) c.settle_changes_if.ensures.rest
+    settled c.settle_changes_if.result c.args.wanted past c.args.self.now c.settle_changes_if.new.self c.keeps_changes.result k c.keeps_changes.ensures
+    (c.settle_changes_if.ensures.books past) c.settle_changes_if.ensures.rest
