@@ -111,7 +111,6 @@ fn book_of(alloc: Global, key: TableKey, nodes: &[LeanRecord]) -> Result<SplitBo
     for node in nodes {
         book.note_all(node.events(), node.outcomes())?;
     }
-    book.settle()?;
     Ok(book)
 }
 

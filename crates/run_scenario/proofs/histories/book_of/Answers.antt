@@ -2,7 +2,7 @@ use Rattle.std.proofs.Common.{◌≡◌, ◌++◌, ◌∙◌, List, reverse, tak
 use Rattle.cluster_node.specs.declared.events.Event.{Event}
 use Rattle.cluster_node.specs.declared.events.LogEntry.{LogEntry}
 use Rattle.cluster_node.specs.declared.outcomes.Outcome.{Outcome}
-use Rattle.run_report.specs.Books.{IsNotedBookOf}
+use Rattle.run_report.specs.Books.{IsBookOf}
 use Rattle.run_report.specs.Splits.{said_of}
 use Rattle.run_scenario.specs.PrivateHistories.{said_by}
 use Rattle.run_scenario.proofs.OneByOne.{said_more}
@@ -13,5 +13,5 @@ loop-node-preserved c =
     let before = said_by (take c.loop-node.node-index c.args.nodes.now) in
     let slices : reverse (said_of c.events.result.now c.outcomes.result.now) ++ before ≡ reverse (said_of c.node-item.result.events.items c.node-item.result.outcomes.items) ++ before =
     ap (λ (es : List Event). reverse (said_of es c.outcomes.result.now) ++ before) c.events.ensures ∙ ap (λ (os : List Outcome). reverse (said_of c.node-item.result.events.items os) ++ before) c.outcomes.ensures in
-    subst (λ (past : List LogEntry). IsNotedBookOf past c.note_all.new.self) (slices ∙ sym (said_more c.args.nodes.now c.loop-node.node-index c.node-item.result c.loop-node-test.true c.node-item.is c.requires))
+    subst (λ (past : List LogEntry). IsBookOf past c.note_all.new.self) (slices ∙ sym (said_more c.args.nodes.now c.loop-node.node-index c.node-item.result c.loop-node-test.true c.node-item.is c.requires))
     (c.in_ok-note_all.ensures before c.loop-node.invariant)
