@@ -1,6 +1,6 @@
 -- The times, lives and clocks after one event more.
-use Rattle.std.proofs.Common.{◌≡◌, ℕ, zero, suc, Bool, true, false, List, [], ◌∷◌, ◌++◌, Option, Some, None, Result, Ok, Err, refl, sym, ap, ◌∙◌, subst}
-use Rattle.std.specs.Prelude.{◌==◌, ◌&&◌, max, slice_get, slice_index, OnOk, if◌then◌else◌}
+use Rattle.std.proofs.Common.{◌≡◌, ℕ, zero, suc, Bool, true, false, List, [], ◌∷◌, ◌++◌, Option, Some, None, refl, sym, ap, ◌∙◌}
+use Rattle.std.specs.Prelude.{◌==◌, ◌&&◌, max, slice_get, slice_index, if◌then◌else◌}
 use Rattle.std.proofs.lemmas.Bool.{eqb-true}
 use Rattle.cluster_node.specs.declared.events.LogEntry.{LogEntry}
 use Rattle.cluster_node.specs.declared.outcomes.Outcome.{Outcome}
@@ -56,7 +56,7 @@ module _ (s : LogEntry) (past : List LogEntry) (a b c d : Clocks) (was : AreCloc
   new_clock : (n w : ℕ) → clock_in c n w ≡ clock_begun (begun_by s.event s.outcome) n (clock_of past n w)
   new_clock n w = begun n w ∙ ap (λ (t : ℕ). clock_begun (begun_by s.event s.outcome) n t) (ap (λ (z : Clocks). clock_in z n w) b_is ∙ was.clocks n w)
 
-  clocks_more : ((n w : ℕ) → clock_in d n w ≡ clock_with (served_by s.event s.outcome) (λ k. slice_index c.times.all.items k) n w (clock_in c n w)) → AreClocksOf (s ∷ past) d
+  pub clocks_more : ((n w : ℕ) → clock_in d n w ≡ clock_with (served_by s.event s.outcome) (λ k. slice_index c.times.all.items k) n w (clock_in c n w)) → AreClocksOf (s ∷ past) d
   clocks_more clocks = record {
     times = λ k. ap (λ (z : Clocks). slice_index z.times.all.items k) d_is ∙ new_times k;
     lives = λ n. ap (λ (z : Clocks). life_in z n) d_is ∙ new_lives n;
@@ -64,10 +64,6 @@ module _ (s : LogEntry) (past : List LogEntry) (a b c d : Clocks) (was : AreCloc
         ∙ clock_with_same (served_by s.event s.outcome) (λ k. slice_index c.times.all.items k) (λ k. time_of (s ∷ past) k) new_times n w (clock_in c n w)
         ∙ ap (λ (t : ℕ). clock_with (served_by s.event s.outcome) (λ k. time_of (s ∷ past) k) n w t) (new_clock n w);
   }
-
-  pub clocks_noted : {A E : Type 0} (r : Result A E) → OnOk r ((n w : ℕ) → clock_in d n w ≡ clock_with (served_by s.event s.outcome) (λ k. slice_index c.times.all.items k) n w (clock_in c n w)) → OnOk r (AreClocksOf (s ∷ past) d)
-  clocks_noted (Ok u) clocks = clocks_more clocks
-  clocks_noted (Err e) clocks = tt
 
 -- the place of a packet that was sent is where it was served
 pub sent_here : (s : LogEntry) (past : List LogEntry) (d : Clocks) (o : Outcome) → AreClocksOf (s ∷ past) d → (if is_sent o then site_served (served_by s.event o) d else nowhere) ≡ site_in (s ∷ past) o
@@ -79,14 +75,14 @@ sent_here s past d (Restarted l) h = refl
 sent_here s past d (Refused r) h = refl
 
 -- the same, by what was told of the event
-pub noted_by : {A E : Type 0} (r : Result A E) (s : LogEntry) (past : List LogEntry) (a b c d : Clocks) (arrived : Option Arrived) (begun : Option ℕ) (served : Option Served) → AreClocksOf past a
+pub noted_by : (s : LogEntry) (past : List LogEntry) (a b c d : Clocks) (arrived : Option Arrived) (begun : Option ℕ) (served : Option Served) → AreClocksOf past a
     → arrived ≡ arrived_by s.event s.packet → begun ≡ begun_by s.event s.outcome → served ≡ served_by s.event s.outcome
     → ((k : ℕ) → slice_index b.times.all.items k ≡ time_with arrived k (slice_index a.times.all.items k)) → b ≡ record a { times = b.times }
     → ((n : ℕ) → life_in c n ≡ life_with begun n (life_in b n)) → ((n w : ℕ) → clock_in c n w ≡ clock_begun begun n (clock_in b n w)) → c.times ≡ b.times
-    → OnOk r ((n w : ℕ) → clock_in d n w ≡ clock_with served (λ k. slice_index c.times.all.items k) n w (clock_in c n w)) → d ≡ record c { clocks = d.clocks } → OnOk r (AreClocksOf (s ∷ past) d)
-noted_by r s past a b c d arrived begun served was arrived_is begun_is served_is times b_is lives clocks_begun c_times clocks d_is =
-    clocks_noted s past a b c d was
+    → ((n w : ℕ) → clock_in d n w ≡ clock_with served (λ k. slice_index c.times.all.items k) n w (clock_in c n w)) → d ≡ record c { clocks = d.clocks } → AreClocksOf (s ∷ past) d
+noted_by s past a b c d arrived begun served was arrived_is begun_is served_is times b_is lives clocks_begun c_times clocks d_is =
+    clocks_more s past a b c d was
     (λ k. times k ∙ ap (λ (o : Option Arrived). time_with o k (slice_index a.times.all.items k)) arrived_is) b_is
     (λ n. lives n ∙ ap (λ (o : Option ℕ). life_with o n (life_in b n)) begun_is)
-    (λ n w. clocks_begun n w ∙ ap (λ (o : Option ℕ). clock_begun o n (clock_in b n w)) begun_is) c_times d_is r
-    (subst (λ (o : Option Served). OnOk r ((n w : ℕ) → clock_in d n w ≡ clock_with o (λ k. slice_index c.times.all.items k) n w (clock_in c n w))) served_is clocks)
+    (λ n w. clocks_begun n w ∙ ap (λ (o : Option ℕ). clock_begun o n (clock_in b n w)) begun_is) c_times d_is
+    (λ n w. clocks n w ∙ ap (λ (o : Option Served). clock_with o (λ k. slice_index c.times.all.items k) n w (clock_in c n w)) served_is)

@@ -6,7 +6,7 @@ ghost use Rattle.connection_changes.specs.Sites.{time_with, life_with, clock_beg
 ghost use Rattle.connection_changes.specs.Books.{life_in, clock_in, site_served, AreClocksOf};
 
 use crate::numbers::Numbers;
-use crate::sites::{Arrived, Served, Site, arrived_by, begun_by, is_sent, nowhere, served_by};
+use crate::sites::{Arrived, Served, Site, arrived_by, begun_by, nowhere, served_by, site_if_sent};
 use crate::worker_numbers::WorkerNumbers;
 use cluster_node::{Event, Outcome, Packet};
 use std::alloc::{AllocError, Global};
@@ -114,10 +114,6 @@ impl Clocks {
         self.arrive(arrived_by(event, packet))?;
         self.begin(begun_by(event, outcome))?;
         let site = self.serve(served_by(event, outcome))?;
-        if is_sent(outcome) {
-            Ok(site)
-        } else {
-            Ok(nowhere())
-        }
+        Ok(site_if_sent(outcome, site))
     }
 }

@@ -1,5 +1,5 @@
 //! Where packets were sent, and what events tell of it.
-ghost use Rattle.std.specs.Prelude.{◌≡◌, option_copied};
+ghost use Rattle.std.specs.Prelude.{◌≡◌, option_copied, if◌then◌else◌};
 ghost use Rattle.connection_changes.specs.Sites.{arrived_by, begun_by, served_by, is_sent, nowhere};
 
 use cluster_node::{Event, Outcome, Packet};
@@ -47,12 +47,20 @@ pub(crate) fn nowhere() -> Site
     }
 }
 
-/// Whether a packet was sent.
+// Whether a packet was sent.
 #[inline(always)]
-pub(crate) fn is_sent(outcome: &Outcome) -> bool
+fn is_sent(outcome: &Outcome) -> bool
     ensures { result ≡ is_sent outcome.now }
 {
     matches!(*outcome, Outcome::Forward { .. })
+}
+
+/// The site, where a packet was sent.
+#[inline(always)]
+pub(crate) fn site_if_sent(outcome: &Outcome, site: Site) -> Site
+    ensures { result ≡ (if is_sent outcome.now then site else nowhere) }
+{
+    if is_sent(outcome) { site } else { nowhere() }
 }
 
 /// The time of a record, where an event tells it.

@@ -9,5 +9,5 @@ pub returns : goal.returns
 returns c = λ past b.
     let s = said_by c.args.event.now (option_copied c.args.packet) c.args.outcome.now in
     let noted = c.in_ok-site.ensures in
-    event_noted c.note.result s past c.args.self.now.splits.number c.in_ok-site.site c.args.self.now _ b.splits.number (noted.site past b.clocks) (noted.clocks past b.clocks)
-    (c.note.ensures.of_record past (option_copied c.args.packet) b.splits) (c.note.ensures.settled (placed_of past) b.placed)
+    event_noted c.note-2.result s past c.args.self.now.splits.number c.in_ok-site.site c.args.self.now _ b.splits.number (noted.site past b.clocks) (noted.clocks past b.clocks)
+    (c.note-2.ensures.of_record past (option_copied c.args.packet) b.splits) (c.note-2.ensures.settled (placed_of past) b.placed)
