@@ -1,6 +1,5 @@
 pub mod Whole
 pub mod Walks
-pub mod Chunks
 pub mod Stores
 pub mod Ruled
 pub mod InWords
@@ -18,3 +17,4 @@ pub mod Alike
 pub mod FirstRuns
 pub mod Sparings
 pub mod PlainRuns
+pub mod Chunks
