@@ -1,9 +1,9 @@
 //! What a scenario's steps tell the drivers of a cluster on threads.
 //!
-//! The spreader's choices are made in the order of the steps before any thread starts. So each node's driver gets a list of
-//! commands: a version to publish, a packet to offer, a restart, a stop. When the workers serve isn't told: that is the
-//! threads' own. The lists are the steps' trace with its servings left out, whichever cluster plays it; and where the trace
-//! has a restart the list has what the step says, a restart or a stop.
+//! The spreader's choices are made in the order of the steps before any thread of a node starts. So each node's driver
+//! gets a list of commands: a version to publish, a packet to offer, a restart, a stop. When the workers serve isn't
+//! told: that is the threads' own. The lists are the steps' trace with its servings left out, whichever cluster plays it;
+//! and where the trace has a restart the list has what the step says, a restart or a stop.
 //!
 //! ```text
 //! install 0 1   node 0: Publish(1)
