@@ -5,8 +5,9 @@ The program `example_node` runs a node of two workers through two lives, on thre
 one has two lives, and with `--splits` two of a worker. They print their whole answer, or why there is none, alone:
 `fault: ThreadLost` where a thread couldn't be started, and `fault: Memory` where memory was refused, which comes first where
 both were. A thread of the audit may be refused: the caller's thread then audits that node, or all of them, and the run says
-what it always says. `refuse_thread.c` refuses threads, and `refused_growths.py` has how growths are refused. A growth that
-the system refuses while it starts a thread loses the thread.
+what it always says. A thread that reads a part of a large capture may be refused too: the caller's thread then reads that part.
+`refuse_thread.c` refuses threads, and `refused_growths.py` has how growths are refused. A growth that the system refuses while it
+starts a thread loses the thread.
 
 The last line is 'N passed, N failed', which counts runs.
 """
@@ -30,6 +31,13 @@ AUDIT_THREADS = 3
 # Two nodes of a worker, each with one life, and what is told of the splits.
 SPLIT = growths.Case(["run", "--splits", "s.toml", "in.pcap", "out.pcap"], growths.FLOW.format("2 5") + growths.TWO + "audit agrees\n", files=growths.SPLIT)
 SPLIT_THREADS = 6
+# 40,000 records, which three threads read, and a node of one worker with one life.
+ALONE = growths.SCENARIO.replace(b', "10.9.0.2"', b"").replace(b'"take 1"', b'"take 40000"')
+MANY = {"s.toml": ALONE, "in.pcap": growths.CAPTURE + 39_999 * growths.CAPTURE[24:]}
+READ = growths.Case(["run", "--pace", "s.toml", "in.pcap", "out.pcap"], growths.AUDITED.replace(" 1\n", " 40000\n"), files=MANY)
+# Those that read beside the caller's, and those of the node.
+READING_THREADS = 2
+READ_THREADS = 3
 LOST = growths.LOST
 # The thread that is refused, and what is said where the first growth of any thread but the first one is refused too. An 'r' in
 # front tells that one was. Where the first driver isn't started no other thread is; where the second one isn't, the first is
@@ -37,17 +45,17 @@ LOST = growths.LOST
 AT_ONCE = [("1", b"fault: ThreadLost\n"), ("2", b"rfault: Memory\n")]
 
 
-def refuse_threads(library, words, case, threads, spared=0):
-    """Refuses one thread after the other, those that the run can spare, and one that is never started. Gives how many runs
-    were as they must be, and were not."""
+def refuse_threads(library, words, case, threads, spared=0, before=0):
+    """Refuses one thread after the other, those that the run can spare before and behind them, and one that is never started.
+    Gives how many runs were as they must be, and were not."""
     passed = failed = 0
     with tempfile.TemporaryDirectory() as folder:
         for name, content in case.files.items():
             (pathlib.Path(folder) / name).write_bytes(content)
-        for number in range(1, threads + spared + 2):
+        for number in range(1, before + threads + spared + 2):
             env = {"LD_PRELOAD": library, "REFUSED_THREAD": str(number)}
             done = subprocess.run(words, capture_output=True, cwd=folder, env=env, timeout=60)
-            wanted = LOST if number <= threads else (0, case.text.encode(), b"")
+            wanted = LOST if before < number <= before + threads else (0, case.text.encode(), b"")
             if (done.returncode, done.stdout, done.stderr) == wanted:
                 passed += 1
             else:
@@ -97,6 +105,7 @@ def main():
         counts = [refuse_threads(library, [growths.PROGRAM], NODE, NODE_THREADS)]
         counts.append(refuse_threads(library, [program, *CLUSTER.arguments], CLUSTER, CLUSTER_THREADS, AUDIT_THREADS))
         counts.append(refuse_threads(library, [program, *SPLIT.arguments], SPLIT, SPLIT_THREADS, AUDIT_THREADS))
+        counts.append(refuse_threads(library, [program, *READ.arguments], READ, READ_THREADS, before=READING_THREADS))
         counts.append(explains_why(library, program))
         counts.append(refuse_both([library, growths.compiled(folder)], program))
         counts.append(growths.refuse_all(folder, [NODE]))
