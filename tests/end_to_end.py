@@ -1104,7 +1104,11 @@ def test_verbose_of_a_scenario():
         ("another format", good.replace("format = 1", "format = 4"), "BadFormat", "format, line 1: found 4, expected the number 1, 2 or 3\n"),
         ("a weight in format 1", good.replace("10.8.0.1", "10.8.0.1*2", 1), "BadMember", f'{service}.members[0], line 16: found "A@10.8.0.1*2", expected NAME@ADDRESS or'),
         ("an unknown key", "color = 1\n" + good, "BadKey", f"color, line 1: found 1, expected no key but {root}\n"),
-        ("idle in format 1", good.replace("size = 7", "size = 7\nidle = 5"), "BadKey", f"idle, line 3: found 5, expected no key but {root}\n"),
+        ("idle in format 1", good.replace("size = 7", "size = 7\nidle = 5"), "BadKey", f"idle, line 3: found 5, expected no key but {root}; that key is of format 2\n"),
+        ("servers in format 1", "servers = {}\n" + good, "BadKey", f"servers, line 1: found a table, expected no key but {root}; that key is of format 3\n"),
+        ("a base in format 1", good.replace("number = 2", "number = 2\nbase = 1"), "BadKey", "versions[1].base, line 19: found 1, expected no key but number, services; that key is of format 3\n"),
+        ("a member that drains in format 1", good.replace("10.8.0.1", "10.8.0.1/drain", 1), "BadMember", f'{service}.members[0], line 16: found "A@10.8.0.1/drain", expected NAME@ADDRESS or NAME@ADDRESS/down; *W is of format 2, /drain and a NAME alone of format 3\n'),
+        ("a step by time in format 1", scenario(["install 0 1", "until 5"]), "BadStep 1", 'steps[1], line 9: found "until 5", expected install N V, live [N ..],'),
         ("idle", limited(good, -1), "BadKey", "idle, line 2: found -1, expected a number from 0 to 4294967295000000\n"),
         ("an unknown key in format 2", limited(good, 5).replace("idle", "idel"), "BadKey", f"idel, line 2: found 5, expected no key but {root.replace('check', 'check, idle')}\n"),
         ("a missing key", good.replace("capacity = 2\n", ""), "BadKey", "capacity is missing, expected a number from 1 to 1000000\n"),
@@ -1183,7 +1187,8 @@ def test_words_of_steps():
         ("restart 0 ", '"" is a word too many'),
         ("stop 5", '"5" is no balancer: there are 0 to 1'),
     ]:
-        line = f'steps[1], line 9: found "{step}", expected {forms[step.split(" ")[0]]}; {wrong}\n'
+        later = "; until and * are of format 3" * (step == "take *")
+        line = f'steps[1], line 9: found "{step}", expected {forms[step.split(" ")[0]]}; {wrong}{later}\n'
         says(f"the step {step!r}", scenario(["install 0 1", step], workers=4), HEAD, "BadStep 1", line)
 
 

@@ -139,7 +139,7 @@ SKETCHED_OF_CUT, _ = model.sketched(model.padded(CUT_SIX))
 CAPTURE_SAID = "in.pcap: found a capture, expected a scenario: SCENARIO comes before INPUT\n"
 # A member that is none, a version of the number 0, and a scenario without a capacity, with what is said of each.
 NO_MEMBER = {"s.toml": SCENARIO.replace(b"B@", b"B-"), "in.pcap": CAPTURE}
-MEMBER_SAID = 'versions[0].services[0].members[1], line 12: found "B-10.8.0.2", expected NAME@ADDRESS or NAME@ADDRESS/down\n'
+MEMBER_SAID = 'versions[0].services[0].members[1], line 12: found "B-10.8.0.2", expected NAME@ADDRESS or NAME@ADDRESS/down; *W is of format 2, /drain and a NAME alone of format 3\n'
 ZERO = {"s.toml": SCENARIO.replace(b"number = 1", b"number = 0"), "in.pcap": CAPTURE}
 ZERO_SAID = "versions[0].number, line 11: found 0, expected a number from 1\n"
 NO_CAPACITY = {"s.toml": SCENARIO.replace(b"capacity = 2\n", b""), "in.pcap": CAPTURE}

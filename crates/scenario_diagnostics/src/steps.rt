@@ -222,9 +222,34 @@ fn expected_of(alloc: Global, table: &Table, step: Step<'_>) -> Option<String> {
     Some(said)
 }
 
+// Whether a text is a step of format 3 in another one: a step by time, or one with a star.
+fn is_of_three(format: Format, first: &str, text: &str) -> bool {
+    let has_star = STARRED.contains(&first) && text.split(' ').nth(1) == Some("*");
+    format != Format::Three && (first == "until" || has_star)
+}
+
 // Whether a step of a format begins with this word.
 fn begins_step(format: Format, first: &str) -> bool {
     part_at(first, 0).is_some() && (format == Format::Three || first != "until")
+}
+
+// What is expected of a step of a format, by its text and its first word.
+fn expected_in(
+    alloc: Global,
+    table: &Table,
+    format: Format,
+    first: &str,
+    text: &str,
+) -> Option<String> {
+    if begins_step(format, first) {
+        let stars = format == Format::Three && STARRED.contains(&first);
+        return expected_of(alloc, table, Step { text, first, stars });
+    }
+    let said = match format {
+        Format::One | Format::Two => STEPS,
+        Format::Three => STARRED_STEPS,
+    };
+    String::from_str(alloc, said).ok()
 }
 
 /// What is expected of a step, by its text.
@@ -235,13 +260,9 @@ pub(crate) fn expected_step(
     text: &str,
 ) -> Option<String> {
     let first = text.split(' ').next().unwrap_or("");
-    if begins_step(format, first) {
-        let stars = format == Format::Three && STARRED.contains(&first);
-        return expected_of(alloc, table, Step { text, first, stars });
+    let mut said = expected_in(alloc, table, format, first, text)?;
+    if is_of_three(format, first, text) {
+        said.push_str("; until and * are of format 3").ok()?;
     }
-    let said = match format {
-        Format::One | Format::Two => STEPS,
-        Format::Three => STARRED_STEPS,
-    };
-    String::from_str(alloc, said).ok()
+    Some(said)
 }

@@ -105,7 +105,7 @@ fn bad_key(alloc: Global, text: &str, document: &Table, place: Place) -> Option<
         Flaw::Item(key, _) => at(alloc, text, path, expected_item(key)),
         Flaw::Unknown => {
             let (table, keys) = keys_at(alloc, document, place)?;
-            unknown_key(alloc, text, path, table, keys.as_str())
+            unknown_key(alloc, text, path, table, keys.as_str(), owner_of(place))
         }
     }
 }
@@ -147,12 +147,45 @@ fn bad_servers(alloc: Global, text: &str, path: &str, document: &Table) -> Optio
 /// What is expected of a name.
 const NAMES: &str = "a name of 1 to 32 letters, digits, - and ., the first a letter or digit";
 
+// What a place's table is.
+fn owner_of(place: Place) -> Owner {
+    match place {
+        Place::Root(_) => Owner::Document,
+        Place::Version(_, _) => Owner::Version,
+        Place::Service(_, _, _) => Owner::Service,
+    }
+}
+
+// The format from which on such a table may have a key of this name, in words. Nothing of one that no format has.
+fn since(owner: Owner, name: &str) -> &'static str {
+    let is_in = |format: Format| -> bool {
+        Key::ALL
+            .iter()
+            .any(|key| key.name() == name && key.stands_in(owner, format))
+    };
+    if is_in(Format::Two) {
+        "; that key is of format 2"
+    } else if is_in(Format::Three) {
+        "; that key is of format 3"
+    } else {
+        ""
+    }
+}
+
 // What is said of the first key of a table of this path that is none of these.
-fn unknown_key(alloc: Global, text: &str, path: &str, table: &Table, keys: &str) -> Option<String> {
+fn unknown_key(
+    alloc: Global,
+    text: &str,
+    path: &str,
+    table: &Table,
+    keys: &str,
+    owner: Owner,
+) -> Option<String> {
     for key in table.keys() {
         if !keys.split(", ").any(|one| one == key.as_str()) {
             let path = below(alloc, path, key.as_str())?;
-            let expected = format!(in alloc; "no key but {keys}").ok()?;
+            let since = since(owner, key.as_str());
+            let expected = format!(in alloc; "no key but {keys}{since}").ok()?;
             return at(alloc, text, path.as_str(), expected.as_str());
         }
     }
@@ -250,8 +283,12 @@ fn expected_word(
 
 fn expected_member(format: Format) -> &'static str {
     match format {
-        Format::One => "NAME@ADDRESS or NAME@ADDRESS/down",
-        Format::Two => "NAME@ADDRESS, then *W from *1 to *16 or nothing, then /down or nothing",
+        Format::One => {
+            "NAME@ADDRESS or NAME@ADDRESS/down; *W is of format 2, /drain and a NAME alone of format 3"
+        }
+        Format::Two => {
+            "NAME@ADDRESS, then *W from *1 to *16 or nothing, then /down or nothing; /drain and a NAME alone are of format 3"
+        }
         Format::Three => {
             "NAME@ADDRESS or a server's NAME, then *W from *1 to *16 or nothing, then /down or /drain or nothing"
         }
