@@ -239,7 +239,7 @@ fn book_with_numbers(rt: &impl Abort, alloc: Global, servings: u32) -> SplitBook
     book
 }
 
-// More sends than are noted before they are compared: each is compared once, in order, with what was kept beside it.
+// Many sends: each is compared once, in order, with what was kept beside it.
 #[test]
 fn many_sends(rt: HostRuntime) {
     let book = book_with_numbers(&rt, rt.alloc(), 3000);
