@@ -1010,6 +1010,24 @@ def test_run_as_simulated():
         runs_as_simulated(f"scenario {seed}", text, random_capture(source))
 
 
+def longer(data, more):
+    """A datagram with so many bytes more behind its own."""
+    header = bytearray(data[:20])
+    header[2:4], header[10:12] = (len(data) + more).to_bytes(2, "big"), bytes(2)
+    header[10:12] = (0xFFFF - model.folded(bytes(header))).to_bytes(2, "big")
+    return bytes(header) + data[20:] + bytes(number % 251 for number in range(more))
+
+
+def test_many_run_as_simulated():
+    """More datagrams of one life than a thread wraps at once, and more bytes of them than it takes: they come in their order."""
+    for count, least, most in [(4096, 0, 40), (4097, 0, 40), (35_000, 0, 40), (9_000, 900, 1_500), (9_500, 2_000, 4_000)]:
+        source = random.Random(count)
+        data = HEAD + b"".join(record(longer(packet(source.choice("xyz")), source.randrange(least, most))) for _ in range(count))
+        for lives in ("live 0", "live 0 1"):
+            text = scenario([lives, "install 0 1", "install 1 1", f"take {count}"], more="ring = 65536\n")
+            runs_as_simulated(f"{count} datagrams of up to {most} bytes more, {lives}", text, data)
+
+
 def runs_both_ways(name, text, letters, lines, rest):
     """`run --splits` prints these lines and the report, and without the option the report alone; what is sent is the same."""
     made = runs(name, text, capture(letters), lines + rest, words=["--splits"])

@@ -2,6 +2,10 @@
 use Rattle.std.proofs.Common.{◌≡◌, ℕ, zero, suc, Bool, true, false, List, [], ◌∷◌, ◌++◌, Option, Some, None, refl, sym, ap, ◌∙◌}
 use Rattle.std.specs.Prelude.{◌==◌, ◌&&◌, max, slice_get, slice_index, if◌then◌else◌}
 use Rattle.std.proofs.lemmas.Bool.{eqb-true}
+use Rattle.five_tuple.specs.declared.Flow.{Flow}
+use Rattle.pool_versions.specs.declared.backend.Backend.{Backend}
+use Rattle.cluster_node.specs.declared.events.Event.{Event}
+use Rattle.cluster_node.specs.declared.events.Event.TheVariants.{Arrive, Serve}
 use Rattle.cluster_node.specs.declared.events.LogEntry.{LogEntry}
 use Rattle.cluster_node.specs.declared.outcomes.Outcome.{Outcome}
 use Rattle.cluster_node.specs.declared.outcomes.Outcome.TheVariants.{Installed, Placed, Forward, Dropped, Restarted, Refused}
@@ -9,7 +13,7 @@ use Rattle.connection_changes.specs.declared.clocks.Clocks.{Clocks}
 use Rattle.connection_changes.specs.declared.numbers.Numbers.{Numbers}
 use Rattle.connection_changes.specs.declared.sites.Arrived.{Arrived}
 use Rattle.connection_changes.specs.declared.sites.Served.{Served}
-use Rattle.connection_changes.specs.Sites.{arrived_by, time_with, time_of, begun_by, life_with, life_of, served_by, clock_begun, clock_with, clock_of, is_sent, nowhere, site_in}
+use Rattle.connection_changes.specs.Sites.{time_told, arrived_by, time_with, time_of, begun_by, life_with, life_of, served_by, clock_begun, clock_with, clock_of, is_sent, nowhere, site_in}
 use Rattle.connection_changes.specs.Books.{number_in, life_in, clock_in, site_served, AreClocksOf}
 
 both : (a b : Bool) → (a && b) ≡ true → (a ≡ true) × (b ≡ true)
@@ -86,3 +90,24 @@ noted_by s past a b c d arrived begun served was arrived_is begun_is served_is t
     (λ n. lives n ∙ ap (λ (o : Option ℕ). life_with o n (life_in b n)) begun_is)
     (λ n w. clocks_begun n w ∙ ap (λ (o : Option ℕ). clock_begun o n (clock_in b n w)) begun_is) c_times d_is
     (λ n w. clocks n w ∙ ap (λ (o : Option Served). clock_with o (λ k. slice_index c.times.all.items k) n w (clock_in c n w)) served_is)
+
+-- an arrival that was placed tells a time and nothing else
+pub placed_more : (s : LogEntry) (past : List LogEntry) (a b : Clocks) (n k : ℕ) (marks : List Bool) (w f : ℕ) → AreClocksOf past a → s.event ≡ Arrive n k marks → s.outcome ≡ Placed w f
+    → ((j : ℕ) → slice_index b.times.all.items j ≡ time_with (time_told k s.packet) j (slice_index a.times.all.items j)) → b ≡ record a { times = b.times } → AreClocksOf (s ∷ past) b
+placed_more s past a b n k marks w f was event outcome times b_is =
+    noted_by s past a b b b (time_told k s.packet) None None was
+    (sym (ap (λ (e : Event). arrived_by e s.packet) event)) (sym (ap (λ (e : Event). begun_by e s.outcome) event)) (sym (ap (λ (o : Outcome). served_by s.event o) outcome))
+    times b_is (λ m. refl) (λ m v. refl) refl (λ m v. refl) refl
+
+-- a serving whose packet was sent raises a clock and does nothing else
+pub sent_more : (s : LogEntry) (past : List LogEntry) (a d : Clocks) (m u v : ℕ) (r : Bool) (n w k : ℕ) (x : Flow) (b : Backend) (o : ℕ) → AreClocksOf past a → s.event ≡ Serve m u v r → s.outcome ≡ Forward n w k x b o
+    → ((i j : ℕ) → clock_in d i j ≡ clock_with (Some (record { node = n; worker = w; packet = k })) (λ l. slice_index a.times.all.items l) i j (clock_in a i j)) → d ≡ record a { clocks = d.clocks } → AreClocksOf (s ∷ past) d
+sent_more s past a d m u v r n w k x b o was event outcome clocks d_is =
+    noted_by s past a a a d None None (Some (record { node = n; worker = w; packet = k })) was
+    (sym (ap (λ (e : Event). arrived_by e s.packet) event)) (sym (ap (λ (e : Event). begun_by e s.outcome) event)) (sym (ap (λ (p : Outcome). served_by s.event p) outcome))
+    (λ j. refl) refl (λ i. refl) (λ i j. refl) refl clocks d_is
+
+-- where it was served is where it was sent
+pub sent_there : (s : LogEntry) (past : List LogEntry) (d : Clocks) (n w k : ℕ) (x : Flow) (b : Backend) (o : ℕ) → s.outcome ≡ Forward n w k x b o → AreClocksOf (s ∷ past) d
+    → site_served (Some (record { node = n; worker = w; packet = k })) d ≡ site_in (s ∷ past) s.outcome
+sent_there s past d n w k x b o outcome h = sent_here s past d (Forward n w k x b o) h ∙ sym (ap (λ (p : Outcome). site_in (s ∷ past) p) outcome)

@@ -1,5 +1,5 @@
 -- What is kept of the events is that of one event more.
-use Rattle.std.proofs.Common.{◌≡◌, ℕ, ◌+◌, ◌<◌, Bool, true, false, List, [], ◌∷◌, ◌++◌, length, take, get_or, Result, Ok, Err, refl, sym, ap, ◌∙◌, subst, arith, cond, not, ◌⊎◌, inl, inr, append_assoc}
+use Rattle.std.proofs.Common.{◌≡◌, ℕ, ◌+◌, ◌<◌, Bool, true, false, List, [], ◌∷◌, ◌++◌, length, take, get_or, Option, None, Result, Ok, Err, refl, sym, ap, ◌∙◌, subst, arith, cond, not, ◌⊎◌, inl, inr, append_assoc}
 use Rattle.std.specs.Prelude.{◌||◌, OnOk, if◌then◌else◌}
 use Rattle.std.specs.List.{list_any}
 use Rattle.std.specs.HashSet.{contains, hash_set_len}
@@ -10,10 +10,11 @@ use Rattle.connection_table.specs.Touches.{same_flow}
 use Rattle.connection_table.proofs.Standing.{same_flow-true, same_flow-refl}
 use Rattle.cluster_node.specs.declared.events.LogEntry.{LogEntry}
 use Rattle.run_report.specs.declared.noted.Beside.{Beside}
+use Rattle.run_report.specs.declared.sending.Sending.{Sending}
 use Rattle.run_report.specs.declared.sending.Split.{Split}
 use Rattle.run_report.specs.Books.{IsSettledAs, IsBookOf}
-use Rattle.run_report.specs.Noting.{noted_by, besides_noted}
-use Rattle.run_report.specs.Splits.{splits_of}
+use Rattle.run_report.specs.Noting.{noted_by, noted_with, besides_noted}
+use Rattle.run_report.specs.Splits.{sent_by, splits_of}
 use Rattle.connection_changes.specs.declared.book.ChangeBook.{ChangeBook}
 use Rattle.connection_changes.specs.declared.causes.Change.{Change}
 use Rattle.connection_changes.specs.declared.changed.ChangedFlows.{ChangedFlows}
@@ -96,6 +97,13 @@ event_noted (Ok u) s past number site b new at here clocks splits placed = recor
       (subst (λ (x : Site). IsSettledAs (noted_by number s.event s.outcome x (placed_of past)) new.splits) here placed);
   clocks = clocks;
 }
+
+-- an event by which nothing was sent
+pub unsent_noted : {E : Type 0} (r : Result (Unit {0}) E) (s : LogEntry) (past : List LogEntry) (new : ChangeBook) → sent_by (length past) s.event s.outcome ≡ None → AreClocksOf (s ∷ past) new.clocks
+    → OnOk r (IsBookOf (s ∷ past) new.splits) → OnOk r (IsSettledAs (placed_of past) new.splits) → OnOk r (IsNotedChangeBookOf (s ∷ past) new)
+unsent_noted r s past new none clocks splits placed =
+    event_noted r s past (length past) (site_in (s ∷ past) s.outcome) new new refl refl clocks splits
+    (subst (λ (o : Option Sending). OnOk r (IsSettledAs (noted_with o (site_in (s ∷ past) s.outcome) (placed_of past)) new.splits)) (sym none) placed)
 
 -- what was noted is settled
 pub settled : (past : List LogEntry) (b : ChangeBook) (splits : List Split) (sites : List (Beside Site)) → IsBookOf past b.splits → splits ≡ splits_of past → sites ≡ besides_noted (placed_of past)

@@ -1,12 +1,11 @@
 -- A send more among those of connections.
 use Rattle.std.proofs.Common.{◌≡◌, ℕ, ◌+◌, Bool, true, false, List, [], ◌∷◌, ◌++◌, length, map, Option, Some, None, Result, Ok, Err, refl, sym, ap, ◌∙◌, subst, cond, arith}
-use Rattle.std.specs.Prelude.{◌==◌, ◌&&◌, ◌||◌, not, OnOk, is_some, if◌then◌else◌}
+use Rattle.std.specs.Prelude.{◌&&◌, ◌||◌, not, OnOk, is_some, if◌then◌else◌}
 use Rattle.std.specs.HashMap.{get, hash_map_len}
 use Rattle.std.specs.HashSet.{contains, hash_set_len}
 use Rattle.std.proofs.lemmas.List.{append-nil, map-append}
 use Rattle.std.proofs.lemmas.Option.{same_Some, none-some}
 use Rattle.five_tuple.specs.declared.Flow.{Flow}
-use Rattle.connection_table.specs.Touches.{same_flow}
 use Rattle.selection.specs.Readied.{same_backend}
 use Rattle.run_report.specs.declared.noted.Noted.{Noted}
 use Rattle.run_report.specs.declared.sending.Split.{Split}
@@ -14,7 +13,7 @@ use Rattle.connection_changes.specs.declared.causes.Change.{Change}
 use Rattle.connection_changes.specs.declared.sites.Site.{Site}
 use Rattle.connection_changes.specs.declared.turned.Connection.{Connection}
 use Rattle.connection_changes.specs.declared.turned.TurnedBook.{TurnedBook}
-use Rattle.connection_changes.specs.Turns.{Reckoning, is_of, last_of, last_before, is_change, change_by, change_with, changes_by_turn, connections_by, has_changed, changed_by}
+use Rattle.connection_changes.specs.Turns.{Reckoning, is_of, last_of, last_before, is_change, change_by, change_with, changes_by_turn, has_changed, changed_by}
 use Rattle.connection_changes.specs.TurnedBooks.{same_connection, AreTurned, IsTurnedBookOf}
 use Rattle.connection_changes.specs.Books.{AreClocksOf, placed_of}
 use Rattle.connection_changes.specs.Sites.{site_in}

@@ -11,7 +11,7 @@ use crate::account::Account;
 use crate::causes::Change;
 use crate::changed::ChangedFlows;
 use crate::clocks::Clocks;
-use crate::sites::Site;
+use crate::sites::{Served, Site, time_told};
 use change_share::ChangeCounts;
 use cluster_node::{Event, Outcome, Packet};
 use connection_table::TableKey;
@@ -81,6 +81,74 @@ impl ChangeBook {
         }
     }
 
+    // An event of any kind.
+    #[inline(never)]
+    fn note_any(
+        &mut self,
+        event: &Event,
+        packet: Option<&Packet>,
+        outcome: &Outcome,
+    ) -> Result<(), AllocError>
+        ensures { (past : List LogEntry) → IsNotedChangeBookOf past self.old →
+            OnOk result (IsNotedChangeBookOf (said_by event.now (option_copied packet.entry) outcome.now ∷ past) self.new) }
+    {
+        let site = self.clocks.note(event, packet, outcome)?;
+        self.splits.note(event, outcome, site)
+    }
+
+    // An arrival that was placed is noted by the time of its record alone.
+    #[inline(never)]
+    fn note_placed(
+        &mut self,
+        event: &Event,
+        packet: Option<&Packet>,
+        outcome: &Outcome,
+    ) -> Result<(), AllocError>
+        ensures { (past : List LogEntry) → IsNotedChangeBookOf past self.old →
+            OnOk result (IsNotedChangeBookOf (said_by event.now (option_copied packet.entry) outcome.now ∷ past) self.new) }
+    {
+        match (event, outcome) {
+            (Event::Arrive { packet: number, .. }, Outcome::Placed { .. }) => {
+                self.clocks.arrive(time_told(*number, packet))?;
+                self.splits.note_unsent()
+            }
+            _ => self.note_any(event, packet, outcome),
+        }
+    }
+
+    // A serving whose packet was sent tells no time and begins no life.
+    #[inline(never)]
+    fn note_sent(
+        &mut self,
+        event: &Event,
+        packet: Option<&Packet>,
+        outcome: &Outcome,
+    ) -> Result<(), AllocError>
+        ensures { (past : List LogEntry) → IsNotedChangeBookOf past self.old →
+            OnOk result (IsNotedChangeBookOf (said_by event.now (option_copied packet.entry) outcome.now ∷ past) self.new) }
+    {
+        match (event, outcome) {
+            (
+                Event::Serve { .. },
+                Outcome::Forward {
+                    node,
+                    worker,
+                    packet: number,
+                    ..
+                },
+            ) => {
+                let served = Served {
+                    node: *node,
+                    worker: *worker,
+                    packet: *number,
+                };
+                let site = self.clocks.serve(Some(served))?;
+                self.splits.note(event, outcome, site)
+            }
+            _ => self.note_any(event, packet, outcome),
+        }
+    }
+
     /// One event more, with the packet that it names where it is an arrival, and its outcome. Where memory is refused nothing
     /// more is known of the book.
     pub fn note(
@@ -89,10 +157,14 @@ impl ChangeBook {
         packet: Option<&Packet>,
         outcome: &Outcome,
     ) -> Result<(), AllocError>
-        ensures { (past : List LogEntry) → IsNotedChangeBookOf past self.old → OnOk result (IsNotedChangeBookOf (said_by event.now (option_copied packet.entry) outcome.now ∷ past) self.new) }
+        ensures { (past : List LogEntry) → IsNotedChangeBookOf past self.old →
+            OnOk result (IsNotedChangeBookOf (said_by event.now (option_copied packet.entry) outcome.now ∷ past) self.new) }
     {
-        let site = self.clocks.note(event, packet, outcome)?;
-        self.splits.note(event, outcome, site)
+        match outcome {
+            Outcome::Placed { .. } => self.note_placed(event, packet, outcome),
+            Outcome::Forward { .. } => self.note_sent(event, packet, outcome),
+            _ => self.note_any(event, packet, outcome),
+        }
     }
 
     /// The book answers what was noted. Where memory is refused nothing more is known of the book.

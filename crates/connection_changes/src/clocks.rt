@@ -41,8 +41,9 @@ impl Clocks {
         }
     }
 
-    // A record's time is known.
-    fn arrive(&mut self, arrived: Option<Arrived>) -> Result<(), AllocError>
+    /// A record's time is known, where it was told.
+    #[inline(always)]
+    pub(crate) fn arrive(&mut self, arrived: Option<Arrived>) -> Result<(), AllocError>
         ensures times { OnOk result ((k : ℕ) → slice_index self.new.times.all.items k ≡ time_with arrived k (slice_index self.old.times.all.items k)) }
         ensures rest { self.new ≡ record self.old { times = self.new.times } }
     {
@@ -70,10 +71,11 @@ impl Clocks {
         }
     }
 
-    // A worker serves a packet. The answer is where.
+    /// A worker serves a packet. The answer is where.
     #[inline(always)]
-    fn serve(&mut self, served: Option<Served>) -> Result<Site, AllocError>
-        ensures clocks { OnOk result ((n w : ℕ) → clock_in self.new n w ≡ clock_with served (λ k. slice_index self.old.times.all.items k) n w (clock_in self.old n w)) }
+    pub(crate) fn serve(&mut self, served: Option<Served>) -> Result<Site, AllocError>
+        ensures clocks { OnOk result ((n w : ℕ) →
+            clock_in self.new n w ≡ clock_with served (λ k. slice_index self.old.times.all.items k) n w (clock_in self.old n w)) }
         ensures rest { self.new ≡ record self.old { clocks = self.new.clocks } }
         ensures site { IfOk result (λ x. x ≡ site_served served self.new) }
     {
@@ -107,7 +109,8 @@ impl Clocks {
         packet: Option<&Packet>,
         outcome: &Outcome,
     ) -> Result<Site, AllocError>
-        ensures clocks { (past : List LogEntry) → AreClocksOf past self.old → OnOk result (AreClocksOf (said_by event.now (option_copied packet.entry) outcome.now ∷ past) self.new) }
+        ensures clocks { (past : List LogEntry) → AreClocksOf past self.old →
+            OnOk result (AreClocksOf (said_by event.now (option_copied packet.entry) outcome.now ∷ past) self.new) }
         ensures site { (past : List LogEntry) → AreClocksOf past self.old →
             IfOk result (λ x. x ≡ site_in (said_by event.now (option_copied packet.entry) outcome.now ∷ past) outcome.now) }
     {

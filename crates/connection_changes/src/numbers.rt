@@ -71,7 +71,8 @@ impl Numbers {
     #[inline(always)]
     pub(crate) fn raise(&mut self, place: u32, number: u64) -> Result<u64, AllocError>
         ensures value { IfOk result (λ m. m ≡ max (slice_index self.old.all.items place) number) }
-        ensures numbers { OnOk result ((k : ℕ) → slice_index self.new.all.items k ≡ (if place == k then max (slice_index self.old.all.items place) number else slice_index self.old.all.items k)) }
+        ensures numbers { OnOk result ((k : ℕ) → slice_index self.new.all.items k ≡
+            (if place == k then max (slice_index self.old.all.items place) number else slice_index self.old.all.items k)) }
     {
         let raised = self.at(place).max(number);
         self.put(place, raised)?;

@@ -1,6 +1,6 @@
 //! Where packets were sent, and what events tell of it.
 ghost use Rattle.std.specs.Prelude.{◌≡◌, option_copied, if◌then◌else◌};
-ghost use Rattle.connection_changes.specs.Sites.{arrived_by, begun_by, served_by, is_sent, nowhere};
+ghost use Rattle.connection_changes.specs.Sites.{time_told, arrived_by, begun_by, served_by, is_sent, nowhere};
 
 use cluster_node::{Event, Outcome, Packet};
 
@@ -52,7 +52,7 @@ pub(crate) fn nowhere() -> Site
 fn is_sent(outcome: &Outcome) -> bool
     ensures { result ≡ is_sent outcome.now }
 {
-    matches!(*outcome, Outcome::Forward { .. })
+    matches!(outcome, Outcome::Forward { .. })
 }
 
 /// The site, where a packet was sent.
@@ -63,13 +63,11 @@ pub(crate) fn site_if_sent(outcome: &Outcome, site: Site) -> Site
     if is_sent(outcome) { site } else { nowhere() }
 }
 
-/// The time of a record, where an event tells it.
-pub(crate) fn arrived_by(event: &Event, packet: Option<&Packet>) -> Option<Arrived>
-    ensures { result ≡ arrived_by event.now (option_copied packet.entry) }
+/// The time of a record, where its arrival tells it.
+#[inline(always)]
+pub(crate) fn time_told(number: u32, packet: Option<&Packet>) -> Option<Arrived>
+    ensures { result ≡ time_told number (option_copied packet.entry) }
 {
-    let Event::Arrive { packet: number, .. } = *event else {
-        return None;
-    };
     match packet {
         Some(Packet::Good { at, .. }) => Some(Arrived {
             packet: number,
@@ -80,12 +78,22 @@ pub(crate) fn arrived_by(event: &Event, packet: Option<&Packet>) -> Option<Arriv
     }
 }
 
+/// The time of a record, where an event tells it.
+pub(crate) fn arrived_by(event: &Event, packet: Option<&Packet>) -> Option<Arrived>
+    ensures { result ≡ arrived_by event.now (option_copied packet.entry) }
+{
+    match event {
+        Event::Arrive { packet: number, .. } => time_told(*number, packet),
+        _ => None,
+    }
+}
+
 /// The node whose life an event begins.
 pub(crate) fn begun_by(event: &Event, outcome: &Outcome) -> Option<u16>
     ensures { result ≡ begun_by event.now outcome.now }
 {
-    match (*event, *outcome) {
-        (Event::Restart { node }, Outcome::Restarted { .. }) => Some(node),
+    match (event, outcome) {
+        (Event::Restart { node }, Outcome::Restarted { .. }) => Some(*node),
         _ => None,
     }
 }
@@ -94,22 +102,22 @@ pub(crate) fn begun_by(event: &Event, outcome: &Outcome) -> Option<u16>
 pub(crate) fn served_by(event: &Event, outcome: &Outcome) -> Option<Served>
     ensures { result ≡ served_by event.now outcome.now }
 {
-    match *outcome {
+    match outcome {
         Outcome::Forward {
             node,
             worker,
             packet,
             ..
         } => Some(Served {
-            node,
-            worker,
-            packet,
+            node: *node,
+            worker: *worker,
+            packet: *packet,
         }),
-        Outcome::Dropped { packet, .. } => match *event {
+        Outcome::Dropped { packet, .. } => match event {
             Event::Serve { node, worker, .. } => Some(Served {
-                node,
-                worker,
-                packet,
+                node: *node,
+                worker: *worker,
+                packet: *packet,
             }),
             _ => None,
         },

@@ -40,7 +40,8 @@ impl WorkerNumbers {
     #[inline(always)]
     pub(crate) fn raise(&mut self, node: u16, worker: u16, number: u64) -> Result<u64, AllocError>
         ensures value { IfOk result (λ m. m ≡ max (worker_number self.old node worker) number) }
-        ensures numbers { OnOk result ((n w : ℕ) → worker_number self.new n w ≡ (if node == n && worker == w then max (worker_number self.old node worker) number else worker_number self.old n w)) }
+        ensures numbers { OnOk result ((n w : ℕ) → worker_number self.new n w ≡
+            (if node == n && worker == w then max (worker_number self.old node worker) number else worker_number self.old n w)) }
     {
         let at = usize::from(node);
         if at >= self.nodes.len() {

@@ -4,7 +4,7 @@ use five_tuple::Flow;
 use flow_map::FlowMap;
 use rand_core::{Rng, SeedableRng};
 use rand_xoshiro::SplitMix64;
-use std::alloc::Global;
+use std::alloc::{AllocError, Global};
 use std::collections::HashMap;
 use std::process::Abort;
 
@@ -18,12 +18,25 @@ fn flow(number: u32) -> Flow {
     }
 }
 
-// The flow's place has its value, which is read and written there, and no other place has it.
-fn stands(rt: &impl Abort, map: &FlowMap<u32>, flow: Flow, value: u32) {
-    let place = map.place_of(&flow).expect(rt, "a place");
-    assert_eq!(rt; map.at(place, &flow).copied(), Some(value));
-    assert_eq!(rt; map.at(place - 1, &flow).copied(), None);
-    assert_eq!(rt; map.at(u32::MAX, &flow).copied(), None);
+// A flow's value, where it has one.
+fn value_of(map: &FlowMap<u32>, flow: Flow) -> Option<u32> {
+    let place = map.place_of(&flow)?;
+    Some(*map.value_at(place, &flow))
+}
+
+// A flow's value, in the place of the one before it, which is the answer.
+fn put(map: &mut FlowMap<u32>, flow: Flow, value: u32) -> Result<Option<u32>, AllocError> {
+    match map.place_of(&flow) {
+        None => {
+            map.push(flow, value)?;
+            Ok(None)
+        }
+        Some(place) => {
+            let before = *map.value_at(place, &flow);
+            map.set(place, flow, value);
+            Ok(Some(before))
+        }
+    }
 }
 
 // So many values, each of one of 4,000 flows that is drawn.
@@ -33,18 +46,15 @@ fn draw(rt: &impl Abort, alloc: Global, count: u32) {
     let mut other = HashMap::with_hasher(alloc, TableKey::fixed());
     for value in 0..count {
         let flow = flow(dice.next_u32() % 4000);
-        let before = map.insert(flow, value).expect(rt, "memory");
+        let before = put(&mut map, flow, value).expect(rt, "memory");
         let kept: Result<_, _> = other.insert(flow, value);
         assert_eq!(rt; before, kept.expect(rt, "memory"));
-        stands(rt, &map, flow, value);
+        assert_eq!(rt; value_of(&map, flow), Some(value));
         assert_eq!(rt; map.len(), other.len());
     }
     for number in 0..4001 {
         let flow = flow(number);
-        let found = map
-            .place_of(&flow)
-            .and_then(|place| map.at(place, &flow).copied());
-        assert_eq!(rt; found, other.get(&flow).copied());
+        assert_eq!(rt; value_of(&map, flow), other.get(&flow).copied());
     }
 }
 
@@ -58,7 +68,7 @@ fn a_map_has_what_a_map_of_std_has(rt: HostRuntime) {
 fn flows_stay_at_their_places(rt: HostRuntime) {
     let mut map = FlowMap::new(rt.alloc(), TableKey::fixed());
     for number in 0..3000 {
-        let before = map.insert(flow(number), number).expect(&rt, "memory");
+        let before = put(&mut map, flow(number), number).expect(&rt, "memory");
         assert_eq!(&rt; before, None);
         assert_eq!(&rt; map.place_of(&flow(number)), Some(number + 1));
     }
@@ -69,5 +79,5 @@ fn flows_stay_at_their_places(rt: HostRuntime) {
     for number in 0..3000 {
         assert_eq!(&rt; map.place_of(&flow(number)), Some(number + 1));
     }
-    assert_eq!(&rt; map.at(1, &first).copied(), Some(9));
+    assert_eq!(&rt; value_of(&map, first), Some(9));
 }

@@ -1,6 +1,6 @@
 -- Pairs at places: what a search finds, and what becomes of the hashes.
 use Rattle.std.proofs.Common.{◌≡◌, ℕ, ◌+◌, ◌-◌, ◌<◌, ◌≤◌, ◌++◌, Bool, true, false, List, [], ◌∷◌, length, get_or, set, suc, Some, None, refl, sym, ap, ◌∙◌, arith, inl, inr}
-use Rattle.std.specs.Prelude.{IfNone, IfSome, MatchOption, Option, slice_get, slice_index, slice_index_or}
+use Rattle.std.specs.Prelude.{IfNone, IfSome, MatchOption, Option, slice_get, slice_index}
 use Rattle.std.proofs.lemmas.Bool.{cases_Bool, cases_eq, true≢false}
 use Rattle.std.proofs.lemmas.List.{get_or-set_other, get_or-set_same, get_or_append_left, get_or-append_right, length-set, length_push}
 use Rattle.std.proofs.lemmas.Option.{slice_get_within, get_or_from_slice_get}
@@ -8,7 +8,7 @@ use Rattle.five_tuple.specs.declared.Flow.{Flow}
 use Rattle.connection_table.specs.declared.key.TableKey.{TableKey}
 use Rattle.connection_table.specs.Tied.{flow_hash}
 use Rattle.connection_table.specs.Touches.{same_flow}
-use Rattle.connection_table.proofs.Standing.{same_flow-true, same_flow-refl}
+use Rattle.connection_table.proofs.Standing.{same_flow-true}
 use Rattle.flow_map.specs.Maps.{value_of, StandsAt, StandsWith}
 use Rattle.flow_map.specs.PrivateMaps.{is_of, AreHashed, AreTied, EachOnce}
 use Rattle.flow_map.proofs.Maps.{none_there, value_there}
@@ -20,16 +20,6 @@ module _ {V : Type 0} where
 
   pub stands : (x : Flow) (ps : List (Flow × V)) (p : ℕ) (v : V) → EachOnce ps → 0 < p → slice_get ps (p - 1) ≡ Some (x, v) → StandsWith x ps p v
   stands x ps p v once some there = record { some = some; there = there; known = value_there x v ps (p - 1) once there }
-
-  -- the pair that is read at a flow's place
-  pub read_there : (x : Flow) (ps : List (Flow × V)) (p : ℕ) (pair : Flow × V) → EachOnce ps → 0 < p → true ≡ is_of x (slice_get ps (p - 1)) → pair ≡ slice_index_or ps (p - 1) pair → StandsWith x ps p pair.1
-  read_there x ps p pair once some hit read =
-      let own = its_pair x (slice_get ps (p - 1)) (sym hit) in
-      let is : pair ≡ (x, own.0) = read ∙ get_or_from_slice_get ps (p - 1) (x, own.0) pair own.1 in
-      stands x ps p pair.1 once some (own.1 ∙ ap (λ (q : Flow × V). Some (x, q.1)) (sym is))
-
-  pub not_there : (x : Flow) (ps : List (Flow × V)) (p : ℕ) → false ≡ is_of x (slice_get ps (p - 1)) → StandsAt x ps p → ⊥
-  not_there x ps p miss stands = true≢false (sym (miss ∙ ap (is_of x) stands.1.there ∙ same_flow-refl x))
 
   found_place : (key : TableKey) (hashes : List ℕ) (ps : List (Flow × V)) (x : Flow) (p : ℕ) → AreTied key hashes ps → 0 < p → true ≡ is_of x (slice_get ps (p - 1)) → StandsAt x ps p
   found_place key hashes ps x p tied some hit =

@@ -1,5 +1,5 @@
 //! A map of flows whose pairs stand at places.
-ghost use Rattle.std.specs.Prelude.{◌≡◌, ◌<◌, ◌-◌, [], length, slice_get, MatchOption, IfOk, OnOk, OnErr, None};
+ghost use Rattle.std.specs.Prelude.{◌≡◌, ◌<◌, ◌-◌, [], length, slice_get, MatchOption, OnOk, OnErr, None};
 ghost use Rattle.flow_map.specs.Maps.{value_of, valued, StandsAt, StandsWith};
 ghost use Rattle.flow_map.specs.PrivateMaps.{is_of};
 
@@ -90,20 +90,6 @@ impl<V> FlowMap<V> {
         self.buckets.find(self.key.hash_of(flow), is_its)
     }
 
-    /// The value of a flow, where it stands at this place.
-    #[inline(always)]
-    pub fn at(&self, place: u32, flow: &Flow) -> Option<&V>
-        ensures { MatchOption result (StandsAt flow.now self.now place → ⊥) (λ v. StandsWith flow.now self.now place v.now) }
-    {
-        if place == 0 || !is_at(&self.pairs, place, flow) {
-            return None;
-        }
-        match self.pairs.get(place as usize - 1) {
-            None => None,
-            Some(pair) => Some(&pair.1),
-        }
-    }
-
     /// The value of a flow that stands at this place.
     #[inline(always)]
     pub fn value_at(&self, place: u32, flow: &Flow) -> &V
@@ -125,8 +111,8 @@ impl<V: Drop> FlowMap<V> {
         self.pairs[place as usize - 1] = (flow, value);
     }
 
-    // A flow that isn't there, with its value.
-    fn push(&mut self, flow: Flow, value: V) -> Result<(), AllocError>
+    /// A flow that isn't there, with its value.
+    pub fn push(&mut self, flow: Flow, value: V) -> Result<(), AllocError>
         requires { value_of flow self.old ≡ None }
         ensures ok { OnOk result (self.new ≡ valued flow value self.old) }
         ensures err { OnErr result (self.new ≡ self.old) }
@@ -138,26 +124,5 @@ impl<V: Drop> FlowMap<V> {
         self.buckets.add(self.key.hash_of(&flow))?;
         self.pairs.push_reserved((flow, value));
         Ok(())
-    }
-}
-
-impl<V: Copy> FlowMap<V> {
-    /// A flow's value, in the place of the one before it, which is the answer.
-    pub fn insert(&mut self, flow: Flow, value: V) -> Result<Option<V>, AllocError>
-        ensures before { IfOk result (λ before. before ≡ value_of flow self.old) }
-        ensures ok { OnOk result (self.new ≡ valued flow value self.old) }
-        ensures err { OnErr result (self.new ≡ self.old) }
-    {
-        match self.place_of(&flow) {
-            None => {
-                self.push(flow, value)?;
-                Ok(None)
-            }
-            Some(place) => {
-                let before = self.at(place, &flow).copied();
-                self.set(place, flow, value);
-                Ok(before)
-            }
-        }
     }
 }

@@ -9,6 +9,7 @@ use Rattle.thread_records.specs.Journals.{JournalView}
 use Rattle.thread_records.specs.declared.command.Command.{Command}
 use Rattle.thread_roles.specs.Going.{stops}
 use Rattle.thread_roles.specs.declared.fault.RunFault.{RunFault}
+use Rattle.thread_roles.specs.declared.fault.RunFault.TheVariants.{Memory}
 use Rattle.thread_records.specs.declared.journal.closing.LifeFault.{LifeFault}
 use Rattle.thread_records.specs.declared.journal.closing.LifeFault.TheVariants as lives
 use Rattle.thread_records.specs.Ends.{all_handled, JudgesLife}
@@ -33,6 +34,11 @@ module _ {S H : Type 0} (eq : S → S → Bool) (setup : Fixed S H) (pools : Poo
       subst (λ (l : List (WorkView S)). JudgesEnd {A = Unit {0}} eq setup pools d j l (Err f)) (one ∙ two)
       (subst (λ (c : Bool). JudgesEnd {A = Unit {0}} eq setup pools c j ws (Err f)) same
       (subst (λ (x : RunFault). JudgesEnd {A = Unit {0}} eq setup pools b j ws (Err x)) (sym is) told))
+
+  -- memory may be refused at any time
+  pub judged_memory : {T : Type 0} (r : Result T RunFault) (d : Bool) (j : JournalView) (ws : List (WorkView S)) → IsErrAnd r (λ f. f ≡ Memory) → JudgesEnd {A = T} eq setup pools d j ws r
+  judged_memory (Ok x) d j ws is = absurd is
+  judged_memory {T} (Err f) d j ws is = subst (λ (x : RunFault). JudgesEnd {A = T} eq setup pools d j ws (Err x)) (sym is) tt
 
   -- the same where they fit
   pub judged_whole : (b d : Bool) (j : JournalView) (ws us vs : List (WorkView S)) → b ≡ d → ws ≡ us → us ≡ vs → JudgesEnd {A = Unit {0}} eq setup pools b j ws (Ok tt) → JudgesEnd {A = Unit {0}} eq setup pools d j vs (Ok tt)

@@ -7,11 +7,11 @@ use Rattle.connection_table.specs.Touches.{same_flow}
 use Rattle.flow_map.specs.Maps.{value_of}
 use Rattle.connection_table.proofs.Standing.{same_flow-true}
 use Rattle.pool_versions.specs.declared.backend.Backend.{Backend}
-use Rattle.run_report.specs.declared.backends.Backends.{Backends}
+use Rattle.backend_places.specs.Places.{Keeps}
 use Rattle.run_report.specs.declared.last_sends.LastSend.{LastSend}
 use Rattle.run_report.specs.declared.last_sends.LastSends.{LastSends}
 use Rattle.run_report.specs.declared.noted.Noted.{Noted}
-use Rattle.run_report.specs.Books.{Keeps, told, AreLast}
+use Rattle.run_report.specs.Books.{told, AreLast}
 
 module _ {T : Type 0} where
   abbrev sending_of : Flow → LastSend T → Backend → Noted T
@@ -39,44 +39,61 @@ module _ {T : Type 0} where
       subst (λ (y : Flow). told new y (entry_of place later) ≡ Some later) (same_flow-true later.sending.flow x is)
       (ap (λ (b : Option Backend). option_map (sending_of later.sending.flow (entry_of place later)) b) at)
 
-  pub last_more : (sent : Flow → Option (Noted T)) (old new : LastSends T) (place : ℕ) (later : Noted T) → AreLast sent old → Keeps old.backends.all.items new.backends.all.items
-      → slice_get new.backends.all.items place ≡ Some later.sending.backend
+  pub last_more : (sent : Flow → Option (Noted T)) (old new : LastSends T) (place : ℕ) (later : Noted T) → AreLast sent old → Keeps old.backends new.backends
+      → slice_get new.backends place ≡ Some later.sending.backend
       → ((x : Flow) → value_of x new.sends ≡ (if same_flow later.sending.flow x then Some (entry_of place later) else value_of x old.sends))
       → AreLast (λ x. if same_flow later.sending.flow x then Some later else sent x) new
   last_more sent old new place later h k at put = record { each = λ x. go x (same_flow later.sending.flow x) refl }
     where
       go : (x : Flow) (b : Bool) → same_flow later.sending.flow x ≡ b
-          → option_map (λ s. told new.backends.all.items x s) (value_of x new.sends) ≡ option_map Some (if b then Some later else sent x)
+          → option_map (λ s. told new.backends x s) (value_of x new.sends) ≡ option_map Some (if b then Some later else sent x)
       go x true is =
-          ap (λ (o : Option (LastSend T)). option_map (λ s. told new.backends.all.items x s) o)
+          ap (λ (o : Option (LastSend T)). option_map (λ s. told new.backends x s) o)
           (put x ∙ ap (λ (c : Bool). if c then Some (entry_of place later) else value_of x old.sends) is)
-          ∙ ap Some (told_now new.backends.all.items place later at x is)
+          ∙ ap Some (told_now new.backends place later at x is)
       go x false is =
-          ap (λ (o : Option (LastSend T)). option_map (λ s. told new.backends.all.items x s) o)
+          ap (λ (o : Option (LastSend T)). option_map (λ s. told new.backends x s) o)
           (put x ∙ ap (λ (c : Bool). if c then Some (entry_of place later) else value_of x old.sends) is)
-          ∙ told_yet old.backends.all.items new.backends.all.items k x (value_of x old.sends) (sent x) (h.each x)
+          ∙ told_yet old.backends new.backends k x (value_of x old.sends) (sent x) (h.each x)
 
   -- the flow's last send, where its entry has this backend
   pub first_is : (sent : Flow → Option (Noted T)) (old : LastSends T) (flow : Flow) (l : LastSend T) (b : Backend) → AreLast sent old → value_of flow old.sends ≡ Some l
-      → slice_get old.backends.all.items l.place ≡ Some b → sent flow ≡ Some (sending_of flow l b)
-  first_is sent old flow l b h found at = go (sent flow) (sym (h.each flow) ∙ ap (λ (o : Option (LastSend T)). option_map (λ s. told old.backends.all.items flow s) o) found ∙ ap (λ (o : Option Backend). Some (option_map (sending_of flow l) o)) at)
+      → slice_get old.backends l.place ≡ Some b → sent flow ≡ Some (sending_of flow l b)
+  first_is sent old flow l b h found at = go (sent flow) (sym (h.each flow) ∙ ap (λ (o : Option (LastSend T)). option_map (λ s. told old.backends flow s) o) found ∙ ap (λ (o : Option Backend). Some (option_map (sending_of flow l) o)) at)
     where
       go : (o : Option (Noted T)) → option_map Some o ≡ Some (Some (sending_of flow l b)) → o ≡ Some (sending_of flow l b)
       go None e = absurd cc
       go (Some s) e = same_Some (Some s) (Some (sending_of flow l b)) e
 
+  -- the send that a flow's entry represents is its last one
+  pub first_told : (sent : Flow → Option (Noted T)) (old : LastSends T) (new : List Backend) (flow : Flow) (l : LastSend T) → AreLast sent old → Keeps old.backends new → value_of flow old.sends ≡ Some l
+      → told new flow l ≡ sent flow
+  first_told sent old new flow l h k found =
+      go (sent flow) (told_yet old.backends new k flow (Some l) (sent flow) (sym (ap (λ (o : Option (LastSend T)). option_map (λ s. told old.backends flow s) o) found) ∙ h.each flow))
+    where
+      go : (o : Option (Noted T)) → Some (told new flow l) ≡ option_map Some o → told new flow l ≡ o
+      go None e = absurd cc
+      go (Some t) e = same_Some (told new flow l) (Some t) e
+
   -- a flow with no entry has no last send, and one with an entry has one
+  pub no_last : (sent : Flow → Option (Noted T)) (l : LastSends T) (flow : Flow) → AreLast sent l → value_of flow l.sends ≡ None → None ≡ sent flow
+  no_last sent l flow h none = go (sent flow) (sym (h.each flow) ∙ ap (λ (o : Option (LastSend T)). option_map (λ s. told l.backends flow s) o) none)
+    where
+      go : (o : Option (Noted T)) → option_map Some o ≡ None → None ≡ o
+      go None e = refl
+      go (Some t) e = absurd cc
+
   pub not_there : (sent : Flow → Option (Noted T)) (l : LastSends T) (flow : Flow) → AreLast sent l → value_of flow l.sends ≡ None → false ≡ is_some (sent flow)
-  not_there sent l flow h none = go (sent flow) (sym (h.each flow) ∙ ap (λ (o : Option (LastSend T)). option_map (λ s. told l.backends.all.items flow s) o) none)
+  not_there sent l flow h none = go (sent flow) (sym (h.each flow) ∙ ap (λ (o : Option (LastSend T)). option_map (λ s. told l.backends flow s) o) none)
     where
       go : (o : Option (Noted T)) → option_map Some o ≡ None → false ≡ is_some o
       go None e = refl
       go (Some t) e = absurd cc
 
   pub is_there : (sent : Flow → Option (Noted T)) (l : LastSends T) (flow : Flow) (s : LastSend T) → AreLast sent l → value_of flow l.sends ≡ Some s → true ≡ is_some (sent flow)
-  is_there sent l flow s h found = go (sent flow) (sym (ap (λ (o : Option (LastSend T)). option_map (λ s. told l.backends.all.items flow s) o) found) ∙ h.each flow)
+  is_there sent l flow s h found = go (sent flow) (sym (ap (λ (o : Option (LastSend T)). option_map (λ s. told l.backends flow s) o) found) ∙ h.each flow)
     where
-      go : (o : Option (Noted T)) → Some (told l.backends.all.items flow s) ≡ option_map Some o → true ≡ is_some o
+      go : (o : Option (Noted T)) → Some (told l.backends flow s) ≡ option_map Some o → true ≡ is_some o
       go None e = absurd cc
       go (Some t) e = refl
 

@@ -132,9 +132,13 @@ module _ {T : Type 0} where
       (bare_more (sent_by a.number s.event s.outcome) beside h.all (sends_of past) h.sends ∙ ap (λ (k : ℕ). sends_with (sent_by k s.event s.outcome) (sends_of past)) number)
       (omega (arith, more, number)) (settled h.all h.settled)
 
-  -- what is settled doesn't depend on the number of events
-  pub settled_yet : (done : List (Noted T)) (a b : SplitBook T) → b ≡ record a { number = b.number } → IsSettledAs done a → IsSettledAs done b
-  settled_yet done a b is s = subst (λ (z : SplitBook T). IsSettledAs done z) (sym is) (record { last = s.last; flows = s.flows; splits = s.splits; besides = s.besides })
+  -- one event more by which nothing was sent
+  pub unsent_more : (s : LogEntry) (past : List LogEntry) (a : SplitBook T) (number : ℕ) → IsBookOf past a → sent_by (length past) s.event s.outcome ≡ None → number ≡ a.number + 1
+      → IsBookOf (s ∷ past) (record a { number = number })
+  unsent_more s past a number h none more =
+      let before : a.number ≡ length past = h.number in
+      settled_is (s ∷ past) (record a { number = number }) h.all (h.sends ∙ sym (ap (λ (o : Option Sending). sends_with o (sends_of past)) none)) (omega (arith, more, before))
+      (record { last = h.settled.last; flows = h.settled.flows; splits = h.settled.splits; besides = h.settled.besides })
 
   -- one send more is compared
   pub settled_more : (done : List (Noted T)) (later : Noted T) (a b : SplitBook T) → IsSettledAs done a → AreLast (with_send (λ x. last_noted done x) later) b.last
@@ -161,15 +165,23 @@ module _ {T : Type 0} where
       one : same_backend first.sending.backend later.sending.backend ≡ true
       one = ap (λ (b : Backend). same_backend b later.sending.backend) same ∙ is_same later.sending.backend
 
-  pub renewed : (done : List (Noted T)) (later : Noted T) (a : SplitBook T) (last : LastSends T) → IsSettledAs done a → RenewedAs true (λ x. last_noted done x) later a.last last → IsSettledAs (later ∷ done) (record a { last = last })
-  renewed done later a last s h =
+  pub renewed : (o : Option Sending) (beside : T) (done : List (Noted T)) (a : SplitBook T) (last : LastSends T) → IsSettledAs done a → RenewedAs (λ x. last_noted done x) o beside a.last last
+      → IsSettledAs (noted_with o beside done) (record a { last = last })
+  renewed None beside done a last s h = absurd h
+  renewed (Some sending) beside done a last s h =
+      let later : Noted T = record { sending = sending; beside = beside } in
       let none = no_split (last_noted done later.sending.flow) h.0 later h.1 h.2 in
       settled_more done later a (record a { last = last }) s h.3
       (h.4 ∙ (let e : length a.last.sends ≡ length a.last.sends + 0 = omega arith in e) ∙ ap (λ (o : Option (Noted T)). length a.last.sends + (if is_some o then 0 else 1)) (sym h.1))
       (sym (ap (λ (qs : List Split). a.splits.items ++ qs) none.0 ∙ append-nil a.splits.items)) (sym (ap (λ (bs : List (Beside T)). a.besides.items ++ bs) none.1 ∙ append-nil a.besides.items))
 
-  pub not_renewed : (done : List (Noted T)) (later : Noted T) (a : SplitBook T) (last : LastSends T) → IsSettledAs done a → RenewedAs false (λ x. last_noted done x) later a.last last → IsSettledAs done (record a { last = last })
-  not_renewed done later a last s h = record { last = h.0; flows = h.1 ∙ s.flows; splits = s.splits; besides = s.besides }
+  pub not_renewed : (done : List (Noted T)) (a : SplitBook T) (last : LastSends T) → IsSettledAs done a → last ≡ a.last → IsSettledAs done (record a { last = last })
+  not_renewed done a last s same = record {
+    last = subst (λ (l : LastSends T). AreLast (λ x. last_noted done x) l) (sym same) s.last;
+    flows = ap (λ (l : LastSends T). length l.sends) same ∙ s.flows;
+    splits = s.splits;
+    besides = s.besides;
+  }
 
   pub came_first : (done : List (Noted T)) (later : Noted T) (a : SplitBook T) (last : LastSends T) → IsSettledAs done a → AreLast (with_send (λ x. last_noted done x) later) last
       → length last.sends ≡ length a.last.sends + (if is_some (last_noted done later.sending.flow) then 0 else 1) → last_noted done later.sending.flow ≡ None → IsSettledAs (later ∷ done) (record a { last = last })
@@ -185,7 +197,3 @@ module _ {T : Type 0} where
   compared (Ok u) done first later a last b s h flows is splits besides same =
       settled_more done later a b s (subst (λ (l : LastSends T). AreLast (with_send (λ x. last_noted done x) later) l) (sym same) h) (ap (λ (l : LastSends T). length l.sends) same ∙ flows)
       (splits ∙ ap (λ (o : Option (Noted T)). a.splits.items ++ split_with o later) (sym is)) (besides ∙ ap (λ (o : Option (Noted T)). a.besides.items ++ beside_with o later) (sym is))
-
-  -- no send was noted
-  pub none_settled : (b : SplitBook T) → AreLast (λ x. None) b.last → length b.last.sends ≡ 0 → b.splits.items ≡ [] → b.besides.items ≡ [] → IsSettledAs [] b
-  none_settled b last flows splits besides = record { last = record { each = last.each }; flows = flows; splits = splits; besides = besides }

@@ -1,12 +1,12 @@
 //! The last send of each flow, and the splits so far.
-ghost use Rattle.std.specs.Prelude.{◌≡◌, ◌+◌, ◌++◌, ◌∷◌, [], List, length, reverse, Option, Some, IfOk, OnOk};
+ghost use Rattle.std.specs.Prelude.{◌≡◌, ◌+◌, ◌++◌, ◌∷◌, [], List, length, reverse, Option, Some, None, IfSome, IfOk, OnOk};
 ghost use Rattle.cluster_node.specs.declared.events.LogEntry.{LogEntry};
 ghost use Rattle.cluster_node.specs.declared.packets.Packet.{Packet};
 ghost use Rattle.selection.specs.Readied.{same_backend};
 ghost use Rattle.run_report.specs.declared.noted.Noted.{Noted};
-ghost use Rattle.run_report.specs.Splits.{splits_of, flows_of, said_of};
+ghost use Rattle.run_report.specs.Splits.{sent_by, splits_of, flows_of, said_of};
 ghost use Rattle.run_report.specs.Noting.{noted_by, split_with, beside_with, besides_noted};
-ghost use Rattle.run_report.specs.Books.{IsSettledAs};
+ghost use Rattle.run_report.specs.Books.{IsPlaceOf, IsSettledAs};
 
 use crate::last_sends::LastSends;
 use crate::noted::{Beside, Noted};
@@ -90,50 +90,84 @@ impl<T: Copy> SplitBook<T> {
         Ok(())
     }
 
-    // A send is its flow's last, where the one before it went elsewhere, or there is none.
-    #[inline(never)]
-    fn send_anew(&mut self, later: &Noted<T>) -> Result<(), AllocError>
+    // A send is its flow's last. The place is that of the flow's entry.
+    fn take(&mut self, place: Option<u32>, later: &Noted<T>) -> Result<(), AllocError>
+        requires { IsPlaceOf later.now.sending.flow self.old.last place }
         ensures settled { (done : List (Noted T)) → IsSettledAs done self.old → OnOk result (IsSettledAs (later.now ∷ done) self.new) }
         ensures number { self.new.number ≡ self.old.number }
     {
-        match self.last.put(later)? {
+        match self.last.put(place, later)? {
             None => Ok(()),
             Some(first) => self.compare(&first, later),
         }
     }
 
-    // A send is its flow's last.
-    #[inline(always)]
-    fn send(&mut self, later: &Noted<T>) -> Result<(), AllocError>
-        ensures settled { (done : List (Noted T)) → IsSettledAs done self.old → OnOk result (IsSettledAs (later.now ∷ done) self.new) }
+    // What was sent is its flow's last send, where the one before it went elsewhere, or there is none. The place is that of the
+    // flow's entry.
+    #[inline(never)]
+    fn send_anew(
+        &mut self,
+        place: Option<u32>,
+        event: &Event,
+        outcome: &Outcome,
+        beside: T,
+    ) -> Result<(), AllocError>
+        requires { IfSome (sent_by self.old.number event.now outcome.now) (λ s. IsPlaceOf s.flow self.old.last place) }
+        ensures settled { (done : List (Noted T)) → IsSettledAs done self.old →
+            OnOk result (IsSettledAs (noted_by self.old.number event.now outcome.now beside done) self.new) }
         ensures number { self.new.number ≡ self.old.number }
     {
-        if self.last.renew(later) {
+        match sent_by(self.number, event, outcome) {
+            None => Ok(()),
+            Some(sending) => self.take(place, &Noted { sending, beside }),
+        }
+    }
+
+    // What was sent is its flow's last send.
+    #[inline(always)]
+    fn send(&mut self, event: &Event, outcome: &Outcome, beside: T) -> Result<(), AllocError>
+        ensures settled { (done : List (Noted T)) → IsSettledAs done self.old →
+            OnOk result (IsSettledAs (noted_by self.old.number event.now outcome.now beside done) self.new) }
+        ensures number { self.new.number ≡ self.old.number }
+    {
+        let Outcome::Forward { flow, .. } = outcome else {
+            return Ok(());
+        };
+        let place = self.last.place_of(flow);
+        let number = self.number;
+        if self.last.renew(place, number, event, outcome, beside) {
             return Ok(());
         }
-        self.send_anew(later)
+        self.send_anew(place, event, outcome, beside)
+    }
+
+    /// One event more, by which nothing was sent.
+    #[inline(always)]
+    pub fn note_unsent(&mut self) -> Result<(), AllocError>
+        ensures of_record { (past : List LogEntry) (s : LogEntry) → sent_by (length past) s.event s.outcome ≡ None → IsBookOf past self.old →
+            OnOk result (IsBookOf (s ∷ past) self.new) }
+        ensures settled { (all : List (Noted T)) → IsSettledAs all self.old → OnOk result (IsSettledAs all self.new) }
+        ensures number { OnOk result (self.new.number ≡ self.old.number + 1) }
+    {
+        let after = next(self.number)?;
+        self.number = after;
+        Ok(())
     }
 
     /// One event more, with its outcome, and what is kept beside what it sent. Where memory is refused nothing more is known of
     /// the book.
     #[inline(always)]
     pub fn note(&mut self, event: &Event, outcome: &Outcome, beside: T) -> Result<(), AllocError>
-        ensures of_record { (past : List LogEntry) (packet : Option Packet) → IsBookOf past self.old → OnOk result (IsBookOf (record { event = event.now; packet = packet; outcome = outcome.now } ∷ past) self.new) }
-        ensures settled { (all : List (Noted T)) → IsSettledAs all self.old → OnOk result (IsSettledAs (noted_by self.old.number event.now outcome.now beside all) self.new) }
+        ensures of_record { (past : List LogEntry) (packet : Option Packet) → IsBookOf past self.old →
+            OnOk result (IsBookOf (record { event = event.now; packet = packet; outcome = outcome.now } ∷ past) self.new) }
+        ensures settled { (all : List (Noted T)) → IsSettledAs all self.old →
+            OnOk result (IsSettledAs (noted_by self.old.number event.now outcome.now beside all) self.new) }
         ensures number { OnOk result (self.new.number ≡ self.old.number + 1) }
     {
         let number = next(self.number)?;
-        match sent_by(self.number, event, outcome) {
-            None => {
-                self.number = number;
-                Ok(())
-            }
-            Some(sending) => {
-                self.send(&Noted { sending, beside })?;
-                self.number = number;
-                Ok(())
-            }
-        }
+        self.send(event, outcome, beside)?;
+        self.number = number;
+        Ok(())
     }
 
     /// How many flows there were of which a packet was sent.

@@ -6,7 +6,6 @@
 //! each send it keeps what its caller gives.
 #![tactic(auto)]
 
-mod backends;
 mod book;
 mod cause;
 mod last_sends;

@@ -24,12 +24,13 @@ pub struct Split {
     pub later: Sending,
 }
 
-// The version under which an event serves; 0 where it is no serving.
-fn version_of(event: &Event) -> u32
+/// The version under which an event serves; 0 where it is no serving.
+#[inline(always)]
+pub(crate) fn version_of(event: &Event) -> u32
     ensures { result ≡ version_of event.now }
 {
-    match *event {
-        Event::Serve { version, .. } => version,
+    match event {
+        Event::Serve { version, .. } => *version,
         _ => 0,
     }
 }
@@ -38,7 +39,7 @@ fn version_of(event: &Event) -> u32
 pub fn sent_by(number: u64, event: &Event, outcome: &Outcome) -> Option<Sending>
     ensures { result ≡ sent_by number event.now outcome.now }
 {
-    match *outcome {
+    match outcome {
         Outcome::Forward {
             flow,
             backend,
@@ -46,10 +47,10 @@ pub fn sent_by(number: u64, event: &Event, outcome: &Outcome) -> Option<Sending>
             ..
         } => Some(Sending {
             number,
-            flow,
+            flow: *flow,
             version: version_of(event),
-            backend,
-            origin,
+            backend: *backend,
+            origin: *origin,
         }),
         _ => None,
     }

@@ -20,7 +20,7 @@ use Rattle.thread_records.specs.Runs.{AreRuns}
 use Rattle.driver_commands.specs.Orders.{IsThere}
 use Rattle.simulation.specs.Sent.{Traffic, Sending, sent_by, sent_at}
 use Rattle.run_scenario.specs.Runs.{said_with}
-use Rattle.run_scenario.specs.Sends.{sent_of, sent_by_lives, sent_by_nodes}
+use Rattle.run_records.specs.Sends.{sent_of, sent_by_lives, sent_by_nodes}
 use Rattle.run_scenario.proofs.Below.{IsBelow, AreBelow, AllArriveBelow, verdicts_below}
 use Rattle.run_scenario.proofs.Gathered.{ListsBelow, gathered_below}
 use Rattle.run_scenario.proofs.Offered.{NameAlike, commands_there}

@@ -22,9 +22,10 @@ use Rattle.scenario.specs.declared.plan.Scenario.{Scenario}
 use Rattle.simulate_scenario.specs.Described.{choice_in, plan_in, lookups_in}
 use Rattle.simulation.specs.Sent.{sent_at}
 use Rattle.simulation.specs.Simulated.{traffic_of}
-use Rattle.run_scenario.specs.Firsts.{kept_for, with_others, IsSplit}
+use Rattle.run_records.specs.Firsts.{IsSplit}
+use Rattle.run_scenario.specs.PrivateFirsts.{kept_for, with_others, Settle}
 use Rattle.run_scenario.specs.Runs.{packets_in, steps_in, commands_in, tally_in}
-use Rattle.run_scenario.specs.Sends.{sent_by_nodes}
+use Rattle.run_records.specs.Sends.{sent_by_nodes}
 use Rattle.simulate_scenario.specs.Answers.{counts_if}
 use Rattle.simulate_scenario.specs.Asked.{keeps_changes}
 use Rattle.simulate_scenario.specs.Turned.{reckoned_by, turned_if, turned_summary_if, turned_counts_if}
@@ -40,7 +41,7 @@ in_front [] ys k h = absurd (omega (arith, h))
 in_front (x ∷ xs) ys zero h = refl
 in_front (x ∷ xs) ys (suc k) h = in_front xs ys k (omega (arith, h))
 
-module _ (s : Scenario) (link : Link) (kept all : List Record) (others : ℕ) (low : length kept + others ≤ 1000000000) (split : IsSplit (kept_for s.steps.items) all kept others) where
+module _ (s : Scenario) (link : Link) (kept all : List Record) (others : ℕ) (low : length kept + others ≤ 1000000000) (split : IsSplit (Settle s.steps.items) (kept_for s.steps.items) all kept others) where
   abbrev few_packets : List Packet
   few_packets = packets_in s link kept
 
@@ -54,7 +55,7 @@ module _ (s : Scenario) (link : Link) (kept all : List Record) (others : ℕ) (l
   steps_of = steps_in s all
 
   first : few_packets ≡ take (length kept) all_packets
-  first = packets_first link s.check all kept (kept_for s.steps.items) others split
+  first = packets_first (Settle s.steps.items) link s.check all kept (kept_for s.steps.items) others split
 
   reads_first : ReadFirst s.steps.items kept all
   reads_first = read_first s.steps.items all kept others low split

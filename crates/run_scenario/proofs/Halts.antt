@@ -8,7 +8,7 @@ use Rattle.scenario.specs.declared.plan.Scenario.{Scenario}
 use Rattle.simulation.specs.declared.fault.SimulationFault.TheVariants.{Capture, Write, Memory}
 use Rattle.run_scenario.specs.declared.failure.RunFailure.{RunFailure}
 use Rattle.run_scenario.specs.declared.failure.RunFailure.TheVariants.{Simulation, Threads}
-use Rattle.run_scenario.specs.Inputs.{IsReadWhole}
+use Rattle.run_records.specs.Inputs.{IsReadWhole}
 use Rattle.run_scenario.specs.Runs.{Halted}
 use Rattle.run_scenario.specs.PrivateFailures.{IsOfThreads}
 

@@ -25,7 +25,7 @@ use Rattle.simulation.specs.Simulated.{traffic_of}
 use Rattle.simulation.specs.Wires.{traffic}
 use Rattle.spreader.specs.Choices.{Choice}
 use Rattle.run_scenario.specs.Runs.{packets_in, tally_in, steps_in}
-use Rattle.run_scenario.specs.Sends.{sent_by_nodes}
+use Rattle.run_records.specs.Sends.{sent_by_nodes}
 
 pub same_orders : {X E : Type 0} (r : Result X E) (cs : X → List (List Command)) (choice choice' : Choice) (packets : List Packet) (steps steps' : List ScenarioStep) (n n' : ℕ) → choice ≡ choice' → steps ≡ steps' → n ≡ n'
     → IfOk r (λ o. cs o ≡ orders_of choice packets steps n) → IfOk r (λ o. cs o ≡ orders_of choice' packets steps' n')

@@ -1,8 +1,4 @@
 pub mod Whole
-pub mod Walks
-pub mod Chunks
-pub mod Numbers
-pub mod Stores
 pub mod Ruled
 pub mod InWords
 pub mod Halts
@@ -14,8 +10,9 @@ pub mod Planned
 pub mod Offered
 pub mod Below
 pub mod Gathered
+pub mod Enough
+pub mod Places
 pub mod Prefixes
 pub mod Alike
 pub mod FirstRuns
-pub mod Sparings
 pub mod PlainRuns

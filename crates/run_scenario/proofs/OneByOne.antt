@@ -1,7 +1,8 @@
 -- The nodes' histories, one after another.
 use Rattle.std.proofs.Common.{◌≡◌, ℕ, zero, suc, ◌+◌, ◌<◌, ◌≤◌, ◌^◌, Bool, true, false, List, [], ◌∷◌, ◌++◌, length, take, get_or, reverse, Option, Some, None, refl, sym, ap, ◌∙◌, length-append, arith}
-use Rattle.std.specs.Prelude.{if◌then◌else◌}
+use Rattle.std.specs.Prelude.{slice_get, if◌then◌else◌}
 use Rattle.std.proofs.lemmas.List.{reverse-append, take_more}
+use Rattle.std.proofs.lemmas.Option.{get_or_from_slice_get, slice_get-get_or}
 use Rattle.std.proofs.lemmas.List.Elements.{All-nil, All-cons, All-head, All-tail, All-take}
 use Rattle.ip_headers.specs.declared.Link.{Link}
 use Rattle.pcap_file.specs.Format.{Record}
@@ -103,6 +104,12 @@ many_more p os i o b lt is t =
     one : (c : Bool) → (if c then 1 + 0 else 0) ≡ (if c then 1 else 0)
     one true = refl
     one false = refl
+
+-- the same where it is known what stands at the place
+pub many_at : (p : Outcome → Bool) (os : List Outcome) (i : ℕ) (d : Outcome) (b : Bool) → i < length os → ((o : Outcome) → slice_get os i ≡ Some o → b ≡ p o) → how_many p (take (i + 1) os) ≡ how_many p (take i os) + (if b then 1 else 0)
+many_at p os i d b lt is =
+    let there = slice_get-get_or os i d lt in
+    many_more p os i (get_or os i d) b lt (sym (get_or_from_slice_get os i (get_or os i d) (get_or os i d) there)) (sym (is (get_or os i d) there))
 
 -- one history of all nodes, of which no list was made: its lists would stand where that of the nodes does
 unfoldable pub history_of : (run : NodesRun) → AreEven run.nodes.items → length (all_outcomes run.nodes.items) < 2 ^ 63 → History

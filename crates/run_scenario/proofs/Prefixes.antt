@@ -1,5 +1,5 @@
 -- What is told of the first records of a capture, where the steps read no others, is told of all.
-use Rattle.std.proofs.Common.{◌≡◌, ◌≤◌, ◌<◌, ◌⊎◌, inl, inr, ℕ, ◌+◌, ◌-◌, ◌^◌, Bool, true, false, List, [], ◌∷◌, ◌++◌, length, map, take, get_or, refl, sym, ap, ◌∙◌, arith, take_at, append-nil}
+use Rattle.std.proofs.Common.{◌≡◌, ◌≤◌, ◌<◌, ◌⊎◌, inl, inr, ℕ, ◌+◌, ◌-◌, ◌^◌, Bool, true, false, List, [], ◌∷◌, ◌++◌, length, map, take, get_or, refl, sym, ap, ◌∙◌, subst, arith, take_at, append-nil}
 use Rattle.std.specs.Prelude.{All, slice_index_or, nat_lt, if◌then◌else◌}
 use Rattle.std.specs.List.{list_any, sum_by}
 use Rattle.std.proofs.lemmas.List.{length-map, map-append, map-id, take_more}
@@ -25,8 +25,10 @@ use Rattle.driver_commands.proofs.Offered.{told_are_there}
 use Rattle.thread_records.specs.declared.command.Command.{Command}
 use Rattle.thread_records.specs.declared.command.Command.TheVariants as commands
 use Rattle.simulation.specs.Sent.{time_of, packets_of}
-use Rattle.run_scenario.specs.Firsts.{may_read, kept_for, with_others, IsSplit}
+use Rattle.run_records.specs.Firsts.{IsSplit}
+use Rattle.run_scenario.specs.PrivateFirsts.{may_read, kept_for, with_others, Settle}
 use Rattle.run_scenario.proofs.Planned.{reads_all, run_first}
+use Rattle.run_scenario.proofs.Enough.{settled_same, settled_within}
 
 -- so many are no more than may be kept of any capture
 few_read : (ss : List TimedStep) (k : ℕ) → k ≤ 1000000000 → kept_for ss ≤ k → sum_by may_read ss ≤ k
@@ -51,22 +53,32 @@ pub record ReadFirst (ss : List TimedStep) (kept all : List Record) : Type 0 whe
   pub steps : counted (map time_of kept) ss ≡ counted (map time_of all) ss
   pub within : (kept ≡ all) ⊎ (reads_all (counted (map time_of all) ss) ≤ length kept)
 
-pub read_first : (ss : List TimedStep) (all kept : List Record) (others : ℕ) → length kept + others ≤ 1000000000 → IsSplit (kept_for ss) all kept others → ReadFirst ss kept all
+pub read_first : (ss : List TimedStep) (all kept : List Record) (others : ℕ) → length kept + others ≤ 1000000000 → IsSplit (Settle ss) (kept_for ss) all kept others → ReadFirst ss kept all
 read_first ss all kept others low split = elim split.full [
   | inl none ↦
       let same : kept ≡ all = sym (split.is ∙ ap (λ (l : List Record). kept ++ l) none ∙ append-nil kept) in
       record { steps = ap (λ (l : List Record). counted (map time_of l) ss) same; within = inl same }
-  | inr full ↦
-      let read : sum_by may_read ss ≤ length kept = few_read ss (length kept) (omega (arith, low)) full in
-      record {
-        steps = asks_none (first_of (map time_of kept)) (first_of (map time_of all)) (map time_of kept) (map time_of all) ss (no_until ss (omega (arith, read, low)));
-        within = inr (omega (arith, read, reads_counted (first_of (map time_of all)) (map time_of all) ss (omega (arith, read, low))));
-      }
+  | inr enough ↦ elim enough [
+    | inl full ↦
+        let read : sum_by may_read ss ≤ length kept = few_read ss (length kept) (omega (arith, low)) full in
+        record {
+          steps = asks_none (first_of (map time_of kept)) (first_of (map time_of all)) (map time_of kept) (map time_of all) ss (no_until ss (omega (arith, read, low)));
+          within = inr (omega (arith, read, reads_counted (first_of (map time_of all)) (map time_of all) ss (omega (arith, read, low))));
+        }
+    | inr settle ↦
+        let times : map time_of all ≡ map time_of kept ++ map time_of split.rest = ap (λ (l : List Record). map time_of l) split.is ∙ map-append time_of kept split.rest in
+        let within : reads_all (counted (map time_of all) ss) ≤ length (map time_of kept) =
+        subst (λ (l : List ℕ). reads_all (counted l ss) ≤ length (map time_of kept)) (sym times) (settled_within (map time_of kept) (map time_of split.rest) ss settle) in
+        record {
+          steps = sym (ap (λ (l : List ℕ). counted l ss) times ∙ settled_same (map time_of kept) (map time_of split.rest) ss settle);
+          within = inr (omega (arith, within, length-map kept time_of));
+        }
+  ]
 ]
 
 -- the packets of the first records are the first packets
-pub packets_first : (link : Link) (check : Bool) (all kept : List Record) (limit others : ℕ) → IsSplit limit all kept others → packets_of link check kept ≡ take (length kept) (packets_of link check all)
-packets_first link check all kept limit others split =
+pub packets_first : (Settled : List Record → Type 0) (link : Link) (check : Bool) (all kept : List Record) (limit others : ℕ) → IsSplit Settled limit all kept others → packets_of link check kept ≡ take (length kept) (packets_of link check all)
+packets_first Settled link check all kept limit others split =
     sym (ap (λ (l : List Record). take (length kept) (packets_of link check l)) split.is
     ∙ ap (λ (l : List Packet). take (length kept) l) (map-append _ kept split.rest)
     ∙ take_at (packets_of link check kept) (packets_of link check split.rest) (length kept) (length-map kept _))

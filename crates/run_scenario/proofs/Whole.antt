@@ -1,6 +1,8 @@
 -- The nodes' histories with the packets that arrivals name, one after another.
-use Rattle.std.proofs.Common.{◌≡◌, ℕ, zero, suc, ◌+◌, ◌<◌, Bool, true, false, List, [], ◌∷◌, ◌++◌, length, take, get_or, reverse, refl, sym, ap, ◌∙◌, append_assoc, arith, ◌⊎◌, inl, inr}
-use Rattle.std.proofs.lemmas.List.{append-nil, reverse-append, reverse-reverse}
+use Rattle.std.proofs.Common.{◌≡◌, ℕ, zero, suc, ◌+◌, ◌<◌, Bool, true, false, List, [], ◌∷◌, ◌++◌, length, take, drop, get_or, reverse, Option, Some, None, refl, sym, ap, ◌∙◌, append_assoc, arith, ◌⊎◌, inl, inr}
+use Rattle.std.specs.Prelude.{slice_get}
+use Rattle.std.proofs.lemmas.List.{append-nil, reverse-append, reverse-reverse, drop_more}
+use Rattle.std.proofs.lemmas.Option.{slice_get_within, get_or_from_slice_get, none-some}
 use Rattle.std.proofs.lemmas.List.Elements.{All-take}
 use Rattle.cluster_node.specs.declared.packets.Packet.{Packet}
 use Rattle.cluster_node.specs.declared.events.Event.{Event}
@@ -50,3 +52,14 @@ module _ (packets : List Packet) where
   event_end first past es os more none h =
       let all : reverse past ≡ reverse first ++ more = sym (append-nil (reverse past)) ∙ ap (λ (l : List LogEntry). reverse past ++ l) (sym (none_said es os none)) ∙ h in
       sym (reverse-reverse past) ∙ ap reverse all ∙ reverse-append (reverse first) more ∙ ap (λ (l : List LogEntry). reverse more ++ l) (reverse-reverse first)
+
+-- a list from a place on, where something stands there
+pub drop_at : {A : Type 0} → (xs : List A) (k : ℕ) (x : A) → slice_get xs k ≡ Some x → drop k xs ≡ x ∷ drop (k + 1) xs
+drop_at {A} xs k x h = drop_more xs k x (slice_get_within xs k x h) ∙ ap (λ (y : A). y ∷ drop (k + 1) xs) (get_or_from_slice_get xs k x x h)
+
+-- and where nothing does
+pub drop_past : {A : Type 0} → (xs : List A) (k : ℕ) → slice_get xs k ≡ None → drop k xs ≡ []
+drop_past [] zero h = refl
+drop_past [] (suc k) h = refl
+drop_past (x ∷ xs) zero h = absurd (none-some x (sym h))
+drop_past (x ∷ xs) (suc k) h = drop_past xs k h

@@ -1,10 +1,6 @@
-pub mod Sends
-pub mod Inputs
-pub mod Firsts
+pub mod PrivateFirsts
 pub mod Runs
 pub mod Kept
 pub mod Turned
 pub mod PrivateFailures
-pub mod Store
 pub mod PrivateHistories
-pub mod PrivateSends

@@ -38,8 +38,8 @@ use Rattle.simulation.specs.Simulated.{traffic_of, CaptureUntil, IsOfRun}
 use Rattle.run_scenario.specs.declared.running.RunOptions.{RunOptions}
 use Rattle.run_scenario.specs.declared.failure.RunFailure.{RunFailure}
 use Rattle.run_scenario.specs.declared.failure.RunFailure.TheVariants.{Simulation, Threads}
-use Rattle.run_scenario.specs.Inputs.{IsReadWhole, WholeWasRead, ReadingFails}
-use Rattle.run_scenario.specs.Sends.{sent_by_nodes}
+use Rattle.run_records.specs.Inputs.{IsReadWhole, WholeWasRead, ReadingFails}
+use Rattle.run_records.specs.Sends.{sent_by_nodes}
 
 abbrev pub packets_in : Scenario → Link → List Record → List Packet
 packets_in s link records = packets_of link s.check records

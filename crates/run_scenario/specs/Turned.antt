@@ -24,9 +24,9 @@ use Rattle.simulation.specs.Sent.{capture_text}
 use Rattle.simulation.specs.Simulated.{traffic_of}
 use Rattle.change_share.specs.declared.counts.ChangeCounts.{ChangeCounts}
 use Rattle.run_scenario.specs.declared.running.RunOptions.{RunOptions}
-use Rattle.run_scenario.specs.Inputs.{IsReadWhole}
+use Rattle.run_records.specs.Inputs.{IsReadWhole}
 use Rattle.run_scenario.specs.Kept.{KeepsPromises}
-use Rattle.run_scenario.specs.Sends.{sent_by_nodes}
+use Rattle.run_records.specs.Sends.{sent_by_nodes}
 use Rattle.run_scenario.specs.Runs.{AreOfRun, packets_in, tally_in, record_with, splits_if, summary_if, counts_in, begun, audited_report, asked_shares}
 
 -- what is reported of the splits of a history, where it is asked for: with places, or without

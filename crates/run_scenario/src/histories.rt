@@ -1,10 +1,12 @@
 //! What is told of the nodes' histories, one after another. No list has them all.
-ghost use Rattle.std.specs.Prelude.{◌≡◌, ◌+◌, ◌<◌, ◌≤◌, ◌^◌, ◌++◌, true, false, List, Option, Some, None, length, reverse, IfOk, IfSome, OnOk, string_bytes};
+ghost use Rattle.std.specs.Prelude.{◌≡◌, ◌+◌, ◌<◌, ◌≤◌, ◌^◌, ◌++◌, true, false, List, Option, Some, None, length, reverse, slice_get, IfOk, IfSome, OnOk, string_bytes};
 ghost use Rattle.cluster_node.specs.declared.events.LogEntry.{LogEntry};
+ghost use Rattle.cluster_node.specs.declared.outcomes.Outcome.{Outcome};
 ghost use Rattle.cluster_node.specs.declared.packets.Packet.{Packet};
 ghost use Rattle.cluster_core.specs.OutcomeCounts.{is_refused, how_many};
 ghost use Rattle.cluster_core.specs.Totals.{came_all, went_all};
 ghost use Rattle.run_report.specs.Books.{IsBookOf};
+ghost use Rattle.run_report.specs.Splits.{said_of};
 ghost use Rattle.connection_starts.specs.declared.ordinals.Ordinals.{Ordinals};
 ghost use Rattle.connection_changes.specs.Books.{IsNotedChangeBookOf, IsChangeBookOf};
 ghost use Rattle.json_lines.specs.Forms.{splits_as, places_as, shares_as};
@@ -28,6 +30,7 @@ use connection_starts::Ordinals;
 use connection_table::TableKey;
 use json_lines::Form;
 use node_threads::NodesRun;
+use outcome_list::OutcomeList;
 use run_report::SplitBook;
 use scenario::Scenario;
 use std::alloc::{AllocError, Global};
@@ -60,14 +63,24 @@ fn is_refused(outcome: &Outcome) -> bool
     matches!(*outcome, Outcome::Refused(_))
 }
 
-// How many events of a node were refused.
-fn refused_in(outcomes: &[Outcome]) -> u64
-    ensures count { result ≡ how_many (λ o. is_refused o) outcomes.now }
-    ensures few { result ≤ length outcomes.now }
+// Whether the outcome at a place is a refusal.
+fn is_refused_at(outcomes: &OutcomeList, at: usize) -> bool
+    ensures { (o : Outcome) → slice_get outcomes.now.items at ≡ Some o → result ≡ is_refused o }
 {
-    let mut refused = 0u64;
-    for outcome in outcomes {
-        if is_refused(outcome) {
+    match outcomes.get(at) {
+        Some(outcome) => is_refused(&outcome),
+        None => false,
+    }
+}
+
+// How many events were refused.
+fn refused_in(outcomes: &OutcomeList) -> u64
+    ensures count { result ≡ how_many (λ o. is_refused o) outcomes.now.items }
+    ensures few { result ≤ length outcomes.now.items }
+{
+    let mut refused = 0;
+    for at in 0..outcomes.len() {
+        if is_refused_at(outcomes, at) {
             refused += 1;
         }
     }
@@ -102,6 +115,23 @@ pub(crate) fn totals_of(run: &NodesRun) -> Totals
     }
 }
 
+// A node's history goes into the book of the splits, event by event.
+fn note_sends(
+    book: &mut SplitBook<()>,
+    events: &[Event],
+    outcomes: &OutcomeList,
+) -> Result<(), AllocError>
+    ensures { (past : List LogEntry) → IsBookOf past book.old → OnOk result (IsBookOf (reverse (said_of events.now outcomes.now.items) ++ past) book.new) }
+{
+    for at in 0..events.len() {
+        let Some(outcome) = outcomes.get(at) else {
+            return Ok(());
+        };
+        book.note(&events[at], &outcome, ())?;
+    }
+    Ok(())
+}
+
 // The book of the splits.
 fn book_of(alloc: Global, key: TableKey, nodes: &[LeanRecord]) -> Result<SplitBook<()>, AllocError>
     requires { AreEven nodes.now }
@@ -109,7 +139,7 @@ fn book_of(alloc: Global, key: TableKey, nodes: &[LeanRecord]) -> Result<SplitBo
 {
     let mut book = SplitBook::new(alloc, key);
     for node in nodes {
-        book.note_all(node.events(), node.outcomes())?;
+        note_sends(&mut book, node.events(), node.outcomes())?;
     }
     Ok(book)
 }
@@ -119,12 +149,16 @@ fn note_node(
     book: &mut ChangeBook,
     packets: &[Packet],
     events: &[Event],
-    outcomes: &[Outcome],
+    outcomes: &OutcomeList,
 ) -> Result<(), AllocError>
-    ensures { (past : List LogEntry) → IsNotedChangeBookOf past book.old → OnOk result (IsNotedChangeBookOf (reverse (said_with packets.now events.now outcomes.now) ++ past) book.new) }
+    ensures { (past : List LogEntry) → IsNotedChangeBookOf past book.old → OnOk result (IsNotedChangeBookOf (reverse (said_with packets.now events.now outcomes.now.items) ++ past) book.new) }
 {
-    for (event, outcome) in events.iter().zip(outcomes.iter()) {
-        book.note(event, packet_at(packets, event), outcome)?;
+    for at in 0..events.len() {
+        let Some(outcome) = outcomes.get(at) else {
+            return Ok(());
+        };
+        let event = &events[at];
+        book.note(event, packet_at(packets, event), &outcome)?;
     }
     Ok(())
 }

@@ -2,18 +2,13 @@
 //! capture, node by node. A report says what became of the run, and ends in whether its history is a replay's.
 #![tactic(auto)]
 
-mod blocks;
 mod failure;
-mod firsts;
 mod histories;
 mod host;
 mod orders;
-mod reading;
-mod records;
 mod report;
 mod running;
-mod sender;
-mod sending;
+mod settled;
 mod shares;
 mod threads;
 mod turned_histories;

@@ -8,20 +8,20 @@ ghost use Rattle.cluster_core.specs.Cluster.{WereRead};
 ghost use Rattle.event_trace.specs.Tally.{tally_of};
 ghost use Rattle.driver_commands.specs.Orders.{plan_of, orders_of};
 ghost use Rattle.simulate_scenario.specs.Described.{choice_in};
-ghost use Rattle.run_scenario.specs.Firsts.{may_read, kept_for};
+ghost use Rattle.run_scenario.specs.PrivateFirsts.{may_read, kept_for};
 ghost use Rattle.run_scenario.specs.Runs.{steps_in};
 
-use crate::records::Records;
 use cluster_node::Packet;
 use driver_commands::{Orders, orders};
 use event_trace::ScenarioStep;
 use named_spread::spread_of;
+use run_records::Records;
 use scenario::Scenario;
 use std::alloc::{AllocError, Global};
 use timed_steps::{TimedStep, counted, has_until};
 
-// How many records a step may read.
-fn may_read(step: &TimedStep) -> usize
+/// How many records a step may read.
+pub(crate) fn may_read(step: &TimedStep) -> usize
     ensures { result ≡ may_read step.now }
 {
     match step {
@@ -33,7 +33,7 @@ fn may_read(step: &TimedStep) -> usize
     }
 }
 
-/// How many of a capture's first records are kept for some steps: as many as they may read. Where one is by time that is all.
+/// How many of a capture's first records are kept for some steps at most: as many as they may read. One by time may read any number.
 pub(crate) fn kept_for(steps: &[TimedStep]) -> usize
     ensures { result ≡ kept_for steps.now }
 {

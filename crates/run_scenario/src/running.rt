@@ -5,8 +5,9 @@ ghost use Rattle.simulation.specs.Sent.{packets_of};
 ghost use Rattle.thread_records.specs.Paced.{NoneRefused};
 ghost use Rattle.simulation.specs.Simulated.{traffic_of};
 ghost use Rattle.simulate_scenario.specs.Described.{plan_in};
-ghost use Rattle.run_scenario.specs.Firsts.{IsSplit, kept_for, with_others};
-ghost use Rattle.run_scenario.specs.Sends.{sent_by_nodes};
+ghost use Rattle.run_records.specs.Firsts.{IsSplit};
+ghost use Rattle.run_scenario.specs.PrivateFirsts.{kept_for, with_others, Settle};
+ghost use Rattle.run_records.specs.Sends.{sent_by_nodes};
 ghost use Rattle.run_scenario.specs.Runs.{Ran, Halted, counts_in};
 ghost use Rattle.run_scenario.specs.Kept.{KeepsPromises};
 ghost use Rattle.run_scenario.specs.Turned.{RanBy};
@@ -16,11 +17,9 @@ ghost use Rattle.run_scenario.specs.PrivateHistories.{RanOver};
 use crate::failure::RunFailure;
 use crate::histories::{Told, totals_of};
 use crate::host::Host;
-use crate::orders::{kept_for, orders_of};
-use crate::reading::{Captured, packets_of, read_whole};
+use crate::orders::orders_of;
 use crate::report::audited_report;
-use crate::sender::Sender;
-use crate::sending::write_capture;
+use crate::settled::read_for;
 use crate::threads::{Audited, Task, run_named};
 use cluster_node::Packet;
 use connection_starts::Ordinals;
@@ -30,6 +29,7 @@ use ip_headers::Link;
 use json_lines::Form;
 use node_threads::Gate;
 use pcap_file::{Sink, Source};
+use run_records::{Captured, Sender, packets_of, write_capture};
 use scenario::{Scenario, ThreadScenario};
 use simulate_scenario::Answer;
 use simulation::Wire;
@@ -138,9 +138,9 @@ fn run_over<R: Threads + Wait + Sync, G: Gate + Sync>(
 ) -> Result<Done, RunFailure>
     requires few { length captured.now.records + captured.now.others ≤ max_records }
     ensures packets { IfOk result (λ d. d.packets.items ≡ packets_of captured.now.head.link scenario.now.check captured.now.records) }
-    ensures over { (all : List Record) → IsSplit (kept_for scenario.now.steps.items) all captured.now.records captured.now.others →
+    ensures over { (all : List Record) → IsSplit (Settle scenario.now.steps.items) (kept_for scenario.now.steps.items) all captured.now.records captured.now.others →
         IfOk result (λ d. RanOver asked.turns scenario.now asked.options captured.now.head.link all captured.now.ending d.nodes.items (string_bytes d.answer.text) d.answer.counts) }
-    ensures sends { (all : List Record) → IsSplit (kept_for scenario.now.steps.items) all captured.now.records captured.now.others →
+    ensures sends { (all : List Record) → IsSplit (Settle scenario.now.steps.items) (kept_for scenario.now.steps.items) all captured.now.records captured.now.others →
         IfOk result (λ d. sent_by_nodes (traffic_of (plan_in scenario.now) captured.now.head.link captured.now.records) d.nodes.items
         ≡ sent_by_nodes (traffic_of (plan_in scenario.now) captured.now.head.link all) d.nodes.items) }
     ensures paced { asked.options.paced ≡ true → IfOk result (λ d. NoneRefused d.nodes.items) }
@@ -202,7 +202,7 @@ fn run_by<R: Threads + Wait + Sync, G: Gate + Sync, I: Source, O: Sink>(
     let scenario = &scenario.scenario;
     let _slots = scenario.size.slots();
     scenario.catalogue.keeps_doubles_out();
-    let captured = read_whole(alloc, input, kept_for(scenario.steps.as_slice()))?;
+    let captured = read_for(alloc, input, scenario.steps.as_slice())?;
     let done = run_over(host, alloc, scenario, &captured, asked)?;
     let wire = wire_of(scenario, captured.head.link);
     let nodes = done.nodes.as_slice();
@@ -213,17 +213,17 @@ fn run_by<R: Threads + Wait + Sync, G: Gate + Sync, I: Source, O: Sink>(
         records,
         packets,
     };
-    match write_capture(alloc, output, &sender, nodes) {
+    match write_capture(host.rt, alloc, output, &sender, nodes) {
         Ok(()) => Ok(done.answer),
         Err(fault) => Err(RunFailure::Simulation(fault)),
     }
 }
 
 /// Runs a scenario's cluster on threads over a capture, and answers the report. Where its changes are kept, it also answers
-/// how many connections there were, and how many of them changed their server (`counts`). The report ends in `audit agrees` where a
-/// replay of the run's history gives the outcomes that it has: by the clause `ok` it always does. With the option `splits` the report
-/// begins with a line for each split, and then how many there were. A split is two packets that follow one another in a
-/// flow, in the history's order, and went to different backends; events are numbered as in the history.
+/// how many connections there were, and how many of them changed their server (`counts`). The report ends in `audit agrees`
+/// where a replay of the run's history gives the outcomes that it has: by the clause `ok` it always does. With the option
+/// `splits` the report begins with a line for each split, and then how many there were. A split is two packets that follow one
+/// another in a flow, in the history's order, and went to different backends; events are numbered as in the history.
 ///
 /// The capture is read to its end before any thread starts, and the steps become the nodes' commands. Once all threads are
 /// joined, what the nodes sent is written as another capture: node by node, and of each node life by life. The connection
@@ -236,8 +236,8 @@ fn run_by<R: Threads + Wait + Sync, G: Gate + Sync, I: Source, O: Sink>(
 /// matter, two packets of one flow that were sent to different backends were chosen under versions that pick these backends.
 /// Where the scheme is Maglev, their tables name the two backends at the flow's slot. A worker keeps a flow's backend while
 /// its entry stands and the backend is up or drains. Every slot of Maglev's tables names an up backend, never one that
-/// drains, and backends' slot counts are in proportion to their weights. The two versions of each split pick its two backends, for such a scheme, and for Maglev
-/// name them at the flow's slot.
+/// drains, and backends' slot counts are in proportion to their weights. The two versions of each split pick its two backends,
+/// for such a scheme, and for Maglev name them at the flow's slot.
 ///
 /// Where the run is paced, a driver that comes to a full ring waits for room there. It doesn't try the other workers, and
 /// drops nothing. So no arrival in a node's history marks a worker as refusing, and each packet that is steered goes to its

@@ -8,9 +8,10 @@ ghost use Rattle.run_scenario.specs.Runs.{said_with};
 ghost use Rattle.run_scenario.specs.PrivateHistories.{AreEven, said_whole};
 
 use cluster_core::packet_at;
-use cluster_node::{Event, Outcome, Packet};
+use cluster_node::{Event, Packet};
 use connection_table::TableKey;
 use json_lines::Form;
+use outcome_list::OutcomeList;
 use std::alloc::{AllocError, Global};
 use thread_records::LeanRecord;
 use traffic_shares::{AskedShares, ShareBooks};
@@ -20,13 +21,17 @@ fn note_node(
     books: &mut ShareBooks,
     packets: &[Packet],
     events: &[Event],
-    outcomes: &[Outcome],
+    outcomes: &OutcomeList,
 ) -> Result<(), AllocError>
     ensures { (asked : AskedShares) (past : List LogEntry) → AreShareBooksOf asked past books.old →
-        OnOk result (AreShareBooksOf asked (reverse (said_with packets.now events.now outcomes.now) ++ past) books.new) }
+        OnOk result (AreShareBooksOf asked (reverse (said_with packets.now events.now outcomes.now.items) ++ past) books.new) }
 {
-    for (event, outcome) in events.iter().zip(outcomes.iter()) {
-        books.note(event, packet_at(packets, event), outcome)?;
+    for at in 0..events.len() {
+        let Some(outcome) = outcomes.get(at) else {
+            return Ok(());
+        };
+        let event = &events[at];
+        books.note(event, packet_at(packets, event), &outcome)?;
     }
     Ok(())
 }

@@ -14,9 +14,10 @@ ghost use Rattle.run_scenario.specs.PrivateHistories.{AreEven, said_whole};
 use crate::running::RunOptions;
 use change_share::ChangeCounts;
 use cluster_core::packet_at;
-use cluster_node::{Event, Outcome, Packet};
+use cluster_node::{Event, Packet};
 use connection_changes::{Account, TurnedBook};
 use json_lines::Form;
+use outcome_list::OutcomeList;
 use scenario::Scenario;
 use std::alloc::{AllocError, Global};
 use thread_records::LeanRecord;
@@ -26,13 +27,17 @@ fn note_node(
     book: &mut TurnedBook,
     packets: &[Packet],
     events: &[Event],
-    outcomes: &[Outcome],
+    outcomes: &OutcomeList,
 ) -> Result<(), AllocError>
     ensures { (o : Ordinals) (past : List LogEntry) → IsTurnedBookOf o past book.old →
-        OnOk result (IsTurnedBookOf o (reverse (said_with packets.now events.now outcomes.now) ++ past) book.new) }
+        OnOk result (IsTurnedBookOf o (reverse (said_with packets.now events.now outcomes.now.items) ++ past) book.new) }
 {
-    for (event, outcome) in events.iter().zip(outcomes.iter()) {
-        book.note(event, packet_at(packets, event), outcome)?;
+    for at in 0..events.len() {
+        let Some(outcome) = outcomes.get(at) else {
+            return Ok(());
+        };
+        let event = &events[at];
+        book.note(event, packet_at(packets, event), &outcome)?;
     }
     Ok(())
 }

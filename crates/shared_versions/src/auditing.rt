@@ -49,7 +49,7 @@ where
     S::Prepared: Send + Sync,
     requires read { (k : ℕ) (p : Packet) → slice_get packets.now k ≡ Some p → WasRead (Some p) }
     ensures { let rules = rules_of (λ s z. S.pick s z) (λ h. H.plain h) auditor.now in
-        IfOk result (λ b. IsTrue b ↔ All (λ r. (N.record_of r).outcomes.items ≡ verdicts rules [] packets.now (N.record_of r).events.items) nodes.now) }
+        IfOk result (λ b. IsTrue b ↔ All (λ r. N.outcomes_of r ≡ verdicts rules [] packets.now (N.events_of r)) nodes.now) }
 {
     let audits = thread::map_indices(
         rt,
@@ -58,8 +58,8 @@ where
         &|at| -> Result<bool, AllocError>
             requires { (at < length nodes.now) × ((k : ℕ) (p : Packet) → slice_get packets.now k ≡ Some p → WasRead (Some p)) }
             ensures { let rules = rules_of (λ s z. S.pick s z) (λ h. H.plain h) auditor.entry.now in
-                (d : N) → IfOk result (λ b. IsTrue b ↔ ((N.record_of (slice_index_or nodes.entry.now at d)).outcomes.items
-                ≡ verdicts rules [] packets.entry.now (N.record_of (slice_index_or nodes.entry.now at d)).events.items)) }
+                (d : N) → IfOk result (λ b. IsTrue b ↔ (N.outcomes_of (slice_index_or nodes.entry.now at d)
+                ≡ verdicts rules [] packets.entry.now (N.events_of (slice_index_or nodes.entry.now at d)))) }
         { auditor.agrees::<T, N>(alloc, &nodes[at], packets) },
     )?;
     all_agree(audits)

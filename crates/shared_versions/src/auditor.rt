@@ -10,7 +10,7 @@ ghost use Rattle.shared_versions.specs.PrivateHeld.{is_held, are_held};
 use crate::replay::Replay;
 use crate::shared::SharedVersions;
 use cluster_core::{Setup, packet_at};
-use cluster_node::{Event, Outcome, Packet};
+use cluster_node::{Event, Packet};
 use connection_table::ConnTable;
 use hash_laws::FlowHash;
 use pool_versions::Catalogue;
@@ -18,7 +18,7 @@ use selection::{PreparedVersion, PreparedVersions, Scheme};
 use std::alloc::{AllocError, Global};
 use std::fmt;
 use std::marker::Model;
-use thread_records::{Recorded, agrees};
+use thread_records::{Recorded, agrees, is_told};
 
 /// A cluster, with versions of its catalogue that were prepared for it. Histories of its nodes are replayed on them, any number at
 /// once.
@@ -48,23 +48,6 @@ impl<S: Scheme, H: FlowHash> fmt::Debug for Auditor<'_, S, H> {
         f.debug_struct("Auditor")
             .field("versions", &self.versions)
             .finish_non_exhaustive()
-    }
-}
-
-// Whether two outcomes are the same.
-fn is_same(one: &Outcome, other: &Outcome) -> bool
-    ensures { IsTrue result ↔ (one.now ≡ other.now) }
-{
-    *one == *other
-}
-
-// Whether the outcome at a place is this one.
-fn is_at(outcomes: &[Outcome], at: usize, outcome: &Outcome) -> bool
-    ensures { IsTrue result ↔ (slice_get outcomes.now at ≡ Some outcome.now) }
-{
-    match outcomes.get(at) {
-        Some(other) => is_same(other, outcome),
-        None => false,
     }
 }
 
@@ -105,20 +88,19 @@ fn agrees_over<S: Scheme, H: FlowHash, T: ConnTable, N: Recorded>(
     packets: &[Packet],
 ) -> Result<bool, AllocError>
     requires good { AreGood (λ s z. S.pick s z) (rules_for (λ s z. S.pick s z) (λ h. H.plain h) setup.now catalogue.now) versions.now }
-    requires held { are_held catalogue.now versions.now (N.record_of node.now).events.items ≡ true }
+    requires held { are_held catalogue.now versions.now (N.events_of node.now) ≡ true }
     requires read { (k : ℕ) (p : Packet) → slice_get packets.now k ≡ Some p → WasRead (Some p) }
     ensures { let rules = rules_for (λ s z. S.pick s z) (λ h. H.plain h) setup.now catalogue.now in
-        IfOk result (λ b. IsTrue b ↔ ((N.record_of node.now).outcomes.items ≡ verdicts rules [] packets.now (N.record_of node.now).events.items)) }
+        IfOk result (λ b. IsTrue b ↔ (N.outcomes_of node.now ≡ verdicts rules [] packets.now (N.events_of node.now))) }
 {
     let events = node.history();
-    let outcomes = node.outcomes();
     let mut replay: Replay<'_, S, T> = Replay::make(alloc, setup, catalogue, versions)?;
     let many = events.len();
-    let mut agree = many == outcomes.len();
+    let mut agree = many == node.outcome_count();
     for at in 0..many {
         let event = &events[at];
         let outcome = replay.step(setup, catalogue, event, packet_at(packets, event))?;
-        agree = agree & is_at(outcomes, at, &outcome);
+        agree = agree & is_told(node, at, &outcome);
     }
     Ok(agree)
 }
@@ -190,19 +172,17 @@ impl<'e, S: Scheme, H: FlowHash> Auditor<'e, S, H> {
     ) -> Result<bool, AllocError>
         requires read { (k : ℕ) (p : Packet) → slice_get packets.now k ≡ Some p → WasRead (Some p) }
         ensures { let rules = rules_of (λ s z. S.pick s z) (λ h. H.plain h) self.now in
-            IfOk result (λ b. IsTrue b ↔ ((N.record_of node.now).outcomes.items ≡ verdicts rules [] packets.now (N.record_of node.now).events.items)) }
+            IfOk result (λ b. IsTrue b ↔ (N.outcomes_of node.now ≡ verdicts rules [] packets.now (N.events_of node.now))) }
     {
         let Auditor {
             setup,
             catalogue,
             versions,
         } = self;
-        let events = node.history();
-        if are_held(catalogue, versions, events) {
+        if are_held(catalogue, versions, node.history()) {
             agrees_over::<S, H, T, N>(alloc, setup, catalogue, versions, node, packets)
         } else {
-            let outcomes = node.outcomes();
-            agrees::<S, H, T>(alloc, setup, catalogue, packets, events, outcomes)
+            agrees::<S, H, T, N>(alloc, setup, catalogue, packets, node)
         }
     }
 }

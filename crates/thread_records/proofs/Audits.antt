@@ -10,10 +10,10 @@ use Rattle.cluster_node.specs.declared.outcomes.Outcome.{Outcome}
 abbrev pub AgreesSoFar : Bool → ℕ → List Outcome → ℕ → List Outcome → Type 0
 AgreesSoFar agree many outcomes at told = (agree ≡ true) ↔ ((many ≡ length outcomes) × (told ≡ take at outcomes))
 
-pub agrees_first : (many : ℕ) (outcomes : List Outcome) → AgreesSoFar (many == length outcomes) many outcomes 0 []
-agrees_first many outcomes = (
-  (λ t. (eqb-true many (length outcomes) t, refl)),
-  (λ all. eq-eqb many (length outcomes) all.0),
+pub agrees_first : (many count : ℕ) (outcomes : List Outcome) → count ≡ length outcomes → AgreesSoFar (many == count) many outcomes 0 []
+agrees_first many count outcomes is = (
+  (λ t. (eqb-true many count t ∙ is, refl)),
+  (λ all. eq-eqb many count (all.0 ∙ sym is)),
 )
 
 pub agrees_more : (agree same : Bool) (many : ℕ) (outcomes told : List Outcome) (at : ℕ) (o : Outcome) → at < many → AgreesSoFar agree many outcomes at told → (same ≡ true) ↔ (slice_get outcomes at ≡ Some o)

@@ -2,7 +2,7 @@
 use Rattle.std.proofs.Common.{◌≡◌, ℕ, zero, suc, ◌+◌, ◌-◌, ◌<◌, ◌≤◌, Bool, true, false, List, [], ◌∷◌, ◌++◌, length, map, take, drop, get_or, Option, Some, None, refl, sym, ap, ◌∙◌, subst, arith}
 use Rattle.std.specs.Prelude.{nat_lt, if◌then◌else◌, slice_range, MatchOption, is_some, not}
 use Rattle.std.proofs.lemmas.Bool.{and_parts, ne_eqb, ltb-true, ltb-false, lt-ltb, and_from, true≢false, false≢true}
-use Rattle.std.proofs.lemmas.List.{take_more, drop_more, length-drop, get_or-drop, get_or-map, append-nil, append_assoc, append_cancel_left, take-append-drop, drop_all, take_all}
+use Rattle.std.proofs.lemmas.List.{take_more, drop_more, length-drop, get_or-drop, get_or-map, append-nil, append_assoc, append_cancel_left, take-append-drop, drop_all, take_all, get_or_default}
 use Rattle.std.proofs.lemmas.List.Folds.{list_all_more, list_all-map}
 use Rattle.cluster_node.specs.declared.outcomes.Outcome.{Outcome}
 use Rattle.cluster_node.specs.declared.outcomes.Outcome.TheVariants.{Installed, Placed, Forward, Dropped, Restarted, Refused}
@@ -75,6 +75,10 @@ sends_numbered os ns = list_all-map is_send (λ n. send_of os n) ns
 
 pub number_at : (os : List Outcome) (ns : List ℕ) (i d : ℕ) (o : Outcome) → i < length ns → o ≡ send_of os (get_or ns i d) → o ≡ get_or (map (λ k. send_of os k) ns) i o
 number_at os ns i d o lt e = e ∙ sym (get_or-map (λ k. send_of os k) ns i d o lt)
+
+-- what is at a place is what the event of that number sent
+pub event_at : (os : List Outcome) (i : ℕ) (o : Outcome) → i < length os → o ≡ send_of os i → o ≡ get_or os i o
+event_at os i o lt e = e ∙ get_or_default os i Installed o lt
 
 from_event : (n : ℕ) (os : List Outcome) (k : ℕ) → all_from n os ≡ true → from_one_of n (send_of os k) ≡ true
 from_event n [] k h = refl
@@ -192,8 +196,13 @@ same_end w one other i at None false so_far all n e = absurd (false≢true e)
 same_end w one other i at (Some k) true so_far all n e = absurd (true≢false e)
 same_end w one other i at (Some k) false so_far all n e = ((λ t. absurd (false≢true t)), (λ same. absurd (same_over w one other i at so_far (get_or other k Installed) (sends_of w (drop (k + 1) other)) all (n Installed) same)))
 
-pub tail_is : (os : List Outcome) (start : ℕ) → take (length os - start) (drop start os) ≡ drop start os
-tail_is os start = let n : length (drop start os) ≤ length os - start = omega (arith, length-drop start os) in take_all (length os - start) (drop start os) n
+pub tail_is : (os : List Outcome) (start end : ℕ) → end ≡ length os → slice_range os start end ≡ drop start os
+tail_is os start end is = let n : length (drop start os) ≤ end - start = omega (arith, is, length-drop start os) in take_all (end - start) (drop start os) n
+
+-- of the same numbers and of the same life
+pub same_merge : (os : List Outcome) (ns ms : List ℕ) (life part : List Outcome) → ns ≡ ms → life ≡ part → IsMerge (map (λ n. send_of os n) ns) life → IsMerge (map (λ n. send_of os n) ms) part
+same_merge os ns ms life part numbers same one =
+    subst (λ (ks : List ℕ). IsMerge (map (λ n. send_of os n) ks) part) numbers (subst (λ (l : List Outcome). IsMerge (map (λ n. send_of os n) ns) l) same one)
 
 -- What is still to be compared: the lists of the lives from one on, beside what came of the events of this life so far
 -- and of those behind.

@@ -7,6 +7,7 @@ use Rattle.cluster_node.specs.declared.outcomes.Outcome.{Outcome}
 use Rattle.cluster_node.specs.declared.packets.Packet.{Packet}
 use Rattle.cluster_node.specs.Rules.{Rules}
 use Rattle.cluster_core.specs.Runs.{verdicts}
+use Rattle.outcome_list.specs.Lists.{made_by}
 use Rattle.thread_records.specs.declared.command.Command.{Command}
 use Rattle.thread_records.specs.declared.nodes.NodeRecord.{NodeRecord}
 use Rattle.thread_records.specs.Histories.{past_of, AreOf, commands_of, is_by_lives, ServesAreAccepted, MarksAreDue, NoneWaits}
@@ -14,7 +15,7 @@ use Rattle.thread_records.specs.Losses.{drained_lives, losses, KeepDrained}
 use Rattle.thread_records.specs.Merges.{lives_of, AreMerges}
 use Rattle.thread_records.specs.Joins.{all_outcomes}
 use Rattle.thread_records.specs.Runs.{IsRunOf, AreRuns}
-use Rattle.thread_records.specs.Lean.{made_by, SameLists, AreSameLists}
+use Rattle.thread_records.specs.Lean.{SameLists, AreSameLists}
 
 pub lists_told : {A B : Type 0} (f : A → B) (vs : List (Vec A)) → map (λ v. v.items) (map (λ v. made_by f v) vs) ≡ map (λ v. map f v.items) vs
 lists_told f [] = refl

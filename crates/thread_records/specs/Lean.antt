@@ -1,11 +1,10 @@
 -- A node's record as it is kept: what was sent stands there by the numbers of events.
 use Rattle.std.specs.Prelude.{◌≡◌, ℕ, List, [], ◌∷◌, map, slice_index_or}
-use Rattle.std.proofs.Common.{◌∙◌, sym}
 use Rattle.std.specs.Global.{Vec}
-use Rattle.std.proofs.lemmas.List.{length-map}
 use Rattle.cluster_node.specs.declared.events.Event.{Event}
 use Rattle.cluster_node.specs.declared.outcomes.Outcome.{Outcome}
 use Rattle.cluster_node.specs.declared.outcomes.Outcome.TheVariants.{Installed}
+use Rattle.outcome_list.specs.Lists.{made_by}
 use Rattle.thread_records.specs.declared.nodes.NodeRecord.{NodeRecord}
 
 -- What the event of a number sent: its outcome. Where there is no such event that is an outcome which sends nothing.
@@ -15,10 +14,6 @@ send_of os n = slice_index_or os n Installed
 -- what the events of these numbers sent, for each life
 abbrev pub sends_told : List Outcome → List (Vec ℕ) → List (List Outcome)
 sends_told os vs = map (λ v. map (λ n. send_of os n) v.items) vs
-
--- a list of as much room, with what a function makes of each item
-abbrev pub made_by : {A B : Type 0} → (A → B) → Vec A → Vec B
-made_by f v = record { ptr = v.ptr; len = v.len; cap = v.cap; alloc = v.alloc; items = map f v.items; ok = (v.ok.0 ∙ sym (length-map v.items f), v.ok.1); small = v.small }
 
 -- the record that is meant
 abbrev pub record_meant : Vec Event → Vec Outcome → Vec (Vec ℕ) → NodeRecord

@@ -22,6 +22,7 @@ use crate::rings::{Rings, steer};
 use cluster_node::{Cause, Event, Item, Outcome, Packet, Reason};
 use five_tuple::Flow;
 use hash_laws::FlowHash;
+use outcome_list::OutcomeList;
 use std::alloc::{AllocError, Global};
 use std::fmt;
 use std::marker::Model;
@@ -43,7 +44,7 @@ pub struct Journal {
     steerer: Steerer,
     placed: Vec<Vec<Item>>,
     events: Vec<Event>,
-    outcomes: Vec<Outcome>,
+    outcomes: OutcomeList,
     early: bool,
 }
 
@@ -117,7 +118,7 @@ impl Journal {
             steerer: Steerer::new(workers),
             placed: empty_lists(alloc, workers)?,
             events: Vec::new(alloc),
-            outcomes: Vec::new(alloc),
+            outcomes: OutcomeList::new(alloc),
             early: false,
         })
     }
@@ -129,7 +130,7 @@ impl Journal {
     {
         let told = outcome;
         self.events.push(event)?;
-        self.outcomes.push(outcome)?;
+        self.outcomes.push(&outcome)?;
         Ok(told)
     }
 
@@ -302,10 +303,10 @@ impl Journal {
     }
 
     /// The outcomes of its events.
-    pub fn outcomes(&self) -> &[Outcome]
-        ensures { result.now ≡ self.now.outcomes }
+    pub fn outcomes(&self) -> &OutcomeList
+        ensures { result.now.items ≡ self.now.outcomes }
     {
-        self.outcomes.as_slice()
+        &self.outcomes
     }
 
     /// Whether a ring refused a packet before it had taken as many as it has places.
@@ -332,7 +333,7 @@ impl Journal {
             outcomes,
             ..
         } = self;
-        if !merged(sent.as_slice(), outcomes.as_slice()) {
+        if !merged(sent.as_slice(), &outcomes) {
             return Err(LifeFault::RingLost);
         }
         Ok(LeanRecord::of(events, outcomes, sent))

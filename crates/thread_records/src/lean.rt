@@ -4,6 +4,7 @@ ghost use Rattle.thread_records.specs.Lean.{send_of, sends_told, SameLists, AreS
 
 use crate::nodes::{NodeRecord, Recorded};
 use cluster_node::{Event, Outcome};
+use outcome_list::OutcomeList;
 use std::alloc::{AllocError, Global};
 use std::fmt;
 use std::marker::Model;
@@ -13,7 +14,7 @@ use std::marker::Model;
 #[derive(Drop)]
 pub struct LeanRecord {
     events: Vec<Event>,
-    outcomes: Vec<Outcome>,
+    outcomes: OutcomeList,
     sent: Vec<Vec<u32>>,
 }
 
@@ -37,11 +38,12 @@ impl fmt::Debug for LeanRecord {
 }
 
 /// What the event of a number sent. Where there is no such event the outcome is one that sends nothing.
-pub(crate) fn send_of(outcomes: &[Outcome], number: u32) -> Outcome
-    ensures { result ≡ send_of outcomes.now number }
+#[inline(always)]
+pub(crate) fn send_of(outcomes: &OutcomeList, number: usize) -> Outcome
+    ensures { result ≡ send_of outcomes.now.items number }
 {
-    match outcomes.get(number as usize) {
-        Some(outcome) => *outcome,
+    match outcomes.get(number) {
+        Some(outcome) => outcome,
         None => Outcome::Installed,
     }
 }
@@ -49,14 +51,14 @@ pub(crate) fn send_of(outcomes: &[Outcome], number: u32) -> Outcome
 // What was sent in a life.
 fn opened_life(
     alloc: Global,
-    outcomes: &[Outcome],
+    outcomes: &OutcomeList,
     life: &[u32],
 ) -> Result<Vec<Outcome>, AllocError>
-    ensures { IfOk result (λ v. v.items ≡ map (λ n. send_of outcomes.now n) life.now) }
+    ensures { IfOk result (λ v. v.items ≡ map (λ n. send_of outcomes.now.items n) life.now) }
 {
     let mut list = Vec::with_capacity(alloc, life.len())?;
     for number in life {
-        list.push(send_of(outcomes, *number))?;
+        list.push(send_of(outcomes, *number as usize))?;
     }
     Ok(list)
 }
@@ -64,10 +66,10 @@ fn opened_life(
 // What was sent in each life.
 fn opened(
     alloc: Global,
-    outcomes: &[Outcome],
+    outcomes: &OutcomeList,
     sent: &[Vec<u32>],
 ) -> Result<Vec<Vec<Outcome>>, AllocError>
-    ensures { IfOk result (λ v. map (λ l. l.items) v.items ≡ sends_told outcomes.now sent.now) }
+    ensures { IfOk result (λ v. map (λ l. l.items) v.items ≡ sends_told outcomes.now.items sent.now) }
 {
     let mut lists = Vec::with_capacity(alloc, sent.len())?;
     for life in sent {
@@ -78,7 +80,7 @@ fn opened(
 
 impl LeanRecord {
     // The record of these lists.
-    pub(crate) fn of(events: Vec<Event>, outcomes: Vec<Outcome>, sent: Vec<Vec<u32>>) -> LeanRecord
+    pub(crate) fn of(events: Vec<Event>, outcomes: OutcomeList, sent: Vec<Vec<u32>>) -> LeanRecord
         ensures events { result.events ≡ events }
         ensures outcomes { result.outcomes ≡ outcomes }
         ensures sent { map (λ v. v.items) result.sent.items ≡ sends_told outcomes.items sent.items }
@@ -98,10 +100,10 @@ impl LeanRecord {
     }
 
     /// The outcome of each event.
-    pub fn outcomes(&self) -> &[Outcome]
-        ensures { result.now ≡ self.now.outcomes.items }
+    pub fn outcomes(&self) -> &OutcomeList
+        ensures { result.now.items ≡ self.now.outcomes.items }
     {
-        self.outcomes.as_slice()
+        &self.outcomes
     }
 
     /// For each life the numbers of the events that sent, in the order in which what they sent was gathered.
@@ -115,7 +117,7 @@ impl LeanRecord {
     pub fn send_of(&self, number: u32) -> Outcome
         ensures { result ≡ send_of self.now.outcomes.items number }
     {
-        send_of(self.outcomes.as_slice(), number)
+        send_of(&self.outcomes, number as usize)
     }
 
     /// The same record with its lists written out.
@@ -127,7 +129,8 @@ impl LeanRecord {
             outcomes,
             sent,
         } = self;
-        let sent = opened(alloc, outcomes.as_slice(), sent.as_slice())?;
+        let sent = opened(alloc, &outcomes, sent.as_slice())?;
+        let outcomes = outcomes.open(alloc)?;
         Ok(NodeRecord {
             events,
             outcomes,
@@ -137,14 +140,20 @@ impl LeanRecord {
 }
 
 impl Recorded for LeanRecord {
-    ghost record_of = { λ r. r };
+    ghost events_of = { λ r. r.events.items };
+
+    ghost outcomes_of = { λ r. r.outcomes.items };
 
     fn history(&self) -> &[Event] {
         self.events()
     }
 
-    fn outcomes(&self) -> &[Outcome] {
-        self.outcomes.as_slice()
+    fn outcome_count(&self) -> usize {
+        self.outcomes.len()
+    }
+
+    fn outcome_at(&self, place: usize) -> Option<Outcome> {
+        self.outcomes.get(place)
     }
 }
 

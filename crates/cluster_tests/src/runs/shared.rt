@@ -14,7 +14,9 @@ use thread_records::{Command, LeanRecord};
 fn are_by_nodes(rt: &impl Abort, alloc: Global, nodes: &[LeanRecord]) {
     let mut all = Vec::new(alloc);
     for node in nodes {
-        all.extend_from_slice(node.outcomes()).expect(rt, "memory");
+        let outcomes = node.outcomes().open(alloc).expect(rt, "memory");
+        all.extend_from_slice(outcomes.as_slice())
+            .expect(rt, "memory");
     }
     same_outcomes(rt, all.as_slice(), &by_nodes(rt));
 }

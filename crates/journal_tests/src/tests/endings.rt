@@ -314,7 +314,9 @@ fn a_life_that_is_not_drained(rt: HostRuntime) {
     node.journal
         .end_life(ended, false)
         .expect(&rt, "records that fit");
-    is_last(&rt, node.journal.outcomes(), ("restarted", 2, 0));
+    let outcomes = node.journal.outcomes().open(rt.alloc());
+    let outcomes = outcomes.expect(&rt, "memory");
+    is_last(&rt, outcomes.as_slice(), ("restarted", 2, 0));
     node.queues = empty_queues(&rt, rt.alloc(), 1, 16);
     does(&rt, &mut node, &ONE_SERVED);
     let Node {

@@ -311,7 +311,8 @@ fn plays<S: Scheme, T: ConnTable>(rt: &impl Abort, alloc: Global, scheme: S, exa
     } = node;
     journal.end(workers, false).expect(rt, "records that fit");
     holds(rt, !journal.refused_early(), "no ring was lost");
-    replays(rt, alloc, &setup, journal.events(), journal.outcomes());
+    let outcomes = journal.outcomes().open(alloc).expect(rt, "memory");
+    replays(rt, alloc, &setup, journal.events(), outcomes.as_slice());
 }
 
 const FIRST: u32 = 0;

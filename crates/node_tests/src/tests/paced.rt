@@ -114,10 +114,11 @@ fn is_at_home(event: &Event, outcome: &Outcome) -> bool {
 }
 
 fn all_at_home(node: &LeanRecord) -> bool {
-    node.events()
-        .iter()
-        .zip(node.outcomes().iter())
-        .all(|(event, outcome)| is_at_home(event, outcome))
+    let outcomes = node.outcomes();
+    node.events().iter().enumerate().all(|(place, event)| match outcomes.get(place) {
+        Some(outcome) => is_at_home(event, &outcome),
+        None => false,
+    })
 }
 
 // Slow workers, rings of one place, restarts and stops: no driver waits for ever, each packet went to its home worker, and

@@ -1,35 +1,41 @@
-use Rattle.std.proofs.Common.{◌≡◌, List, Option, ◌++◌, ◌∷◌, reverse, ap, ◌∙◌, subst}
-use Rattle.std.specs.Iterator.Adapters.{zip_first, zip_second}
-use Rattle.std.specs.Slice.Iter.{iter_rest}
-use Rattle.std.proofs.lemmas.Slice.Zip.{either_empty_from_Zip}
+use Rattle.std.proofs.Common.{◌+◌, ◌∷◌, List, Option, drop, get_or, refl, sym, inl, inr, subst, arith}
+use Rattle.std.proofs.lemmas.List.{drop_more, drop_all}
 use Rattle.cluster_node.specs.declared.packets.Packet.{Packet}
 use Rattle.cluster_node.specs.declared.events.Event.{Event}
+use Rattle.cluster_node.specs.declared.events.Event.TheVariants.{Install}
 use Rattle.cluster_node.specs.declared.events.LogEntry.{LogEntry}
 use Rattle.cluster_node.specs.declared.outcomes.Outcome.{Outcome}
 use Rattle.cluster_core.specs.Runs.{packet_of}
 use Rattle.event_trace.specs.Noting.{said_by}
 use Rattle.connection_changes.specs.Books.{IsNotedChangeBookOf}
-use Rattle.run_scenario.specs.Runs.{said_with}
-use Rattle.run_scenario.proofs.Whole.{event_more, event_end}
+use Rattle.run_scenario.proofs.Whole.{event_more, event_end, drop_at, drop_past}
 use Rattle.run_scenario.proofs.histories.note_node.Goals as goal
 
-pub loop-event-init : goal.loop-event-init
-loop-event-init c =
-    let first : iter_rest (zip_first c.into_iter-event-iterator.result) ≡ c.args.events.now = cc in
-    let second : iter_rest (zip_second c.into_iter-event-iterator.result) ≡ c.args.outcomes.now = cc in
-    λ past is. (past, is, ap (λ (es : List Event). reverse past ++ said_with c.args.packets.now es (iter_rest (zip_second c.into_iter-event-iterator.result))) first ∙ ap (λ (os : List Outcome). reverse past ++ said_with c.args.packets.now c.args.events.now os) second)
+pub loop-at-init : goal.loop-at-init
+loop-at-init c = λ past is. (past, is, refl)
 
-pub loop-event-preserved : goal.loop-event-preserved
-loop-event-preserved c = λ first is.
-    let was = c.loop-event.invariant first is in (
-      record { event = c.in-Some.event.now; packet = packet_of c.args.packets.now c.in-Some.event.now; outcome = c.in-Some.outcome.now } ∷ was.0,
-      subst (λ (p : Option Packet). IsNotedChangeBookOf (said_by c.in-Some.event.now p c.in-Some.outcome.now ∷ was.0) c.note.new.self) c.packet_at.ensures (c.in_ok-note.ensures was.0 was.1),
-      event_more c.args.packets.now was.0 _ _ _ _ _ _ _ c.in-Some.ensures.steps.0 c.in-Some.ensures.steps.1 was.2,
+pub loop-at-preserved : goal.loop-at-preserved
+loop-at-preserved c = λ first is.
+    let was = c.loop-at.invariant first is in
+    let packets : List Packet = c.args.packets.now in
+    let event : Event = get_or c.args.events.now c.loop-at.at (Install 0 0) in
+    let outcome : Outcome = c.in-Some.outcome in (
+      record { event = event; packet = packet_of packets event; outcome = outcome } ∷ was.0,
+      subst (λ (p : Option Packet). IsNotedChangeBookOf (said_by event p outcome ∷ was.0) c.note.new.self) c.packet_at.ensures (c.in_ok-note.ensures was.0 was.1),
+      event_more packets was.0 (drop c.loop-at.at c.args.events.now) (drop (c.loop-at.at + 1) c.args.events.now) (drop c.loop-at.at c.args.outcomes.now.items) (drop (c.loop-at.at + 1) c.args.outcomes.now.items) event outcome _
+          (drop_more c.args.events.now c.loop-at.at (Install 0 0) c.loop-at-test.true) (drop_at c.args.outcomes.now.items c.loop-at.at outcome (sym c.in-Some.ensures)) was.2,
     )
+
+pub returns-in_default : goal.returns-in_default
+returns-in_default c = λ first is.
+    let was = c.loop-at.invariant first is in
+    subst (λ (past : List LogEntry). IsNotedChangeBookOf past c.loop-at.book)
+    (event_end c.args.packets.now first was.0 _ _ _ (inr (drop_past c.args.outcomes.now.items c.loop-at.at (sym c.in_default.ensures))) was.2)
+    was.1
 
 pub returns : goal.returns
 returns c = λ first is.
-    let was = c.loop-event.invariant first is in
-    subst (λ (past : List LogEntry). IsNotedChangeBookOf past c.loop-event.book)
-    (event_end c.args.packets.now first was.0 _ _ _ (either_empty_from_Zip c.loop-event.event-iterator c.next.new.self c.next.result c.in-None.is c.next.ensures.steps) was.2)
+    let was = c.loop-at.invariant first is in
+    subst (λ (past : List LogEntry). IsNotedChangeBookOf past c.loop-at.book)
+    (event_end c.args.packets.now first was.0 _ _ _ (inl (drop_all c.loop-at.at c.args.events.now (omega (arith, c.loop-at-test.false)))) was.2)
     was.1

@@ -1,20 +1,22 @@
-use Rattle.std.proofs.Common.{◌≡◌, ◌+◌, take, sym, arith}
+use Rattle.std.proofs.Common.{◌≡◌, ◌+◌, take, arith}
 use Rattle.std.specs.Prelude.{if◌then◌else◌}
 use Rattle.cluster_core.specs.OutcomeCounts.{is_refused, how_many}
-use Rattle.run_scenario.proofs.OneByOne.{many_more}
+use Rattle.cluster_node.specs.declared.outcomes.Outcome.TheVariants.{Installed}
+use Rattle.run_scenario.proofs.OneByOne.{many_at}
 use Rattle.run_scenario.proofs.histories.refused_in.Goals as goal
-use Rattle.run_scenario.proofs.histories.refused_in.Goals.{then-is_refused, else-is_refused}
+use Rattle.run_scenario.proofs.histories.refused_in.Goals.{then-is_refused_at, else-is_refused_at}
 
-pub loop-outcome-preserved : goal.loop-outcome-preserved
-loop-outcome-preserved c =
-    let i = c.loop-outcome.outcome-index in
-    let more : how_many (λ o. is_refused o) (take (i + 1) c.args.outcomes.now) ≡ how_many (λ o. is_refused o) (take i c.args.outcomes.now) + (if c.is_refused.result then 1 else 0) =
-    many_more (λ o. is_refused o) c.args.outcomes.now i c.outcome-item.result c.is_refused.result c.loop-outcome-test.true c.outcome-item.is (sym c.is_refused.ensures) in
-    elim c.if-is_refused.branch [
-      | then-is_refused w ↦ (
-          let one : how_many (λ o. is_refused o) (take (i + 1) c.args.outcomes.now) ≡ how_many (λ o. is_refused o) (take i c.args.outcomes.now) + 1 = rw w.if-is_refused.true at more in
-          (omega (arith, w.refused-is, c.loop-outcome.invariant.0, one), omega (arith, w.refused-is, c.loop-outcome.invariant.1)))
-      | else-is_refused w ↦ (
-          let one : how_many (λ o. is_refused o) (take (i + 1) c.args.outcomes.now) ≡ how_many (λ o. is_refused o) (take i c.args.outcomes.now) + 0 = rw w.if-is_refused.false at more in
-          (omega (arith, w.refused-is, c.loop-outcome.invariant.0, one), omega (arith, w.refused-is, c.loop-outcome.invariant.1)))
+pub loop-at-preserved : goal.loop-at-preserved
+loop-at-preserved c =
+    let i = c.loop-at.at in
+    let all = c.args.outcomes.now.items in
+    let more : how_many (λ o. is_refused o) (take (i + 1) all) ≡ how_many (λ o. is_refused o) (take i all) + (if c.is_refused_at.result then 1 else 0) =
+    many_at (λ o. is_refused o) all i Installed c.is_refused_at.result (omega (arith, c.loop-at-test.true, c.len-at-end.ensures)) c.is_refused_at.ensures in
+    elim c.if-is_refused_at.branch [
+      | then-is_refused_at w ↦ (
+          let one : how_many (λ o. is_refused o) (take (i + 1) all) ≡ how_many (λ o. is_refused o) (take i all) + 1 = rw w.if-is_refused_at.true at more in
+          (omega (arith, w.refused-is, c.loop-at.invariant.0, one), omega (arith, w.refused-is, c.loop-at.invariant.1)))
+      | else-is_refused_at w ↦ (
+          let one : how_many (λ o. is_refused o) (take (i + 1) all) ≡ how_many (λ o. is_refused o) (take i all) + 0 = rw w.if-is_refused_at.false at more in
+          (omega (arith, w.refused-is, c.loop-at.invariant.0, one), omega (arith, w.refused-is, c.loop-at.invariant.1)))
     ]

@@ -2,7 +2,7 @@ use Rattle.std.proofs.Common.{◌≡◌, List, ap, ◌∙◌, arith}
 use Rattle.std.specs.List.{sum_by}
 use Rattle.std.proofs.lemmas.List.{take_all}
 use Rattle.timed_steps.specs.declared.TimedStep.{TimedStep}
-use Rattle.run_scenario.specs.Firsts.{may_read}
+use Rattle.run_scenario.specs.PrivateFirsts.{may_read}
 use Rattle.run_scenario.proofs.Prefixes.{kept_whole}
 use Rattle.run_scenario.proofs.orders.kept_for.Goals as goal
 

@@ -1,7 +1,7 @@
 use Rattle.std.proofs.Common.{ℕ, ◌++◌, ◌∷◌, [], ap, ◌∙◌, sym, List, map, take, arith}
 use Rattle.simulation.specs.Sent.{time_of}
 use Rattle.simulation.specs.Wires.{lent_record}
-use Rattle.run_scenario.proofs.Walks.{times_more}
+use Rattle.run_records.proofs.Walks.{times_more}
 use Rattle.run_scenario.proofs.orders.times_of.Goals as goal
 
 pub loop-at-preserved : goal.loop-at-preserved

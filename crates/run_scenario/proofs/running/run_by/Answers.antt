@@ -1,10 +1,11 @@
-use Rattle.std.proofs.Common.{◌≡◌, ◌∙◌, ◌+◌, ℕ, List, length, ap, subst, inr, arith, length-append}
+use Rattle.std.proofs.Common.{◌≡◌, ◌∙◌, ◌+◌, List, length, ap, subst, inr, arith, length-append}
 use Rattle.std.specs.Io.KnownBytes.{Appends}
 use Rattle.simulation.specs.Sent.{Sending, capture_text}
 use Rattle.simulation.specs.Simulated.{CaptureUntil}
 use Rattle.pcap_file.specs.Format.{Record}
 use Rattle.timed_steps.specs.declared.TimedStep.{TimedStep}
-use Rattle.run_scenario.specs.Firsts.{kept_for, IsSplit}
+use Rattle.run_records.specs.Firsts.{IsSplit}
+use Rattle.run_scenario.specs.PrivateFirsts.{kept_for, Settle}
 use Rattle.run_scenario.proofs.Known.{known_steps}
 use Rattle.run_scenario.proofs.Ruled.{keeps}
 use Rattle.run_scenario.proofs.InWords.{same_sends}
@@ -19,7 +20,7 @@ run_over-requires-clause-few g c =
 pub returns-in-Ok-clause-ran : goal.returns-in-Ok-clause-ran
 returns-in-Ok-clause-ran g c =
     let whole = c.in_ok-captured.ensures.whole in
-    let split = subst (λ (n : ℕ). IsSplit n whole.0 c.in_ok-captured.captured.records c.in_ok-captured.captured.others) (c.kept_for.ensures ∙ ap (λ (ss : List TimedStep). kept_for ss) c.as_slice.ensures.value) whole.3 in
+    let split = subst (λ (ss : List TimedStep). IsSplit (Settle ss) (kept_for ss) whole.0 c.in_ok-captured.captured.records c.in_ok-captured.captured.others) c.as_slice.ensures.value whole.3 in
     let same = same_sends c.args.scenario.now.scenario c.wire_of-wire.result c.in_ok-captured.captured.head.link c.in_ok-captured.captured.records c.as_slice-nodes.result.now c.in_ok-done.done.nodes.items
     c.wire_of-wire.ensures.nodes c.wire_of-wire.ensures.link c.wire_of-wire.ensures.check c.as_slice-nodes.ensures.value
     ∙ c.in_ok-done.ensures.sends whole.0 split in
@@ -44,7 +45,7 @@ returns-in-Ok-clause-ran g c =
 pub returns-clause-stopped : goal.returns-clause-stopped
 returns-clause-stopped g c =
     let whole = c.in_ok-captured.ensures.whole in
-    let split = subst (λ (n : ℕ). IsSplit n whole.0 c.in_ok-captured.captured.records c.in_ok-captured.captured.others) (c.kept_for.ensures ∙ ap (λ (ss : List TimedStep). kept_for ss) c.as_slice.ensures.value) whole.3 in
+    let split = subst (λ (ss : List TimedStep). IsSplit (Settle ss) (kept_for ss) whole.0 c.in_ok-captured.captured.records c.in_ok-captured.captured.others) c.as_slice.ensures.value whole.3 in
     let same = same_sends c.args.scenario.now.scenario c.wire_of-wire.result c.in_ok-captured.captured.head.link c.in_ok-captured.captured.records c.as_slice-nodes.result.now c.in_ok-done.done.nodes.items
     c.wire_of-wire.ensures.nodes c.wire_of-wire.ensures.link c.wire_of-wire.ensures.check c.as_slice-nodes.ensures.value
     ∙ c.in_ok-done.ensures.sends whole.0 split in

@@ -18,7 +18,7 @@ use Rattle.json_lines.specs.Forms.{shares_as}
 use Rattle.run_scenario.specs.PrivateHistories.{AreEven, said_whole, before_by, behind_by, counts_by}
 use Rattle.run_scenario.specs.Runs.{begun, audited_report, asked_shares, record_with, tally_in, packets_in, commands_in, steps_in}
 use Rattle.run_scenario.specs.Turned.{told_splits}
-use Rattle.run_scenario.specs.Firsts.{with_others}
+use Rattle.run_scenario.specs.PrivateFirsts.{with_others}
 use Rattle.run_scenario.proofs.InWords.{packets_are, tally_is}
 use Rattle.run_scenario.proofs.FirstRuns.{same_commands, same_tally, same_runs, same_said, same_sent, splits_said, summary_said, counts_said}
 use Rattle.run_scenario.proofs.OneByOne.{are_even, history_of, joins, same_splits, same_shares, same_summary, same_counts, same_outcomes}

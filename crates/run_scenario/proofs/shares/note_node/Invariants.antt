@@ -1,13 +1,11 @@
-use Rattle.std.proofs.Common.{◌≡◌, List, ◌++◌, reverse}
-use Rattle.std.specs.Iterator.Adapters.{zip_first, zip_second}
-use Rattle.std.specs.Slice.Iter.{iter_rest}
+use Rattle.std.proofs.Common.{◌≡◌, List, ◌++◌, drop, reverse}
 use Rattle.cluster_node.specs.declared.events.LogEntry.{LogEntry}
 use Rattle.traffic_shares.specs.declared.books.AskedShares.{AskedShares}
 use Rattle.traffic_shares.specs.Books.{AreShareBooksOf}
 use Rattle.run_scenario.specs.Runs.{said_with}
 use Rattle.run_scenario.proofs.shares.note_node.Given as goal
 
-abbrev pub invariant-loop-event : goal.invariant-loop-event
-invariant-loop-event l =
+abbrev pub invariant-loop-at : goal.invariant-loop-at
+invariant-loop-at l =
     (asked : AskedShares) (first : List LogEntry) → AreShareBooksOf asked first l.initial.books →
-    (past : List LogEntry) × AreShareBooksOf asked past l.books × (reverse past ++ said_with l.packets (iter_rest (zip_first l.event-iterator)) (iter_rest (zip_second l.event-iterator)) ≡ reverse first ++ said_with l.packets l.events l.outcomes)
+    (past : List LogEntry) × AreShareBooksOf asked past l.books × (reverse past ++ said_with l.packets (drop l.at l.events) (drop l.at l.outcomes.items) ≡ reverse first ++ said_with l.packets l.events l.outcomes.items)

@@ -17,8 +17,8 @@ pub loop-node-preserved : goal.loop-node-preserved
 loop-node-preserved c = λ o is.
     let packets = c.args.packets.now in
     let before = said_whole packets (take c.loop-node.node-index c.args.nodes.now) in
-    let slices : reverse (said_with packets c.events-events.result.now c.outcomes.result.now) ++ before ≡ reverse (said_with packets c.node-item.result.events.items c.node-item.result.outcomes.items) ++ before =
-    ap (λ (es : List Event). reverse (said_with packets es c.outcomes.result.now) ++ before) c.events-events.ensures ∙ ap (λ (os : List Outcome). reverse (said_with packets c.node-item.result.events.items os) ++ before) c.outcomes.ensures in
+    let slices : reverse (said_with packets c.events-events.result.now c.outcomes.result.now.items) ++ before ≡ reverse (said_with packets c.node-item.result.events.items c.node-item.result.outcomes.items) ++ before =
+    ap (λ (es : List Event). reverse (said_with packets es c.outcomes.result.now.items) ++ before) c.events-events.ensures ∙ ap (λ (os : List Outcome). reverse (said_with packets c.node-item.result.events.items os) ++ before) c.outcomes.ensures in
     subst (λ (past : List LogEntry). IsTurnedBookOf o past c.note_node.new.book) (slices ∙ sym (whole_more packets c.args.nodes.now c.loop-node.node-index c.node-item.result c.loop-node-test.true c.node-item.is c.requires))
     (c.in_ok-note_node.ensures o before (c.loop-node.invariant o is))
 

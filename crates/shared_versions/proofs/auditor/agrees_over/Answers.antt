@@ -20,7 +20,7 @@ loop-at-init g c =
       [],
       refl,
       kept_first (λ s z. g.S.Scheme.pick s z) rules c.args.packets.now c.history-events.result.now _ _ refl (c.in_ok-replay.ensures.stands c.requires.good),
-      agrees_first (length c.history-events.result.now) c.outcomes-outcomes.result.now,
+      agrees_first (length c.history-events.result.now) c.outcome_count.result (g.N.Recorded.outcomes_of c.args.node.now) c.outcome_count.ensures,
       c.in_ok-replay.ensures.versions,
     )
 
@@ -39,7 +39,7 @@ loop-at-preserved g c =
       long,
       kept_more (λ s z. g.S.Scheme.pick s z) rules c.args.packets.now events c.loop-at.at was.0 _ c.loop-at.replay c.step.new.self (Install 0 0) _ o
           c.loop-at-test.true few c.packet_at.ensures refl (λ past less st. c.in_ok-outcome.ensures.verdict past less held st) was.2,
-      agrees_more c.loop-at.agree c.is_at-agree.result (length events) c.outcomes-outcomes.result.now was.0 c.loop-at.at o c.loop-at-test.true was.3 c.is_at-agree.ensures,
+      agrees_more c.loop-at.agree c.is_told-agree.result (length events) (g.N.Recorded.outcomes_of c.args.node.now) was.0 c.loop-at.at o c.loop-at-test.true was.3 c.is_told-agree.ensures,
       c.in_ok-outcome.ensures.versions ∙ was.4,
     )
 
@@ -48,8 +48,7 @@ returns g c =
     let rules : Rules = rules_for (λ s z. g.S.Scheme.pick s z) (λ h. g.H.FlowHash.plain h) c.args.setup.now c.args.catalogue.now in
     let was = c.loop-at.invariant in
     let events = c.history-events.result.now in
-    let outcomes = c.outcomes-outcomes.result.now in
+    let outcomes : List Outcome = g.N.Recorded.outcomes_of c.args.node.now in
     let is = agrees_all c.loop-at.agree (length events) outcomes was.0 (verdicts rules [] c.args.packets.now events) c.loop-at.at c.loop-at-test.false was.1 (omega (arith, c.loop-at.auto.at-end))
     (kept_whole (λ s z. g.S.Scheme.pick s z) rules c.args.packets.now events c.loop-at.at was.0 c.loop-at.replay c.loop-at-test.false was.2) was.3 in
-    subst (λ (es : List Event). (c.loop-at.agree ≡ true) ↔ ((g.N.Recorded.record_of c.args.node.now).outcomes.items ≡ verdicts rules [] c.args.packets.now es)) c.history-events.ensures
-    (subst (λ (os : List Outcome). (c.loop-at.agree ≡ true) ↔ (os ≡ verdicts rules [] c.args.packets.now events)) c.outcomes-outcomes.ensures is)
+    subst (λ (es : List Event). (c.loop-at.agree ≡ true) ↔ (outcomes ≡ verdicts rules [] c.args.packets.now es)) c.history-events.ensures is

@@ -9,4 +9,4 @@ use Rattle.thread_records.proofs.audit.agrees.Given as goal
 abbrev pub invariant-loop-at : goal.invariant-loop-at
 invariant-loop-at g l = (told : List Outcome) × (length told ≡ l.at)
     × KeptSoFar (λ s z. g.S.Scheme.pick s z) (rules_for (λ s z. g.S.Scheme.pick s z) (λ h. g.H.FlowHash.plain h) l.setup l.catalogue) l.packets l.events l.at told l.run
-    × AgreesSoFar l.agree (length l.events) l.outcomes l.at told
+    × AgreesSoFar l.agree (length l.events) (g.N.Recorded.outcomes_of l.node) l.at told

@@ -8,6 +8,6 @@ abbrev pub invariant-loop-at : goal.invariant-loop-at
 invariant-loop-at l = record {
   places : l.start ≤ l.at;
   lives : l.life ≤ length l.sent;
-  rest : AreMergesFrom (λ v. map (λ n. send_of l.outcomes n) v.items) l.sent l.outcomes l.life l.start l.at → AreMerges (sends_told l.outcomes l.sent) (lives_of l.outcomes);
-  whole : AreMerges (sends_told l.outcomes l.sent) (lives_of l.outcomes) → AreMergesFrom (λ v. map (λ n. send_of l.outcomes n) v.items) l.sent l.outcomes l.life l.start l.at;
+  rest : AreMergesFrom (λ v. map (λ n. send_of l.outcomes.items n) v.items) l.sent l.outcomes.items l.life l.start l.at → AreMerges (sends_told l.outcomes.items l.sent) (lives_of l.outcomes.items);
+  whole : AreMerges (sends_told l.outcomes.items l.sent) (lives_of l.outcomes.items) → AreMergesFrom (λ v. map (λ n. send_of l.outcomes.items n) v.items) l.sent l.outcomes.items l.life l.start l.at;
 }

@@ -1,9 +1,12 @@
-use Rattle.std.proofs.Common.{arith}
-use Rattle.thread_records.proofs.Gathered.{senders_step}
+use Rattle.std.proofs.Common.{◌<◌, length, arith}
+use Rattle.thread_records.proofs.Gathered.{senders_step, event_at}
 use Rattle.thread_records.proofs.merging.senders.Goals as goal
 
-pub loop-one-preserved : goal.loop-one-preserved
-loop-one-preserved c = record {
-  from = senders_step c.loop-one.limit c.max-limit.result c.sender_limit.result c.args.list.now c.loop-one.one-index c.one-item.result c.loop-one-test.true c.one-item.is (omega (arith, c.max-limit.ensures)) (omega (arith, c.max-limit.ensures)) c.loop-one.invariant.from c.sender_limit.ensures.from;
-  limit = omega (arith, c.max-limit.ensures, c.loop-one.invariant.limit, c.sender_limit.ensures.limit);
-}
+pub loop-at-preserved : goal.loop-at-preserved
+loop-at-preserved c =
+    let within : c.loop-at.at < length c.args.outcomes.now.items = omega (arith, c.loop-at-test.true, c.len-at-end.ensures) in
+    record {
+      from = senders_step c.loop-at.limit c.max-limit.result c.sender_limit.result c.args.outcomes.now.items c.loop-at.at c.send_of.result within (event_at c.args.outcomes.now.items c.loop-at.at c.send_of.result within c.send_of.ensures)
+          (omega (arith, c.max-limit.ensures)) (omega (arith, c.max-limit.ensures)) c.loop-at.invariant.from c.sender_limit.ensures.from;
+      limit = omega (arith, c.max-limit.ensures, c.loop-at.invariant.limit, c.sender_limit.ensures.limit);
+    }

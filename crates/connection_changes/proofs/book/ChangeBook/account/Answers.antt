@@ -1,6 +1,3 @@
-use Rattle.std.proofs.Common.{◌≡◌, ℕ, List, refl, ap, ◌∙◌, length}
-use Rattle.run_report.specs.declared.sending.Split.{Split}
-use Rattle.connection_changes.specs.declared.causes.Change.{Change}
 use Rattle.connection_changes.proofs.Reckoned.{same_reckoning}
 use Rattle.connection_changes.proofs.book.ChangeBook.account.Goals as goal
 

@@ -1,4 +1,4 @@
-use Rattle.std.proofs.Common.{◌≡◌, ◌∷◌, Option, ap, ◌∙◌}
+use Rattle.std.proofs.Common.{Option, ap, ◌∙◌}
 use Rattle.std.specs.Prelude.{option_copied, if◌then◌else◌}
 use Rattle.event_trace.specs.Noting.{said_by}
 use Rattle.connection_changes.specs.declared.sites.Served.{Served}

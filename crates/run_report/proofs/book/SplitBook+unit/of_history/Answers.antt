@@ -1,4 +1,4 @@
-use Rattle.std.proofs.Common.{[], ◌++◌, List, subst, reverse}
+use Rattle.std.proofs.Common.{[], List, subst, reverse}
 use Rattle.std.proofs.lemmas.List.{append-nil}
 use Rattle.cluster_node.specs.declared.events.LogEntry.{LogEntry}
 use Rattle.run_report.specs.Splits.{said_of}

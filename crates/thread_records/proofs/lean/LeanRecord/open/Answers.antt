@@ -9,12 +9,11 @@ use Rattle.thread_records.proofs.lean.LeanRecord.open.Goals as goal
 pub returns : goal.returns
 returns c =
     let os : List Outcome = c.self.inside.outcomes.items in
-    let r : NodeRecord = record { events = c.self.inside.events; outcomes = c.self.inside.outcomes; sent = c.in_ok-sent.sent } in
+    let r : NodeRecord = record { events = c.self.inside.events; outcomes = c.in_ok-outcomes.outcomes; sent = c.in_ok-sent.sent } in
     subst (λ (l : NodeRecord). SameLists r l) c.self.view_is (record {
       events = refl;
-      outcomes = refl;
+      outcomes = c.in_ok-outcomes.ensures;
       sent = c.in_ok-sent.ensures
-          ∙ ap (λ (l : List Outcome). sends_told l c.as_slice-2.result.now) c.as_slice.ensures.value
-          ∙ ap (λ (vs : List (Vec ℕ)). sends_told os vs) c.as_slice-2.ensures.value
+          ∙ ap (λ (vs : List (Vec ℕ)). sends_told os vs) c.as_slice.ensures.value
           ∙ sym (lists_told (λ n. send_of os n) c.self.inside.sent.items);
     })

@@ -1,0 +1,126 @@
+//! Backends, each at a place that it keeps.
+ghost use Rattle.std.specs.Prelude.{◌≡◌, [], true, Some, IfOk, IfSome, slice_get, option_copied};
+ghost use Rattle.backend_places.specs.Places.{Keeps};
+
+use backend_names::Name;
+use pool_versions::Backend;
+use std::alloc::{AllocError, Global};
+use std::collections::BTreeMap;
+use std::fmt;
+use std::marker::Model;
+
+/// How many hints there are: a power of two, so that an address's hint is found by its low bits.
+const HINTS: usize = 64;
+
+/// Backends, each at a place, from 0 on in the order in which they came. There are at most 4,294,967,296 of them; one more is
+/// refused, as memory is.
+#[derive(Drop)]
+pub struct Backends {
+    all: Vec<Backend>,
+    // For the low bits of an address the place that was found last. It is compared before it is believed.
+    hints: [u32; HINTS],
+    // Where each was put. Addresses stand in front: mostly they differ, and are compared at once.
+    places: BTreeMap<(u32, Name), u32>,
+}
+
+impl Model for Backends {
+    ghost use Rattle.std.specs.Prelude.{List};
+    ghost use Rattle.pool_versions.specs.declared.backend.Backend.{Backend};
+
+    // the backends, that of place 0 in front
+    ghost Value = { List Backend };
+
+    ghost view = { λ b. b.all.items };
+}
+
+impl fmt::Debug for Backends {
+    fn fmt<W: fmt::Write>(&self, f: &mut fmt::Formatter<W>) -> fmt::Result {
+        f.debug_struct("Backends")
+            .field("len", &self.all.len())
+            .finish_non_exhaustive()
+    }
+}
+
+impl Backends {
+    /// No backends. This takes no memory.
+    pub fn new(alloc: Global) -> Backends
+        ensures { result ≡ [] }
+    {
+        Backends {
+            all: Vec::new(alloc),
+            hints: [0; HINTS],
+            places: BTreeMap::new(alloc),
+        }
+    }
+
+    /// The backend at a place.
+    #[inline(always)]
+    pub fn at(&self, place: u32) -> Option<&Backend>
+        ensures { option_copied result ≡ slice_get self.now place }
+    {
+        self.all.get(place as usize)
+    }
+
+    /// Whether a place is this backend's.
+    #[inline(always)]
+    pub fn is_at(&self, place: u32, backend: &Backend) -> bool
+        ensures { result ≡ true → slice_get self.now place ≡ Some backend.now }
+    {
+        match self.at(place) {
+            None => false,
+            Some(there) => *there == *backend,
+        }
+    }
+
+    // The place at which this backend was put.
+    fn find(&self, backend: &Backend) -> Option<u32>
+        ensures { IfSome result (λ place. slice_get self.now place ≡ Some backend.now) }
+    {
+        let place = *self.places.get(&(backend.addr, backend.name))?;
+        self.is_at(place, backend).then_some(place)
+    }
+
+    // Puts a backend after the others.
+    fn push(&mut self, backend: &Backend) -> Result<u32, AllocError>
+        ensures place { IfOk result (λ place. slice_get self.new place ≡ Some backend.now) }
+        ensures others { Keeps self.old self.new }
+    {
+        let Ok(place) = u32::try_from(self.all.len()) else {
+            return Err(AllocError);
+        };
+        let Ok(_) = self.places.insert((backend.addr, backend.name), place) else {
+            return Err(AllocError);
+        };
+        let Ok(()) = self.all.push(*backend) else {
+            return Err(AllocError);
+        };
+        Ok(place)
+    }
+
+    // The place of a backend that no hint told.
+    fn find_or_push(&mut self, backend: &Backend) -> Result<u32, AllocError>
+        ensures place { IfOk result (λ place. slice_get self.new place ≡ Some backend.now) }
+        ensures others { Keeps self.old self.new }
+    {
+        match self.find(backend) {
+            Some(place) => Ok(place),
+            None => self.push(backend),
+        }
+    }
+
+    /// The place of a backend: a new one where it has none. Where memory is refused, the others keep their places too.
+    #[inline(always)]
+    pub fn place_of(&mut self, backend: &Backend) -> Result<u32, AllocError>
+        ensures place { IfOk result (λ place. slice_get self.new place ≡ Some backend.now) }
+        ensures others { Keeps self.old self.new }
+    {
+        let hint = backend.addr as usize % HINTS;
+        let told = self.hints[hint];
+        if self.is_at(told, backend) {
+            return Ok(told);
+        }
+        let place = self.find_or_push(backend)?;
+        self.hints[hint] = place;
+        Ok(place)
+    }
+}

@@ -1,0 +1,7 @@
+//! Tests of lists of outcomes, and of the places of their backends. With any one allocation refused they pass too.
+#![tactic(auto)]
+
+#[cfg(test)]
+mod lists;
+#[cfg(test)]
+mod places;

@@ -1,0 +1,5 @@
+pub mod Sends
+pub mod Inputs
+pub mod Firsts
+pub mod Store
+pub mod Traffic
