@@ -118,6 +118,9 @@ Example: echo 4500001c000100004011aece0a000001c000020103e8003500080000 | maglev 
 With --scenario FILE --version V the backend is the one that a new flow gets in the scenario's version V."
 );
 
+// Options are made out of line, since most of them stand in several commands.
+
+#[inline(never)]
 fn size<'a>(alloc: Global) -> Result<Arg<'a>, AllocError> {
     Arg::new(alloc, "size")
         .long("size")
@@ -128,6 +131,7 @@ fn size<'a>(alloc: Global) -> Result<Arg<'a>, AllocError> {
         .required_unless_present("described")
 }
 
+#[inline(never)]
 fn hash<'a>(alloc: Global) -> Result<Arg<'a>, AllocError> {
     Arg::new(alloc, "hash")
         .long("hash")
@@ -138,6 +142,7 @@ fn hash<'a>(alloc: Global) -> Result<Arg<'a>, AllocError> {
 }
 
 // The scenario whose size, hash and members a table has.
+#[inline(never)]
 fn described<'a>(alloc: Global) -> Result<Arg<'a>, AllocError> {
     Arg::new(alloc, "described")
         .long("scenario")
@@ -149,6 +154,7 @@ fn described<'a>(alloc: Global) -> Result<Arg<'a>, AllocError> {
 }
 
 // The same in place of names.
+#[inline(never)]
 fn with_names<'a>(alloc: Global) -> Result<Arg<'a>, AllocError> {
     described(alloc)?
         .requires_arg("version")?
@@ -156,6 +162,7 @@ fn with_names<'a>(alloc: Global) -> Result<Arg<'a>, AllocError> {
 }
 
 // The same in place of two lists of members.
+#[inline(never)]
 fn with_members<'a>(alloc: Global) -> Result<Arg<'a>, AllocError> {
     described(alloc)?
         .requires_arg("from")?
@@ -165,6 +172,7 @@ fn with_members<'a>(alloc: Global) -> Result<Arg<'a>, AllocError> {
 }
 
 // A version of that scenario.
+#[inline(never)]
 fn version_by<'a>(
     alloc: Global,
     id: &'a str,
@@ -181,10 +189,12 @@ fn version_by<'a>(
         .conflicts_with("size")
 }
 
+#[inline(never)]
 fn of_version<'a>(alloc: Global) -> Result<Arg<'a>, AllocError> {
     version_by(alloc, "version", "V", "number of the scenario's version")
 }
 
+#[inline(never)]
 fn service<'a>(alloc: Global) -> Result<Arg<'a>, AllocError> {
     Arg::new(alloc, "service")
         .long("service")
@@ -195,6 +205,7 @@ fn service<'a>(alloc: Global) -> Result<Arg<'a>, AllocError> {
         .conflicts_with("size")
 }
 
+#[inline(never)]
 fn names<'a>(alloc: Global) -> Result<Arg<'a>, AllocError> {
     Arg::new(alloc, "names")
         .value_name("NAME")
@@ -206,6 +217,7 @@ fn names<'a>(alloc: Global) -> Result<Arg<'a>, AllocError> {
         .required_unless_present("described")
 }
 
+#[inline(never)]
 fn no_check<'a>(alloc: Global) -> Arg<'a> {
     Arg::new(alloc, "no-check")
         .long("no-check")
@@ -243,6 +255,7 @@ fn pick<'a>(alloc: Global) -> Result<Command<'a>, AllocError> {
     begun(alloc, 1).after_help(PICK_HELP).args(args)
 }
 
+#[inline(never)]
 fn members<'a>(alloc: Global, id: &'a str, help: &'a str) -> Result<Arg<'a>, AllocError> {
     Arg::new(alloc, id)
         .long(id)
@@ -252,12 +265,14 @@ fn members<'a>(alloc: Global, id: &'a str, help: &'a str) -> Result<Arg<'a>, All
         .required_unless_present("described")
 }
 
+#[inline(never)]
 fn old<'a>(alloc: Global) -> Result<Arg<'a>, AllocError> {
     let help =
         "members before: NAME@ADDRESS, then *W for a weight from 1 to 16, then /down where it is down, joined by single spaces";
     members(alloc, "old", help)
 }
 
+#[inline(never)]
 fn new<'a>(alloc: Global) -> Result<Arg<'a>, AllocError> {
     members(alloc, "new", "members after")
 }
@@ -284,6 +299,7 @@ fn compare<'a>(alloc: Global) -> Result<Command<'a>, AllocError> {
     begun(alloc, 2).after_help(COMPARE_HELP).args(args)
 }
 
+#[inline(never)]
 fn file<'a>(alloc: Global, id: &'a str, name: &'a str, help: &'a str) -> Arg<'a> {
     Arg::new(alloc, id)
         .value_name(name)
@@ -292,21 +308,25 @@ fn file<'a>(alloc: Global, id: &'a str, name: &'a str, help: &'a str) -> Arg<'a>
         .action(ArgAction::Set)
 }
 
+#[inline(never)]
 fn scenario<'a>(alloc: Global) -> Arg<'a> {
     let help = "file of the scenario: TOML, at most 1,048,576 bytes";
     file(alloc, "scenario", "SCENARIO", help)
 }
 
+#[inline(never)]
 fn input<'a>(alloc: Global) -> Arg<'a> {
     let help = "capture that is read: classic pcap of Ethernet or raw IP";
     file(alloc, "input", "INPUT", help)
 }
 
+#[inline(never)]
 fn output<'a>(alloc: Global) -> Arg<'a> {
     let help = "capture that is written: what the cluster sends, in GRE";
     file(alloc, "output", "OUTPUT", help)
 }
 
+#[inline(never)]
 fn event<'a>(alloc: Global, id: &'a str, name: &'a str) -> Arg<'a> {
     Arg::new(alloc, id)
         .value_name(name)
@@ -316,6 +336,7 @@ fn event<'a>(alloc: Global, id: &'a str, name: &'a str) -> Arg<'a> {
         .value_parser(value_parser!(u64))
 }
 
+#[inline(never)]
 fn verbose<'a>(alloc: Global, help: &'a str) -> Arg<'a> {
     Arg::new(alloc, "verbose")
         .short('v')
@@ -325,21 +346,25 @@ fn verbose<'a>(alloc: Global, help: &'a str) -> Arg<'a> {
 }
 
 // What a command without a scenario says more.
+#[inline(never)]
 fn of_words<'a>(alloc: Global) -> Arg<'a> {
     verbose(alloc, "say which word is wrong and what was expected")
 }
 
 // What a command with a scenario says more.
+#[inline(never)]
 fn of_places<'a>(alloc: Global) -> Arg<'a> {
     let help = "say where a fault is and what was expected, or warn of what may not be meant";
     verbose(alloc, help)
 }
 
 // What a command with a capture alone says more.
+#[inline(never)]
 fn of_captures<'a>(alloc: Global) -> Arg<'a> {
     verbose(alloc, "say where a fault is and what was expected")
 }
 
+#[inline(never)]
 fn splits<'a>(alloc: Global) -> Arg<'a> {
     Arg::new(alloc, "splits")
         .long("splits")
@@ -347,6 +372,7 @@ fn splits<'a>(alloc: Global) -> Arg<'a> {
         .action(ArgAction::SetTrue)
 }
 
+#[inline(never)]
 fn places<'a>(alloc: Global) -> Arg<'a> {
     Arg::new(alloc, "where")
         .long("where")
@@ -356,6 +382,7 @@ fn places<'a>(alloc: Global) -> Arg<'a> {
         .action(ArgAction::SetTrue)
 }
 
+#[inline(never)]
 fn summary<'a>(alloc: Global) -> Arg<'a> {
     Arg::new(alloc, "summary")
         .long("summary")
@@ -365,6 +392,7 @@ fn summary<'a>(alloc: Global) -> Arg<'a> {
         .action(ArgAction::SetTrue)
 }
 
+#[inline(never)]
 fn syn<'a>(alloc: Global) -> Arg<'a> {
     Arg::new(alloc, "syn")
         .long("syn")
@@ -374,6 +402,7 @@ fn syn<'a>(alloc: Global) -> Arg<'a> {
         .action(ArgAction::SetTrue)
 }
 
+#[inline(never)]
 fn syn_after<'a>(alloc: Global) -> Arg<'a> {
     Arg::new(alloc, "syn-after")
         .long("syn-after")
@@ -384,6 +413,7 @@ fn syn_after<'a>(alloc: Global) -> Arg<'a> {
         .action(ArgAction::Set)
 }
 
+#[inline(never)]
 fn backends<'a>(alloc: Global) -> Arg<'a> {
     Arg::new(alloc, "per-backend")
         .long("per-backend")
@@ -393,6 +423,7 @@ fn backends<'a>(alloc: Global) -> Arg<'a> {
         .action(ArgAction::SetTrue)
 }
 
+#[inline(never)]
 fn nodes<'a>(alloc: Global) -> Arg<'a> {
     Arg::new(alloc, "per-node")
         .long("per-node")
@@ -403,6 +434,7 @@ fn nodes<'a>(alloc: Global) -> Arg<'a> {
 /// What may be done with records that a snap length cut.
 const WAYS_WITH_CUT: [&str; 1] = ["pad"];
 
+#[inline(never)]
 fn cut<'a>(alloc: Global) -> Arg<'a> {
     Arg::new(alloc, "cut")
         .long("cut")
@@ -412,6 +444,7 @@ fn cut<'a>(alloc: Global) -> Arg<'a> {
         .value_parser(WAYS_WITH_CUT.as_slice())
 }
 
+#[inline(never)]
 fn progress<'a>(alloc: Global) -> Arg<'a> {
     Arg::new(alloc, "progress")
         .long("progress")
@@ -421,6 +454,7 @@ fn progress<'a>(alloc: Global) -> Arg<'a> {
         .action(ArgAction::SetTrue)
 }
 
+#[inline(never)]
 fn pace<'a>(alloc: Global) -> Arg<'a> {
     Arg::new(alloc, "pace")
         .long("pace")
@@ -428,6 +462,7 @@ fn pace<'a>(alloc: Global) -> Arg<'a> {
         .action(ArgAction::SetTrue)
 }
 
+#[inline(never)]
 fn json<'a>(alloc: Global) -> Arg<'a> {
     Arg::new(alloc, "json")
         .long("json")
@@ -437,6 +472,7 @@ fn json<'a>(alloc: Global) -> Arg<'a> {
         .action(ArgAction::SetTrue)
 }
 
+#[inline(never)]
 fn fail_above<'a>(alloc: Global) -> Arg<'a> {
     Arg::new(alloc, "fail-above")
         .long("fail-above")
@@ -447,6 +483,7 @@ fn fail_above<'a>(alloc: Global) -> Arg<'a> {
         .action(ArgAction::Set)
 }
 
+#[inline(never)]
 fn node<'a>(alloc: Global) -> Arg<'a> {
     Arg::new(alloc, "node")
         .long("node")
@@ -458,6 +495,7 @@ fn node<'a>(alloc: Global) -> Arg<'a> {
         .value_parser(value_parser!(u16))
 }
 
+#[inline(never)]
 fn list<'a>(alloc: Global) -> Arg<'a> {
     Arg::new(alloc, "list")
         .long("list")
@@ -465,6 +503,7 @@ fn list<'a>(alloc: Global) -> Arg<'a> {
         .action(ArgAction::SetTrue)
 }
 
+#[inline(never)]
 fn list_two<'a>(alloc: Global) -> Arg<'a> {
     Arg::new(alloc, "list")
         .long("list")
@@ -472,6 +511,7 @@ fn list_two<'a>(alloc: Global) -> Arg<'a> {
         .action(ArgAction::SetTrue)
 }
 
+#[inline(never)]
 fn version<'a>(alloc: Global, id: &'a str, name: &'a str, help: &'a str) -> Arg<'a> {
     Arg::new(alloc, id)
         .value_name(name)
@@ -480,6 +520,7 @@ fn version<'a>(alloc: Global, id: &'a str, name: &'a str, help: &'a str) -> Arg<
         .value_parser(value_parser!(u32))
 }
 
+#[inline(never)]
 fn in_orders<'a>(alloc: Global) -> Arg<'a> {
     Arg::new(alloc, "order")
         .long("order")
