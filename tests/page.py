@@ -401,6 +401,15 @@ def test_what_cannot_be_read_or_written():
     for half in (b"\\ud800", b"\\udfff x", b"\\udc00\\ud800"):
         refused(f"half a pair, {half.decode()}", b'{"type":"maglev","version":1,"command":"' + half + b'"}\n')
         refused(f"half a pair in a name, {half.decode()}", b'{"type":"backend","version":1,"backend":"' + half + b'","address":"a","packets":1,"bytes":1,"flows":1}\n')
+    refused("a capture", bytes.fromhex("d4c3b2a1") + bytes(range(256)) * 64)
+    with tempfile.TemporaryDirectory() as folder:
+        text = '{"type":"maglev","version":1,"command":"plan"}\n'
+        (Path(folder) / "in.jsonl").write_text(text)
+        (Path(folder) / "link.html").symlink_to("in.jsonl")
+        for out in ("in.jsonl", "./in.jsonl", "link.html"):
+            done = subprocess.run([sys.executable, TOOL, "in.jsonl", out], cwd=folder, capture_output=True, text=True, timeout=60, check=False)
+            said = (done.returncode, done.stderr, (Path(folder) / "in.jsonl").read_text())
+            check(f"{out}: IN is no OUT", said == (1, "report.py: OUT is the file of IN\n", text), said)
     page, _ = page_of("a whole pair", '{"type":"maglev","version":1,"command":"\\ud83d\\ude00"}\n')
     check("a whole pair: it is shown", "\U0001f600" in page, page[-80:])
 

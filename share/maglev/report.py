@@ -9,6 +9,7 @@ standard input or standard output.
 import collections
 import html
 import json
+import os
 import sys
 
 # The version of the objects; the most rows of a table of splits, of a plan's or of an answer's, and of any other, which is how many
@@ -329,7 +330,7 @@ def over_time(told):
     ends = [each[2].ends() for each in drawn]
     first, last = min(end[0] for end in ends), max(end[1] for end in ends)
     lines = "<p></p>".join(time_line(*each, first, last) for each in drawn)
-    return f"<h3>Over time</h3><p>From the earliest of them on.</p>{lines}"
+    return f"<h3>Over time</h3><p>0 s is {first / 1_000_000:.3f} s of the times in the table of connections.</p>{lines}"
 
 
 def more_of(shown, count, of=""):
@@ -540,6 +541,8 @@ def main(words):
     if len(words) != 2 or words[0] in ("-h", "--help"):
         print(__doc__.strip())
         return 0 if words[:1] in (["-h"], ["--help"]) else 2
+    if "-" not in words and os.path.exists(words[1]) and os.path.samefile(*words):
+        sys.exit("report.py: OUT is the file of IN")
     try:
         with opened(words[0], "r", sys.stdin) as lines:
             commands = told_by(lines)
@@ -551,6 +554,8 @@ def main(words):
             out.write(drawn)
     except OSError as fault:
         sys.exit(f"report.py: {fault}")
+    except UnicodeDecodeError:
+        sys.exit(f"report.py: {words[0]} isn't of maglev --json: it is no text of UTF-8")
     except NOT_TOLD as fault:
         sys.exit(f"report.py: {words[0]} isn't of maglev --json: {fault!r}")
     return 0
