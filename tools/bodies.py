@@ -18,7 +18,7 @@ FUNCTION = re.compile(r'^[ ]*(pub(?:\(\w+\))? )?(?:const )?(?:extern "C" )?fn (\
 OWNER = re.compile(r"^(?:pub(?:\(crate\))? )?(impl|trait)\b(.*)$", re.M)
 TOKEN = re.compile(r'"(?:\\.|[^"\\])*"|\'(?:\\.|[^\'\\])\'|//[^\n]*|\b(?:ensures|requires)\b|[][(){};]')
 # A function that does nothing when it runs: its clauses are a law, and no body can be wrong.
-LAW = re.compile(r"(?:\)|Log<A>)\s+(?:ensures [^\n]*\n\s*)+\{(?:(?:\s*let _\w* = [^;]*;)*|\s*\w+ \{ of: PhantomData \})\s*\}\Z")
+LAW = re.compile(r"(?:\)|Log<A>)\s+(?:ensures [^\n]*\n(?: +[^ {][^\n]*\n)*?\s*)+\{(?:(?:\s*let _\w* = [^;]*;)*|\s*\w+ \{ of: PhantomData \})\s*\}\Z")
 PAIR = re.compile(r"^old: (.*)\nnew: ?(.*)$", re.M)
 
 

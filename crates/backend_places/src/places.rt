@@ -1,5 +1,5 @@
 //! Backends, each at a place that it keeps.
-ghost use Rattle.std.specs.Prelude.{◌≡◌, [], true, Some, IfOk, IfSome, slice_get, option_copied};
+ghost use Rattle.std.specs.Prelude.{◌≡◌, ◌++◌, ◌∷◌, ◌⊎◌, [], true, false, Some, IfOk, IfSome, OnOk, OnErr, slice_get, option_copied};
 ghost use Rattle.backend_places.specs.Places.{Keeps};
 
 use backend_names::Name;
@@ -64,7 +64,8 @@ impl Backends {
     /// Whether a place is this backend's.
     #[inline(always)]
     pub fn is_at(&self, place: u32, backend: &Backend) -> bool
-        ensures { result ≡ true → slice_get self.now place ≡ Some backend.now }
+        ensures there { result ≡ true → slice_get self.now place ≡ Some backend.now }
+        ensures elsewhere { result ≡ false → slice_get self.now place ≡ Some backend.now → ⊥ }
     {
         match self.at(place) {
             None => false,
@@ -84,6 +85,8 @@ impl Backends {
     fn push(&mut self, backend: &Backend) -> Result<u32, AllocError>
         ensures place { IfOk result (λ place. slice_get self.new place ≡ Some backend.now) }
         ensures others { Keeps self.old self.new }
+        ensures grown { OnOk result (self.new ≡ self.old ++ backend.now ∷ []) }
+        ensures refused { OnErr result (self.new ≡ self.old) }
     {
         let Ok(place) = u32::try_from(self.all.len()) else {
             return Err(AllocError);
@@ -101,6 +104,8 @@ impl Backends {
     fn find_or_push(&mut self, backend: &Backend) -> Result<u32, AllocError>
         ensures place { IfOk result (λ place. slice_get self.new place ≡ Some backend.now) }
         ensures others { Keeps self.old self.new }
+        ensures grown { OnOk result ((self.new ≡ self.old) ⊎ (self.new ≡ self.old ++ backend.now ∷ [])) }
+        ensures refused { OnErr result (self.new ≡ self.old) }
     {
         match self.find(backend) {
             Some(place) => Ok(place),
@@ -113,6 +118,8 @@ impl Backends {
     pub fn place_of(&mut self, backend: &Backend) -> Result<u32, AllocError>
         ensures place { IfOk result (λ place. slice_get self.new place ≡ Some backend.now) }
         ensures others { Keeps self.old self.new }
+        ensures grown { OnOk result ((self.new ≡ self.old) ⊎ (self.new ≡ self.old ++ backend.now ∷ [])) }
+        ensures refused { OnErr result (self.new ≡ self.old) }
     {
         let hint = backend.addr as usize % HINTS;
         let told = self.hints[hint];

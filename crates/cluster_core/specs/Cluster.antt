@@ -61,5 +61,7 @@ pub record TakesFirst (k : Cluster) (past : List LogEntry) (e : Event) (n w plac
 -- What a cluster's judge owes to whoever keeps the waiting packets. No worker serves more than was placed on it. What is
 -- sent is the packet that waits first.
 pub record Orderly (k : Cluster) : Type 0 where
-  pub sound : (past : List LogEntry) → Judged k.judge past → (n w : ℕ) → n < k.nodes → w < k.workers → taken_count (lines_at past n w) ≤ length (placed (lines_at past n w))
-  pub first : (past : List LogEntry) (e : Event) (p : Option Packet) (n w place : ℕ) (x : Flow) (b : Backend) (v : ℕ) → k.judge past e p ≡ Forward n w place x b v → TakesFirst k past e n w place
+  pub sound : (past : List LogEntry) → Judged k.judge past → (n w : ℕ) → n < k.nodes → w < k.workers →
+      taken_count (lines_at past n w) ≤ length (placed (lines_at past n w))
+  pub first : (past : List LogEntry) (e : Event) (p : Option Packet) (n w place : ℕ) (x : Flow) (b : Backend) (v : ℕ) →
+      k.judge past e p ≡ Forward n w place x b v → TakesFirst k past e n w place

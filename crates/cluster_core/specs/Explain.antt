@@ -50,4 +50,5 @@ Explains rules slot s NotSent = Unit {0}
 Explains rules slot s OtherFlow = Unit {0}
 Explains rules slot s Same = Unit {0}
 Explains rules slot None (Split k v₁ v₂ b₁ b₂) = ⊥
-Explains rules slot (Some s) (Split k v₁ v₂ b₁ b₂) = (k ≡ slot s.flow) × (pick_under rules v₁ s.flow ≡ Some b₁) × (pick_under rules v₂ s.flow ≡ Some b₂) × (b₁ ≡ b₂ → ⊥)
+Explains rules slot (Some s) (Split k v₁ v₂ b₁ b₂) = (k ≡ slot s.flow) × (pick_under rules v₁ s.flow ≡ Some b₁) × (pick_under rules v₂ s.flow ≡ Some b₂)
+    × (b₁ ≡ b₂ → ⊥)

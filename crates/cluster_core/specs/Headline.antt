@@ -86,7 +86,8 @@ Keeps rules past (Serve n w v r) o = (i : Item) (e : Entry) → accepted o ≡ t
 abbrev pub Keeping : Rules → List LogEntry → List Packet → List Event → List Outcome → Type 0
 Keeping rules past packets [] os = Unit {0}
 Keeping rules past packets (e ∷ es) [] = ⊥
-Keeping rules past packets (e ∷ es) (o ∷ os) = Keeps rules past e o × Keeping rules (record { event = e; packet = packet_of packets e; outcome = o } ∷ past) packets es os
+Keeping rules past packets (e ∷ es) (o ∷ os) = Keeps rules past e o
+    × Keeping rules (record { event = e; packet = packet_of packets e; outcome = o } ∷ past) packets es os
 
 -- Of the same, what is said where the backend is up under the serving's version, whoever drains.
 abbrev pub KeepsUps : Rules → List LogEntry → Event → Outcome → Type 0
@@ -101,4 +102,5 @@ KeepsUps rules past (Serve n w v r) o = (i : Item) (e : Entry) → accepted o �
 abbrev pub KeepingUps : Rules → List LogEntry → List Packet → List Event → List Outcome → Type 0
 KeepingUps rules past packets [] os = Unit {0}
 KeepingUps rules past packets (e ∷ es) [] = ⊥
-KeepingUps rules past packets (e ∷ es) (o ∷ os) = KeepsUps rules past e o × KeepingUps rules (record { event = e; packet = packet_of packets e; outcome = o } ∷ past) packets es os
+KeepingUps rules past packets (e ∷ es) (o ∷ os) = KeepsUps rules past e o
+    × KeepingUps rules (record { event = e; packet = packet_of packets e; outcome = o } ∷ past) packets es os

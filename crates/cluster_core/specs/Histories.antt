@@ -22,22 +22,26 @@ IsSteady rules = (ups : Candidates) (x : Flow) (t u : ℕ) → rules.pick ups x 
 
 -- no worker serves more than was placed on it
 abbrev pub ServesWhatWasPlaced : Type 0
-ServesWhatWasPlaced = (rules : Rules) (past : List LogEntry) → Judged (verdict rules) past → (n w : ℕ) → taken_count (lines_at past n w) ≤ length (placed (lines_at past n w))
+ServesWhatWasPlaced = (rules : Rules) (past : List LogEntry) → Judged (verdict rules) past → (n w : ℕ) →
+    taken_count (lines_at past n w) ≤ length (placed (lines_at past n w))
 
 -- what is sent is the packet that waits first for the worker
 abbrev pub SendsWhatWaitsFirst : Type 0
-SendsWhatWaitsFirst = (rules : Rules) (past : List LogEntry) (e : Event) (p : Option Packet) (n w place : ℕ) (x : Flow) (b : Backend) (v : ℕ) → verdict rules past e p ≡ Forward n w place x b v → TakesFirst (cluster_by rules) past e n w place
+SendsWhatWaitsFirst = (rules : Rules) (past : List LogEntry) (e : Event) (p : Option Packet) (n w place : ℕ) (x : Flow) (b : Backend) (v : ℕ) →
+    verdict rules past e p ≡ Forward n w place x b v → TakesFirst (cluster_by rules) past e n w place
 
 abbrev pub outcomes_of : List LogEntry → List Outcome
 outcomes_of history = map (λ s. s.outcome) history
 
 -- what was sent went to the pick under its origin
 abbrev pub SendsFollowPicks : Type 0
-SendsFollowPicks = (rules : Rules) (history : List LogEntry) → IsSteady rules → Judged (verdict rules) (reverse history) → PickedSends rules (outcomes_of history)
+SendsFollowPicks = (rules : Rules) (history : List LogEntry) → IsSteady rules → Judged (verdict rules) (reverse history) →
+    PickedSends rules (outcomes_of history)
 
 -- a history's outcomes put into the queues, and take out, what its record says
 abbrev pub HistoriesCount : Type 0
-HistoriesCount = (history : List LogEntry) → (came_all (outcomes_of history) ≡ came_of (reverse history)) × (went_all (outcomes_of history) ≡ went_of (reverse history))
+HistoriesCount = (history : List LogEntry) → (came_all (outcomes_of history) ≡ came_of (reverse history))
+    × (went_all (outcomes_of history) ≡ went_of (reverse history))
 
 -- the packets of a record were read
 abbrev pub AllRead : List LogEntry → Type 0

@@ -17,18 +17,21 @@ use Rattle.cluster_core.specs.Blocks.{Ask, serves, own, past_after}
 
 -- a serving's verdict depends on the worker's own lines and the versions installed on its node alone
 abbrev pub ServesDependOnOwnLines : Type 0
-ServesDependOnOwnLines = (rules : Rules) (a b : List LogEntry) (n w v : ℕ) (r : Bool) → lines_of w a ≡ lines_of w b → installed_of a ≡ installed_of b → serve_verdict rules a n w v r ≡ serve_verdict rules b n w v r
+ServesDependOnOwnLines = (rules : Rules) (a b : List LogEntry) (n w v : ℕ) (r : Bool) → lines_of w a ≡ lines_of w b → installed_of a ≡ installed_of b →
+    serve_verdict rules a n w v r ≡ serve_verdict rules b n w v r
 
 -- the outcomes of servings of one worker, one after another, are what its own lines say, and the rest follows the record
 -- with them
 abbrev pub ServesStandInBlocks : Type 0
 ServesStandInBlocks = (rules : Rules) (n w : ℕ) → n < rules.nodes → (packets : List Packet) (past : List LogEntry) (asks : List Ask) (rest : List Event) →
-    verdicts rules past packets (serves n w asks ++ rest) ≡ own rules (installed_of (of_node n past)) (lines_at past n w) n w asks ++ verdicts rules (past_after rules past n w asks) packets rest
+    verdicts rules past packets (serves n w asks ++ rest) ≡ own rules (installed_of (of_node n past)) (lines_at past n w) n w asks
+    ++ verdicts rules (past_after rules past n w asks) packets rest
 
 -- they leave the lines of every other worker, and the installed versions
 abbrev pub BlocksLeaveOthers : Type 0
 BlocksLeaveOthers = (rules : Rules) (n w : ℕ) → n < rules.nodes → (u : ℕ) → (w ≡ u → ⊥) → (past : List LogEntry) (asks : List Ask) →
-    (lines_at (past_after rules past n w asks) n u ≡ lines_at past n u) × (installed_of (of_node n (past_after rules past n w asks)) ≡ installed_of (of_node n past))
+    (lines_at (past_after rules past n w asks) n u ≡ lines_at past n u)
+    × (installed_of (of_node n (past_after rules past n w asks)) ≡ installed_of (of_node n past))
 
 -- the record after some events
 abbrev pub record_after : Rules → List LogEntry → List Packet → List Event → List LogEntry
@@ -48,10 +51,14 @@ pub record LeavesArrivals (rules : Rules) (had has : List LogEntry) : Type 0 whe
   pub placed : placed_count has ≡ placed_count had
 
 abbrev pub BlocksLeaveArrivals : Type 0
-BlocksLeaveArrivals = (rules : Rules) (n w : ℕ) (past : List LogEntry) (asks : List Ask) → LeavesArrivals rules (of_node n past) (of_node n (past_after rules past n w asks))
+BlocksLeaveArrivals = (rules : Rules) (n w : ℕ) (past : List LogEntry) (asks : List Ask) →
+    LeavesArrivals rules (of_node n past) (of_node n (past_after rules past n w asks))
 
 -- All packets are placed before all servings. Then the outcome of the next serving of a worker that popped the first packets
 -- in order is what its forwarder answers after its own servings.
 abbrev pub ServesFollowPackets : Type 0
-ServesFollowPackets = (rules : Rules) (items : List Item) (done : List Handling) (i : Item) (v : ℕ) (r : Bool) → Popped items done → slice_get items (length done) ≡ Some i →
-    taken rules (settled items done) v r ≡ (if nat_lt v i.floor || nat_lt v (greatest done) then Behind else Done i (told_after rules.pick rules.capacity rules.idle (told rules.pick rules.capacity rules.idle (map (serving rules) done)) (serving_under (rules.ups v) v i r)).choice)
+ServesFollowPackets = (rules : Rules) (items : List Item) (done : List Handling) (i : Item) (v : ℕ) (r : Bool) → Popped items done →
+    slice_get items (length done) ≡ Some i →
+    taken rules (settled items done) v r ≡ (if nat_lt v i.floor || nat_lt v (greatest done) then Behind
+    else Done i (told_after rules.pick rules.capacity rules.idle (told rules.pick rules.capacity rules.idle (map (serving rules) done))
+    (serving_under (rules.ups v) v i r)).choice)

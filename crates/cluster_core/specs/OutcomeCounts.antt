@@ -3,7 +3,8 @@ use Rattle.std.specs.Prelude.{ℕ, ◌+◌, Bool, true, false, List, [], ◌∷�
 use Rattle.cluster_node.specs.declared.outcomes.Outcome.{Outcome}
 use Rattle.cluster_node.specs.declared.outcomes.Outcome.TheVariants.{Installed, Placed, Forward, Dropped, Restarted, Refused}
 use Rattle.cluster_node.specs.declared.outcomes.Cause.{Cause}
-use Rattle.cluster_node.specs.declared.outcomes.Cause.TheVariants.{NotIpv4, Truncated, BadHeader, BadChecksum, Fragment, NotTcpUdp, BadTransport, TooLarge, NoService, NoBackend, NoVersion, RingsFull, LostAtRestart}
+use Rattle.cluster_node.specs.declared.outcomes.Cause.TheVariants.{NotIpv4, Truncated, BadHeader, BadChecksum, Fragment, NotTcpUdp, BadTransport, TooLarge}
+use Rattle.cluster_node.specs.declared.outcomes.Cause.TheVariants.{NoService, NoBackend, NoVersion, RingsFull, LostAtRestart}
 
 abbrev pub number : Cause → ℕ
 number NotIpv4 = 1
@@ -83,11 +84,14 @@ drops_all k os = how_many (λ o. drops k o) os
 
 -- all drops but those that a restart counts
 abbrev pub dropped : List Outcome → ℕ
-dropped os = drops_all 1 os + (drops_all 2 os + (drops_all 3 os + (drops_all 4 os + (drops_all 5 os + (drops_all 6 os + (drops_all 7 os + (drops_all 8 os + (drops_all 9 os + (drops_all 10 os + (drops_all 11 os + (drops_all 12 os + drops_all 13 os)))))))))))
+dropped os = drops_all 1 os + (drops_all 2 os + (drops_all 3 os
+    + (drops_all 4 os + (drops_all 5 os + (drops_all 6 os
+    + (drops_all 7 os + (drops_all 8 os + (drops_all 9 os + (drops_all 10 os + (drops_all 11 os + (drops_all 12 os + drops_all 13 os)))))))))))
 
 -- how many packets were dropped for each cause, by the causes' numbers; with the last cause also those lost at restarts
 abbrev pub drop_counts : List Outcome → List ℕ
-drop_counts os = drops_all 1 os ∷ drops_all 2 os ∷ drops_all 3 os ∷ drops_all 4 os ∷ drops_all 5 os ∷ drops_all 6 os ∷ drops_all 7 os ∷ drops_all 8 os ∷ drops_all 9 os ∷ drops_all 10 os ∷ drops_all 11 os ∷ drops_all 12 os ∷ (drops_all 13 os + lost_all os) ∷ []
+drop_counts os = drops_all 1 os ∷ drops_all 2 os ∷ drops_all 3 os ∷ drops_all 4 os ∷ drops_all 5 os ∷ drops_all 6 os ∷ drops_all 7 os ∷ drops_all 8 os
+    ∷ drops_all 9 os ∷ drops_all 10 os ∷ drops_all 11 os ∷ drops_all 12 os ∷ (drops_all 13 os + lost_all os) ∷ []
 
 abbrev pub is_placed : Outcome → Bool
 is_placed Installed = false

@@ -1,5 +1,5 @@
 //! Totals of outcomes, in one pass.
-ghost use Rattle.std.specs.Prelude.{◌≡◌, ◌≤◌, ◌<◌, ◌+◌, ◌^◌, ◌∷◌, [], ℕ, List, length, get_or, sum, if◌then◌else◌};
+ghost use Rattle.std.specs.Prelude.{◌≡◌, ◌≤◌, ◌<◌, ◌+◌, ◌^◌, ◌∷◌, [], List, length, get_or, sum, if◌then◌else◌};
 ghost use Rattle.cluster_node.specs.declared.outcomes.Outcome.{Outcome};
 ghost use Rattle.cluster_core.specs.OutcomeCounts.{number, at_serving, is_arrival, is_forward, lost_of, drop_counts, how_many, is_refused};
 ghost use Rattle.cluster_core.specs.Totals.{came_all, went_all};
@@ -81,7 +81,8 @@ impl Counter {
     // One outcome more.
     fn count(&mut self, outcome: &Outcome)
         requires { (rest : List Outcome) × (all : List Outcome) × Fits all × Leads (outcome.now ∷ rest) all self.old.kinds self.old.received self.old.lost }
-        ensures { (rest all : List Outcome) → Leads (outcome.now ∷ rest) all self.old.kinds self.old.received self.old.lost → Leads rest all self.new.kinds self.new.received self.new.lost }
+        ensures { (rest all : List Outcome) → Leads (outcome.now ∷ rest) all self.old.kinds self.old.received self.old.lost →
+            Leads rest all self.new.kinds self.new.received self.new.lost }
     {
         bump(&mut self.kinds, kind(outcome));
         self.received += arrivals(outcome);

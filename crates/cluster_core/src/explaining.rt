@@ -1,8 +1,8 @@
 //! Why two packets went where they went.
-ghost use Rattle.std.specs.Prelude.{◌≡◌, ◌<◌, IsTrue, true};
+ghost use Rattle.std.specs.Prelude.{◌≡◌, ◌<◌, true};
 ghost use Rattle.selection.specs.Picks.{slot_of_flow};
-ghost use Rattle.cluster_core.specs.Setups.{Fixed, rules_for};
-ghost use Rattle.cluster_core.specs.Explain.{Send, send_of, explained, PickedSend, Explains};
+ghost use Rattle.cluster_core.specs.Setups.{rules_for};
+ghost use Rattle.cluster_core.specs.Explain.{send_of, explained, PickedSend, Explains};
 
 use crate::fixed::Setup;
 use cluster_node::Outcome;

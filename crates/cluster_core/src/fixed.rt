@@ -45,9 +45,18 @@ impl<S: Scheme, H: FlowHash> Model for Setup<S, H> {
 
     ghost Value = { Fixed S H };
 
-    ghost view = { λ s. record { hash = s.hash; scheme = s.scheme; size = s.size; nodes = s.nodes.items; workers = s.workers; capacity = s.capacity; idle = s.idle } };
+    ghost view = { λ s. record {
+      hash = s.hash;
+      scheme = s.scheme;
+      size = s.size;
+      nodes = s.nodes.items;
+      workers = s.workers;
+      capacity = s.capacity;
+      idle = s.idle;
+    } };
 
-    ghost invariant = { λ s. (0 < length s.nodes.items) × (length s.nodes.items ≤ 64) × (0 < s.workers) × (s.workers ≤ 16) × (0 < s.capacity) × (s.capacity ≤ 1000000) };
+    ghost invariant = { λ s. (0 < length s.nodes.items) × (length s.nodes.items ≤ 64) × (0 < s.workers) × (s.workers ≤ 16) × (0 < s.capacity)
+        × (s.capacity ≤ 1000000) };
 }
 
 impl<S: Scheme, H: FlowHash> fmt::Debug for Setup<S, H> {
@@ -92,7 +101,8 @@ impl<S: Scheme, H: FlowHash> Setup<S, H> {
         idle: Option<u64>,
     ) -> Result<Self, SetupFault>
         ensures { MatchResult result
-            (λ s. (setup_fault (length nodes.items) workers capacity ≡ None) × (s ≡ record { hash = hash; scheme = scheme; size = size; nodes = nodes.items; workers = workers; capacity = capacity; idle = idle }))
+            (λ s. (setup_fault (length nodes.items) workers capacity ≡ None)
+            × (s ≡ record { hash = hash; scheme = scheme; size = size; nodes = nodes.items; workers = workers; capacity = capacity; idle = idle }))
             (λ fault. setup_fault (length nodes.items) workers capacity ≡ Some fault) }
     {
         match fault_of(nodes.len(), workers, capacity) {

@@ -1,8 +1,10 @@
 //! What a worker's servings depend on: its own packets and servings, and the versions installed on its node. So the
 //! servings of different workers may be written one worker after another. The clauses are the laws; the bodies do nothing.
-ghost use Rattle.cluster_core.specs.Laws.{ServesDependOnOwnLines, ServesStandInBlocks, BlocksLeaveOthers, BlocksLeaveArrivals, EventsLeaveOtherNodes, ServesFollowPackets};
+ghost use Rattle.cluster_core.specs.Laws.{ServesDependOnOwnLines, ServesStandInBlocks, BlocksLeaveOthers, BlocksLeaveArrivals, EventsLeaveOtherNodes};
+ghost use Rattle.cluster_core.specs.Laws.{ServesFollowPackets};
 ghost use Rattle.cluster_core.specs.Promises.{HistoriesKeepPromises, MaglevKeepsPromises, ListsKeepPromises};
-ghost use Rattle.cluster_core.specs.Histories.{ServesWhatWasPlaced, SendsWhatWaitsFirst, SendsFollowPicks, HistoriesCount, RecordsAreBalanced, ListsAreBalanced};
+ghost use Rattle.cluster_core.specs.Histories.{ServesWhatWasPlaced, SendsWhatWaitsFirst, SendsFollowPicks, HistoriesCount, RecordsAreBalanced};
+ghost use Rattle.cluster_core.specs.Histories.{ListsAreBalanced};
 
 /// The outcome of a serving is the same after every two records with the same lines of that worker and the same versions
 /// installed on its node. Servings of one worker, one after another, result in what its own lines say. They leave the lines

@@ -1,7 +1,7 @@
 //! Whole lists of events.
-ghost use Rattle.std.specs.Prelude.{◌≡◌, ◌≤◌, ◌<◌, ◌^◌, [], ℕ, true, length, Option, Some, None, IsTrue, IfOk, slice_get, option_copied};
+ghost use Rattle.std.specs.Prelude.{◌≡◌, ◌≤◌, ◌<◌, [], ℕ, true, length, Option, Some, None, IfOk, slice_get, option_copied};
 ghost use Rattle.cluster_node.specs.declared.packets.Packet.{Packet};
-ghost use Rattle.cluster_core.specs.Setups.{Fixed, rules_for};
+ghost use Rattle.cluster_core.specs.Setups.{rules_for};
 ghost use Rattle.cluster_core.specs.Runs.{packet_of, verdicts};
 ghost use Rattle.cluster_core.specs.Headline.{Agreement, Keeping, KeepingUps};
 ghost use Rattle.cluster_core.specs.Totals.{came_all, went_all};

@@ -1,16 +1,17 @@
 //! A cluster under events that are learnt one by one.
-ghost use Rattle.std.specs.Prelude.{◌≡◌, ◌≤◌, ◌<◌, ◌^◌, ◌∷◌, [], ℕ, true, false, List, length, Option, Some, None, IsTrue, IfOk, OnOk, OnErr, IsErr, option_copied, slice_get, replicate, is_some, insert};
-ghost use Rattle.pool_versions.specs.Pool.{Pools, version_at};
-ghost use Rattle.selection.specs.Readied.{Readied};
+ghost use Rattle.std.specs.Prelude.{◌≡◌, ◌<◌, ◌^◌, [], true, false, List, length, Option, Some, None, IsTrue, IfOk, OnOk, OnErr, IsErr};
+ghost use Rattle.std.specs.Prelude.{option_copied, slice_get, replicate, is_some};
+ghost use Rattle.pool_versions.specs.Pool.{Pools};
 ghost use Rattle.cluster_node.specs.Rules.{Rules};
 ghost use Rattle.cluster_node.specs.declared.events.LogEntry.{LogEntry};
-ghost use Rattle.cluster_node.specs.Record.{fresh, newest_of, lines_of};
-ghost use Rattle.cluster_core.specs.Setups.{Fixed, rules_for};
+ghost use Rattle.cluster_node.specs.Record.{fresh, newest_of};
+ghost use Rattle.cluster_core.specs.Setups.{rules_for};
 ghost use Rattle.cluster_core.specs.RunView.{RunView};
-ghost use Rattle.cluster_core.specs.Runs.{prepared_with, prepared_above, prepared_for, is_known_in, newest_at, queued_at, cluster_by, RunStands, RunGoes, RunPasses};
+ghost use Rattle.cluster_core.specs.Runs.{prepared_with, prepared_above, prepared_for, is_known_in, newest_at, queued_at, cluster_by, RunStands, RunGoes};
+ghost use Rattle.cluster_core.specs.Runs.{RunPasses};
 ghost use Rattle.cluster_core.specs.Cluster.{newest_on, waiting_on};
 ghost use Rattle.cluster_node.specs.declared.events.Event.TheVariants.{Arrive, Serve};
-ghost use Rattle.cluster_node.specs.Records.{WasRead, node_of, of_node};
+ghost use Rattle.cluster_node.specs.Records.{WasRead, node_of};
 
 use crate::fixed::Setup;
 use backend_names::TableSize;
@@ -129,14 +130,33 @@ fn prepare_for<S: Scheme>(
 impl<S: Scheme, T: ConnTable> Run<S, T> {
     /// A cluster in which nothing has happened. It represents the empty record.
     pub fn make<H: FlowHash>(alloc: Global, setup: &Setup<S, H>) -> Result<Self, AllocError>
-        ensures fresh { IfOk result (λ r. r ≡ record { failed = false; nodes = replicate (length setup.now.nodes) (record { newest = 0; installed = []; cursor = 0; workers = replicate setup.now.workers (fresh setup.now.capacity setup.now.idle) }); versions = [] }) }
-        ensures stands { (pools : Pools) → IfOk result (λ r. RunStands (λ s z. S.pick s z) (rules_for (λ s z. S.pick s z) (λ h. H.plain h) setup.now pools) [] r) }
+        ensures fresh { IfOk result (λ r. r ≡ record {
+          failed = false;
+          nodes = replicate (length setup.now.nodes) (record {
+            newest = 0;
+            installed = [];
+            cursor = 0;
+            workers = replicate setup.now.workers (fresh setup.now.capacity setup.now.idle);
+          });
+          versions = [];
+        }) }
+        ensures stands { (pools : Pools) → IfOk result (λ r.
+            RunStands (λ s z. S.pick s z) (rules_for (λ s z. S.pick s z) (λ h. H.plain h) setup.now pools) [] r) }
     {
         Self::make_fresh(alloc, setup)
     }
 
     fn make_fresh<H: FlowHash>(alloc: Global, setup: &Setup<S, H>) -> Result<Self, AllocError>
-        ensures fresh { IfOk result (λ r. r ≡ record { failed = false; nodes = replicate (length setup.now.nodes) (record { newest = 0; installed = []; cursor = 0; workers = replicate setup.now.workers (fresh setup.now.capacity setup.now.idle) }); versions = [] }) }
+        ensures fresh { IfOk result (λ r. r ≡ record {
+          failed = false;
+          nodes = replicate (length setup.now.nodes) (record {
+            newest = 0;
+            installed = [];
+            cursor = 0;
+            workers = replicate setup.now.workers (fresh setup.now.capacity setup.now.idle);
+          });
+          versions = [];
+        }) }
         ensures workers { 0 < setup.now.workers }
     {
         let workers = setup.workers();
@@ -162,7 +182,8 @@ impl<S: Scheme, T: ConnTable> Run<S, T> {
     /// A node's newest version, 0 where there is none.
     pub fn newest(&self, node: u16) -> u32
         ensures kept { result ≡ newest_at (slice_get self.now.nodes node) }
-        ensures said { (rules : Rules) → (past : List LogEntry) → RunStands (λ s z. S.pick s z) rules past self.now → result ≡ newest_on (cluster_by rules) node past }
+        ensures said { (rules : Rules) → (past : List LogEntry) → RunStands (λ s z. S.pick s z) rules past self.now →
+            result ≡ newest_on (cluster_by rules) node past }
     {
         self.newest_of(node)
     }
@@ -179,7 +200,8 @@ impl<S: Scheme, T: ConnTable> Run<S, T> {
     /// How many packets wait at a worker of a node.
     pub fn waiting(&self, node: u16, worker: u16) -> usize
         ensures kept { result ≡ queued_at worker (slice_get self.now.nodes node) }
-        ensures said { (rules : Rules) → (past : List LogEntry) → RunStands (λ s z. S.pick s z) rules past self.now → result ≡ waiting_on (cluster_by rules) node worker past }
+        ensures said { (rules : Rules) → (past : List LogEntry) → RunStands (λ s z. S.pick s z) rules past self.now →
+            result ≡ waiting_on (cluster_by rules) node worker past }
     {
         self.waiting_of(node, worker)
     }
@@ -276,7 +298,8 @@ impl<S: Scheme, T: ConnTable> Run<S, T> {
         requires read { WasRead (Some body.now) }
         ensures verdict { (pools : Pools) (past : List LogEntry) → let rules = rules_for (λ s z. S.pick s z) (λ h. H.plain h) setup.now pools in
             RunStands (λ s z. S.pick s z) rules past self.old →
-            OnOk result (RunPasses (λ s z. S.pick s z) rules past (Arrive node packet refused.now) body.now (λ w. Serve node w (newest_at (slice_get self.old.nodes node)) false) passed.new self.new) }
+            OnOk result (RunPasses (λ s z. S.pick s z) rules past (Arrive node packet refused.now) body.now
+            (λ w. Serve node w (newest_at (slice_get self.old.nodes node)) false) passed.new self.new) }
         ensures refused { OnErr result (IsTrue self.new.failed) }
         ensures failed { IsTrue self.old.failed → IsErr result }
     {
@@ -304,7 +327,8 @@ impl<S: Scheme, T: ConnTable> Run<S, T> {
         requires { WasRead (Some body.now) }
         ensures { (pools : Pools) (past : List LogEntry) → let rules = rules_for (λ s z. S.pick s z) (λ h. H.plain h) setup.now pools in
             RunStands (λ s z. S.pick s z) rules past self.old →
-            OnOk result (RunPasses (λ s z. S.pick s z) rules past (Arrive node packet refused.now) body.now (λ w. Serve node w (newest_at (slice_get self.old.nodes node)) false) passed.new self.new) }
+            OnOk result (RunPasses (λ s z. S.pick s z) rules past (Arrive node packet refused.now) body.now
+            (λ w. Serve node w (newest_at (slice_get self.old.nodes node)) false) passed.new self.new) }
     {
         let at = node as usize;
         if at >= self.nodes.len() {

@@ -52,7 +52,8 @@ greatest_used (took v r ∷ ls) = max v (greatest_used ls)
 
 -- what is reported of a serving of this packet
 abbrev pub told_next : Rules → List Line → Item → ℕ → Bool → Reply
-told_next rules ls i v r = told_after rules.pick rules.capacity rules.idle (told rules.pick rules.capacity rules.idle (servings rules ls)) (serving_under (rules.ups v) v i r)
+told_next rules ls i v r = told_after rules.pick rules.capacity rules.idle (told rules.pick rules.capacity rules.idle (servings rules ls))
+    (serving_under (rules.ups v) v i r)
 
 abbrev pub taken_of : Rules → List Line → Option Item → ℕ → Bool → Taken
 taken_of rules ls None v r = Idle

@@ -46,7 +46,12 @@ place_step n k x t c placings.RingsFull = record {
 }
 place_step n k x t c (placings.Worker w) = record {
   outcome = Placed w n.newest;
-  after = record { newest = n.newest; installed = n.installed; cursor = c; workers = put_at (slice_get n.workers w) n.workers w (record { packet = k; flow = x; at = t; floor = n.newest }) };
+  after = record {
+    newest = n.newest;
+    installed = n.installed;
+    cursor = c;
+    workers = put_at (slice_get n.workers w) n.workers w (record { packet = k; flow = x; at = t; floor = n.newest });
+  };
 }
 
 abbrev pub arrive_on : (List ℕ → ℕ) → ℕ → NodeView → ℕ → List Bool → Flow → ℕ → NodeStep
@@ -86,7 +91,12 @@ abbrev pub serve_at : {S : Type 0} → (S → ℕ → Pick) → List (Readied S)
 serve_at pick_of ps n place w v r None = refuse (Refused NoWorker) n
 serve_at pick_of ps n place w v r (Some u) = record {
   outcome = (one_step pick_of ps n.installed place w u v r).outcome;
-  after = record { newest = n.newest; installed = n.installed; cursor = n.cursor; workers = slice_set n.workers w (one_step pick_of ps n.installed place w u v r).after };
+  after = record {
+    newest = n.newest;
+    installed = n.installed;
+    cursor = n.cursor;
+    workers = slice_set n.workers w (one_step pick_of ps n.installed place w u v r).after;
+  };
 }
 
 abbrev pub serve_step : {S : Type 0} → (S → ℕ → Pick) → List (Readied S) → NodeView → ℕ → ℕ → ℕ → Bool → NodeStep

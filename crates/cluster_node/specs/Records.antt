@@ -14,7 +14,8 @@ use Rattle.cluster_node.specs.declared.outcomes.Outcome.TheVariants.{Installed, 
 use Rattle.cluster_node.specs.declared.outcomes.Passed.{Passed}
 use Rattle.cluster_node.specs.declared.outcomes.Passed.TheVariants.{Unplaced, Through}
 use Rattle.cluster_node.specs.declared.outcomes.Cause.{Cause}
-use Rattle.cluster_node.specs.declared.outcomes.Cause.TheVariants.{NotIpv4, Truncated, BadHeader, BadChecksum, Fragment, NotTcpUdp, BadTransport, TooLarge, NoService, NoBackend, NoVersion, RingsFull, LostAtRestart}
+use Rattle.cluster_node.specs.declared.outcomes.Cause.TheVariants.{NotIpv4, Truncated, BadHeader, BadChecksum, Fragment, NotTcpUdp, BadTransport, TooLarge}
+use Rattle.cluster_node.specs.declared.outcomes.Cause.TheVariants.{NoService, NoBackend, NoVersion, RingsFull, LostAtRestart}
 
 -- the node that an event names
 abbrev pub node_of : Event → ℕ
@@ -70,13 +71,18 @@ AreTold judge past e p serving (Through w floor o) = (Placed w floor ≡ judge p
 -- the record with what is reported
 abbrev pub with_told : List LogEntry → Event → Packet → (ℕ → Event) → Passed → List LogEntry
 with_told past e p serving (Unplaced o) = record { event = e; packet = Some p; outcome = o } ∷ past
-with_told past e p serving (Through w floor o) = record { event = serving w; packet = None; outcome = o } ∷ record { event = e; packet = Some p; outcome = Placed w floor } ∷ past
+with_told past e p serving (Through w floor o) = record { event = serving w; packet = None; outcome = o } ∷ record {
+  event = e;
+  packet = Some p;
+  outcome = Placed w floor;
+} ∷ past
 
 -- the node represents the record with what the judge says, and where the packet was placed another one represented the
 -- record between
 abbrev pub StandsThrough : Rules → List LogEntry → Event → Packet → (ℕ → Event) → Passed → NodeView → Type 0
 StandsThrough rules past e p serving (Unplaced o) m = NodeStands rules (with_arrival (node_verdict rules) past e p) m
-StandsThrough rules past e p serving (Through w floor o) m = (between : NodeView) × NodeStands rules (with_arrival (node_verdict rules) past e p) between × NodeStands rules (with_serving (node_verdict rules) past e p (serving w)) m
+StandsThrough rules past e p serving (Through w floor o) m = (between : NodeView) × NodeStands rules (with_arrival (node_verdict rules) past e p) between
+    × NodeStands rules (with_serving (node_verdict rules) past e p (serving w)) m
 
 abbrev pub NodePasses : Rules → List LogEntry → Event → Packet → (ℕ → Event) → Passed → NodeView → Type 0
 NodePasses rules past e p serving q m = AreTold (node_verdict rules) past e p serving q × StandsThrough rules past e p serving q m

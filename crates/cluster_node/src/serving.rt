@@ -112,8 +112,10 @@ impl<S: Scheme, T: ConnTable> Worker<S, T> {
         version: &PreparedVersion<S>,
         refused: bool,
     ) -> Result<Taken, AllocError>
-        ensures taken { IfOk result (λ t. t ≡ (step_of (S.pick version.now.scheme version.now.size) (λ x. ups_in version.now x) self.old version.now.number refused).taken) }
-        ensures after { OnOk result (self.new ≡ (step_of (S.pick version.now.scheme version.now.size) (λ x. ups_in version.now x) self.old version.now.number refused).after) }
+        ensures taken { IfOk result (λ t. t ≡ (step_of (S.pick version.now.scheme version.now.size)
+            (λ x. ups_in version.now x) self.old version.now.number refused).taken) }
+        ensures after { OnOk result (self.new ≡ (step_of (S.pick version.now.scheme version.now.size)
+            (λ x. ups_in version.now x) self.old version.now.number refused).after) }
     {
         let Some(first) = self.queue.front() else {
             return Ok(Taken::Idle);
@@ -136,8 +138,10 @@ impl<S: Scheme, T: ConnTable> Worker<S, T> {
         item: &Item,
         refused: bool,
     ) -> Result<Choice, AllocError>
-        ensures choice { IfOk result (λ c. c ≡ (told_in (S.pick version.now.scheme version.now.size) self.old.forwarding (serving_under (λ x. ups_in version.now x) version.now.number item.now refused)).choice) }
-        ensures after { let t = told_in (S.pick version.now.scheme version.now.size) self.old.forwarding (serving_under (λ x. ups_in version.now x) version.now.number item.now refused) in
+        ensures choice { IfOk result (λ c. c ≡ (told_in (S.pick version.now.scheme version.now.size) self.old.forwarding
+            (serving_under (λ x. ups_in version.now x) version.now.number item.now refused)).choice) }
+        ensures after { let t = told_in (S.pick version.now.scheme version.now.size) self.old.forwarding
+            (serving_under (λ x. ups_in version.now x) version.now.number item.now refused) in
             OnOk result (self.new ≡ record { queue = self.old.queue; used = version.now.number; forwarding = after_told t self.old.forwarding }) }
     {
         let served = self.forwarder.serve(version, &item.flow, item.at, refused);
@@ -166,8 +170,10 @@ impl<S: Scheme, T: ConnTable> Worker<S, T> {
         requires queue { self.old.queue ≡ [] }
         requires floor { item.now.floor ≡ version.now.number }
         requires used { self.old.used ≤ version.now.number }
-        ensures taken { IfOk result (λ c. Done item.now c ≡ (step_of (S.pick version.now.scheme version.now.size) (λ x. ups_in version.now x) (with_item self.old item.now) version.now.number false).taken) }
-        ensures after { OnOk result (self.new ≡ (step_of (S.pick version.now.scheme version.now.size) (λ x. ups_in version.now x) (with_item self.old item.now) version.now.number false).after) }
+        ensures taken { IfOk result (λ c. Done item.now c
+            ≡ (step_of (S.pick version.now.scheme version.now.size) (λ x. ups_in version.now x) (with_item self.old item.now) version.now.number false).taken) }
+        ensures after { OnOk result (self.new ≡ (step_of (S.pick version.now.scheme version.now.size) (λ x. ups_in version.now x)
+            (with_item self.old item.now) version.now.number false).after) }
     {
         self.serve(version, item, false)
     }

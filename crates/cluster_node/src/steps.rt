@@ -1,10 +1,12 @@
 //! One node: its versions, its steerer and its workers.
-ghost use Rattle.std.specs.Prelude.{◌≡◌, ◌≤◌, ◌<◌, ◌%◌, ◌^◌, ◌==◌, ◌∷◌, [], ℕ, Bool, false, List, length, map, Option, Some, None, IfOk, OnOk, OnErr, slice_get, slice_set, replicate, nat_eq, vec_len};
+ghost use Rattle.std.specs.Prelude.{◌≡◌, ◌≤◌, ◌<◌, ◌%◌, ◌^◌, ◌==◌, [], false, List, length, map, Option, Some, None, IfOk, OnOk, OnErr};
+ghost use Rattle.std.specs.Prelude.{slice_get, replicate, nat_eq, vec_len};
 ghost use Rattle.std.specs.List.{list_any};
 ghost use Rattle.cluster_node.specs.Rules.{Rules};
 ghost use Rattle.cluster_node.specs.NodeView.{NodeView};
 ghost use Rattle.cluster_node.specs.PrivateSteps.{install_step, arrive_on, arrive_step, one_if, put_at, serve_step, restarted, with_item, pass_on, pass_step};
-ghost use Rattle.cluster_node.specs.Record.{of_taken, of_choice, node_verdict, ArePrepared, IsKnown, installed_of, waits, waiting_at, fresh, cleared, NodeStands, NodeGoes};
+ghost use Rattle.cluster_node.specs.Record.{of_taken, of_choice, ArePrepared, IsKnown, installed_of, waits, waiting_at, fresh, cleared};
+ghost use Rattle.cluster_node.specs.Record.{NodeStands, NodeGoes};
 ghost use Rattle.cluster_node.specs.Records.{NodePasses};
 ghost use Rattle.cluster_node.specs.declared.events.Event.TheVariants.{Arrive, Serve};
 ghost use Rattle.cluster_node.specs.declared.events.LogEntry.{LogEntry};
@@ -130,8 +132,10 @@ fn pass_one<S: Scheme, T: ConnTable>(
     item: &Item,
     passed: &mut Passed,
 ) -> Result<(), AllocError>
-    ensures passed { OnOk result (passed.new ≡ Through worker item.now.floor (one_if (λ s z. S.pick s z) versions.now installed node worker (with_item one.old item.now) item.now.floor false).outcome) }
-    ensures after { OnOk result (one.new ≡ (one_if (λ s z. S.pick s z) versions.now installed node worker (with_item one.old item.now) item.now.floor false).after) }
+    ensures passed { OnOk result (passed.new ≡ Through worker item.now.floor (one_if (λ s z. S.pick s z) versions.now installed node worker
+        (with_item one.old item.now) item.now.floor false).outcome) }
+    ensures after { OnOk result (one.new ≡ (one_if (λ s z. S.pick s z) versions.now installed node worker
+        (with_item one.old item.now) item.now.floor false).after) }
 {
     let floor = item.floor;
     match versions.find(floor) {
@@ -397,8 +401,10 @@ impl<S: Scheme, T: ConnTable> Node<S, T> {
         at: u64,
         passed: &mut Passed,
     ) -> Result<(), AllocError>
-        ensures passed { OnOk result (passed.new ≡ (pass_on (λ s z. S.pick s z) versions.now (H.plain hash.now) self.old node packet refused.now flow.now at).passed) }
-        ensures after { OnOk result (self.new ≡ (pass_on (λ s z. S.pick s z) versions.now (H.plain hash.now) self.old node packet refused.now flow.now at).after) }
+        ensures passed { OnOk result (passed.new ≡ (pass_on (λ s z. S.pick s z) versions.now
+            (H.plain hash.now) self.old node packet refused.now flow.now at).passed) }
+        ensures after { OnOk result (self.new ≡ (pass_on (λ s z. S.pick s z) versions.now
+            (H.plain hash.now) self.old node packet refused.now flow.now at).after) }
         ensures kept { OnErr result ((self.new.newest ≡ self.old.newest) × (self.new.installed ≡ self.old.installed)) }
     {
         let floor = self.newest;
@@ -438,8 +444,10 @@ impl<S: Scheme, T: ConnTable> Node<S, T> {
         body: &Packet,
         passed: &mut Passed,
     ) -> Result<(), AllocError>
-        ensures passed { OnOk result (passed.new ≡ (pass_step (λ s z. S.pick s z) versions.now (H.plain hash.now) self.old node packet refused.now body.now).passed) }
-        ensures after { OnOk result (self.new ≡ (pass_step (λ s z. S.pick s z) versions.now (H.plain hash.now) self.old node packet refused.now body.now).after) }
+        ensures passed { OnOk result (passed.new ≡ (pass_step (λ s z. S.pick s z) versions.now
+            (H.plain hash.now) self.old node packet refused.now body.now).passed) }
+        ensures after { OnOk result (self.new ≡ (pass_step (λ s z. S.pick s z) versions.now
+            (H.plain hash.now) self.old node packet refused.now body.now).after) }
         ensures kept { OnErr result ((self.new.newest ≡ self.old.newest) × (self.new.installed ≡ self.old.installed)) }
     {
         match body {

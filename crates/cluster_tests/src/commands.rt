@@ -1,5 +1,5 @@
 //! What the drivers of a cluster on threads are given of some steps.
-ghost use Rattle.std.specs.Prelude.{◌≡◌, ◌<◌, ◌^◌, length};
+ghost use Rattle.std.specs.Prelude.{◌<◌, ◌^◌, length};
 
 use cluster_node::Packet;
 use driver_commands::{Orders, orders};

@@ -14,7 +14,10 @@ use Rattle.simulation.specs.declared.fault.SimulationFault.TheVariants as run
 use Rattle.thread_roles.specs.declared.fault.RunFault.{RunFault}
 use Rattle.thread_roles.specs.declared.fault.RunFault.TheVariants as threads
 use Rattle.command_faults.specs.declared.fault.CliFault.{CliFault}
-use Rattle.command_faults.specs.declared.fault.CliFault.TheVariants.{BadSize, BadHash, BadName, DoubleName, TooMany, Write, BadHex, TooLong, Read, BadMember, BadToml, BadFormat, BadKey, Pool, BadStep, BadService, BadScheme, Capture, OpenScenario, OpenInput, OpenOutput, ReadScenario, NoRandom, ThreadLost, Foreign, RingLost, BookLost, Memory}
+use Rattle.command_faults.specs.declared.fault.CliFault.TheVariants.{BadSize, BadHash, BadName, DoubleName, TooMany, Write, BadHex, TooLong, Read}
+use Rattle.command_faults.specs.declared.fault.CliFault.TheVariants.{BadMember, BadToml, BadFormat, BadKey, Pool, BadStep, BadService, BadScheme, Capture}
+use Rattle.command_faults.specs.declared.fault.CliFault.TheVariants.{OpenScenario, OpenInput, OpenOutput, ReadScenario, NoRandom, ThreadLost, Foreign}
+use Rattle.command_faults.specs.declared.fault.CliFault.TheVariants.{RingLost, BookLost, Memory}
 
 abbrev pub pool_name : PoolFault → List ℕ
 pool_name pool.BadNumber = codes "BadNumber"

@@ -1,5 +1,5 @@
 //! What is said at the end of a command.
-ghost use Rattle.std.specs.Prelude.{◌≡◌, OnOk, OnErr};
+ghost use Rattle.std.specs.Prelude.{OnOk, OnErr};
 ghost use Rattle.std.specs.Io.KnownBytes.{Appends};
 ghost use Rattle.pcap_file.specs.Device.{Unfailed, PutRefused};
 ghost use Rattle.command_faults.specs.Faults.{FinishesWith, BreaksLine, fault_line, number_text};

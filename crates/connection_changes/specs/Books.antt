@@ -39,7 +39,14 @@ clock_in c n w = worker_number c.clocks n w
 abbrev pub site_served : Option Served → Clocks → Site
 site_served None c = nowhere
 site_served (Some s) c =
-    record { packet = s.packet; time = slice_index c.times.all.items s.packet; node = s.node; worker = s.worker; life = life_in c s.node; clock = clock_in c s.node s.worker }
+    record {
+      packet = s.packet;
+      time = slice_index c.times.all.items s.packet;
+      node = s.node;
+      worker = s.worker;
+      life = life_in c s.node;
+      clock = clock_in c s.node s.worker;
+    }
 
 pub record AreClocksOf (past : List LogEntry) (c : Clocks) : Type 0 where
   pub times : (k : ℕ) → slice_index c.times.all.items k ≡ time_of past k

@@ -46,7 +46,8 @@ is_past (Some limit) a b = nat_lt limit (b.clock - a.clock)
 -- why a connection moved from a server that is up or drains: the first of these that holds
 abbrev pub moved_cause : Option ℕ → Site → Site → ChangeCause
 moved_cause idle a b =
-    if a.node == b.node then (if a.life == b.life then (if a.worker == b.worker then (if is_past idle a b then Idle else Evicted) else Worker) else Restart) else Node
+    if a.node == b.node then (if a.life == b.life then (if a.worker == b.worker then (if is_past idle a b then Idle else Evicted) else Worker) else Restart)
+    else Node
 
 abbrev pub cause_between : SplitCause → Option ℕ → Site → Site → ChangeCause
 cause_between splits.Down idle a b = Down

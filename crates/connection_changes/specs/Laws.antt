@@ -16,7 +16,8 @@ cause_total lookups idle past =
     count Down + count Drained + count Node + count Restart + count Worker + count Idle + count Evicted
 
 abbrev pub CausesAddUp : Type 0
-CausesAddUp = (lookups : Lookups) (idle : Option ℕ) (past : List LogEntry) → (cause_total lookups idle past ≡ length (changes_of past)) × (length (changes_of past) ≡ length (splits_of past))
+CausesAddUp = (lookups : Lookups) (idle : Option ℕ) (past : List LogEntry) → (cause_total lookups idle past ≡ length (changes_of past))
+    × (length (changes_of past) ≡ length (splits_of past))
 
 -- an outcome is no restart, and what it sent was sent by this node's worker
 abbrev pub IsOutcomeBy : ℕ → ℕ → Outcome → Type 0

@@ -85,7 +85,8 @@ clock_with (Some s) time n w clock = if s.node == n && s.worker == w then max cl
 -- the clock of a node's worker: the greatest time of the packets that it served in this life
 abbrev pub clock_of : List LogEntry → ℕ → ℕ → ℕ
 clock_of [] n w = 0
-clock_of (s ∷ past) n w = clock_with (served_by s.event s.outcome) (λ k. time_of (s ∷ past) k) n w (clock_begun (begun_by s.event s.outcome) n (clock_of past n w))
+clock_of (s ∷ past) n w = clock_with (served_by s.event s.outcome) (λ k. time_of (s ∷ past) k) n w
+    (clock_begun (begun_by s.event s.outcome) n (clock_of past n w))
 
 -- whether a packet was sent
 abbrev pub is_sent : Outcome → Bool

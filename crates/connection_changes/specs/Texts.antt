@@ -25,7 +25,8 @@ cause_text Evicted = codes "evicted"
 -- a number below a million, in six digits
 abbrev pub six_digits : ℕ → List ℕ
 six_digits n =
-    decimal (n / 100000 % 10) ++ (decimal (n / 10000 % 10) ++ (decimal (n / 1000 % 10) ++ (decimal (n / 100 % 10) ++ (decimal (n / 10 % 10) ++ decimal (n % 10)))))
+    decimal (n / 100000 % 10) ++ (decimal (n / 10000 % 10)
+    ++ (decimal (n / 1000 % 10) ++ (decimal (n / 100 % 10) ++ (decimal (n / 10 % 10) ++ decimal (n % 10)))))
 
 -- microseconds as `SECONDS.FFFFFF`
 abbrev pub time_text : ℕ → List ℕ
@@ -41,7 +42,8 @@ places_of first later cause = codes " at " ++ (site_text first ++ (codes " " ++ 
 
 -- the words of a split's line, and behind them where its packets were sent, and why
 abbrev pub change_line : Lookups → Option ℕ → Change → List ℕ
-change_line lookups idle c = split_words c.split (lookups.slot c.split.later.flow) (cause_of lookups c.split) ++ places_of c.first c.later (cause_in lookups idle c)
+change_line lookups idle c = split_words c.split (lookups.slot c.split.later.flow) (cause_of lookups c.split)
+    ++ places_of c.first c.later (cause_in lookups idle c)
 
 -- a line for each change, and after them the counts of the splits
 unfoldable pub places_in : Lookups → Option ℕ → Reckoning → List ℕ

@@ -77,7 +77,8 @@ has_changed turn (n ∷ ns) x j = (is_of turn x j n && is_change (last_before tu
 -- how many connections changed their server: each is counted at its first change
 abbrev pub changed_by : (ℕ → ℕ) → List (Noted Site) → ℕ
 changed_by turn [] = 0
-changed_by turn (n ∷ ns) = changed_by turn ns + (if is_change (last_before turn ns n) n && not (has_changed turn ns n.sending.flow (turn n.beside.packet)) then 1 else 0)
+changed_by turn (n ∷ ns) = changed_by turn ns + (if is_change (last_before turn ns n) n && not (has_changed turn ns n.sending.flow (turn n.beside.packet))
+    then 1 else 0)
 
 -- those of a record, where each record's connection has this ordinal among those of its flow
 abbrev pub reckoning_by : (ℕ → ℕ) → List LogEntry → Reckoning

@@ -83,7 +83,8 @@ pub(crate) fn cause_with(
     change: &Change,
 ) -> ChangeCause
     requires { drains ≡ does_anybody_drain catalogue.now.versions }
-    ensures { (lookups : Lookups) → lookups.ups ≡ (λ v x. candidates_of catalogue.now v x) → lookups.versions ≡ catalogue.now.versions → result ≡ cause_in lookups idle change.now }
+    ensures { (lookups : Lookups) → lookups.ups ≡ (λ v x. candidates_of catalogue.now v x) → lookups.versions ≡ catalogue.now.versions →
+        result ≡ cause_in lookups idle change.now }
 {
     cause_between(cause_where(catalogue, drains, &change.split), idle, change)
 }

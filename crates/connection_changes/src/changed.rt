@@ -1,5 +1,5 @@
 //! The flows that changed their server.
-ghost use Rattle.std.specs.Prelude.{◌≡◌, [], ◌∷◌, ◌++◌, List, length, IfOk, OnOk, if◌then◌else◌};
+ghost use Rattle.std.specs.Prelude.{◌≡◌, [], ◌∷◌, List, length, IfOk, OnOk, if◌then◌else◌};
 ghost use Rattle.std.specs.List.{list_any};
 ghost use Rattle.five_tuple.specs.declared.Flow.{Flow};
 ghost use Rattle.connection_table.specs.Touches.{same_flow};
@@ -52,7 +52,8 @@ impl ChangedFlows {
 
     // One flow more, if it isn't there yet.
     fn put(&mut self, flow: &Flow) -> Result<(), AllocError>
-        ensures { (xs : List Flow) → AreChanged xs self.old → OnOk result (AreChanged (if list_any (same_flow flow.now) xs then xs else flow.now ∷ xs) self.new) }
+        ensures { (xs : List Flow) → AreChanged xs self.old →
+            OnOk result (AreChanged (if list_any (same_flow flow.now) xs then xs else flow.now ∷ xs) self.new) }
     {
         let Ok(_) = self.flows.insert(*flow) else {
             return Err(AllocError);

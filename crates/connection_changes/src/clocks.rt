@@ -1,5 +1,5 @@
 //! The times of records, the lives of nodes and the clocks of workers.
-ghost use Rattle.std.specs.Prelude.{◌≡◌, ◌==◌, ◌&&◌, ◌+◌, ◌∷◌, [], ℕ, List, IfOk, OnOk, slice_index, option_copied, if◌then◌else◌};
+ghost use Rattle.std.specs.Prelude.{◌≡◌, ◌+◌, ◌∷◌, [], ℕ, List, IfOk, OnOk, slice_index, option_copied};
 ghost use Rattle.cluster_node.specs.declared.events.LogEntry.{LogEntry};
 ghost use Rattle.event_trace.specs.Noting.{said_by};
 ghost use Rattle.connection_changes.specs.Sites.{time_with, life_with, clock_begun, clock_with, site_in};

@@ -2,7 +2,7 @@
 ghost use Rattle.std.specs.Prelude.{◌≡◌, ◌++◌, List, OnOk, string_bytes};
 ghost use Rattle.std.specs.List.{flat_map};
 ghost use Rattle.cluster_node.specs.declared.events.LogEntry.{LogEntry};
-ghost use Rattle.run_report.specs.Causes.{lookups_of, cause_of, does_anybody_drain};
+ghost use Rattle.run_report.specs.Causes.{lookups_of, does_anybody_drain};
 ghost use Rattle.run_report.specs.Texts.{split_words};
 ghost use Rattle.connection_changes.specs.Books.{IsChangeBookOf};
 ghost use Rattle.connection_changes.specs.Texts.{places_of, change_line, places_in, places_text};
@@ -101,7 +101,8 @@ fn push_change(
     change: &Change,
     cause: ChangeCause,
 ) -> Result<(), AllocError>
-    ensures { OnOk result (string_bytes text.new ≡ string_bytes text.old ++ (split_words split.0 split.1 split.2 ++ places_of change.now.first change.now.later cause)) }
+    ensures { OnOk result (string_bytes text.new ≡ string_bytes text.old ++ (split_words split.0 split.1 split.2
+        ++ places_of change.now.first change.now.later cause)) }
 {
     let first = SiteText(change.first);
     let later = SiteText(change.later);
@@ -117,7 +118,8 @@ fn push_changes<H: FlowHash>(
     idle: Option<u64>,
     changes: &[Change],
 ) -> Result<(), AllocError>
-    ensures { OnOk result (string_bytes text.new ≡ string_bytes text.old ++ flat_map (change_line (lookups_of (H.plain hash.now) catalogue.now.size catalogue.now) idle) changes.now) }
+    ensures { OnOk result (string_bytes text.new ≡ string_bytes text.old
+        ++ flat_map (change_line (lookups_of (H.plain hash.now) catalogue.now.size catalogue.now) idle) changes.now) }
 {
     let drains = does_anybody_drain(catalogue);
     for change in changes {
@@ -140,7 +142,8 @@ pub fn push_told_places<H: FlowHash>(
     idle: Option<u64>,
     account: Account<'_>,
 ) -> Result<(), AllocError>
-    ensures { OnOk result (string_bytes text.new ≡ string_bytes text.old ++ places_in (lookups_of (H.plain hash.now) catalogue.now.size catalogue.now) idle (reckoned account.entry)) }
+    ensures { OnOk result (string_bytes text.new ≡ string_bytes text.old
+        ++ places_in (lookups_of (H.plain hash.now) catalogue.now.size catalogue.now) idle (reckoned account.entry)) }
 {
     push_changes(text, hash, catalogue, idle, account.changes)?;
     push_told_counts(text, catalogue, account.connections, account.splits)
@@ -154,7 +157,8 @@ pub fn push_places<H: FlowHash>(
     idle: Option<u64>,
     book: &ChangeBook,
 ) -> Result<(), AllocError>
-    ensures { (past : List LogEntry) → IsChangeBookOf past book.now → OnOk result (string_bytes text.new ≡ string_bytes text.old ++ places_text (lookups_of (H.plain hash.now) catalogue.now.size catalogue.now) idle past) }
+    ensures { (past : List LogEntry) → IsChangeBookOf past book.now →
+        OnOk result (string_bytes text.new ≡ string_bytes text.old ++ places_text (lookups_of (H.plain hash.now) catalogue.now.size catalogue.now) idle past) }
 {
     push_told_places(text, hash, catalogue, idle, book.account())
 }

@@ -36,7 +36,8 @@ pub fn causes_of(
     idle: Option<u64>,
     changes: &[Change],
 ) -> Result<Vec<ChangeCause>, AllocError>
-    ensures { (lookups : Lookups) → lookups.ups ≡ (λ v x. candidates_of catalogue.now v x) → lookups.versions ≡ catalogue.now.versions → IfOk result (λ v. v.items ≡ map (λ c. cause_in lookups idle c) changes.now) }
+    ensures { (lookups : Lookups) → lookups.ups ≡ (λ v x. candidates_of catalogue.now v x) → lookups.versions ≡ catalogue.now.versions →
+        IfOk result (λ v. v.items ≡ map (λ c. cause_in lookups idle c) changes.now) }
 {
     let drains = does_anybody_drain(catalogue);
     let mut causes = Vec::new(alloc);
@@ -64,7 +65,8 @@ fn push_cause(text: &mut String, cause: ChangeCause, count: usize) -> Result<(),
 
 // How often there was each cause.
 fn push_causes(text: &mut String, made: &[ChangeCause]) -> Result<(), AllocError>
-    ensures { OnOk result (string_bytes text.new ≡ string_bytes text.old ++ flat_map (λ cause. cause_line cause (count_by (λ c. same_cause cause c) made.now)) causes) }
+    ensures { OnOk result (string_bytes text.new ≡ string_bytes text.old
+        ++ flat_map (λ cause. cause_line cause (count_by (λ c. same_cause cause c) made.now)) causes) }
 {
     for cause in CAUSES {
         push_cause(text, cause, count_of(made, cause))?;
@@ -107,7 +109,8 @@ pub fn push_summary(
     idle: Option<u64>,
     book: &ChangeBook,
 ) -> Result<(), AllocError>
-    ensures { (past : List LogEntry) (lookups : Lookups) → lookups.ups ≡ (λ v x. candidates_of catalogue.now v x) → lookups.versions ≡ catalogue.now.versions → IsChangeBookOf past book.now →
+    ensures { (past : List LogEntry) (lookups : Lookups) → lookups.ups ≡ (λ v x. candidates_of catalogue.now v x) →
+        lookups.versions ≡ catalogue.now.versions → IsChangeBookOf past book.now →
         OnOk result (string_bytes text.new ≡ string_bytes text.old ++ summary_text lookups idle past) }
 {
     push_told_summary(alloc, text, catalogue, idle, book.account())

@@ -1,5 +1,5 @@
 //! The changes of connections, where a flow that begins again is another connection.
-ghost use Rattle.std.specs.Prelude.{◌≡◌, ◌+◌, ◌∷◌, ◌++◌, [], ℕ, List, true, IfOk, OnOk, option_copied, if◌then◌else◌};
+ghost use Rattle.std.specs.Prelude.{◌≡◌, ◌+◌, ◌∷◌, ◌++◌, [], List, true, IfOk, OnOk, option_copied, if◌then◌else◌};
 ghost use Rattle.std.specs.HashSet.{contains, hash_set_len};
 ghost use Rattle.cluster_node.specs.declared.events.LogEntry.{LogEntry};
 ghost use Rattle.event_trace.specs.Noting.{said_by};
@@ -124,8 +124,10 @@ impl TurnedBook {
     ) -> Result<(), AllocError>
         ensures splits { OnOk result (self.new.splits.items ≡ self.old.splits.items ++ (change_by first.now later.now).split ∷ []) }
         ensures changes { OnOk result (self.new.changes.items ≡ self.old.changes.items ++ change_by first.now later.now ∷ []) }
-        ensures each { OnOk result ((q : Connection) → contains same_connection self.new.changed q ≡ (if same_connection connection q then true else contains same_connection self.old.changed q)) }
-        ensures changed { OnOk result (hash_set_len self.new.changed ≡ hash_set_len self.old.changed + (if contains same_connection self.old.changed connection then 0 else 1)) }
+        ensures each { OnOk result ((q : Connection) →
+            contains same_connection self.new.changed q ≡ (if same_connection connection q then true else contains same_connection self.old.changed q)) }
+        ensures changed { OnOk result (hash_set_len self.new.changed ≡ hash_set_len self.old.changed
+            + (if contains same_connection self.old.changed connection then 0 else 1)) }
         ensures rest { self.new ≡ record self.old { splits = self.new.splits; changes = self.new.changes; changed = self.new.changed } }
     {
         let Ok(()) = self.splits.push(split_by(first, later)) else {

@@ -1,5 +1,5 @@
 //! The ordinal of each record's connection.
-ghost use Rattle.std.specs.Prelude.{◌≡◌, ◌≤◌, ◌+◌, ◌∷◌, [], ℕ, List, length, Option, OnOk, slice_index};
+ghost use Rattle.std.specs.Prelude.{◌≡◌, ◌≤◌, ◌∷◌, [], ℕ, List, length, Option, OnOk, slice_index};
 ghost use Rattle.connection_starts.specs.declared.segment.Segment.{Segment};
 ghost use Rattle.connection_starts.specs.Ordinals.{newest_ordinal, segments_of};
 ghost use Rattle.connection_starts.specs.Captures.{answered};

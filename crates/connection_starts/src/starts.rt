@@ -104,7 +104,8 @@ impl Starts {
 
     // A segment more. The answer is the ordinal of its connection.
     fn put(&mut self, segment: &Segment) -> Result<u32, AllocError>
-        ensures ordinal { (past : List Segment) → AreStartsOf past self.old → IfOk result (λ n. n ≡ starts_of self.old.idle (segment.now ∷ past) segment.now.flow) }
+        ensures ordinal { (past : List Segment) → AreStartsOf past self.old →
+            IfOk result (λ n. n ≡ starts_of self.old.idle (segment.now ∷ past) segment.now.flow) }
         ensures starts { (past : List Segment) → AreStartsOf past self.old → OnOk result (AreStartsOf (segment.now ∷ past) self.new) }
         ensures idle { self.new.idle ≡ self.old.idle }
     {

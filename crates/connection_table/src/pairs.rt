@@ -1,5 +1,5 @@
 //! Flows with their entries, in the order of their last use.
-ghost use Rattle.std.specs.Prelude.{◌≡◌, ◌<◌, ◌≤◌, ◌+◌, ◌-◌, ◌∷◌, [], length, take, IfOk, IsOk, OnOk, OnErr, MatchOption, None, slice_get, slice_index};
+ghost use Rattle.std.specs.Prelude.{◌≡◌, ◌<◌, ◌≤◌, ◌+◌, ◌-◌, ◌∷◌, [], length, take, IsOk, OnOk, OnErr, MatchOption, None, slice_get, slice_index};
 ghost use Rattle.connection_table.specs.Picked.{pair_at};
 ghost use Rattle.connection_table.specs.Recency.{retouched};
 ghost use Rattle.connection_table.specs.Tied.{AreTied, IsPlaceOf, flow_hash, is_of, touches_of};
@@ -160,7 +160,8 @@ impl Pairs {
         ensures tied { AreTied self.new }
         ensures same { (self.new.key ≡ self.old.key) × (self.new.order ≡ self.old.order) × (self.new.pairs ≡ self.old.pairs) }
         ensures there { length self.old.pairs.items < length self.old.buckets → IsOk result }
-        ensures next { OnOk result ((length self.new.pairs.items < length self.new.buckets) × (slice_index self.new.buckets (length self.new.pairs.items) ≡ hash)) }
+        ensures next { OnOk result ((length self.new.pairs.items < length self.new.buckets)
+            × (slice_index self.new.buckets (length self.new.pairs.items) ≡ hash)) }
     {
         let count = self.pairs.len();
         if self.buckets.len() > count {
@@ -177,7 +178,8 @@ impl Pairs {
         requires few { length self.old.pairs.items < 1000000 }
         requires absent { last_touch flow (touches_of self.old) ≡ None }
         ensures tied { AreTied self.new }
-        ensures ok { OnOk result ((touches_of self.new ≡ (flow, entry) ∷ touches_of self.old) × (length self.new.pairs.items ≡ length self.old.pairs.items + 1)) }
+        ensures ok { OnOk result ((touches_of self.new ≡ (flow, entry) ∷ touches_of self.old)
+            × (length self.new.pairs.items ≡ length self.old.pairs.items + 1)) }
         ensures key { self.new.key ≡ self.old.key }
         ensures err { OnErr result ((touches_of self.new ≡ touches_of self.old) × (length self.new.pairs.items ≡ length self.old.pairs.items)) }
     {

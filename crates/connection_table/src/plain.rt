@@ -1,5 +1,5 @@
 //! A table that keeps its entries in a vector.
-ghost use Rattle.std.specs.Prelude.{◌≡◌, ◌≤◌, ◌<◌, [], ℕ, length, position, OnOk, OnErr, IfOk, IsOk, IsSome, None, vec_len, vec_capacity};
+ghost use Rattle.std.specs.Prelude.{◌≡◌, ◌≤◌, ◌<◌, position, OnOk, OnErr, IsOk, IsSome, None, vec_len, vec_capacity};
 ghost use Rattle.connection_table.specs.Touches.{same_flow, last_touch};
 ghost use Rattle.connection_table.specs.Recency.{Recency, stored};
 
@@ -16,7 +16,7 @@ pub struct PlainTable {
 }
 
 impl Model for PlainTable {
-    ghost use Rattle.std.specs.Prelude.{◌≤◌, ◌<◌, length, vec_len, vec_capacity};
+    ghost use Rattle.std.specs.Prelude.{◌≤◌, ◌<◌, vec_len, vec_capacity};
     ghost use Rattle.connection_table.specs.Recency.{Recency};
 
     ghost Value = { Recency };

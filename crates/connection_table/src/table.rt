@@ -114,7 +114,8 @@ pub trait ConnTable: Drop + Sized {
     ) -> Renewed
         requires keeps { K.IsAlwaysCallable keeps }
         requires makes { M.pre makes }
-        ensures renewed { IsRenewed (FnOnceReturnsAt K.FnOnce keeps) (M.post makes) (capacity self.old) clock flow result (entries self.old) (entries self.new) }
+        ensures renewed { IsRenewed (FnOnceReturnsAt K.FnOnce keeps) (M.post makes) (capacity self.old) clock flow result (entries self.old)
+            (entries self.new) }
         ensures key { hashes_by self.new ≡ hashes_by self.old }
         ensures capacity { capacity self.new ≡ capacity self.old }
     {

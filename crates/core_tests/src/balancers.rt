@@ -1,5 +1,5 @@
 //! Worked scenarios on balancers with all three tables, and what a deployment refuses.
-ghost use Rattle.std.specs.Prelude.{◌≡◌, ◌<◌, ◌^◌, [], length};
+ghost use Rattle.std.specs.Prelude.{◌<◌, ◌^◌, [], length};
 
 use crate::checks::{OutcomeRow, holds, same_count, same_told};
 use backend_names::{Name, TableSize, Weight};

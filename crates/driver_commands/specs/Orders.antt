@@ -1,5 +1,6 @@
 -- What the steps of a scenario tell the drivers of a cluster's nodes.
-use Rattle.std.specs.Prelude.{◌≡◌, ◌<◌, ◌==◌, ℕ, Bool, true, false, not, List, [], ◌∷◌, Option, Some, None, if◌then◌else◌, map, reverse, filter, filter_map, drop, slice_index_or}
+use Rattle.std.specs.Prelude.{◌≡◌, ◌<◌, ◌==◌, ℕ, Bool, true, false, not, List, [], ◌∷◌, Option, Some, None, if◌then◌else◌, map, reverse, filter, filter_map}
+use Rattle.std.specs.Prelude.{drop, slice_index_or}
 use Rattle.cluster_node.specs.declared.packets.Packet.{Packet}
 use Rattle.cluster_node.specs.declared.events.Event.{Event}
 use Rattle.cluster_node.specs.declared.events.Event.TheVariants.{Install, Arrive, Serve, Restart}
@@ -94,8 +95,10 @@ event_of n commands.Stop = Restart n
 -- servings.
 abbrev pub KnownStepsAreTold : Type 0
 KnownStepsAreTold = (cluster : Cluster) (choice : Choice) (packets : List Packet) (steps : List ScenarioStep) (nodes n : ℕ) → first_unsupported_of steps ≡ None
-    → filter (λ e. not (is_serve e)) (filter (λ e. node_of e == n) (events_of (trace_on cluster choice packets steps nodes))) ≡ map (event_of n) (orders_on choice packets steps nodes n)
+    → filter (λ e. not (is_serve e)) (filter (λ e. node_of e == n) (events_of (trace_on cluster choice packets steps nodes)))
+    ≡ map (event_of n) (orders_on choice packets steps nodes n)
 
 -- The commands end as many lives of a node as the steps, in their order, and each drains as its step does.
 abbrev pub EndsAreTold : Type 0
-EndsAreTold = (choice : Choice) (packets : List Packet) (steps : List ScenarioStep) (nodes n : ℕ) → drained_lives (orders_on choice packets steps nodes n) ≡ ends_on n steps
+EndsAreTold = (choice : Choice) (packets : List Packet) (steps : List ScenarioStep) (nodes n : ℕ) →
+    drained_lives (orders_on choice packets steps nodes n) ≡ ends_on n steps

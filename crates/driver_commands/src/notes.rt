@@ -1,6 +1,5 @@
 //! A core that does nothing: what it is asked is in the trace's own record.
-ghost use Rattle.std.specs.Prelude.{◌≡◌};
-ghost use Rattle.driver_commands.specs.Noting.{answer, noting};
+ghost use Rattle.driver_commands.specs.Noting.{noting};
 
 use cluster_node::{Cause, Event, Outcome, Packet, Passed};
 use event_trace::Core;

@@ -1,5 +1,6 @@
 -- The events that a scenario's steps and its records define, step by step.
-use Rattle.std.specs.Prelude.{◌≡◌, ℕ, zero, suc, ◌+◌, Bool, true, false, List, [], ◌∷◌, ◌++◌, length, take, drop, Option, Some, None, if◌then◌else◌, slice_get, slice_set, replicate}
+use Rattle.std.specs.Prelude.{◌≡◌, ℕ, zero, suc, ◌+◌, Bool, true, false, List, [], ◌∷◌, ◌++◌, length, take, drop, Option, Some, None, if◌then◌else◌}
+use Rattle.std.specs.Prelude.{slice_get, slice_set, replicate}
 use Rattle.five_tuple.specs.declared.Flow.{Flow}
 use Rattle.cluster_node.specs.declared.packets.Packet.{Packet}
 use Rattle.cluster_node.specs.declared.events.Event.{Event}
@@ -154,4 +155,14 @@ below (suc n) = below n ++ n ∷ []
 
 -- at the start all nodes are live, no worker refuses and nothing is held
 abbrev pub start : ℕ → Trace
-start nodes = record { past = []; read = 0; live = below nodes; marks = replicate nodes none_marked; held = replicate nodes false; nth = 0; unrouted = 0; lost = 0; skipped = 0 }
+start nodes = record {
+  past = [];
+  read = 0;
+  live = below nodes;
+  marks = replicate nodes none_marked;
+  held = replicate nodes false;
+  nth = 0;
+  unrouted = 0;
+  lost = 0;
+  skipped = 0;
+}

@@ -62,4 +62,5 @@ pub record AddsUp (w : World) (repeats : ℕ) (c : Trace) : Type 0 where
 
 -- every trace of steps is judged, and its counts add up
 abbrev pub TracesAddUp : Type 0
-TracesAddUp = (w : World) (ss : List ScenarioStep) (nodes : ℕ) → Judged w.cluster.judge (run w ss (start nodes)).past × AddsUp w (agains ss) (run w ss (start nodes))
+TracesAddUp = (w : World) (ss : List ScenarioStep) (nodes : ℕ) → Judged w.cluster.judge (run w ss (start nodes)).past
+    × AddsUp w (agains ss) (run w ss (start nodes))

@@ -1,12 +1,12 @@
 //! The run of a cluster as it is deployed.
-ghost use Rattle.std.specs.Prelude.{◌≡◌, ◌≤◌, [], ℕ, List, reverse, false, IfOk, OnOk};
+ghost use Rattle.std.specs.Prelude.{◌≡◌, ◌≤◌, [], List, reverse, false, IfOk, OnOk};
 ghost use Rattle.cluster_node.specs.declared.packets.Packet.{Packet};
 ghost use Rattle.cluster_node.specs.declared.events.Event.TheVariants.{Serve};
 ghost use Rattle.cluster_node.specs.Records.{with_told};
 ghost use Rattle.cluster_node.specs.declared.events.LogEntry.{LogEntry};
 ghost use Rattle.cluster_core.specs.Runs.{RunStands};
 ghost use Rattle.cluster_core.specs.Totals.{came_of, went_of};
-ghost use Rattle.cluster_core.specs.Deployed.{Deployed, rules_of, cluster_of, IsBalanced};
+ghost use Rattle.cluster_core.specs.Deployed.{rules_of, cluster_of, IsBalanced};
 
 use crate::machine::Core;
 use crate::notes::Notes;
@@ -54,7 +54,8 @@ fn note_passed<N: Notes>(
     under: Under,
     passed: &Passed,
 ) -> Result<(), AllocError>
-    ensures { (past : List LogEntry) → N.are_of asked.now past notes.old → OnOk result (N.are_of asked.now (with_told past event.now body.now (λ w. Serve under.node w under.version false) passed.now) notes.new) }
+    ensures { (past : List LogEntry) → N.are_of asked.now past notes.old →
+        OnOk result (N.are_of asked.now (with_told past event.now body.now (λ w. Serve under.node w under.version false) passed.now) notes.new) }
 {
     match passed {
         Passed::Unplaced(outcome) => notes.note(asked, event, Some(body), outcome),
@@ -109,8 +110,10 @@ impl<S: Scheme, H: FlowHash, T: ConnTable, N: Notes> Balancers<S, H, T, N> {
     /// What left the queues is no more than what was placed, by every record that the balancers represent. So it is by their
     /// history, as `Counts::totals` asks. The body does nothing.
     pub fn keep_balance(&self, deployment: &Deployment<S, H>)
-        ensures record { (past : List LogEntry) → RunStands (λ s z. S.pick s z) (rules_of (λ s z. S.pick s z) (λ h. H.plain h) deployment.now) past self.now.run → went_of past ≤ came_of past }
-        ensures history { (past : List LogEntry) → RunStands (λ s z. S.pick s z) (rules_of (λ s z. S.pick s z) (λ h. H.plain h) deployment.now) past self.now.run → IsBalanced (reverse past) }
+        ensures record { (past : List LogEntry) → RunStands (λ s z. S.pick s z) (rules_of (λ s z. S.pick s z)
+            (λ h. H.plain h) deployment.now) past self.now.run → went_of past ≤ came_of past }
+        ensures history { (past : List LogEntry) →
+            RunStands (λ s z. S.pick s z) (rules_of (λ s z. S.pick s z) (λ h. H.plain h) deployment.now) past self.now.run → IsBalanced (reverse past) }
     {
         let _ = deployment;
     }
@@ -121,7 +124,8 @@ impl<S: Scheme, H: FlowHash, T: ConnTable, N: Notes> Core for Balancers<S, H, T,
 
     ghost cluster = { λ task. cluster_of (λ s z. S.pick s z) (λ h. H.plain h) task.deployment };
 
-    ghost stands = { λ task past balancers. RunStands (λ s z. S.pick s z) (rules_of (λ s z. S.pick s z) (λ h. H.plain h) task.deployment) past balancers.run × N.are_of task.asked past balancers.notes };
+    ghost stands = { λ task past balancers. RunStands (λ s z. S.pick s z) (rules_of (λ s z. S.pick s z) (λ h. H.plain h) task.deployment) past balancers.run
+        × N.are_of task.asked past balancers.notes };
 
     #[inline(always)]
     fn step(

@@ -29,7 +29,8 @@ pub trait Core {
     ) -> Result<Outcome, AllocError>
         requires { WasRead packet }
         ensures { (past : List LogEntry) → length past < 2 ^ 64 → stands setup.now past self.old →
-            IfOk result (λ o. (o ≡ (cluster setup.now).judge past event packet) × stands setup.now (said (cluster setup.now).judge past event packet ∷ past) self.new) };
+            IfOk result (λ o. (o ≡ (cluster setup.now).judge past event packet)
+            × stands setup.now (said (cluster setup.now).judge past event packet ∷ past) self.new) };
 
     /// A packet arrives at a node, and where it is placed its worker serves at once under the node's newest version. That is
     /// two steps, one after the other. What became of the packet is written into `passed`, which is the caller's room: so it
@@ -46,7 +47,8 @@ pub trait Core {
     ) -> Result<(), AllocError>
         requires { WasRead (Some body.now) }
         ensures { let k = cluster setup.now in let come = Arrive node packet refused.now in
-            (past : List LogEntry) → length past < 2 ^ 64 → stands setup.now past self.old → let serving = (λ (u : ℕ). Serve node u (newest_on k node past) false) in
+            (past : List LogEntry) → length past < 2 ^ 64 → stands setup.now past self.old →
+            let serving = (λ (u : ℕ). Serve node u (newest_on k node past) false) in
             OnOk result (AreTold k.judge past come body.now serving passed.new × stands setup.now (with_told past come body.now serving passed.new) self.new) };
 
     /// How many workers a node has.

@@ -22,5 +22,6 @@ pub trait Notes: Drop {
         packet: Option<&Packet>,
         outcome: &Outcome,
     ) -> Result<(), AllocError>
-        ensures { (past : List LogEntry) → are_of asked.now past self.old → OnOk result (are_of asked.now (said_by event.now (option_copied packet.entry) outcome.now ∷ past) self.new) };
+        ensures { (past : List LogEntry) → are_of asked.now past self.old →
+            OnOk result (are_of asked.now (said_by event.now (option_copied packet.entry) outcome.now ∷ past) self.new) };
 }

@@ -1,9 +1,9 @@
 //! A run of a scenario's steps.
-ghost use Rattle.std.specs.Prelude.{◌≡◌, ◌<◌, ◌≤◌, ◌+◌, ◌-◌, ◌^◌, ◌∷◌, ◌++◌, [], ℕ, List, Option, Some, None, length, take, drop, reverse, IfOk, OnOk, slice_get, slice_set, true, false};
+ghost use Rattle.std.specs.Prelude.{◌≡◌, ◌<◌, ◌≤◌, ◌+◌, ◌-◌, ◌^◌, ◌∷◌, [], Option, Some, None, length, take, drop, reverse, IfOk, OnOk};
+ghost use Rattle.std.specs.Prelude.{slice_get, slice_set, true, false};
 ghost use Rattle.cluster_node.specs.declared.events.Event.{Event};
-ghost use Rattle.cluster_core.specs.Cluster.{Cluster, WereRead, flow_of, newest_on, waiting_on, Behind};
-ghost use Rattle.cluster_node.specs.Records.{WasRead, said, placed_on};
-ghost use Rattle.event_trace.specs.Trace.{Trace};
+ghost use Rattle.cluster_core.specs.Cluster.{WereRead, flow_of, Behind};
+ghost use Rattle.cluster_node.specs.Records.{WasRead, said};
 ghost use Rattle.event_trace.specs.Steps.{SameChoice, world_of, marks_at, is_held, noted, say, serve, arrive, deliver, take_all, repeat};
 ghost use Rattle.event_trace.specs.Steps.{serve_times, drain_from, release, names_records, says_many, after, run, start, below};
 ghost use Rattle.event_trace.specs.Going.{Goes, GoesBy, GoesWhere, GoesOver, ToldAfter};
@@ -67,7 +67,17 @@ impl<P: Spread> Model for Play<P> {
     ghost Value = { Playing P };
 
     ghost view = { λ p. record {
-      trace = record { past = p.past.items; read = p.read; live = P.live p.spread; marks = p.marks.items; held = p.held.items; nth = p.nth; unrouted = p.unrouted; lost = p.lost; skipped = p.skipped };
+      trace = record {
+        past = p.past.items;
+        read = p.read;
+        live = P.live p.spread;
+        marks = p.marks.items;
+        held = p.held.items;
+        nth = p.nth;
+        unrouted = p.unrouted;
+        lost = p.lost;
+        skipped = p.skipped;
+      };
       spread = p.spread;
     } };
 

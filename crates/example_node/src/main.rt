@@ -3,7 +3,7 @@
 //! prints why alone, to standard error. `tests/refused_threads.py` refuses each of its threads and allocations in turn.
 #![tactic(auto)]
 
-ghost use Rattle.std.specs.Prelude.{◌≡◌, ◌<◌, IfOk, length};
+ghost use Rattle.std.specs.Prelude.{◌<◌, IfOk, length};
 
 use backend_names::{Name, TableSize, Weight};
 use cluster_core::Setup;

@@ -1,6 +1,5 @@
 -- The first of a list is in it, and there is none only in an empty list.
 use Rattle.std.specs.Prelude.{◌≡◌, ◌↔◌, List, [], slice_get, Contains, Some, None}
-use Rattle.std.proofs.Common.{arith}
 use Rattle.pool_versions.specs.declared.backend.Backend.{Backend}
 use Rattle.selection.specs.PickLaws.{read_is_in, read_is_none}
 

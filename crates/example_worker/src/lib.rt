@@ -1,8 +1,7 @@
 //! A core of one's own: it places every packet on the first worker, by the trait alone.
 #![tactic(auto)]
 
-ghost use Rattle.std.specs.Prelude.{◌≡◌};
-ghost use Rattle.example_worker.specs.FirstWorker.{answer, placing};
+ghost use Rattle.example_worker.specs.FirstWorker.{placing};
 
 use cluster_node::{Cause, Event, Outcome, Packet, Passed};
 use event_trace::Core;

@@ -62,7 +62,12 @@ told_asked clock s stood (Some b) = record { choice = Forward b s.version; asked
 
 -- by the entry where its backend is up or drains, else by the scheme
 abbrev pub told_by : Pick → ℕ → Serving → Candidates → Option Entry → Option Entry → ℕ → Reply
-told_by pick clock s ups stood (Some e) turn = record { choice = Forward e.backend e.version; asked = false; touch = Some (s.flow, at_clock clock e); clock = clock }
+told_by pick clock s ups stood (Some e) turn = record {
+  choice = Forward e.backend e.version;
+  asked = false;
+  touch = Some (s.flow, at_clock clock e);
+  clock = clock;
+}
 told_by pick clock s ups stood None turn = told_asked clock s stood (pick ups s.flow turn)
 
 abbrev pub told_under : Pick → ℕ → Serving → Option Candidates → Option Entry → ℕ → Reply

@@ -1,5 +1,5 @@
 //! What is as it would be if no member could drain.
-ghost use Rattle.std.specs.Prelude.{◌≡◌, [], Option, Some, None, if◌then◌else◌};
+ghost use Rattle.std.specs.Prelude.{◌≡◌, [], Some, None, if◌then◌else◌};
 ghost use Rattle.pool_versions.specs.declared.backend.Backend.{Backend};
 ghost use Rattle.connection_table.specs.declared.table.Entry.{Entry};
 ghost use Rattle.selection.specs.Candidates.{Candidates};

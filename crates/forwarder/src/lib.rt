@@ -4,9 +4,10 @@
 //! and its backend is up or drains, the flow's packets go to that backend, whatever the pools' newer versions say.
 #![tactic(auto)]
 
-ghost use Rattle.std.specs.Prelude.{◌≡◌, ◌≤◌, ◌<◌, ◌∷◌, [], ℕ, List, length, Option, Some, None, false, IsTrue, IfOk, IfSome, IsNone, IsSome, IsFalse, MatchBool};
+ghost use Rattle.std.specs.Prelude.{◌≡◌, ◌≤◌, ◌<◌, ◌∷◌, [], List, length, Option, Some, None, false, IsTrue, IfOk, IsNone, IsSome, IsFalse};
+ghost use Rattle.std.specs.Prelude.{MatchBool};
 ghost use Rattle.connection_table.specs.Recency.{moved, stored};
-ghost use Rattle.connection_table.specs.Touches.{Touch, in_time, last_touch};
+ghost use Rattle.connection_table.specs.Touches.{in_time, last_touch};
 ghost use Rattle.selection.specs.Readied.{ready_for};
 ghost use Rattle.forwarder.specs.declared.Choice.TheVariants.{Forward};
 ghost use Rattle.forwarder.specs.Forwarding.{Forwarding, unused};
@@ -130,7 +131,8 @@ fn stand<T: ConnTable>(table: &mut T, idle: Option<u64>, flow: &Flow, clock: u64
 #[inline(always)]
 fn keep<T: ConnTable>(table: &mut T, stood: bool, flow: Flow, entry: Entry, refused: bool) -> bool
     requires { IsTrue stood → IsSome (last_touch flow (T.entries table.old)) }
-    ensures kept { MatchBool result (T.entries table.new ≡ T.entries table.old) (T.entries table.new ≡ stored (T.capacity table.old) flow entry (T.entries table.old)) }
+    ensures kept { MatchBool result (T.entries table.new ≡ T.entries table.old) (T.entries table.new
+        ≡ stored (T.capacity table.old) flow entry (T.entries table.old)) }
     ensures due { IsTrue result → IsFalse stood }
     ensures refused { IsTrue refused → IsFalse stood → IsTrue result }
     ensures there { IsTrue result → IsFalse refused → IsNone (last_touch flow (T.entries table.old)) }
@@ -148,7 +150,8 @@ fn keep<T: ConnTable>(table: &mut T, stood: bool, flow: Flow, entry: Entry, refu
 // Whether an entry stands, and its backend is up or drains.
 #[inline(always)]
 fn stays<S: Scheme>(entry: &Entry, idle: Option<u64>, clock: u64, ready: &Ready<S>) -> bool
-    ensures { MatchBool result (kept (in_time idle clock (Some entry.now)) ready.now.ups ≡ Some entry.now) (kept (in_time idle clock (Some entry.now)) ready.now.ups ≡ None) }
+    ensures { MatchBool result (kept (in_time idle clock (Some entry.now)) ready.now.ups ≡ Some entry.now)
+        (kept (in_time idle clock (Some entry.now)) ready.now.ups ≡ None) }
 {
     stands(entry, idle, clock) && ready.keeps(&entry.backend)
 }
@@ -252,7 +255,8 @@ impl<S: Scheme, T: ConnTable> Forwarder<S, T> {
         // the same, by every list of servings that the forwarder represents; and it represents one more
         ensures history { let pick = S.pick version.now.scheme version.now.size in
             (past : List Serving) → self.old ≡ forwarding_of pick self.old.capacity self.old.idle past →
-            (result.choice ≡ (told_after pick self.old.capacity self.old.idle (told pick self.old.capacity self.old.idle past) (serving_of version.now flow.now at refused)).choice)
+            (result.choice ≡ (told_after pick self.old.capacity self.old.idle (told pick self.old.capacity self.old.idle past)
+            (serving_of version.now flow.now at refused)).choice)
             × (self.new ≡ forwarding_of pick self.old.capacity self.old.idle (serving_of version.now flow.now at result.unstored ∷ past)) }
     {
         let Some(ready) = version.ready(flow) else {

@@ -1,4 +1,4 @@
-ghost use Rattle.std.specs.Prelude.{◌≡◌, ℕ, ◌∷◌, List, true, refl};
+ghost use Rattle.std.specs.Prelude.{◌≡◌};
 
 use super::{FlowHash, Fnv, Sha256Head, SumHash};
 

@@ -1,5 +1,5 @@
 -- The lines, as the code puts them together.
-use Rattle.std.proofs.Common.{◌≡◌, ℕ, Bool, ◌+◌, ◌-◌, ◌<◌, List, [], ◌∷◌, ◌++◌, length, map, drop, get_or, Option, Result, Ok, Err, refl, ap, ◌∙◌, append_assoc, arith}
+use Rattle.std.proofs.Common.{◌≡◌, ℕ, ◌+◌, ◌-◌, ◌<◌, List, ◌++◌, length, map, drop, get_or, Option, Result, Ok, Err, ap, ◌∙◌, append_assoc, arith}
 use Rattle.std.specs.Prelude.{OnOk}
 use Rattle.std.specs.List.{flat_map}
 use Rattle.cluster_node.specs.declared.outcomes.Cause.{Cause}
@@ -14,7 +14,7 @@ use Rattle.connection_changes.specs.Changes.{cause_between, cause_in}
 use Rattle.connection_changes.specs.Turns.{Reckoning}
 use Rattle.json_lines.specs.Splits.{split_line, split_json, counts_line, counts_json, told_json}
 use Rattle.json_lines.specs.Places.{change_line, change_json, places_in}
-use Rattle.json_lines.specs.Reports.{drop_member, drop_members}
+use Rattle.json_lines.specs.Reports.{drop_member}
 use Rattle.json_lines.specs.Summaries.{summary_line, summary_in}
 
 -- the line of a split

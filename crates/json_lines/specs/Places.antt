@@ -27,7 +27,8 @@ placed_members send site = send_members send ++ (codes "," ++ site_members site)
 -- a split's line, with why its later packet went elsewhere before its sends, and in each where it was sent
 abbrev pub change_line : Change → ℕ → SplitCause → ChangeCause → List ℕ
 change_line c slot cause why =
-    codes "{" ++ (split_members c.split slot cause ++ (codes ",\"why\":\"" ++ (cause_text why ++ (codes "\",\"first\":{" ++ (placed_members c.split.first c.first
+    codes "{" ++ (split_members c.split slot cause
+    ++ (codes ",\"why\":\"" ++ (cause_text why ++ (codes "\",\"first\":{" ++ (placed_members c.split.first c.first
     ++ (codes "},\"later\":{" ++ (placed_members c.split.later c.later ++ codes "}}\n")))))))
 
 abbrev pub change_json : Lookups → Option ℕ → Change → List ℕ

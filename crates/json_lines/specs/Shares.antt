@@ -26,7 +26,8 @@ taken_members r = codes "\"packets\":" ++ (decimal r.packets ++ (codes ",\"bytes
 -- `{"type":"backend","version":VERSION,HOLDER,TAKEN}`
 abbrev pub row_json : ShareRow → List ℕ
 row_json r =
-    codes "{\"type\":\"" ++ (holder_word r.holder ++ (codes "\",\"version\":" ++ (decimal r.version ++ (codes "," ++ (holder_members r.holder ++ (codes "," ++ (taken_members r ++ codes "}\n")))))))
+    codes "{\"type\":\"" ++ (holder_word r.holder ++ (codes "\",\"version\":" ++ (decimal r.version
+    ++ (codes "," ++ (holder_members r.holder ++ (codes "," ++ (taken_members r ++ codes "}\n")))))))
 
 -- a line for each backend, or each node, under each version that has a share
 unfoldable pub shares_json : ShareKind → List LogEntry → List ℕ

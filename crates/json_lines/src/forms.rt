@@ -9,7 +9,8 @@ ghost use Rattle.connection_changes.specs.Books.{IsChangeBookOf};
 ghost use Rattle.connection_changes.specs.Turns.{reckoned};
 ghost use Rattle.traffic_shares.specs.declared.holders.ShareKind.{ShareKind};
 ghost use Rattle.traffic_shares.specs.Books.{BookIf};
-ghost use Rattle.json_lines.specs.Forms.{head_as, event_as, told_as, splits_as, places_by, places_as, report_as, audit_as, share_lines_if, shares_as, summary_by, summary_as, verdict_as, explanation_as};
+ghost use Rattle.json_lines.specs.Forms.{head_as, event_as, told_as, splits_as, places_by, places_as, report_as, audit_as, share_lines_if, shares_as};
+ghost use Rattle.json_lines.specs.Forms.{summary_by, summary_as, verdict_as, explanation_as};
 
 use crate::events::push_json_event;
 use crate::heads::{push_json_audit, push_json_head};
@@ -232,7 +233,8 @@ impl Form {
         idle: Option<u64>,
         book: &ChangeBook,
     ) -> Result<(), AllocError>
-        ensures { (past : List LogEntry) (lookups : Lookups) → lookups.ups ≡ (λ v x. candidates_of catalogue.now v x) → lookups.versions ≡ catalogue.now.versions → IsChangeBookOf past book.now →
+        ensures { (past : List LogEntry) (lookups : Lookups) → lookups.ups ≡ (λ v x. candidates_of catalogue.now v x) →
+            lookups.versions ≡ catalogue.now.versions → IsChangeBookOf past book.now →
             OnOk result (string_bytes text.new ≡ string_bytes text.old ++ summary_as self lookups idle past) }
     {
         self.push_told_summary(alloc, text, catalogue, idle, book.account())

@@ -80,7 +80,8 @@ RunCommandFails fault options text input input' output output' report report' Un
 
 -- The cluster of the scenario that the text means ran on threads, and the report got what is told of this run, in which connections
 -- are told by the ordinals. These are the counts of them. The run keeps the promises.
-pub record TurnedRuns (o : Ordinals) (options : RunOptions) (text : List ℕ) (input input' output output' report report' : Tape) (counts : Option ChangeCounts) : Type 0 where
+pub record TurnedRuns (o : Ordinals) (options : RunOptions) (text : List ℕ) (input input' output output' report report' : Tape)
+    (counts : Option ChangeCounts) : Type 0 where
   pub scenario : Scenario
   pub means : Means OnThreads text scenario
   pub answer : List ℕ
@@ -89,7 +90,8 @@ pub record TurnedRuns (o : Ordinals) (options : RunOptions) (text : List ℕ) (i
   pub unfailed : Unfailed report report'
 
 -- the same as when the cluster ran, but the report was given up
-pub record TurnedReportFails (fault : CliFault) (o : Ordinals) (options : RunOptions) (text : List ℕ) (input input' output output' report report' : Tape) : Type 0 where
+pub record TurnedReportFails (fault : CliFault) (o : Ordinals) (options : RunOptions) (text : List ℕ)
+    (input input' output output' report report' : Tape) : Type 0 where
   pub scenario : Scenario
   pub means : Means OnThreads text scenario
   pub answer : List ℕ

@@ -1,9 +1,6 @@
 //! Fills the slots of a table.
-ghost use Rattle.std.specs.Prelude.{◌≡◌, ◌≤◌, ◌<◌, ◌^◌, true, [], length, map, slice_index, IfOk, IfErr, OnOk, OnErr, None};
-ghost use Rattle.std.specs.List.{list_all};
+ghost use Rattle.std.specs.Prelude.{◌≡◌, ◌≤◌, ◌<◌, ◌^◌, length, map, slice_index, IfErr, OnOk, OnErr, None};
 ghost use Rattle.hash_laws.specs.Any.{plain_of};
-ghost use Rattle.backend_names.specs.NameText.{is_name};
-ghost use Rattle.maglev_table.specs.Turns.{Owners};
 ghost use Rattle.table_entrants.specs.Ranking.{AreDistinct};
 ghost use Rattle.maglev_ffi.specs.Tables.{names_in, are_weights, first_fault, names_fault, IsTable, IsTableOf, Refuses, NamesRefuse};
 

@@ -59,7 +59,8 @@ fn turn_from(weights: &[Weight], most: u8, place: Turn) -> Option<Turn>
     requires named { place.who ≤ length weights.now }
     ensures none { result ≡ None → turns_from (length weights.now) weights.now place.pass place.who ≡ [] }
     ensures turn { IfSome result (λ t. IsTurn (length weights.now) weights.now t.pass t.who) }
-    ensures same { IfSome result (λ t. turns_from (length weights.now) weights.now t.pass t.who ≡ turns_from (length weights.now) weights.now place.pass place.who) }
+    ensures same { IfSome result (λ t. turns_from (length weights.now) weights.now t.pass t.who
+        ≡ turns_from (length weights.now) weights.now place.pass place.who) }
 {
     let mut here = place;
     while here.pass <= most {

@@ -1,5 +1,6 @@
 -- What numbers, addresses and members are, as text.
-use Rattle.std.specs.Prelude.{ℕ, ◌+◌, ◌-◌, ◌*◌, ◌&&◌, ◌==◌, nat_le, nat_lt, Bool, true, false, if◌then◌else◌, List, [], ◌∷◌, ◌++◌, length, Option, Some, None, option_and_then, option_map, codes}
+use Rattle.std.specs.Prelude.{ℕ, ◌+◌, ◌-◌, ◌*◌, ◌&&◌, ◌==◌, nat_le, nat_lt, Bool, true, false, if◌then◌else◌, List, [], ◌∷◌, ◌++◌, length, Option, Some}
+use Rattle.std.specs.Prelude.{None, option_and_then, option_map, codes}
 use Rattle.std.specs.Str.{bytes_eq}
 use Rattle.backend_names.specs.NameText.{is_name}
 use Rattle.pool_versions.specs.declared.backend.Member.{Member}
@@ -28,7 +29,8 @@ pieces c text = pieces_after c [] text
 -- the address of four numbers
 abbrev pub address_of_pieces : List (List ℕ) → Option ℕ
 address_of_pieces (a ∷ b ∷ c ∷ d ∷ []) =
-    option_and_then (λ w. option_and_then (λ x. option_and_then (λ y. option_map (λ z. ((w * 256 + x) * 256 + y) * 256 + z) (decimal_of 255 d)) (decimal_of 255 c)) (decimal_of 255 b)) (decimal_of 255 a)
+    option_and_then (λ w. option_and_then (λ x. option_and_then (λ y. option_map (λ z. ((w * 256 + x) * 256 + y) * 256 + z) (decimal_of 255 d))
+    (decimal_of 255 c)) (decimal_of 255 b)) (decimal_of 255 a)
 address_of_pieces _ = None
 
 -- an address: four numbers from 0 to 255 joined by dots

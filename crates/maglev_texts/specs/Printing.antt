@@ -6,7 +6,8 @@ use Rattle.pool_versions.specs.declared.backend.Backend.{Backend}
 
 -- four numbers joined by dots
 abbrev pub address_text : ℕ → List ℕ
-address_text a = decimal (a / 16777216) ++ (codes "." ++ (decimal (a / 65536 % 256) ++ (codes "." ++ (decimal (a / 256 % 256) ++ (codes "." ++ decimal (a % 256))))))
+address_text a = decimal (a / 16777216) ++ (codes "."
+    ++ (decimal (a / 65536 % 256) ++ (codes "." ++ (decimal (a / 256 % 256) ++ (codes "." ++ decimal (a % 256))))))
 
 -- `NAME@ADDRESS`
 abbrev pub backend_text : Backend → List ℕ

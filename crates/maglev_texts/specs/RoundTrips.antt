@@ -23,17 +23,20 @@ abbrev pub member_text : Member → List ℕ
 member_text m = backend_text m.backend ++ (if m.up then [] else codes "/down")
 
 abbrev pub MembersAreReadBack : Type 0
-MembersAreReadBack = (m : Member) → m.weight ≡ 1 → m.draining ≡ false → is_name m.backend.name ≡ true → m.backend.addr < 2 ^ 32 → member_of (member_text m) ≡ Some m
+MembersAreReadBack = (m : Member) → m.weight ≡ 1 → m.draining ≡ false → is_name m.backend.name ≡ true → m.backend.addr < 2 ^ 32 →
+    member_of (member_text m) ≡ Some m
 
 abbrev pub OnlyMembersAreRead : Type 0
-OnlyMembersAreRead = (m : Member) (text : List ℕ) → member_of text ≡ Some m → (text ≡ member_text m) × (m.weight ≡ 1) × (is_name m.backend.name ≡ true) × (m.backend.addr < 2 ^ 32) × (m.draining ≡ false)
+OnlyMembersAreRead = (m : Member) (text : List ℕ) → member_of text ≡ Some m → (text ≡ member_text m) × (m.weight ≡ 1) × (is_name m.backend.name ≡ true)
+    × (m.backend.addr < 2 ^ 32) × (m.draining ≡ false)
 
 -- `NAME@ADDRESS*W`, with `/down` after it where it is down
 abbrev pub weighed_text : Member → List ℕ
 weighed_text m = backend_text m.backend ++ (codes "*" ++ (decimal m.weight ++ (if m.up then [] else codes "/down")))
 
 abbrev pub WeighedMembersAreReadBack : Type 0
-WeighedMembersAreReadBack = (m : Member) → 1 ≤ m.weight → m.weight ≤ 16 → m.draining ≡ false → is_name m.backend.name ≡ true → m.backend.addr < 2 ^ 32 → weighed_member_of (weighed_text m) ≡ Some m
+WeighedMembersAreReadBack = (m : Member) → 1 ≤ m.weight → m.weight ≤ 16 → m.draining ≡ false → is_name m.backend.name ≡ true → m.backend.addr < 2 ^ 32 →
+    weighed_member_of (weighed_text m) ≡ Some m
 
 -- a member word means the same where weights are allowed
 abbrev pub MemberWordsMeanTheSame : Type 0
@@ -48,7 +51,8 @@ abbrev pub stated_text : Member → List ℕ
 stated_text m = backend_text m.backend ++ (codes "*" ++ (decimal m.weight ++ state_text m))
 
 abbrev pub StatedMembersAreReadBack : Type 0
-StatedMembersAreReadBack = (m : Member) → 1 ≤ m.weight → m.weight ≤ 16 → (m.up ≡ true → m.draining ≡ false) → is_name m.backend.name ≡ true → m.backend.addr < 2 ^ 32 → stated_member_of (stated_text m) ≡ Some m
+StatedMembersAreReadBack = (m : Member) → 1 ≤ m.weight → m.weight ≤ 16 → (m.up ≡ true → m.draining ≡ false) → is_name m.backend.name ≡ true →
+    m.backend.addr < 2 ^ 32 → stated_member_of (stated_text m) ≡ Some m
 
 -- a word that may bear a weight means the same where members may drain, and says of none that it drains
 abbrev pub WeighedWordsMeanTheSame : Type 0

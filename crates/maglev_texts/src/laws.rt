@@ -1,5 +1,7 @@
 //! What is printed is read, and nothing else.
-ghost use Rattle.maglev_texts.specs.RoundTrips.{DecimalsAreReadBack, OnlyDecimalsAreRead, AddressesAreReadBack, OnlyAddressesAreRead, MembersAreReadBack, OnlyMembersAreRead, WeighedMembersAreReadBack, MemberWordsMeanTheSame, StatedMembersAreReadBack, WeighedWordsMeanTheSame};
+ghost use Rattle.maglev_texts.specs.RoundTrips.{DecimalsAreReadBack, OnlyDecimalsAreRead, AddressesAreReadBack, OnlyAddressesAreRead, MembersAreReadBack};
+ghost use Rattle.maglev_texts.specs.RoundTrips.{OnlyMembersAreRead, WeighedMembersAreReadBack, MemberWordsMeanTheSame, StatedMembersAreReadBack};
+ghost use Rattle.maglev_texts.specs.RoundTrips.{WeighedWordsMeanTheSame};
 
 /// Decimal numbers, addresses and member words are read from what is printed of them, and from no other text. Two texts of
 /// one number, address or member are the same. A member word means the same where weights are allowed, and a word with a

@@ -1,5 +1,6 @@
 ghost use Rattle.std.specs.Prelude.{◌≡◌, map, option_map, IfOk};
-ghost use Rattle.maglev_texts.specs.Parsing.{member_at_address, member_at, member_named, member_of_pieces, member_of, weight_of, weighing, weighed_at, weighed_behind, weighed_member_of, draining_of, stated_member_of};
+ghost use Rattle.maglev_texts.specs.Parsing.{member_at_address, member_at, member_named, member_of_pieces, member_of, weight_of, weighing, weighed_at};
+ghost use Rattle.maglev_texts.specs.Parsing.{weighed_behind, weighed_member_of, draining_of, stated_member_of};
 
 use crate::parsing::{address, at_first, pieces};
 use crate::weights::weight;

@@ -1,4 +1,4 @@
-ghost use Rattle.std.specs.Prelude.{◌≡◌, ◌≤◌, ◌^◌, ◌<◌, map, option_copied, IfOk, IfSome, length};
+ghost use Rattle.std.specs.Prelude.{◌≡◌, ◌≤◌, ◌^◌, ◌<◌, map, option_copied, IfOk, IfSome};
 ghost use Rattle.maglev_texts.specs.Parsing.{digits_after, decimal_of, before_first, behind_first, pieces, address_of, address_of_pieces};
 
 use std::alloc::{AllocError, Global};

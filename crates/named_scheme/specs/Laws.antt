@@ -11,7 +11,8 @@ use Rattle.named_scheme.specs.declared.NamedScheme.{NamedScheme}
 use Rattle.named_scheme.specs.declared.NamedScheme.TheVariants.{Maglev, Plain, Round}
 use Rattle.named_scheme.specs.Picking.{pick_of}
 
-pub pick_is_up : (s : NamedScheme) (size : ℕ) (ups : Candidates) (x : Flow) (turn : ℕ) (b : Backend) → pick_of s size ups x turn ≡ Some b → Contains ups.backends b
+pub pick_is_up : (s : NamedScheme) (size : ℕ) (ups : Candidates) (x : Flow) (turn : ℕ) (b : Backend) → pick_of s size ups x turn ≡ Some b →
+    Contains ups.backends b
 pick_is_up (Maglev s) size ups x turn = table_pick_is_up (plain_of s.hash) size ups x
 pick_is_up (Plain s) size ups x turn = pick_at_is_up ups.backends (flow_hash (plain_of s.hash) x)
 pick_is_up (Round s) size ups x turn = pick_at_is_up ups.backends turn

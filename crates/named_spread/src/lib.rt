@@ -1,7 +1,7 @@
 //! The spreader that a scenario names.
 #![tactic(auto)]
 
-ghost use Rattle.std.specs.Prelude.{◌≡◌, ◌≤◌, IfOk};
+ghost use Rattle.std.specs.Prelude.{◌≡◌, IfOk};
 ghost use Rattle.hash_laws.specs.Any.{plain_of};
 ghost use Rattle.event_trace.specs.Steps.{below};
 ghost use Rattle.named_spread.specs.Choosing.{choice_by, choice_of, live_of};

@@ -85,7 +85,8 @@ fn muster<S: Scheme, T: ConnTable, B: Names>(
     requires { All (λ w. IsWork w.record w.tally.lost w.tally.shares) runs.items }
     ensures records { IfOk result (λ v. v.items ≡ map (λ w. w.record) runs.items) }
     ensures parts { OnOk result (tally.new.shares.parts ≡ tally.old.shares.parts + length runs.items) }
-    ensures counts { (os : List Outcome) (n : ℕ) → Counts tally.old.lost tally.old.shares os → IfOk result (λ v. Counts tally.new.lost tally.new.shares (os ++ served_from n 0 (all_handled v.items))) }
+    ensures counts { (os : List Outcome) (n : ℕ) → Counts tally.old.lost tally.old.shares os →
+        IfOk result (λ v. Counts tally.new.lost tally.new.shares (os ++ served_from n 0 (all_handled v.items))) }
 {
     let mut workers = Vec::new(alloc);
     for done in runs {
@@ -105,7 +106,8 @@ fn compare<S: Scheme, H: FlowHash, T: ConnTable>(
     catalogue: &Catalogue,
     workers: &Vec<WorkerRecord<S, T>>,
 ) -> Result<(), RunFault>
-    ensures of { OnOk result (All (λ w. IsOf (λ s z. S.pick s z) (rules_for (λ s z. S.pick s z) (λ h. H.plain h) setup.now catalogue.now) w) workers.now.items) }
+    ensures of { OnOk result (All (λ w. IsOf (λ s z. S.pick s z) (rules_for (λ s z. S.pick s z)
+        (λ h. H.plain h) setup.now catalogue.now) w) workers.now.items) }
     ensures own { OnOk result (AreOfCluster (λ a b. S.eq a b) setup.now catalogue.now workers.now.items) }
     ensures foreign { IfErr result (λ fault. (fault ≡ Foreign) × (AreOfCluster (λ a b. S.eq a b) setup.now catalogue.now workers.now.items → ⊥)) }
 {
@@ -125,11 +127,14 @@ fn end_life<S: Scheme, H: FlowHash, T: ConnTable>(
     drained: bool,
 ) -> Result<u64, RunFault>
     ensures going { let rules = rules_for (λ s z. S.pick s z) (λ h. H.plain h) setup.now catalogue.now in
-        (packets : List Packet) (cs : List Command) (n : ℕ) (places : ℕ) → Going rules packets cs n places journal.old → OnOk result (Going rules packets (cs ++ ending drained ∷ []) n places journal.new) }
+        (packets : List Packet) (cs : List Command) (n : ℕ) (places : ℕ) → Going rules packets cs n places journal.old →
+        OnOk result (Going rules packets (cs ++ ending drained ∷ []) n places journal.new) }
     ensures judged { JudgesEnd (λ a b. S.eq a b) setup.now catalogue.now drained journal.old workers.items result }
     ensures newest { OnOk result (journal.new.newest ≡ journal.old.newest) }
     ensures unmarked { AreUnmarked journal.old.events → OnOk result (AreUnmarked journal.new.events) }
-    ensures counts { (lost : Bool) (shares : Counted) → Counts lost shares (journal.old.outcomes ++ served_from journal.old.node 0 (all_handled workers.items)) → IfOk result (λ left. Counts lost (with_lost left shares) journal.new.outcomes) }
+    ensures counts { (lost : Bool) (shares : Counted) →
+        Counts lost shares (journal.old.outcomes ++ served_from journal.old.node 0 (all_handled workers.items)) →
+        IfOk result (λ left. Counts lost (with_lost left shares) journal.new.outcomes) }
 {
     compare(setup, catalogue, &workers)?;
     match journal.end_life(workers, drained) {
@@ -146,11 +151,14 @@ fn end<S: Scheme, H: FlowHash, T: ConnTable>(
     workers: Vec<WorkerRecord<S, T>>,
 ) -> Result<(), RunFault>
     ensures ended { let rules = rules_for (λ s z. S.pick s z) (λ h. H.plain h) setup.now catalogue.now in
-        (packets : List Packet) → Drives rules packets journal.old → OnOk result (Tells rules packets journal.new × NoneWaits (past_of rules packets journal.new.node journal.new.events)) }
+        (packets : List Packet) → Drives rules packets journal.old →
+        OnOk result (Tells rules packets journal.new × NoneWaits (past_of rules packets journal.new.node journal.new.events)) }
     ensures served { OnOk result (IsServed journal.old journal.new) }
     ensures unmarked { AreUnmarked journal.old.events → OnOk result (AreUnmarked journal.new.events) }
     ensures judged { JudgesEnd (λ a b. S.eq a b) setup.now catalogue.now true journal.old workers.items result }
-    ensures counts { (lost : Bool) (shares : Counted) → Counts lost shares (journal.old.outcomes ++ served_from journal.old.node 0 (all_handled workers.items)) → OnOk result (Counts lost shares journal.new.outcomes) }
+    ensures counts { (lost : Bool) (shares : Counted) →
+        Counts lost shares (journal.old.outcomes ++ served_from journal.old.node 0 (all_handled workers.items)) →
+        OnOk result (Counts lost shares journal.new.outcomes) }
 {
     compare(setup, catalogue, &workers)?;
     match journal.end(workers, true) {
@@ -170,11 +178,13 @@ pub fn end_driven<S: Scheme, H: FlowHash, T: ConnTable, G, B: Names, R: Wait>(
     driven: Progress<S, B>,
     runs: Vec<WorkerRun<S, T, B>>,
 ) -> Result<Progress<S, B>, RunFault>
-    requires driven { let rules = rules_for (λ s z. S.pick s z) (λ h. H.plain h) plan.setup.now plan.catalogue.now in IsDriven rules plan.packets.now plan.commands.now plan.node plan.ring from driven.at driven.journal }
+    requires driven { let rules = rules_for (λ s z. S.pick s z) (λ h. H.plain h) plan.setup.now plan.catalogue.now in
+        IsDriven rules plan.packets.now plan.commands.now plan.node plan.ring from driven.at driven.journal }
     requires of { All (λ w. IsWork w.record w.tally.lost w.tally.shares) runs.items }
     requires some { 0 < driven.tally.shares.parts }
     requires counts { AreRead plan.packets.now → Counts driven.tally.lost driven.tally.shares driven.journal.outcomes }
-    ensures ended { let rules = rules_for (λ s z. S.pick s z) (λ h. H.plain h) plan.entry.setup.now plan.entry.catalogue.now in IfOk result (λ d. IsEnded rules plan.entry.packets.now plan.entry.commands.now plan.entry.node plan.entry.ring from d.at d.journal) }
+    ensures ended { let rules = rules_for (λ s z. S.pick s z) (λ h. H.plain h) plan.entry.setup.now plan.entry.catalogue.now in
+        IfOk result (λ d. IsEnded rules plan.entry.packets.now plan.entry.commands.now plan.entry.node plan.entry.ring from d.at d.journal) }
     ensures judged { let drained = drained_at plan.entry.commands.now driven.at in
         JudgesEnd (λ a b. S.eq a b) plan.entry.setup.now plan.entry.catalogue.now drained driven.journal (map (λ w. w.record) runs.items) result }
     ensures parts { IfOk result (λ d. d.tally.shares.parts ≡ driven.tally.shares.parts + length runs.items) }

@@ -3,15 +3,15 @@
 //! The tests of `journal_tests` compare it with the replay of its history.
 #![tactic(auto)]
 
-ghost use Rattle.std.specs.Prelude.{◌≡◌, ◌<◌, ◌++◌, ◌∷◌, [], ℕ, List, true, length, IfOk, OnOk, IsTrue, is_some};
+ghost use Rattle.std.specs.Prelude.{◌≡◌, ◌<◌, ◌++◌, ◌∷◌, [], List, true, length, IfOk, OnOk, is_some};
 ghost use Rattle.pool_versions.specs.Pool.{version_at};
-ghost use Rattle.cluster_core.specs.Setups.{Fixed, rules_for};
+ghost use Rattle.cluster_core.specs.Setups.{rules_for};
 ghost use Rattle.thread_records.specs.declared.command.Command.{Command};
 ghost use Rattle.thread_records.specs.declared.command.Command.TheVariants.{Publish, Offer};
 ghost use Rattle.thread_records.specs.Losses.{ending};
 ghost use Rattle.cluster_node.specs.declared.packets.Packet.{Packet};
-ghost use Rattle.thread_records.specs.Histories.{commands_of, past_of, NoneWaits};
-ghost use Rattle.thread_records.specs.Journals.{JournalView, Tells, Drives, IsServed};
+ghost use Rattle.thread_records.specs.Histories.{past_of, NoneWaits};
+ghost use Rattle.thread_records.specs.Journals.{Tells, Drives, IsServed};
 ghost use Rattle.node_rehearsal.specs.PrivateGoing.{Going, drains};
 ghost use Rattle.thread_records.specs.Runs.{IsRunOf};
 
@@ -164,7 +164,8 @@ fn publish<S: Scheme, H: FlowHash>(
     number: u32,
 ) -> Result<(), LifeFault>
     ensures going { let rules = rules_for (λ s z. S.pick s z) (λ h. H.plain h) setup.now catalogue.now in
-        (packets : List Packet) (cs : List Command) → Going rules packets cs journal.old → OnOk result (Going rules packets (cs ++ Publish number ∷ []) journal.new) }
+        (packets : List Packet) (cs : List Command) → Going rules packets cs journal.old →
+        OnOk result (Going rules packets (cs ++ Publish number ∷ []) journal.new) }
     ensures kept { OnOk result ((journal.new.node ≡ journal.old.node) × (journal.new.ring ≡ journal.old.ring)) }
 {
     match journal.install(knows(catalogue, number), number) {
@@ -230,7 +231,8 @@ fn restart<S: Scheme, H: FlowHash, T: ConnTable>(
     drained: bool,
 ) -> Result<Vec<u32>, LifeFault>
     ensures going { let rules = rules_for (λ s z. S.pick s z) (λ h. H.plain h) setup.now catalogue.now in
-        (packets : List Packet) (cs : List Command) → Going rules packets cs journal.old → OnOk result (Going rules packets (cs ++ ending drained ∷ []) journal.new) }
+        (packets : List Packet) (cs : List Command) → Going rules packets cs journal.old →
+        OnOk result (Going rules packets (cs ++ ending drained ∷ []) journal.new) }
     ensures kept { OnOk result ((journal.new.node ≡ journal.old.node) × (journal.new.ring ≡ journal.old.ring)) }
 {
     let workers: Vec<WorkerRecord<S, T>> = if drained {
@@ -258,7 +260,8 @@ fn end<S: Scheme, H: FlowHash, T: ConnTable>(
     queue: &Queues,
 ) -> Result<Vec<u32>, LifeFault>
     ensures ended { let rules = rules_for (λ s z. S.pick s z) (λ h. H.plain h) setup.now catalogue.now in
-        (packets : List Packet) → Drives rules packets journal.old → OnOk result (Tells rules packets journal.new × NoneWaits (past_of rules packets journal.new.node journal.new.events)) }
+        (packets : List Packet) → Drives rules packets journal.old →
+        OnOk result (Tells rules packets journal.new × NoneWaits (past_of rules packets journal.new.node journal.new.events)) }
     ensures served { OnOk result (IsServed journal.old journal.new) }
 {
     let workers: Vec<WorkerRecord<S, T>> = serve_all(alloc, setup, newest, queue)?;
@@ -284,7 +287,8 @@ pub fn rehearse<S: Scheme, H: FlowHash, T: ConnTable>(
     ring: u32,
 ) -> Result<NodeRecord, LifeFault>
     requires { node < length setup.now.nodes }
-    ensures { let rules = rules_for (λ s z. S.pick s z) (λ h. H.plain h) setup.now catalogue.now in IfOk result (λ r. IsRunOf rules packets.now node ring commands.now r) }
+    ensures { let rules = rules_for (λ s z. S.pick s z) (λ h. H.plain h) setup.now catalogue.now in
+        IfOk result (λ r. IsRunOf rules packets.now node ring commands.now r) }
 {
     let count = setup.workers();
     let mut journal = Journal::new(alloc, node, ring, count)?;

@@ -1,5 +1,5 @@
 -- One more answer, and the fault that is reported.
-use Rattle.std.proofs.Common.{◌≡◌, ◌≤◌, ◌+◌, ◌++◌, ◌∷◌, [], ℕ, Bool, List, Option, Some, None, length, inl, inr, sym, subst, refl, arith}
+use Rattle.std.proofs.Common.{◌≡◌, ◌≤◌, ◌+◌, ◌++◌, ◌∷◌, [], ℕ, Bool, List, Option, Some, None, length, inl, inr, subst, refl, arith}
 use Rattle.std.specs.Prelude.{Result, Ok, Err, Contains, MatchResult, IfSome, IsSomeAnd}
 use Rattle.std.proofs.lemmas.List.Elements.{Contains-push, Contains-push_cases, Contains-append_left}
 use Rattle.cluster_node.specs.Rules.{Rules}

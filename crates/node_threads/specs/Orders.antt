@@ -17,7 +17,14 @@ pub record AllAsked (S H : Type 0) : Type 0 where
   pub commands : List (List Command)
 
 abbrev pub asked_each : {S H : Type 0} → Fixed S H → Pools → List Packet → ℕ → Bool → List (List Command) → AllAsked S H
-asked_each setup pools packets ring paced commands = record { setup = setup; catalogue = pools; packets = packets; ring = ring; paced = paced; commands = commands }
+asked_each setup pools packets ring paced commands = record {
+  setup = setup;
+  catalogue = pools;
+  packets = packets;
+  ring = ring;
+  paced = paced;
+  commands = commands;
+}
 
 -- the same of drivers that don't wait
 abbrev pub asked_all : {S H : Type 0} → Fixed S H → Pools → List Packet → ℕ → List (List Command) → AllAsked S H

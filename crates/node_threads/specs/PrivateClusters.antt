@@ -39,7 +39,8 @@ IsSumUp fs (Some BookLost) = ComesFirst BookLost fs
 IsSumUp fs (Some Memory) = Unit {0}
 
 -- runs of all nodes, and shares with what all their outcomes come to
-pub record AreCounted {S H : Type 0} (rules : Rules) (all : AllAsked S H) (commands : List (List Command)) (rs : List NodeRecord) (shares : Counted) : Type 0 where
+pub record AreCounted {S H : Type 0} (rules : Rules) (all : AllAsked S H) (commands : List (List Command)) (rs : List NodeRecord)
+    (shares : Counted) : Type 0 where
   pub runs : AreRuns rules all.packets all.ring 0 commands rs
   pub counts : AreRead all.packets → shares ≡ counted shares.parts (all_outcomes rs)
   pub unmarked : all.paced ≡ true → NoneRefused rs

@@ -1,6 +1,6 @@
 //! What a life begins with.
 ghost use Rattle.std.specs.Prelude.{◌≡◌};
-ghost use Rattle.cluster_core.specs.Setups.{Fixed, rules_for};
+ghost use Rattle.cluster_core.specs.Setups.{rules_for};
 ghost use Rattle.thread_roles.specs.Going.{Begins, LifeView, asked_by};
 ghost use Rattle.thread_roles.specs.Shown.{last_published};
 ghost use Rattle.version_board.specs.Seats.{IsPublisherOf};
@@ -23,7 +23,7 @@ pub struct Life<'e, S: Scheme, H: FlowHash, G, B: Names> {
 }
 
 impl<'e, S: Scheme, H: FlowHash, G, B: Names> Model for Life<'e, S, H, G, B> {
-    ghost use Rattle.cluster_core.specs.Setups.{Fixed, rules_for};
+    ghost use Rattle.cluster_core.specs.Setups.{rules_for};
     ghost use Rattle.thread_roles.specs.Going.{Begins, LifeView, asked_by};
 
     ghost Value = { LifeView S H };
@@ -35,7 +35,8 @@ impl<'e, S: Scheme, H: FlowHash, G, B: Names> Model for Life<'e, S, H, G, B> {
       newest = l.progress.journal.newest;
     } };
 
-    ghost invariant = { λ l. let asked = asked_by l.plan.setup.now l.plan.catalogue.now l.plan.packets.now l.plan.node l.plan.ring l.plan.paced l.plan.commands.now in
+    ghost invariant = { λ l. let asked = asked_by l.plan.setup.now l.plan.catalogue.now l.plan.packets.now l.plan.node
+        l.plan.ring l.plan.paced l.plan.commands.now in
         let rules = rules_for (λ s z. S.pick s z) (λ h. H.plain h) asked.setup asked.catalogue in
         Begins rules asked l.progress.at l.progress.journal l.progress.tally.lost l.progress.tally.shares };
 }
@@ -56,7 +57,8 @@ impl<'e, S: Scheme, H: FlowHash, G, B: Names> Life<'e, S, H, G, B> {
             let rules = rules_for (λ s z. S.pick s z) (λ h. H.plain h) asked.setup asked.catalogue in
             Begins rules asked progress.at progress.journal progress.tally.lost progress.tally.shares }
         ensures { result ≡ record {
-          asked = asked_by plan.entry.setup.now plan.entry.catalogue.now plan.entry.packets.now plan.entry.node plan.entry.ring plan.entry.paced plan.entry.commands.now;
+          asked = asked_by plan.entry.setup.now plan.entry.catalogue.now plan.entry.packets.now
+              plan.entry.node plan.entry.ring plan.entry.paced plan.entry.commands.now;
           start = progress.at;
           parts = progress.tally.shares.parts;
           newest = progress.journal.newest;

@@ -1,7 +1,8 @@
 //! A cluster on threads: each node's run, with its driver in a thread of its own.
 ghost use Rattle.std.specs.Prelude.{◌≡◌, ◌≤◌, ◌<◌, ◌+◌, ◌*◌, ◌++◌, ◌∷◌, [], ℕ, List, ◌↔◌};
-ghost use Rattle.std.specs.Prelude.{length, map, true, Option, None, Some, Ok, IfOk, IfErr, IfSome, IsSomeAnd, IsTrue, MatchResult, All, slice_get, slice_index, slice_index_or};
-ghost use Rattle.cluster_core.specs.Setups.{Fixed, rules_for};
+ghost use Rattle.std.specs.Prelude.{length, map, true, Option, None, Some, Ok, IfOk, IfErr, IfSome, IsSomeAnd, IsTrue, MatchResult, All, slice_get};
+ghost use Rattle.std.specs.Prelude.{slice_index, slice_index_or};
+ghost use Rattle.cluster_core.specs.Setups.{rules_for};
 ghost use Rattle.cluster_core.specs.Headline.{Agreement, Keeping};
 ghost use Rattle.cluster_core.specs.Histories.{IsSteady};
 ghost use Rattle.cluster_core.specs.Runs.{verdicts};
@@ -254,7 +255,8 @@ where
     requires parts { 64 * 17 < shares.old.parts }
     requires fresh { shares.old ≡ counted shares.old.parts [] }
     ensures same { All (λ h. let p = h.promise in
-        asked_by p.setup.now p.catalogue.now p.packets.now p.node p.ring p.paced p.commands.now ≡ asked_one order.now p.node p.commands.now) result.handles.items }
+        asked_by p.setup.now p.catalogue.now p.packets.now p.node p.ring p.paced p.commands.now
+        ≡ asked_one order.now p.node p.commands.now) result.handles.items }
     ensures numbered { AreNumbered 0 (map (λ h. h.promise.node) result.handles.items) }
     ensures fault { IfSome result.fault (λ fault. IsRefusal fault) }
     ensures lists { result.fault ≡ None → map (λ h. h.promise.commands.now) result.handles.items ≡ order.now.commands }

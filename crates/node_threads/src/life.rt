@@ -1,5 +1,5 @@
 //! One life of a node: its threads are started, fed and joined.
-ghost use Rattle.std.specs.Prelude.{◌≡◌, ◌≢◌, ◌+◌, List, length, Some, None, IfOk, IfErr, IfSome, IsErrOf, MatchResult, All};
+ghost use Rattle.std.specs.Prelude.{◌≡◌, ◌≢◌, ◌+◌, length, Some, None, IfOk, IfErr, IfSome, IsErrOf, MatchResult, All};
 ghost use Rattle.cluster_core.specs.Setups.{rules_for};
 ghost use Rattle.thread_roles.specs.Counts.{IsWork};
 ghost use Rattle.thread_roles.specs.Faults.{IsRefusal};

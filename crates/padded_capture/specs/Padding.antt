@@ -1,5 +1,6 @@
 -- A capture whose cut records are as long as their frames were: what is missing of one is zeros.
-use Rattle.std.specs.Prelude.{ℕ, zero, suc, ◌-◌, not, ◌&&◌, nat_lt, Bool, List, ◌++◌, length, take, drop, slice_range, replicate, if◌then◌else◌, Option, Some, None}
+use Rattle.std.specs.Prelude.{ℕ, zero, suc, ◌-◌, not, ◌&&◌, nat_lt, Bool, List, ◌++◌, length, take, drop, slice_range, replicate, if◌then◌else◌, Option}
+use Rattle.std.specs.Prelude.{Some, None}
 use Rattle.pcap_file.specs.declared.format.Order.{Order}
 use Rattle.pcap_file.specs.declared.format.Order.TheVariants.{Big}
 use Rattle.pcap_file.specs.declared.format.Fraction.{Fraction}

@@ -1,5 +1,6 @@
 // How far a capture was padded.
-ghost use Rattle.std.specs.Prelude.{◌≡◌, ◌≤◌, ◌<◌, ◌+◌, ◌-◌, ◌++◌, true, false, min, length, take, drop, [], IsTrue, ◌↔◌, replicate, slice_range, nat_lt, ◌&&◌, not};
+ghost use Rattle.std.specs.Prelude.{◌≡◌, ◌≤◌, ◌<◌, ◌+◌, ◌-◌, ◌++◌, true, false, min, length, take, drop, [], replicate, slice_range, nat_lt};
+ghost use Rattle.std.specs.Prelude.{◌&&◌, not};
 ghost use Rattle.pcap_file.specs.Format.{number_in, magic_of, max_captured};
 ghost use Rattle.padded_capture.specs.Padding.{mended, missing};
 ghost use Rattle.padded_capture.specs.Stages.{fresh, header_len, form_of, ComesSame, IsTurn, FitsIn, left_of};
@@ -53,9 +54,16 @@ impl Model for Stage {
 
     ghost Value = { State };
 
-    ghost view = { λ s. record { form = s.form; is_gathering = s.is_gathering; waiting = drop s.given (take s.held s.text); plain = s.plain; zeros = s.zeros } };
+    ghost view = { λ s. record {
+      form = s.form;
+      is_gathering = s.is_gathering;
+      waiting = drop s.given (take s.held s.text);
+      plain = s.plain;
+      zeros = s.zeros;
+    } };
 
-    ghost invariant = { λ s. (s.given ≤ s.held) × (s.held ≤ 24) × (s.is_gathering ≡ true → s.given ≡ 0) × (s.is_gathering ≡ true → s.held ≤ header_len s.form) };
+    ghost invariant = { λ s. (s.given ≤ s.held) × (s.held ≤ 24) × (s.is_gathering ≡ true → s.given ≡ 0)
+        × (s.is_gathering ≡ true → s.held ≤ header_len s.form) };
 }
 
 // The number of four bytes, from a place on.
@@ -125,7 +133,10 @@ impl Stage {
     fn raise(&mut self)
         requires gathers { self.old.is_gathering ≡ true }
         requires count { length self.old.waiting ≡ 16 }
-        ensures { self.new ≡ record self.old { waiting = take 8 self.old.waiting ++ (slice_range self.old.waiting 12 16 ++ slice_range self.old.waiting 12 16) } }
+        ensures { self.new ≡ record self.old {
+          waiting = take 8 self.old.waiting ++ (slice_range self.old.waiting 12 16
+              ++ slice_range self.old.waiting 12 16);
+        } }
     {
         let original = [self.text[12], self.text[13], self.text[14], self.text[15]];
         self.text[8..12].copy_from_slice(&original);
@@ -135,7 +146,10 @@ impl Stage {
     fn mend(&mut self, captured: u32, original: u32)
         requires gathers { self.old.is_gathering ≡ true }
         requires count { length self.old.waiting ≡ 16 }
-        ensures { self.new ≡ record self.old { waiting = mended (nat_lt captured original && not (nat_lt max_captured original)) self.old.waiting; zeros = missing (nat_lt captured original && not (nat_lt max_captured original)) captured original } }
+        ensures { self.new ≡ record self.old {
+          waiting = mended (nat_lt captured original && not (nat_lt max_captured original)) self.old.waiting;
+          zeros = missing (nat_lt captured original && not (nat_lt max_captured original)) captured original;
+        } }
     {
         if captured < original && original <= MOST {
             self.zeros = original - captured;

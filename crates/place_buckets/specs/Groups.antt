@@ -102,7 +102,8 @@ AreGrouped groups links n = Grouped (length groups) (next_at links) (hash_at lin
 
 -- Places 1 to n are there, all but one.
 abbrev pub AreGroupedBut : List Group → List Link → ℕ → ℕ → Type 0
-AreGroupedBut groups links n place = Grouped (length groups) (next_at links) (hash_at links) (lane_at groups) (tag_at groups) (overflow_at groups) (λ p. (p ≤ n) × (p ≡ place → ⊥))
+AreGroupedBut groups links n place = Grouped (length groups) (next_at links) (hash_at links) (lane_at groups) (tag_at groups) (overflow_at groups)
+    (λ p. (p ≤ n) × (p ≡ place → ⊥))
 
 -- how many places a walk of at most so many steps passes
 unfoldable pub steps : ℕ → (ℕ → ℕ) → ℕ → ℕ

@@ -1,5 +1,6 @@
 //! Places by their hashes in two slices: a group for each bucket, and a link for each place, with its hash.
-ghost use Rattle.std.specs.Prelude.{◌≡◌, ◌<◌, ◌≤◌, ◌-◌, ◌^◌, ◌*◌, max, ℕ, [], ◌∷◌, ◌++◌, map, length, get_or, slice_set, true, false, IfSome, IfNone, IfOk, IsOk, OnOk, OnErr, vec_capacity};
+ghost use Rattle.std.specs.Prelude.{◌≡◌, ◌<◌, ◌≤◌, ◌-◌, ◌^◌, ◌*◌, max, ℕ, [], ◌∷◌, ◌++◌, map, length, get_or, slice_set, true, false, IfSome, IfNone, IfOk};
+ghost use Rattle.std.specs.Prelude.{IsOk, OnOk, OnErr, vec_capacity};
 ghost use Rattle.place_buckets.specs.Groups.{hash_of, hash_at, next_at, bucket_of, tag_of, Inside, IsChain, AreGrouped, AreGroupedBut};
 
 use crate::lanes::{LANES, free_lane, lane_of, lane_with};
@@ -52,7 +53,8 @@ fn tag(hash: u32) -> u8
 fn find_from<F: Fn(u32) -> bool>(group: &Group, from: usize, tag: u8, is_sought: &F) -> Option<u32>
     requires callable { (i : ℕ) → i < LANES → 0 < get_or group.now.places i 0 → F.pre is_sought.now (get_or group.now.places i 0) }
     ensures found { IfSome result (λ p. (i : ℕ) × (i < LANES) × (p ≡ get_or group.now.places i 0) × (0 < p) × F.post is_sought.now p true) }
-    ensures absent { IfNone result ((i : ℕ) → from ≤ i → i < LANES → get_or group.now.tags i 0 ≡ tag → 0 < get_or group.now.places i 0 → F.post is_sought.now (get_or group.now.places i 0) false) }
+    ensures absent { IfNone result ((i : ℕ) → from ≤ i → i < LANES → get_or group.now.tags i 0 ≡ tag → 0 < get_or group.now.places i 0 →
+        F.post is_sought.now (get_or group.now.places i 0) false) }
 {
     for lane in from..LANES {
         if group.tags[lane] == tag {
@@ -70,7 +72,8 @@ fn find_from<F: Fn(u32) -> bool>(group: &Group, from: usize, tag: u8, is_sought:
 fn find_in_lanes<F: Fn(u32) -> bool>(group: &Group, tag: u8, is_sought: &F) -> Option<u32>
     requires callable { (i : ℕ) → i < LANES → 0 < get_or group.now.places i 0 → F.pre is_sought.now (get_or group.now.places i 0) }
     ensures found { IfSome result (λ p. (i : ℕ) × (i < LANES) × (p ≡ get_or group.now.places i 0) × (0 < p) × F.post is_sought.now p true) }
-    ensures absent { IfNone result ((i : ℕ) → i < LANES → get_or group.now.tags i 0 ≡ tag → 0 < get_or group.now.places i 0 → F.post is_sought.now (get_or group.now.places i 0) false) }
+    ensures absent { IfNone result ((i : ℕ) → i < LANES → get_or group.now.tags i 0 ≡ tag → 0 < get_or group.now.places i 0 →
+        F.post is_sought.now (get_or group.now.places i 0) false) }
 {
     let lane = lane_with(&group.tags, tag);
     if lane == LANES {
@@ -94,7 +97,8 @@ fn find_in_chain<F: Fn(u32) -> bool>(
     requires chain { IsChain (next_at links.now) (length links.now) first }
     requires callable { (p : ℕ) → 0 < p → p ≤ length links.now → F.pre is_sought.now p }
     ensures found { IfSome result (λ p. (0 < p) × (p ≤ length links.now) × F.post is_sought.now p true) }
-    ensures absent { IfNone result ((p : ℕ) → Inside (next_at links.now) (length links.now) p first → hash_at links.now p ≡ hash → F.post is_sought.now p false) }
+    ensures absent { IfNone result ((p : ℕ) → Inside (next_at links.now) (length links.now) p first → hash_at links.now p ≡ hash →
+        F.post is_sought.now p false) }
 {
     let mut place = first;
     while place != 0 {

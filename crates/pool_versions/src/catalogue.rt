@@ -1,7 +1,8 @@
 //! The catalogue of versions.
 ghost use Rattle.std.specs.Prelude.{◌≡◌, ◌++◌, ◌∷◌, [], OnOk, OnErr, IfOk, IfSome, option_map, option_copied};
 ghost use Rattle.std.specs.List.{list_any};
-ghost use Rattle.pool_versions.specs.Pool.{Pools, services_fault, fault_of, RefusedAs, GivenBackAs, version_at, up_of, weights_of, is_over, has_too_many, has_double_name, HasUps, HasWeights, IsWithinLimits, AreSound};
+ghost use Rattle.pool_versions.specs.Pool.{Pools, services_fault, fault_of, RefusedAs, GivenBackAs, version_at, up_of, weights_of, is_over, has_too_many};
+ghost use Rattle.pool_versions.specs.Pool.{has_double_name, HasUps, HasWeights, IsWithinLimits, AreSound};
 
 use crate::backend::Backend;
 use crate::doubles::{has_double_name, has_double_service};

@@ -1,5 +1,5 @@
 //! Whether a list holds two of a kind.
-ghost use Rattle.std.specs.Prelude.{◌≡◌, not, map, IfOk, length};
+ghost use Rattle.std.specs.Prelude.{◌≡◌, not, IfOk};
 ghost use Rattle.std.specs.List.{list_any};
 ghost use Rattle.pool_versions.specs.Pool.{has_double, same_name, same_service, service_keys, member_names};
 

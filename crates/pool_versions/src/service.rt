@@ -1,7 +1,8 @@
 //! Services and versions.
 ghost use Rattle.std.specs.Prelude.{◌≡◌, ◌≤◌, [], map, length, All, IfOk, option_copied};
 ghost use Rattle.std.specs.List.Sorted.{IsPermutation};
-ghost use Rattle.pool_versions.specs.Pool.{same_service, has_too_many, key_of, up_members, up_backends, ranked, ups, draining_members, draining_backends, ascending_with, weights, AscendsByName, AreWeighed, serves, find_service};
+ghost use Rattle.pool_versions.specs.Pool.{same_service, has_too_many, key_of, up_members, up_backends, ranked, ups, draining_members, draining_backends};
+ghost use Rattle.pool_versions.specs.Pool.{ascending_with, weights, AscendsByName, AreWeighed, serves, find_service};
 
 use crate::backend::{Backend, Member};
 use crate::key::ServiceKey;

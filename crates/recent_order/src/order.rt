@@ -1,5 +1,6 @@
 //! Places in the order of their last use, as a ring of links.
-ghost use Rattle.std.specs.Prelude.{◌≡◌, ◌+◌, ◌-◌, ◌^◌, ◌<◌, ◌≤◌, max, [], ◌∷◌, map, length, slice_index, slice_index_or, IsOk, OnOk, OnErr, IfOk, List, ℕ, vec_len, vec_capacity};
+ghost use Rattle.std.specs.Prelude.{◌≡◌, ◌+◌, ◌-◌, ◌^◌, ◌<◌, ◌≤◌, max, [], ◌∷◌, map, length, slice_index, slice_index_or, IsOk, OnOk, OnErr, IfOk, List, ℕ};
+ghost use Rattle.std.specs.Prelude.{vec_len, vec_capacity};
 ghost use Rattle.std.specs.List.{Contains};
 ghost use Rattle.recent_order.specs.Places.{without, ArePlaces};
 ghost use Rattle.recent_order.specs.Sides.{no_links, older_of, newer_of, AreLinkedBy};

@@ -1,7 +1,7 @@
 //! The order that moves the fewest slots at each step.
-ghost use Rattle.std.specs.Prelude.{set, ◌≡◌, ◌<◌, ◌≤◌, true, length, IfOk, IfSome};
+ghost use Rattle.std.specs.Prelude.{◌≡◌, ◌<◌, length, IfOk, IfSome};
 ghost use Rattle.rollout_order.specs.Steps.{tables_at, all_moved, step_moved};
-ghost use Rattle.rollout_order.specs.Orders.{plain_order, width, is_open, IsBest, IsBestNext, IsGreedy};
+ghost use Rattle.rollout_order.specs.Orders.{plain_order, width, IsBest, IsBestNext, IsGreedy};
 ghost use Rattle.rollout_order.specs.PrivateBetter.{better_of};
 
 use crate::counts::{all_moved, tables_at, with_mark};

@@ -3,7 +3,7 @@ ghost use Rattle.std.specs.Prelude.{◌≡◌, ◌++◌, map, IfOk, OnOk};
 ghost use Rattle.std.specs.List.{flat_map};
 ghost use Rattle.pool_versions.specs.Pool.{ups, AscendsByName};
 ghost use Rattle.rollout_plan.specs.Text.{services_gone};
-ghost use Rattle.rollout_order.specs.Rollouts.{plain_change, kept_change, gone_change, changes, is_lost, lost, leaving, joining, names_of, IsRollout};
+ghost use Rattle.rollout_order.specs.Rollouts.{plain_change, kept_change, gone_change, changes, lost, leaving, joining, names_of, IsRollout};
 
 use crate::names::names_of;
 use backend_names::Name;

@@ -39,7 +39,8 @@ changed before after = slots_where (is_moved before after) before.size
 -- how many of these named nobody, or one who is up no more and doesn't drain
 abbrev pub down : NamedTable → NamedTable → List Backend → ℕ
 down before after draining =
-    slots_where (λ slot. is_moved before after slot && (not (stays_up after (named_at before slot)) && not (who_drains draining (named_at before slot)))) before.size
+    slots_where (λ slot. is_moved before after slot && (not (stays_up after (named_at before slot))
+    && not (who_drains draining (named_at before slot)))) before.size
 
 -- how many named one who is up no more but drains
 abbrev pub drained : NamedTable → NamedTable → List Backend → ℕ

@@ -41,7 +41,8 @@ service_json key size = codes "{" ++ (service_members key size ++ codes "}\n")
 -- `"type":"member","service":"SERVICE",BACKEND,"weight":W`
 unfoldable pub member_members : ServiceKey → Member → List ℕ
 member_members key m =
-    codes "\"type\":\"member\",\"service\":\"" ++ (service_word key ++ (codes "\"," ++ (backend_members m.backend ++ (codes ",\"weight\":" ++ decimal m.weight))))
+    codes "\"type\":\"member\",\"service\":\"" ++ (service_word key
+    ++ (codes "\"," ++ (backend_members m.backend ++ (codes ",\"weight\":" ++ decimal m.weight))))
 
 -- `{MEMBER,"before":B,"after":A,"state":"STATE"}`: a member between two tables
 unfoldable pub change_member_json : ServiceKey → NamedTable → NamedTable → List Backend → Member → List ℕ

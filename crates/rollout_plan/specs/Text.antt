@@ -1,6 +1,6 @@
 -- The lines of the command `plan`, as lists of bytes, and whose lines these are.
 use Rattle.std.specs.Prelude.{ℕ, Bool, true, false, not, List, [], ◌∷◌, ◌++◌, map, filter, find, Option, Some, None, codes}
-use Rattle.std.specs.List.{flat_map, list_any}
+use Rattle.std.specs.List.{list_any}
 use Rattle.std.specs.Fmt.{decimal}
 use Rattle.maglev_texts.specs.Printing.{backend_text, end_text, protocol_text}
 use Rattle.pool_versions.specs.declared.backend.Backend.{Backend}
@@ -8,11 +8,9 @@ use Rattle.pool_versions.specs.declared.backend.Member.{Member}
 use Rattle.pool_versions.specs.declared.key.ServiceKey.{ServiceKey}
 use Rattle.pool_versions.specs.declared.service.Service.{Service}
 use Rattle.pool_versions.specs.declared.service.Version.{Version}
-use Rattle.pool_versions.specs.Pool.{key_of, same_key, ranked, draining_backends}
+use Rattle.pool_versions.specs.Pool.{key_of, same_key, ranked}
 use Rattle.selection.specs.Picks.{NamedTable}
 use Rattle.selection.specs.Readied.{same_backend}
-use Rattle.rollout_plan.specs.declared.slots.TableRule.{TableRule}
-use Rattle.rollout_plan.specs.Tables.{table_by}
 use Rattle.rollout_plan.specs.Counts.{slots_naming, is_up, drains, changed, down, moved, drained, least}
 
 -- a backend is that of one of some members

@@ -1,10 +1,9 @@
 //! The text of the command `plan`.
 ghost use Rattle.std.specs.Prelude.{◌≡◌, ◌++◌, [], IfOk, OnOk, string_bytes};
 ghost use Rattle.std.specs.List.{flat_map};
-ghost use Rattle.pool_versions.specs.Pool.{draining_backends};
-ghost use Rattle.rollout_plan.specs.Tables.{table_by};
 ghost use Rattle.rollout_plan.specs.Text.{service_line, counts_line, change_line, services_gone, has_service, slots_line, backend_line};
-ghost use Rattle.rollout_plan.specs.Forms.{counts_as, change_line_as, change_text_as, kept_text_as, gone_text_as, plan_text_as, size_as, backend_line_as, block_text_as, service_text_as, version_text_as};
+ghost use Rattle.rollout_plan.specs.Forms.{counts_as, change_line_as, change_text_as, kept_text_as, gone_text_as, plan_text_as, size_as, backend_line_as};
+ghost use Rattle.rollout_plan.specs.Forms.{block_text_as, version_text_as};
 
 use crate::counting::{Causes, causes_of, least};
 use crate::drains::Draining;

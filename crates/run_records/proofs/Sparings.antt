@@ -1,7 +1,7 @@
 -- Records of which the first are kept, and one more.
-use Rattle.std.proofs.Common.{◌≡◌, ◌≤◌, ◌<◌, ◌⊎◌, inl, inr, ℕ, Bool, false, List, [], ◌∷◌, ◌++◌, length, map, reverse, refl, sym, ap, ◌∙◌, subst, arith, append_assoc, append-nil}
+use Rattle.std.proofs.Common.{◌≡◌, ◌≤◌, ◌<◌, ◌⊎◌, inl, inr, ℕ, Bool, true, false, List, [], ◌∷◌, ◌++◌, length, map, reverse, refl, sym, ap, ◌∙◌, subst, arith, append_assoc, append-nil, length-append}
 use Rattle.std.specs.Prelude.{nat_lt, if◌then◌else◌}
-use Rattle.std.proofs.lemmas.Bool.{le-ltb}
+use Rattle.std.proofs.lemmas.Bool.{le-ltb, ltb-true}
 use Rattle.std.proofs.lemmas.List.{length-map, length-reverse, reverse-append}
 use Rattle.pcap_file.specs.declared.format.Frame.{Frame}
 use Rattle.pcap_file.specs.Format.{Record, packet}
@@ -48,21 +48,26 @@ split_at limit all kept others items is count full =
       ];
     }
 
+-- a record is kept only where there is room for it
+most_kept : (limit : ℕ) (f : Sparing) (p : Record) (b : Bool) → nat_lt (length f.kept) f.limit ≡ b → f.limit ≤ limit → length f.kept ≤ limit → length (if b then f.kept ++ p ∷ [] else f.kept) ≤ limit
+most_kept limit f p false full under most = most
+most_kept limit f p true room under most = omega (arith, length-append f.kept (p ∷ []), ltb-true (length f.kept) f.limit room, under)
+
 module _ (Settle : List Record → Type 0) (limit : ℕ) where
   -- one record more changes nothing of what may be kept
   pub bounded_more : (f : Sparing) (p : Record) → IsBounded Settle limit f → IsBounded Settle limit (one_more f p)
-  bounded_more f p b = elim b [
-    | inl same ↦ inl same
+  bounded_more f p b = elim b.1 [
+    | inl same ↦ (most_kept limit f p (nat_lt (length f.kept) f.limit) refl (omega (arith, same)) b.0, inl same)
     | inr settled ↦
         let none : nat_lt (length f.kept) f.limit ≡ false = le-ltb (length f.kept) f.limit settled.1 in
         let kept : (one_more f p).kept ≡ f.kept = ap (λ (b : Bool). if b then f.kept ++ p ∷ [] else f.kept) none in
-        inr (subst (λ (rs : List Record). Settle rs × (f.limit ≤ length rs)) (sym kept) settled)
+        subst (λ (rs : List Record). (length rs ≤ limit) × ((f.limit ≡ limit) ⊎ (Settle rs × (f.limit ≤ length rs)))) (sym kept) (b.0, inr settled)
   ]
 
   pub bounded_stopped : (f g : Sparing) → (g ≡ f) ⊎ ((g ≡ stopped f) × Settle f.kept) → IsBounded Settle limit f → IsBounded Settle limit g
   bounded_stopped f g asked b = elim asked [
     | inl same ↦ subst (λ (h : Sparing). IsBounded Settle limit h) (sym same) b
-    | inr stop ↦ subst (λ (h : Sparing). IsBounded Settle limit h) (sym stop.0) (inr (stop.1, omega arith))
+    | inr stop ↦ subst (λ (h : Sparing). IsBounded Settle limit h) (sym stop.0) (b.0, inr (stop.1, omega arith))
   ]
 
   pub split_by : (f : Sparing) (kept : List Record) (others : ℕ) → kept ≡ f.kept → IsSplit (λ rs. ⊥) f.limit f.all kept others → IsBounded Settle limit f → IsSplit Settle limit f.all kept others
@@ -73,7 +78,7 @@ module _ (Settle : List Record → Type 0) (limit : ℕ) where
     full = elim split.full [
       | inl none ↦ inl none
       | inr full ↦ inr (elim full [
-        | inl enough ↦ elim b [
+        | inl enough ↦ elim b.1 [
           | inl same ↦ inl (omega (arith, enough, same))
           | inr settled ↦ inr (subst (λ (rs : List Record). Settle rs) (sym is) settled.0)
         ]

@@ -16,9 +16,9 @@ one_more f p = record { limit = f.limit; kept = if nat_lt (length f.kept) f.limi
 abbrev pub stopped : Sparing → Sparing
 stopped f = record { limit = length f.kept; kept = f.kept; all = f.all }
 
--- as many may be kept as at first, or those that are kept settle it
+-- no more are kept than at first may be, and as many may still be, or those that are kept settle it
 abbrev pub IsBounded : (List Record → Type 0) → ℕ → Sparing → Type 0
-IsBounded Settle limit f = (f.limit ≡ limit) ⊎ (Settle f.kept × (f.limit ≤ length f.kept))
+IsBounded Settle limit f = (length f.kept ≤ limit) × ((f.limit ≡ limit) ⊎ (Settle f.kept × (f.limit ≤ length f.kept)))
 
 -- the first of some records are kept, of the others their count
 pub record IsSplit (Settle : List Record → Type 0) (limit : ℕ) (all kept : List Record) (others : ℕ) : Type 0 where

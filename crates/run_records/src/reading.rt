@@ -86,6 +86,7 @@ pub fn read_whole<I: Source, F: Fn(&Records) -> bool>(
     requires enough { F.IsAlwaysCallable enough.now }
     ensures whole { IfOk result (λ c. (all : List Record) × IsReadWhole (I.tape input.old) (I.tape input.new) c.head all c.ending
         × (length all ≤ max_records) × IsSplit (λ rs. FnReturnsAt F.Fn enough.entry.now rs true) limit all c.records c.others) }
+    ensures most { IfOk result (λ c. length c.records ≤ limit) }
     ensures fails { IfErr result (λ fault. ReadingFails fault (I.tape input.old) (I.tape input.new)) }
 {
     let head = match read_start(input) {

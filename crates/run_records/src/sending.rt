@@ -58,7 +58,8 @@ impl Sender<'_> {
     ) -> Result<(), SimulationFault>
         ensures ok { OnOk result (Wrote (O.tape output.old) (O.tape output.new) (sent_by_lives (traffic_by self.now) node.now.sent.items)) }
         ensures named { IfErr result IsOfRun }
-        ensures cut { IfErr result (λ fault. WroteUntil fault (O.tape output.old) (O.tape output.new) (sent_by_lives (traffic_by self.now) node.now.sent.items)) }
+        ensures cut { IfErr result (λ fault. WroteUntil fault (O.tape output.old) (O.tape output.new)
+            (sent_by_lives (traffic_by self.now) node.now.sent.items)) }
     {
         let lives = node.sent();
         let own = NodeSender {
@@ -99,7 +100,8 @@ pub fn write_capture<O: Sink, R: Threads + Sync>(
     sender: &Sender<'_>,
     nodes: &[LeanRecord],
 ) -> Result<(), SimulationFault>
-    ensures written { OnOk result (Appends (O.tape output.old).bytes (O.tape output.new).bytes (capture_text (sent_by_nodes (traffic_by sender.now) nodes.now)) × Unfailed (O.tape output.old) (O.tape output.new)) }
+    ensures written { OnOk result (Appends (O.tape output.old).bytes (O.tape output.new).bytes
+        (capture_text (sent_by_nodes (traffic_by sender.now) nodes.now)) × Unfailed (O.tape output.old) (O.tape output.new)) }
     ensures named { IfErr result IsOfRun }
     ensures cut { IfErr result (λ fault. CaptureUntil fault (O.tape output.old) (O.tape output.new) (sent_by_nodes (traffic_by sender.now) nodes.now)) }
 {

@@ -230,9 +230,11 @@ impl NodeSender<'_> {
         output: &mut O,
         life: &[u32],
     ) -> Result<(), SimulationFault>
-        ensures ok { OnOk result (Wrote (O.tape output.old) (O.tape output.new) (sent_of (traffic_by self.now.sender) (map (λ n. send_of self.now.node.now.outcomes.items n) life.now))) }
+        ensures ok { OnOk result (Wrote (O.tape output.old) (O.tape output.new) (sent_of (traffic_by self.now.sender)
+            (map (λ n. send_of self.now.node.now.outcomes.items n) life.now))) }
         ensures named { IfErr result IsOfRun }
-        ensures cut { IfErr result (λ fault. WroteUntil fault (O.tape output.old) (O.tape output.new) (sent_of (traffic_by self.now.sender) (map (λ n. send_of self.now.node.now.outcomes.items n) life.now))) }
+        ensures cut { IfErr result (λ fault. WroteUntil fault (O.tape output.old) (O.tape output.new)
+            (sent_of (traffic_by self.now.sender) (map (λ n. send_of self.now.node.now.outcomes.items n) life.now))) }
     {
         let mut from = 0;
         while from < life.len() {

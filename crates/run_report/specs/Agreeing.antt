@@ -28,5 +28,6 @@ SplitsFollowPicks = (rules : Rules) (past : List LogEntry) → IsSteady rules �
 
 -- and for Maglev in terms of tables
 abbrev pub SplitsFollowTables : Type 0
-SplitsFollowTables = (plain : List ℕ → ℕ) (size : ℕ) (pools : Pools) (rules : Rules) (past : List LogEntry) → AreMaglevs plain size pools rules → Judged (verdict rules) past →
+SplitsFollowTables = (plain : List ℕ → ℕ) (size : ℕ) (pools : Pools) (rules : Rules) (past : List LogEntry) → AreMaglevs plain size pools rules →
+    Judged (verdict rules) past →
     All (FollowsTables plain size pools) (splits_of past)

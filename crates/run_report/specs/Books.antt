@@ -16,7 +16,10 @@ use Rattle.run_report.specs.Splits.{splits_of, flows_of}
 -- the send that a flow's entry represents, by the backend at its place
 abbrev pub told : {T : Type 0} → List Backend → Flow → LastSend T → Option (Noted T)
 told backends x l =
-    option_map (λ b. record { sending = record { number = l.number; flow = x; version = l.version; backend = b; origin = l.origin }; beside = l.beside }) (slice_get backends l.place)
+    option_map (λ b. record {
+      sending = record { number = l.number; flow = x; version = l.version; backend = b; origin = l.origin };
+      beside = l.beside;
+    }) (slice_get backends l.place)
 
 -- each flow's entry represents its last send, and the others have none
 pub record AreLast {T : Type 0} (sent : Flow → Option (Noted T)) (l : LastSends T) : Type 0 where

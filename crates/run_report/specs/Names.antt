@@ -1,7 +1,8 @@
 -- The names of causes and reasons.
 use Rattle.std.specs.Prelude.{ℕ, List, codes}
 use Rattle.cluster_node.specs.declared.outcomes.Cause.{Cause}
-use Rattle.cluster_node.specs.declared.outcomes.Cause.TheVariants.{NotIpv4, Truncated, BadHeader, BadChecksum, Fragment, NotTcpUdp, BadTransport, TooLarge, NoService, NoBackend, NoVersion, RingsFull, LostAtRestart}
+use Rattle.cluster_node.specs.declared.outcomes.Cause.TheVariants.{NotIpv4, Truncated, BadHeader, BadChecksum, Fragment, NotTcpUdp, BadTransport, TooLarge}
+use Rattle.cluster_node.specs.declared.outcomes.Cause.TheVariants.{NoService, NoBackend, NoVersion, RingsFull, LostAtRestart}
 use Rattle.cluster_node.specs.declared.outcomes.Reason.{Reason}
 use Rattle.cluster_node.specs.declared.outcomes.Reason.TheVariants.{NoNode, NoWorker, NoPacket, UnknownVersion, NotNewer, Idle, VersionRange}
 

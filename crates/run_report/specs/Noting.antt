@@ -20,12 +20,14 @@ last_noted (n ∷ ns) x = if same_flow n.sending.flow x then Some n else last_no
 -- a send of a flow after its last one is a split where the backends differ, in name or address
 abbrev pub split_with : {T : Type 0} → Option (Noted T) → Noted T → List Split
 split_with None later = []
-split_with (Some first) later = if same_backend first.sending.backend later.sending.backend then [] else record { first = first.sending; later = later.sending } ∷ []
+split_with (Some first) later = if same_backend first.sending.backend later.sending.backend then []
+    else record { first = first.sending; later = later.sending } ∷ []
 
 -- what is kept beside its sends
 abbrev pub beside_with : {T : Type 0} → Option (Noted T) → Noted T → List (Beside T)
 beside_with None later = []
-beside_with (Some first) later = if same_backend first.sending.backend later.sending.backend then [] else record { first = first.beside; later = later.beside } ∷ []
+beside_with (Some first) later = if same_backend first.sending.backend later.sending.backend then []
+    else record { first = first.beside; later = later.beside } ∷ []
 
 -- the splits, in the order of their later sends
 abbrev pub splits_noted : {T : Type 0} → List (Noted T) → List Split

@@ -54,5 +54,6 @@ send_in history k = option_and_then (λ s. send_of s.outcome) (slice_get history
 
 -- the two events of a split are explained as one, by its versions and backends
 abbrev pub SplitsAreExplained : Type 0
-SplitsAreExplained = (past : List LogEntry) (slot : Flow → ℕ) → All (λ p. explained slot (send_in (reverse past) p.first.number) (send_in (reverse past) p.later.number)
+SplitsAreExplained = (past : List LogEntry) (slot : Flow → ℕ) →
+    All (λ p. explained slot (send_in (reverse past) p.first.number) (send_in (reverse past) p.later.number)
     ≡ verdict.Split (slot p.first.flow) p.first.origin p.later.origin p.first.backend p.later.backend) (splits_of past)

@@ -3,7 +3,8 @@ use Rattle.std.specs.Prelude.{ℕ, ◌-◌, ◌==◌, Bool, true, false, if◌th
 use Rattle.std.specs.List.{flat_map}
 use Rattle.std.specs.Fmt.{decimal}
 use Rattle.cluster_node.specs.declared.outcomes.Cause.{Cause}
-use Rattle.cluster_node.specs.declared.outcomes.Cause.TheVariants.{NotIpv4, Truncated, BadHeader, BadChecksum, Fragment, NotTcpUdp, BadTransport, TooLarge, NoService, NoBackend, NoVersion, RingsFull, LostAtRestart}
+use Rattle.cluster_node.specs.declared.outcomes.Cause.TheVariants.{NotIpv4, Truncated, BadHeader, BadChecksum, Fragment, NotTcpUdp, BadTransport, TooLarge}
+use Rattle.cluster_node.specs.declared.outcomes.Cause.TheVariants.{NoService, NoBackend, NoVersion, RingsFull, LostAtRestart}
 use Rattle.cluster_core.specs.OutcomeCounts.{number}
 use Rattle.cluster_core.specs.declared.counts.Totals.{Totals}
 use Rattle.event_trace.specs.declared.play.Tally.{Tally}
@@ -23,7 +24,8 @@ drop_line cause count = if count == 0 then [] else codes "drop " ++ count_line (
 
 -- the causes in the order of their numbers
 abbrev pub causes : List Cause
-causes = NotIpv4 ∷ Truncated ∷ BadHeader ∷ BadChecksum ∷ Fragment ∷ NotTcpUdp ∷ BadTransport ∷ TooLarge ∷ NoService ∷ NoBackend ∷ NoVersion ∷ RingsFull ∷ LostAtRestart ∷ []
+causes = NotIpv4 ∷ Truncated ∷ BadHeader ∷ BadChecksum ∷ Fragment ∷ NotTcpUdp ∷ BadTransport ∷ TooLarge ∷ NoService ∷ NoBackend ∷ NoVersion ∷ RingsFull
+    ∷ LostAtRestart ∷ []
 
 -- the count of a cause: of the counts, the first is of number 1
 abbrev pub count_of : List ℕ → Cause → ℕ
@@ -36,12 +38,14 @@ drops_text dropped = flat_map (λ cause. drop_line cause (count_of dropped cause
 -- what became of the capture's records
 abbrev pub records_text : Tally → Bool → List ℕ
 records_text tally is_cut =
-    count_line (codes "packets") tally.packets ++ (count_line (codes "lost") tally.lost ++ (count_line (codes "unrouted") tally.unrouted ++ (count_line (codes "skipped") tally.skipped ++ (count_line (codes "left") tally.left ++ cut_line is_cut))))
+    count_line (codes "packets") tally.packets ++ (count_line (codes "lost") tally.lost ++ (count_line (codes "unrouted") tally.unrouted
+    ++ (count_line (codes "skipped") tally.skipped ++ (count_line (codes "left") tally.left ++ cut_line is_cut))))
 
 -- what became of the packets that arrived at a node
 abbrev pub totals_text : Totals → List ℕ
 totals_text totals =
-    count_line (codes "received") totals.received ++ (count_line (codes "forwarded") totals.forwarded ++ (drops_text totals.dropped ++ (count_line (codes "waiting") totals.waiting ++ count_line (codes "refused") totals.refused)))
+    count_line (codes "received") totals.received ++ (count_line (codes "forwarded") totals.forwarded
+    ++ (drops_text totals.dropped ++ (count_line (codes "waiting") totals.waiting ++ count_line (codes "refused") totals.refused)))
 
 abbrev pub report_text : Tally → Totals → Bool → List ℕ
 report_text tally totals is_cut = records_text tally is_cut ++ totals_text totals

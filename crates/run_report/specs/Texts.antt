@@ -41,7 +41,8 @@ split_line lookups p = line_of p (lookups.slot p.later.flow) (cause_of lookups p
 
 -- the number of flows, of splits, and of those that are down or moved
 abbrev pub split_counts : ℕ → ℕ → ℕ → ℕ → List ℕ
-split_counts flows split down moved = count_line (codes "flows") flows ++ (count_line (codes "split") split ++ (count_line (codes "down") down ++ count_line (codes "moved") moved))
+split_counts flows split down moved = count_line (codes "flows") flows ++ (count_line (codes "split") split
+    ++ (count_line (codes "down") down ++ count_line (codes "moved") moved))
 
 -- where a member of a version drains, the number of those that left after they had drained
 abbrev pub drained_line : Bool → ℕ → List ℕ
@@ -50,7 +51,8 @@ drained_line true drained = count_line (codes "drained") drained
 
 -- the counts that come after the lines
 abbrev pub counts_text : Lookups → ℕ → List Split → List ℕ
-counts_text lookups flows ps = split_counts flows (length ps) (down_count lookups ps) (moved_count lookups ps) ++ drained_line (does_anybody_drain lookups.versions) (drained_count lookups ps)
+counts_text lookups flows ps = split_counts flows (length ps) (down_count lookups ps) (moved_count lookups ps)
+    ++ drained_line (does_anybody_drain lookups.versions) (drained_count lookups ps)
 
 -- a line for each split, and after them the counts
 abbrev pub text_of : Lookups → ℕ → List Split → List ℕ

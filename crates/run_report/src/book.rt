@@ -2,7 +2,6 @@
 ghost use Rattle.std.specs.Prelude.{◌≡◌, ◌+◌, ◌++◌, ◌∷◌, [], List, length, reverse, Option, Some, None, IfSome, IfOk, OnOk};
 ghost use Rattle.cluster_node.specs.declared.events.LogEntry.{LogEntry};
 ghost use Rattle.cluster_node.specs.declared.packets.Packet.{Packet};
-ghost use Rattle.selection.specs.Readied.{same_backend};
 ghost use Rattle.run_report.specs.declared.noted.Noted.{Noted};
 ghost use Rattle.run_report.specs.Splits.{sent_by, splits_of, flows_of, said_of};
 ghost use Rattle.run_report.specs.Noting.{noted_by, split_with, beside_with, besides_noted};

@@ -4,7 +4,8 @@ ghost use Rattle.std.specs.List.{list_any};
 ghost use Rattle.selection.specs.Candidates.{candidates_in, candidates_of, candidates_under};
 ghost use Rattle.selection.specs.Readied.{same_backend, keeps};
 ghost use Rattle.pool_versions.specs.Pool.{draining_backends};
-ghost use Rattle.run_report.specs.Causes.{Lookups, is_kept_among, is_kept_member, drains_among, is_draining_member, is_between, drains_between, drains_in_service, drains_in_version, does_anybody_drain, has_drained, cause_of};
+ghost use Rattle.run_report.specs.Causes.{Lookups, is_kept_among, is_kept_member, drains_among, is_draining_member, drains_between};
+ghost use Rattle.run_report.specs.Causes.{drains_in_service, drains_in_version, does_anybody_drain, has_drained, cause_of};
 
 use crate::sending::Split;
 use five_tuple::Flow;
@@ -132,7 +133,8 @@ fn has_drained_in(catalogue: &Catalogue, drains: bool, split: &Split) -> bool
 /// Why a flow was split, where it is known whether a member of a version drains.
 pub fn cause_where(catalogue: &Catalogue, drains: bool, split: &Split) -> SplitCause
     requires { drains ≡ does_anybody_drain catalogue.now.versions }
-    ensures { (lookups : Lookups) → lookups.ups ≡ (λ v x. candidates_of catalogue.now v x) → lookups.versions ≡ catalogue.now.versions → result ≡ cause_of lookups split.now }
+    ensures { (lookups : Lookups) → lookups.ups ≡ (λ v x. candidates_of catalogue.now v x) → lookups.versions ≡ catalogue.now.versions →
+        result ≡ cause_of lookups split.now }
 {
     let later = &split.later;
     if is_kept_under(catalogue, later.version, &later.flow, &split.first.backend) {
@@ -146,7 +148,8 @@ pub fn cause_where(catalogue: &Catalogue, drains: bool, split: &Split) -> SplitC
 
 /// Why a flow was split, where the cluster's versions are those of a catalogue.
 pub fn cause_of(catalogue: &Catalogue, split: &Split) -> SplitCause
-    ensures { (lookups : Lookups) → lookups.ups ≡ (λ v x. candidates_of catalogue.now v x) → lookups.versions ≡ catalogue.now.versions → result ≡ cause_of lookups split.now }
+    ensures { (lookups : Lookups) → lookups.ups ≡ (λ v x. candidates_of catalogue.now v x) → lookups.versions ≡ catalogue.now.versions →
+        result ≡ cause_of lookups split.now }
 {
     cause_where(catalogue, does_anybody_drain(catalogue), split)
 }

@@ -24,7 +24,7 @@ struct LastSend<T> {
     beside: T,
 }
 
-/// The last send of each flow, with what is kept beside it. An entry takes 20 bytes beside that and its flow, since a backend is
+/// The last send of each flow, with what is kept beside it. An entry takes 24 bytes beside that and its flow, since a backend is
 /// kept once for all of them.
 #[derive(Drop)]
 pub(crate) struct LastSends<T> {

@@ -2,7 +2,7 @@
 //!
 //! A line is written from its end to its start, into an array on the stack, and goes into a text as a whole. That is fast:
 //! a number's digits come from its end too, so they are written where they stand, and only the whole line asks for room.
-ghost use Rattle.std.specs.Prelude.{◌≡◌, ◌≤◌, ◌+◌, ◌++◌, ◌∷◌, drop, length, codes, IsAscii};
+ghost use Rattle.std.specs.Prelude.{◌≡◌, ◌≤◌, ◌+◌, ◌++◌, drop, length, codes, IsAscii};
 ghost use Rattle.std.specs.Fmt.{decimal};
 ghost use Rattle.maglev_texts.specs.Printing.{address_text, backend_text};
 

@@ -162,7 +162,8 @@ fn push_counts(
     drains: bool,
 ) -> Result<(), AllocError>
     requires { gone.down + gone.drained ≤ split }
-    ensures { OnOk result (string_bytes text.new ≡ string_bytes text.old ++ (split_counts flows split gone.down (split - (gone.down + gone.drained)) ++ drained_line drains gone.drained)) }
+    ensures { OnOk result (string_bytes text.new ≡ string_bytes text.old ++ (split_counts flows split gone.down (split - (gone.down + gone.drained))
+        ++ drained_line drains gone.drained)) }
 {
     let Gone { down, drained } = gone;
     let moved = split - (down + drained);
@@ -182,7 +183,8 @@ fn push_lines<H: FlowHash>(
     splits: &[Split],
 ) -> Result<Gone, AllocError>
     requires { drains ≡ does_anybody_drain catalogue.now.versions }
-    ensures text { OnOk result (string_bytes text.new ≡ string_bytes text.old ++ flat_map (split_line (lookups_of (H.plain hash.now) catalogue.now.size catalogue.now)) splits.now) }
+    ensures text { OnOk result (string_bytes text.new
+        ≡ string_bytes text.old ++ flat_map (split_line (lookups_of (H.plain hash.now) catalogue.now.size catalogue.now)) splits.now) }
     ensures down { IfOk result (λ g. g.down ≡ down_count (lookups_of (H.plain hash.now) catalogue.now.size catalogue.now) splits.now) }
     ensures drained { IfOk result (λ g. g.drained ≡ drained_count (lookups_of (H.plain hash.now) catalogue.now.size catalogue.now) splits.now) }
 {
@@ -201,8 +203,10 @@ fn push_lines<H: FlowHash>(
 /// How many splits have the cause `down`, and how many `drained`, where it is known whether a member of a version drains.
 pub fn gone_of(catalogue: &Catalogue, drains: bool, splits: &[Split]) -> Gone
     requires { drains ≡ does_anybody_drain catalogue.now.versions }
-    ensures down { (lookups : Lookups) → lookups.ups ≡ (λ v x. candidates_of catalogue.now v x) → lookups.versions ≡ catalogue.now.versions → result.down ≡ down_count lookups splits.now }
-    ensures drained { (lookups : Lookups) → lookups.ups ≡ (λ v x. candidates_of catalogue.now v x) → lookups.versions ≡ catalogue.now.versions → result.drained ≡ drained_count lookups splits.now }
+    ensures down { (lookups : Lookups) → lookups.ups ≡ (λ v x. candidates_of catalogue.now v x) → lookups.versions ≡ catalogue.now.versions →
+        result.down ≡ down_count lookups splits.now }
+    ensures drained { (lookups : Lookups) → lookups.ups ≡ (λ v x. candidates_of catalogue.now v x) → lookups.versions ≡ catalogue.now.versions →
+        result.drained ≡ drained_count lookups splits.now }
 {
     let mut down = 0;
     let mut drained = 0;
@@ -240,7 +244,8 @@ pub fn push_told_splits<H: FlowHash>(
     flows: usize,
     splits: &[Split],
 ) -> Result<(), AllocError>
-    ensures { OnOk result (string_bytes text.new ≡ string_bytes text.old ++ text_of (lookups_of (H.plain hash.now) catalogue.now.size catalogue.now) flows splits.now) }
+    ensures { OnOk result (string_bytes text.new ≡ string_bytes text.old
+        ++ text_of (lookups_of (H.plain hash.now) catalogue.now.size catalogue.now) flows splits.now) }
 {
     let drains = does_anybody_drain(catalogue);
     let gone = push_lines(text, hash, catalogue, drains, splits)?;
@@ -253,7 +258,8 @@ pub fn push_split_counts<T: Copy>(
     catalogue: &Catalogue,
     book: &SplitBook<T>,
 ) -> Result<(), AllocError>
-    ensures { (past : List LogEntry) (lookups : Lookups) → lookups.ups ≡ (λ v x. candidates_of catalogue.now v x) → lookups.versions ≡ catalogue.now.versions → IsBookOf past book.now →
+    ensures { (past : List LogEntry) (lookups : Lookups) → lookups.ups ≡ (λ v x. candidates_of catalogue.now v x) →
+        lookups.versions ≡ catalogue.now.versions → IsBookOf past book.now →
         OnOk result (string_bytes text.new ≡ string_bytes text.old ++ counts_text lookups (length (flows_of past)) (splits_of past)) }
 {
     push_told_counts(text, catalogue, book.flows(), book.splits())
@@ -266,7 +272,8 @@ pub fn push_splits<H: FlowHash, T: Copy>(
     catalogue: &Catalogue,
     book: &SplitBook<T>,
 ) -> Result<(), AllocError>
-    ensures { (past : List LogEntry) → IsBookOf past book.now → OnOk result (string_bytes text.new ≡ string_bytes text.old ++ splits_text (lookups_of (H.plain hash.now) catalogue.now.size catalogue.now) past) }
+    ensures { (past : List LogEntry) → IsBookOf past book.now →
+        OnOk result (string_bytes text.new ≡ string_bytes text.old ++ splits_text (lookups_of (H.plain hash.now) catalogue.now.size catalogue.now) past) }
 {
     push_told_splits(text, hash, catalogue, book.flows(), book.splits())
 }

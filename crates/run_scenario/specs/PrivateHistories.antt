@@ -67,14 +67,16 @@ counts_by None options packets nodes = counts_over options packets nodes
 counts_by (Some o) options packets nodes = turned_counts_if (keeps_changes options.places options.summary) o (said_whole packets nodes)
 
 -- what is told of them beside the report
-pub record TellsOf (turns : Option Ordinals) (options : RunOptions) (s : Scenario) (packets : List Packet) (nodes : List NodeRecord) (told : Told) : Type 0 where
+pub record TellsOf (turns : Option Ordinals) (options : RunOptions) (s : Scenario) (packets : List Packet) (nodes : List NodeRecord)
+    (told : Told) : Type 0 where
   pub before : string_bytes told.before ≡ before_by turns options.form options.places options.splits s packets nodes
   pub shares : string_bytes told.shares ≡ shares_as options.form (asked_shares options) (said_whole packets nodes)
   pub behind : string_bytes told.behind ≡ behind_by turns options.form options.summary s packets nodes
   pub counts : told.counts ≡ counts_by turns options packets nodes
 
 -- the records of a run, its report, and the counts of its connections
-pub record RanOver (turns : Option Ordinals) (s : Scenario) (options : RunOptions) (link : Link) (records : List Record) (ending : InputEnd) (nodes : List NodeRecord)
+pub record RanOver (turns : Option Ordinals) (s : Scenario) (options : RunOptions) (link : Link) (records : List Record) (ending : InputEnd)
+    (nodes : List NodeRecord)
     (text : List ℕ) (counts : Option ChangeCounts) : Type 0 where
   pub history : History
   pub run : AreOfRun s link records nodes history

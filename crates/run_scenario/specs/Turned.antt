@@ -55,7 +55,8 @@ told_report turns s options link records ending h =
 -- A cluster on threads knows each step, and it ran over the whole input. The output got the capture of what the nodes sent,
 -- node by node and life by life. The text is the report of that run, with what is asked for before it and behind it, and these
 -- are the counts of its connections. The run keeps the promises, and where it is paced no ring refused a packet.
-pub record RanBy (turns : Option Ordinals) (s : Scenario) (options : RunOptions) (input input' output output' : Tape) (text : List ℕ) (counts : Option ChangeCounts) : Type 0 where
+pub record RanBy (turns : Option Ordinals) (s : Scenario) (options : RunOptions) (input input' output output' : Tape) (text : List ℕ)
+    (counts : Option ChangeCounts) : Type 0 where
   pub known : first_unsupported_in s.steps.items ≡ None
   pub head : Head
   pub records : List Record

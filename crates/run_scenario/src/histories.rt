@@ -1,5 +1,6 @@
 //! What is told of the nodes' histories, one after another. No list has them all.
-ghost use Rattle.std.specs.Prelude.{◌≡◌, ◌+◌, ◌<◌, ◌≤◌, ◌^◌, ◌++◌, true, false, List, Option, Some, None, length, reverse, slice_get, IfOk, IfSome, OnOk, string_bytes};
+ghost use Rattle.std.specs.Prelude.{◌≡◌, ◌+◌, ◌<◌, ◌≤◌, ◌^◌, ◌++◌, true, false, List, Option, Some, None, length, reverse, slice_get, IfOk, IfSome, OnOk};
+ghost use Rattle.std.specs.Prelude.{string_bytes};
 ghost use Rattle.cluster_node.specs.declared.events.LogEntry.{LogEntry};
 ghost use Rattle.cluster_node.specs.declared.outcomes.Outcome.{Outcome};
 ghost use Rattle.cluster_node.specs.declared.packets.Packet.{Packet};
@@ -151,7 +152,8 @@ fn note_node(
     events: &[Event],
     outcomes: &OutcomeList,
 ) -> Result<(), AllocError>
-    ensures { (past : List LogEntry) → IsNotedChangeBookOf past book.old → OnOk result (IsNotedChangeBookOf (reverse (said_with packets.now events.now outcomes.now.items) ++ past) book.new) }
+    ensures { (past : List LogEntry) → IsNotedChangeBookOf past book.old →
+        OnOk result (IsNotedChangeBookOf (reverse (said_with packets.now events.now outcomes.now.items) ++ past) book.new) }
 {
     for at in 0..events.len() {
         let Some(outcome) = outcomes.get(at) else {
@@ -221,7 +223,8 @@ fn places_told(
     scenario: &Scenario,
     book: &ChangeBook,
 ) -> Result<String, AllocError>
-    ensures { (past : List LogEntry) → IsChangeBookOf past book.now → IfOk result (λ s. string_bytes s ≡ places_as form (lookups_in scenario.now) scenario.now.idle past) }
+    ensures { (past : List LogEntry) → IsChangeBookOf past book.now →
+        IfOk result (λ s. string_bytes s ≡ places_as form (lookups_in scenario.now) scenario.now.idle past) }
 {
     let mut text = String::new(alloc);
     let idle = scenario.idle;
@@ -274,7 +277,8 @@ impl Telling<'_> {
     // The splits are told, with places or without. The book of changes has both.
     fn before(&self, alloc: Global, book: &ChangeBook) -> Result<String, AllocError>
         ensures { (nodes : List NodeRecord) → IsChangeBookOf (said_whole self.now.packets.now nodes) book.now →
-            IfOk result (λ s. string_bytes s ≡ splits_over self.now.options.form self.now.options.places self.now.options.splits self.now.scenario.now self.now.packets.now nodes) }
+            IfOk result (λ s. string_bytes s ≡ splits_over self.now.options.form self.now.options.places self.now.options.splits
+            self.now.scenario.now self.now.packets.now nodes) }
     {
         if self.options.places {
             places_told(alloc, self.options.form, self.scenario, book)
@@ -288,7 +292,8 @@ impl Telling<'_> {
     // The shares, where they are asked for.
     fn shares(&self, alloc: Global, nodes: &[LeanRecord]) -> Result<String, AllocError>
         requires even { AreEven nodes.now }
-        ensures { IfOk result (λ s. string_bytes s ≡ shares_as self.now.options.form (asked_shares self.now.options) (said_whole self.now.packets.now nodes.now)) }
+        ensures { IfOk result (λ s. string_bytes s
+            ≡ shares_as self.now.options.form (asked_shares self.now.options) (said_whole self.now.packets.now nodes.now)) }
     {
         let form = self.options.form;
         let asked = self.options.asked_shares();
@@ -298,7 +303,8 @@ impl Telling<'_> {
     // What is told where the changes are kept.
     fn tell_changes(&self, alloc: Global, nodes: &[LeanRecord]) -> Result<Told, AllocError>
         requires even { AreEven nodes.now }
-        ensures { keeps_changes self.now.options.places self.now.options.summary ≡ true → IfOk result (TellsOf None self.now.options self.now.scenario.now self.now.packets.now nodes.now) }
+        ensures { keeps_changes self.now.options.places self.now.options.summary ≡ true →
+            IfOk result (TellsOf None self.now.options self.now.scenario.now self.now.packets.now nodes.now) }
     {
         let book = changes_of(alloc, self.key, self.packets, nodes)?;
         let before = self.before(alloc, &book)?;
@@ -316,7 +322,8 @@ impl Telling<'_> {
     // What is told where they aren't.
     fn tell_splits(&self, alloc: Global, nodes: &[LeanRecord]) -> Result<Told, AllocError>
         requires even { AreEven nodes.now }
-        ensures { keeps_changes self.now.options.places self.now.options.summary ≡ false → IfOk result (TellsOf None self.now.options self.now.scenario.now self.now.packets.now nodes.now) }
+        ensures { keeps_changes self.now.options.places self.now.options.summary ≡ false →
+            IfOk result (TellsOf None self.now.options self.now.scenario.now self.now.packets.now nodes.now) }
     {
         Ok(Told {
             before: splits_alone(alloc, self.key, self.scenario, nodes, self.options)?,

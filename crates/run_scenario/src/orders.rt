@@ -94,8 +94,10 @@ fn orders_by(
     requires read { WereRead packets.now }
     requires places { length packets.now < 2 ^ 32 }
     requires steps { length steps.now < 2 ^ 32 }
-    ensures commands { IfOk result (λ o. map (λ c. c.items) o.commands.items ≡ orders_of (choice_in scenario.now) packets.now steps.now (length scenario.now.nodes.items)) }
-    ensures tally { IfOk result (λ o. o.tally ≡ tally_of (length packets.now) (plan_of (choice_in scenario.now) packets.now steps.now (length scenario.now.nodes.items))) }
+    ensures commands { IfOk result (λ o. map (λ c. c.items) o.commands.items
+        ≡ orders_of (choice_in scenario.now) packets.now steps.now (length scenario.now.nodes.items)) }
+    ensures tally { IfOk result (λ o. o.tally ≡ tally_of (length packets.now) (plan_of (choice_in scenario.now) packets.now steps.now
+        (length scenario.now.nodes.items))) }
 {
     let nodes = scenario.nodes.len() as u16;
     let spread = spread_of(alloc, scenario.spread, scenario.hash, nodes)?;

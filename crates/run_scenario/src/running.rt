@@ -138,9 +138,12 @@ fn run_over<R: Threads + Wait + Sync, G: Gate + Sync>(
 ) -> Result<Done, RunFailure>
     requires few { length captured.now.records + captured.now.others ≤ max_records }
     ensures packets { IfOk result (λ d. d.packets.items ≡ packets_of captured.now.head.link scenario.now.check captured.now.records) }
-    ensures over { (all : List Record) → IsSplit (Settle scenario.now.steps.items) (kept_for scenario.now.steps.items) all captured.now.records captured.now.others →
-        IfOk result (λ d. RanOver asked.turns scenario.now asked.options captured.now.head.link all captured.now.ending d.nodes.items (string_bytes d.answer.text) d.answer.counts) }
-    ensures sends { (all : List Record) → IsSplit (Settle scenario.now.steps.items) (kept_for scenario.now.steps.items) all captured.now.records captured.now.others →
+    ensures over { (all : List Record) → IsSplit (Settle scenario.now.steps.items)
+        (kept_for scenario.now.steps.items) all captured.now.records captured.now.others →
+        IfOk result (λ d. RanOver asked.turns scenario.now asked.options captured.now.head.link all captured.now.ending d.nodes.items
+        (string_bytes d.answer.text) d.answer.counts) }
+    ensures sends { (all : List Record) → IsSplit (Settle scenario.now.steps.items)
+        (kept_for scenario.now.steps.items) all captured.now.records captured.now.others →
         IfOk result (λ d. sent_by_nodes (traffic_of (plan_in scenario.now) captured.now.head.link captured.now.records) d.nodes.items
         ≡ sent_by_nodes (traffic_of (plan_in scenario.now) captured.now.head.link all) d.nodes.items) }
     ensures paced { asked.options.paced ≡ true → IfOk result (λ d. NoneRefused d.nodes.items) }

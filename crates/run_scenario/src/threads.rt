@@ -1,5 +1,5 @@
 //! The cluster of a scenario runs on threads.
-ghost use Rattle.std.specs.Prelude.{◌≡◌, ◌<◌, ◌^◌, ◌↔◌, [], true, length, map, All, IfOk, IfErr, IsTrue, string_bytes};
+ghost use Rattle.std.specs.Prelude.{◌≡◌, ◌<◌, ◌^◌, ◌↔◌, [], true, length, map, All, IfOk, IfErr, IsTrue};
 ghost use Rattle.hash_laws.specs.Any.{plain_of};
 ghost use Rattle.cluster_core.specs.Cluster.{WereRead};
 ghost use Rattle.cluster_core.specs.Runs.{verdicts};
@@ -112,7 +112,8 @@ pub(crate) fn run_named<R: Threads + Wait + Sync, G: Gate + Sync>(
 ) -> Result<Audited, RunFailure>
     requires nodes { length task.now.commands.now ≡ length task.now.scenario.now.nodes.items }
     requires read { WereRead task.now.packets.now }
-    ensures runs { IfOk result (λ a. AreRuns (rules_in task.now.scenario.now) task.now.packets.now task.now.scenario.now.ring 0 (map (λ c. c.items) task.now.commands.now) a.run.nodes.items) }
+    ensures runs { IfOk result (λ a. AreRuns (rules_in task.now.scenario.now) task.now.packets.now task.now.scenario.now.ring 0
+        (map (λ c. c.items) task.now.commands.now) a.run.nodes.items) }
     ensures paced { task.now.options.paced ≡ true → IfOk result (λ a. NoneRefused a.run.nodes.items) }
     ensures counts { IfOk result (λ a. AreTotals a.run.stats (all_outcomes a.run.nodes.items)) }
     ensures few { IfOk result (λ a. length (all_outcomes a.run.nodes.items) < 2 ^ 63) }

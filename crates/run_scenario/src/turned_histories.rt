@@ -106,7 +106,8 @@ pub(crate) fn splits_told(
     account: Account<'_>,
     options: RunOptions,
 ) -> Result<String, AllocError>
-    ensures { IfOk result (λ s. string_bytes s ≡ turned_if options.form options.places options.splits (lookups_in scenario.now) scenario.now.idle (reckoned account.entry)) }
+    ensures { IfOk result (λ s. string_bytes s ≡ turned_if options.form options.places options.splits (lookups_in scenario.now) scenario.now.idle
+        (reckoned account.entry)) }
 {
     if options.places {
         places_of(alloc, options.form, scenario, account)
@@ -124,7 +125,8 @@ pub(crate) fn summary_told(
     account: Account<'_>,
     options: RunOptions,
 ) -> Result<String, AllocError>
-    ensures { IfOk result (λ s. string_bytes s ≡ turned_summary_if options.form options.summary (lookups_in scenario.now) scenario.now.idle (reckoned account.entry)) }
+    ensures { IfOk result (λ s. string_bytes s ≡ turned_summary_if options.form options.summary (lookups_in scenario.now) scenario.now.idle
+        (reckoned account.entry)) }
 {
     let mut text = String::new(alloc);
     if !options.summary {
@@ -139,7 +141,8 @@ pub(crate) fn summary_told(
 
 /// How many connections there were, and how many of them changed their server, where the changes are kept.
 pub(crate) fn counts_told(options: RunOptions, account: Account<'_>) -> Option<ChangeCounts>
-    ensures { (o : Ordinals) (past : List LogEntry) → reckoned account.entry ≡ reckoned_by o past → result ≡ turned_counts_if (keeps_changes options.places options.summary) o past }
+    ensures { (o : Ordinals) (past : List LogEntry) → reckoned account.entry ≡ reckoned_by o past →
+        result ≡ turned_counts_if (keeps_changes options.places options.summary) o past }
 {
     if !options.keeps_changes() {
         return None;

@@ -1,5 +1,6 @@
 -- A document of a format means the same in each later one.
-use Rattle.std.specs.Prelude.{◌≡◌, ◌≤◌, false, nat_eq, if◌then◌else◌, List, [], ◌∷◌, length, ℕ, codes, Option, Some, None, is_none, option_and_then, Result, Ok, Err, ⊤}
+use Rattle.std.specs.Prelude.{◌≡◌, ◌≤◌, false, nat_eq, if◌then◌else◌, List, [], ◌∷◌, length, ℕ, codes, Option, Some, None, is_none, option_and_then, Result}
+use Rattle.std.specs.Prelude.{Ok, Err, ⊤}
 use Rattle.std.specs.List.{position_or_len}
 use Rattle.std.specs.Cmp.Lexicographic.{pointwise}
 use Rattle.toml.specs.Data.{Members, get_member}
@@ -36,7 +37,8 @@ pub record AreAlike (f g : Format) (ms ns : Members) : Type 0 where
 
 -- a scenario that the first one means, the second one of a later format means too, however it is played
 abbrev pub FormatsMeanTheSame : Type 0
-FormatsMeanTheSame = (f g : Format) (played : Played) (ms ns : Members) (plan : PlainScenario) → IsLater f g → AreAlike f g ms ns → plan_of played ms ≡ Ok plan → plan_of played ns ≡ Ok plan
+FormatsMeanTheSame = (f g : Format) (played : Played) (ms ns : Members) (plan : PlainScenario) → IsLater f g → AreAlike f g ms ns →
+    plan_of played ms ≡ Ok plan → plan_of played ns ≡ Ok plan
 
 -- the step of these words
 abbrev pub step_of_words : ℕ → ℕ → List (List ℕ) → Option PlainStep
@@ -54,4 +56,5 @@ one_by_one rules texts None = Err (position_or_len (λ t. is_none (step_for rule
 
 -- in formats 1 and 2 each text is one step, and as many texts as a scenario may have are read
 abbrev pub TextsAreSteps : Type 0
-TextsAreSteps = (rules : StepRules) (texts : List (List ℕ)) → (rules.format ≡ Three → ⊥) → length texts ≤ 100000 → steps_of rules 100000 texts ≡ one_by_one rules texts (all_of (step_for rules) texts)
+TextsAreSteps = (rules : StepRules) (texts : List (List ℕ)) → (rules.format ≡ Three → ⊥) → length texts ≤ 100000 →
+    steps_of rules 100000 texts ≡ one_by_one rules texts (all_of (step_for rules) texts)

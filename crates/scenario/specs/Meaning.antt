@@ -1,5 +1,6 @@
 -- Which scenario a text means, and which fault it has, by how it is played.
-use Rattle.std.specs.Prelude.{◌≡◌, ℕ, ◌≤◌, ◌<◌, ◌^◌, ◌&&◌, true, nat_le, if◌then◌else◌, List, [], map, length, Option, Some, None, option_and_then, option_map, Result, Ok, Err, IsUtf8, string_bytes, ⊤}
+use Rattle.std.specs.Prelude.{◌≡◌, ℕ, ◌≤◌, ◌<◌, ◌^◌, ◌&&◌, true, nat_le, if◌then◌else◌, List, [], map, length, Option, Some, None, option_and_then}
+use Rattle.std.specs.Prelude.{option_map, Result, Ok, Err, IsUtf8, string_bytes, ⊤}
 use Rattle.std.specs.List.{list_all}
 use Rattle.toml.specs.Data.{Data, Members, as_str}
 use Rattle.toml.specs.Parse.{parse_document}
@@ -41,7 +42,13 @@ pub record PlainDraft : Type 0 where
   pub steps : List (List ℕ)
 
 abbrev pub plain_draft : Draft → PlainDraft
-plain_draft d = record { choices = d.choices; limits = d.limits; nodes = d.nodes.items; versions = plain_version_drafts d.versions; steps = map string_bytes d.steps.items }
+plain_draft d = record {
+  choices = d.choices;
+  limits = d.limits;
+  nodes = d.nodes.items;
+  versions = plain_version_drafts d.versions;
+  steps = map string_bytes d.steps.items;
+}
 
 -- a scenario
 pub record PlainScenario : Type 0 where

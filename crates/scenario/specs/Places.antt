@@ -35,13 +35,15 @@ is_address d = is_some (address_in d)
 
 -- the first item that is no address, or the whole array where it has too few or too many
 abbrev pub nodes_in : Items → Option Flaw
-nodes_in ds = option_or (option_map (λ n. flaw.Item key.Nodes n) (item_from is_address 0 ds)) (bad_value key.Nodes (option_and_then few_nodes (all_items address_in ds)))
+nodes_in ds = option_or (option_map (λ n. flaw.Item key.Nodes n) (item_from is_address 0 ds))
+    (bad_value key.Nodes (option_and_then few_nodes (all_items address_in ds)))
 
 abbrev pub nodes_flaw : Members → Option Flaw
 nodes_flaw ms = given_or (flaw.Value key.Nodes) nodes_in (items_at (key_name key.Nodes) ms)
 
 abbrev pub steps_from : Items → Option Flaw
-steps_from ds = option_or (option_map (λ n. flaw.Item key.Steps n) (item_from is_text 0 ds)) (bad_value key.Steps (option_and_then few_steps (all_items as_str ds)))
+steps_from ds = option_or (option_map (λ n. flaw.Item key.Steps n) (item_from is_text 0 ds))
+    (bad_value key.Steps (option_and_then few_steps (all_items as_str ds)))
 
 abbrev pub steps_flaw : Members → Option Flaw
 steps_flaw ms = given_or (flaw.Value key.Steps) steps_from (items_at (key_name key.Steps) ms)

@@ -1,5 +1,6 @@
 -- What a text says: a step, in format 3 also one by time or one for each node, and what texts say one after another.
-use Rattle.std.specs.Prelude.{ℕ, ◌+◌, ◌-◌, Bool, false, nat_le, if◌then◌else◌, List, [], ◌∷◌, ◌++◌, map, codes, Option, Some, None, option_and_then, option_map, Result, Ok, Err}
+use Rattle.std.specs.Prelude.{ℕ, ◌+◌, ◌-◌, Bool, false, nat_le, if◌then◌else◌, List, [], ◌∷◌, ◌++◌, map, codes, Option, Some, None, option_and_then}
+use Rattle.std.specs.Prelude.{option_map, Result, Ok, Err}
 use Rattle.std.specs.List.{range_with_len}
 use Rattle.std.specs.Option.{option_or}
 use Rattle.std.specs.Str.{bytes_eq}
@@ -88,7 +89,8 @@ allows_told played (each e) = allows played (at_node e 0)
 -- have room.
 unfoldable pub told_of : StepRules → ℕ → List ℕ → Option PlainTold
 told_of rules room text =
-    option_and_then (λ t. if allows_told rules.played t then (if nat_le (count_said rules.nodes t) room then Some t else None) else None) (told_by_words rules (pieces 32 text))
+    option_and_then (λ t. if allows_told rules.played t then (if nat_le (count_said rules.nodes t) room then Some t else None) else None)
+    (told_by_words rules (pieces 32 text))
 
 -- what is said after the steps of so many texts
 abbrev pub after : ℕ → List PlainStep → Result (List PlainStep) ℕ → Result (List PlainStep) ℕ

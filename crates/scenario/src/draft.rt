@@ -1,11 +1,11 @@
 //! A scenario as its document holds it. All keys are as they should be, but a word may be no member and a text no step.
-ghost use Rattle.std.specs.Prelude.{◌≡◌, ◌≤◌, map, length, option_map, option_and_then, string_bytes, codes, is_none, is_some, IfOk};
+ghost use Rattle.std.specs.Prelude.{◌≡◌, ◌≤◌, map, length, option_map, string_bytes, IfOk};
 ghost use Rattle.std.specs.Result.{result_ok, result_err};
 ghost use Rattle.toml.specs.Data.{as_str};
 ghost use Rattle.toml.specs.View.{table_view, items_view};
 ghost use Rattle.scenario_keys.specs.Lookups.{items_at, all_items};
 ghost use Rattle.version_drafts.specs.Places.{item_from, is_text};
-ghost use Rattle.scenario.specs.Meaning.{address_in, few_nodes, few_steps, nodes_of, steps_in, draft_of, draft_in, plain_draft, IsLimited};
+ghost use Rattle.scenario.specs.Meaning.{address_in, nodes_of, steps_in, draft_of, draft_in, plain_draft, IsLimited};
 ghost use Rattle.scenario.specs.Places.{is_address, nodes_flaw, steps_flaw, at_key, draft_flaw, place_of};
 
 use crate::setup::{Choices, Limits, choices_at, limits_at};

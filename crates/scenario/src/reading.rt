@@ -11,7 +11,8 @@ ghost use Rattle.scenario.specs.Steps.{plain_timed};
 ghost use Rattle.scenario.specs.Told.{steps_of};
 ghost use Rattle.scenario.specs.declared.playing.Played.{Played};
 ghost use Rattle.scenario.specs.declared.playing.Played.TheVariants.{OnThreads};
-ghost use Rattle.scenario.specs.Meaning.{IsDocument, IsRefused, IsDraftRefused, IsLimited, IsSupported, AreVersionsRefused, AreStepsRefused, Means, plan_of, plan_of_draft, plan_view, plain_draft, pool_refused, pools_refused};
+ghost use Rattle.scenario.specs.Meaning.{IsDocument, IsRefused, IsDraftRefused, IsLimited, IsSupported, AreVersionsRefused, AreStepsRefused, Means};
+ghost use Rattle.scenario.specs.Meaning.{plan_of, plan_of_draft, plan_view, plain_draft, pool_refused, pools_refused};
 ghost use Rattle.scenario.specs.Places.{IsAt, IsDraftAt, AreVersionsAt, AreRefusedAt};
 
 use crate::draft::{Draft, draft_in};

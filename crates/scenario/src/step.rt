@@ -1,7 +1,8 @@
 //! The steps of a scenario as words.
-ghost use Rattle.std.specs.Prelude.{◌≡◌, ◌<◌, ◌≤◌, map, option_map, IfOk, IfSome, length, []};
+ghost use Rattle.std.specs.Prelude.{◌≡◌, ◌<◌, map, option_map, IfOk, IfSome, []};
 ghost use Rattle.std.specs.Str.{bytes_eq};
-ghost use Rattle.scenario.specs.Steps.{below, new_number, numbers_after, marks_of, install_of, live_of, full_of, number_of, node_of, kind_of, step_of, plain_step};
+ghost use Rattle.scenario.specs.Steps.{below, new_number, numbers_after, marks_of, install_of, live_of, full_of, number_of, node_of, kind_of, step_of};
+ghost use Rattle.scenario.specs.Steps.{plain_step};
 
 use event_trace::ScenarioStep;
 use maglev_texts::decimal;

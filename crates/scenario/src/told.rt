@@ -2,7 +2,8 @@
 ghost use Rattle.std.specs.Prelude.{◌≡◌, ◌++◌, map, option_map, IfOk, if◌then◌else◌};
 ghost use Rattle.std.specs.List.{range_with_len};
 ghost use Rattle.scenario.specs.Steps.{deliver, plain_step, plain_timed};
-ghost use Rattle.scenario.specs.Told.{at_node, count_said, once, install_each, is_star, newer, newer_in, plain_told, steps_said, told_by, told_by_words, told_of, allows_told, until_of};
+ghost use Rattle.scenario.specs.Told.{at_node, count_said, once, install_each, is_star, newer, newer_in, plain_told, steps_said, told_by, told_by_words};
+ghost use Rattle.scenario.specs.Told.{told_of, allows_told, until_of};
 
 use crate::playing::Played;
 use crate::step::{GREATEST, Kind, is_word, kind_of, step_of};

@@ -64,7 +64,8 @@ pub record TurnedPlays (o : Ordinals) (only : Option ℕ) (wanted : Wanted) (tex
   pub unfailed : Unfailed report report'
 
 -- the part was played, but the end of the report was refused
-pub record TurnedRefused (fault : CliFault) (o : Ordinals) (only : Option ℕ) (wanted : Wanted) (text : List ℕ) (input input' output output' : Tape) : Type 0 where
+pub record TurnedRefused (fault : CliFault) (o : Ordinals) (only : Option ℕ) (wanted : Wanted) (text : List ℕ)
+    (input input' output output' : Tape) : Type 0 where
   pub scenario : Scenario
   pub means : Means InTurn text scenario
   pub there : has_node only scenario ≡ true

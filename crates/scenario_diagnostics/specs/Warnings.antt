@@ -114,4 +114,5 @@ abbrev pub empty_in : Version → List Warning
 empty_in v = flat_map (empty_at v.number) v.services.items
 
 abbrev pub warnings_of : Scenario → List Warning
-warnings_of s = (unknown_after s.catalogue s.steps.items [] ++ bare_below s.catalogue s.steps.items (length s.nodes.items)) ++ flat_map empty_in s.catalogue.versions
+warnings_of s = (unknown_after s.catalogue s.steps.items [] ++ bare_below s.catalogue s.steps.items (length s.nodes.items))
+    ++ flat_map empty_in s.catalogue.versions

@@ -1,5 +1,5 @@
 -- The formats of scenarios.
-use Rattle.std.specs.Prelude.{ℕ, Bool, true, false, ◌==◌, if◌then◌else◌, Option, option_map}
+use Rattle.std.specs.Prelude.{ℕ, ◌==◌, if◌then◌else◌, Option, option_map}
 use Rattle.toml.specs.Data.{Members}
 use Rattle.scenario_keys.specs.Keys.{number_of}
 use Rattle.scenario_keys.specs.declared.key.Key.TheVariants as key

@@ -182,7 +182,7 @@ fn any(of: ItemForm) -> Form
 }
 
 impl Key {
-    ghost use Rattle.scenario_keys.specs.Keys.{all_keys, rule_of, key_name, form_of, stands_in};
+    ghost use Rattle.scenario_keys.specs.Keys.{rule_of, key_name, form_of, stands_in};
 
     /// The keys, each table's in the order in which a fault's words name them.
     pub const ALL: [Key; 27] = [

@@ -1,5 +1,5 @@
 //! What a document holds at a key.
-ghost use Rattle.std.specs.Prelude.{◌≡◌, ◌≤◌, Bool, string_bytes, option_map, option_copied, IfSome, List, nat_eq, ℕ};
+ghost use Rattle.std.specs.Prelude.{◌≡◌, ◌≤◌, option_map, option_copied, IfSome};
 ghost use Rattle.toml.specs.Data.{get_member};
 ghost use Rattle.toml.specs.View.{table_view, view, items_view};
 ghost use Rattle.scenario_keys.specs.Lookups.{natural_of, number_at, number_or, number_by, number_if, flag_or, text_at, items_at};

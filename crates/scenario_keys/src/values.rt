@@ -1,5 +1,5 @@
 //! Reads what a table has at its keys, each by its rule.
-ghost use Rattle.std.specs.Prelude.{◌≡◌, ◌≤◌, option_and_then, option_copied, codes, IfOk, IfSome};
+ghost use Rattle.std.specs.Prelude.{◌≡◌, ◌≤◌, option_and_then, codes, IfOk, IfSome};
 ghost use Rattle.toml.specs.View.{table_view};
 ghost use Rattle.hash_laws.specs.Any.{hash_of_word};
 ghost use Rattle.maglev_texts.specs.Parsing.{address_of};

@@ -75,7 +75,8 @@ fn change_flaw(table: Option<&Table>, number: usize) -> Flaw
 
 // The table of a service.
 fn service_table<'a>(table: &'a Table, version: usize, service: usize) -> Option<&'a Table>
-    ensures { option_map (λ t. table_view t.now) result ≡ option_and_then (table_number key.Services service) (table_number key.Versions version (table_view table.entry.now)) }
+    ensures { option_map (λ t. table_view t.now) result
+        ≡ option_and_then (table_number key.Services service) (table_number key.Versions version (table_view table.entry.now)) }
 {
     table_number(
         table_number(table, Key::Versions, version)?,

@@ -3,7 +3,8 @@ ghost use Rattle.std.specs.Prelude.{◌≡◌, ◌==◌, ◌||◌, map, length, 
 ghost use Rattle.std.specs.List.{list_any};
 ghost use Rattle.version_drafts.specs.Plain.{plain_service, plain_version};
 ghost use Rattle.scenario_places.specs.Adding.{is_long};
-ghost use Rattle.scenario_places.specs.PoolPlaces.{double_service, double_name_from, most_members, long_from, over_place, services_place, version_place, OnePlaceOrACatalogue};
+ghost use Rattle.scenario_places.specs.PoolPlaces.{double_service, double_name_from, most_members, long_from, over_place, services_place, version_place};
+ghost use Rattle.scenario_places.specs.PoolPlaces.{OnePlaceOrACatalogue};
 
 use crate::doubles::{double_name, double_service};
 use backend_names::TableSize;

@@ -61,7 +61,8 @@ bad_in_stated m (d ∷ ds) = if is_some (stated d) then bad_in_stated (m + 1) ds
 -- what is wrong with a version from its base
 abbrev pub bad_in_based : PlainVersionDraft → Option (PlainVersion Member) → BadWord
 bad_in_based d None = bad.Base
-bad_in_based d (Some base) = or_behind (bad.Change (bad_change_of_all 0 d.changes base.services)) (bad_in_drafts [] 0 d.services) (all_changed d.changes base.services)
+bad_in_based d (Some base) = or_behind (bad.Change (bad_change_of_all 0 d.changes base.services)) (bad_in_drafts [] 0 d.services)
+    (all_changed d.changes base.services)
 
 abbrev pub bad_in_version : List (PlainVersion Member) → PlainVersionDraft → Option ℕ → BadWord
 bad_in_version earlier d None = bad_in_stated 0 d.services

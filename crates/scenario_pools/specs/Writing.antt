@@ -1,5 +1,6 @@
 -- Which versions drafts mean, written out.
-use Rattle.std.specs.Prelude.{◌≡◌, ℕ, ◌+◌, ◌-◌, Bool, false, ◌==◌, nat_lt, if◌then◌else◌, List, [], ◌∷◌, ◌++◌, length, find, Option, Some, None, is_none, is_some, option_and_then, option_map, unwrap_or, Result, Ok, Err, ⊤}
+use Rattle.std.specs.Prelude.{◌≡◌, ℕ, ◌+◌, ◌-◌, Bool, false, ◌==◌, nat_lt, if◌then◌else◌, List, [], ◌∷◌, ◌++◌, length, find, Option, Some, None, is_none}
+use Rattle.std.specs.Prelude.{is_some, option_and_then, option_map, unwrap_or, Result, Ok, Err, ⊤}
 use Rattle.std.specs.List.{list_any, count_by}
 use Rattle.std.specs.Option.{ok_or}
 use Rattle.pool_versions.specs.declared.backend.Member.{Member}

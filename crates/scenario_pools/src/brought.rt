@@ -2,7 +2,8 @@
 ghost use Rattle.std.specs.Prelude.{◌≡◌, map, slice_get};
 ghost use Rattle.version_drafts.specs.Plain.{plain_service, plain_version};
 ghost use Rattle.version_drafts.specs.Drafts.{plain_service_draft, plain_version_draft};
-ghost use Rattle.scenario_pools.specs.Brought.{adds, adds_there, added_item, by_version, by_changes, draft_for, brought_to, brought_of, placed_in, drafted, member_in, word_at, word_of_member};
+ghost use Rattle.scenario_pools.specs.Brought.{adds, adds_there, added_item, by_version, by_changes, draft_for, brought_to, brought_of, placed_in, drafted};
+ghost use Rattle.scenario_pools.specs.Brought.{member_in, word_at, word_of_member};
 
 use crate::basing::key_of;
 use crate::writing::additions;

@@ -1,11 +1,11 @@
 //! The versions that drafts mean, written out.
-ghost use Rattle.std.specs.Prelude.{◌≡◌, ◌+◌, ◌==◌, [], Ok, Some, None, length, map, find, option_map, is_some, ok_or, IfOk, IfErr};
+ghost use Rattle.std.specs.Prelude.{◌≡◌, ◌+◌, ◌==◌, [], Ok, Some, None, map, find, option_map, is_some, ok_or, IfOk, IfErr};
 ghost use Rattle.std.specs.Result.{result_map_both};
-ghost use Rattle.pool_versions.specs.Pool.{same_key};
 ghost use Rattle.scenario_keys.specs.Lookups.{all_of};
 ghost use Rattle.version_drafts.specs.Plain.{plain_service, plain_version};
 ghost use Rattle.version_drafts.specs.Drafts.{plain_service_draft, plain_version_draft};
-ghost use Rattle.scenario_pools.specs.Writing.{stated, stated_version, version_from, left, left_by_services, left_by_drafts, left_by_version, additions, is_addition, brought, has_room, based, written_out, versions_of, IsRefused};
+ghost use Rattle.scenario_pools.specs.Writing.{stated, stated_version, version_from, left, left_by_services, left_by_drafts, left_by_version, additions};
+ghost use Rattle.scenario_pools.specs.Writing.{is_addition, brought, has_room, based, written_out, versions_of, IsRefused};
 ghost use Rattle.scenario_pools.specs.BadWords.{bad_in_service, bad_in_stated, bad_in_based, bad_in_version, bad_word_of, IsOfWord};
 ghost use Rattle.scenario_pools.specs.PrivateWalk.{IsUnmade, IsUnwritten, unwritten};
 

@@ -1,5 +1,4 @@
 ghost use Rattle.std.specs.Prelude.{◌≡◌};
-ghost use Rattle.pool_versions.specs.Pool.{key_of_flow};
 ghost use Rattle.scenario_sketch.specs.Hops.{hop_of_flow};
 
 use five_tuple::Flow;

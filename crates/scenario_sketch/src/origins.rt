@@ -1,6 +1,5 @@
 //! Where the packets to each destination came from.
-ghost use Rattle.std.specs.Prelude.{◌≡◌, ◌++◌, ◌∷◌, [], OnOk, reverse, IsTrue, ◌↔◌, is_some};
-ghost use Rattle.pool_versions.specs.Pool.{same_key};
+ghost use Rattle.std.specs.Prelude.{◌≡◌, ◌++◌, ◌∷◌, [], OnOk, reverse, is_some};
 ghost use Rattle.scenario_sketch.specs.Hops.{origin_among, origin_after, outranks};
 
 use crate::hop::Hop;

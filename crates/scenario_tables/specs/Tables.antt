@@ -38,7 +38,8 @@ share_line_as form t b = count_line_as form b.name (slots_naming (Some b) t)
 
 -- the text of a table: its size and how many share it, a line for each slot, and for each backend its slots
 unfoldable pub slots_text_as : Form → NamedTable → List ℕ
-slots_text_as form t = head_line_as form t.size (length t.ups) ++ (flat_map (owner_line_as form t) (range_with_len 0 t.size) ++ flat_map (share_line_as form t) t.ups)
+slots_text_as form t = head_line_as form t.size (length t.ups) ++ (flat_map (owner_line_as form t) (range_with_len 0 t.size)
+    ++ flat_map (share_line_as form t) t.ups)
 
 -- the text, in a form, is that of the service's table under a version
 pub record ShowsTable (form : Form) (s : Scenario) (number : ℕ) (word : Option (List ℕ)) (text : List ℕ) : Type 0 where

@@ -81,7 +81,8 @@ pub fn compare_in<S: Sink>(
     out: &mut S,
 ) -> Result<(), PlacedFault>
     ensures written { OnOk result (Prints (AreMoves form scenario.now (compared change.entry)) (S.tape out.old) (S.tape out.new)) }
-    ensures broken { IfErr result (λ r. r.fault ≡ CliFault.Write → BreaksOff (AreMoves form scenario.now (compared change.entry)) (S.tape out.old) (S.tape out.new)) }
+    ensures broken { IfErr result (λ r. r.fault ≡ CliFault.Write →
+        BreaksOff (AreMoves form scenario.now (compared change.entry)) (S.tape out.old) (S.tape out.new)) }
     ensures silent { IfErr result (λ r. r.fault ≢ CliFault.Write → out.new ≡ out.old) }
     ensures fault { IfErr result (λ r. MovesFail r.fault scenario.now (compared change.entry)) }
     ensures place { IfErr result (IsPlaced NotAtAll scenario.now) }

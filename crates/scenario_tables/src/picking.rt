@@ -165,7 +165,8 @@ pub fn pick_in<R: Source, S: Sink>(
     input: &mut R,
     out: &mut S,
 ) -> Result<(), PlacedFault>
-    ensures written { OnOk result (Prints (IsPick options.form scenario.now options.version options.check (R.tape input.old).bytes) (S.tape out.old) (S.tape out.new)) }
+    ensures written { OnOk result (Prints (IsPick options.form scenario.now options.version options.check (R.tape input.old).bytes) (S.tape out.old)
+        (S.tape out.new)) }
     ensures broken { IfErr result (λ r. r.fault ≡ CliFault.Write →
         BreaksOff (IsPick options.form scenario.now options.version options.check (R.tape input.old).bytes) (S.tape out.old) (S.tape out.new)) }
     ensures unfailed { OnOk result (Unfailed (R.tape input.old) (R.tape input.new)) }

@@ -1,5 +1,6 @@
 -- Laws of the picks.
-use Rattle.std.proofs.Common.{◌≡◌, ℕ, zero, suc, ◌%◌, ◌<◌, ◌↔◌, List, [], ◌∷◌, length, map, slice_get, slice_index, get_or, Contains, Some, None, refl, ap, arith, unwrap_or, ◌==◌, subst}
+use Rattle.std.proofs.Common.{◌≡◌, ℕ, zero, suc, ◌%◌, ◌<◌, ◌↔◌, List, [], ◌∷◌, length, map, slice_get, slice_index, get_or, Contains, Some, None, refl, ap}
+use Rattle.std.proofs.Common.{arith, unwrap_or, ◌==◌, subst}
 use Rattle.std.proofs.Math.Path.{fun_ext}
 use Rattle.std.specs.List.{All, range_with_len}
 use Rattle.std.proofs.lemmas.Bool.{cond_both}
@@ -32,7 +33,8 @@ pick_at_is_up ups n b h = read_is_in ups (n % length ups) b h
 pub pick_at_is_none : (ups : List Backend) (n : ℕ) → pick_at ups n ≡ None ↔ ups ≡ []
 pick_at_is_none ups n = read_is_none ups (n % length ups) (λ some. omega arith)
 
-pub plain_pick_respects : (p q : List ℕ → ℕ) → ((message : List ℕ) → p message ≡ q message) → (ups : List Backend) (x : Flow) → pick_at ups (flow_hash p x) ≡ pick_at ups (flow_hash q x)
+pub plain_pick_respects : (p q : List ℕ → ℕ) → ((message : List ℕ) → p message ≡ q message) → (ups : List Backend) (x : Flow) →
+    pick_at ups (flow_hash p x) ≡ pick_at ups (flow_hash q x)
 plain_pick_respects p q e ups x = ap (λ (plain : List ℕ → ℕ). pick_at ups (flow_hash plain x)) (fun_ext e)
 
 -- each slot was taken by one of n lists
@@ -42,7 +44,8 @@ ByTurn n (c ∷ cs) = (c.1 < n) × ByTurn n cs
 
 taker_below : (n slot : ℕ) (cs : List (ℕ × ℕ)) → 0 < n → ByTurn n cs → unwrap_or (taker slot cs) 0 < n
 taker_below n slot [] some h = some
-taker_below n slot (c ∷ cs) some h = cond_both (slot == c.0) (Some c.1) (taker slot cs) (λ o. unwrap_or o 0 < n) (λ _. h.0) (λ _. taker_below n slot cs some h.1)
+taker_below n slot (c ∷ cs) some h = cond_both (slot == c.0) (Some c.1) (taker slot cs)
+    (λ o. unwrap_or o 0 < n) (λ _. h.0) (λ _. taker_below n slot cs some h.1)
 
 index_below : (n : ℕ) (xs : List ℕ) (i : ℕ) → 0 < n → ((k : ℕ) (d : ℕ) → k < length xs → get_or xs k d < n) → slice_index xs i < n
 index_below n [] i some h = some
@@ -61,13 +64,16 @@ claims_by_turn lists n round (suc t) some all = (named_below n round t some all,
 -- every slot of a table, listed or not, is that of one of the lists, whatever the weights are
 pub maglev_below : (ps : List Preference) (weights : List ℕ) (size slot : ℕ) → 0 < length ps → slice_index (weighted_maglev ps weights size) slot < length ps
 maglev_below ps weights size slot some =
-    index_below (length ps) (weighted_maglev ps weights size) slot some (All-map (λ o. o < length ps) (λ s. unwrap_or (taker s (claims (map preference_list ps) (round_of (length ps) weights) size)) 0) (range_with_len 0 size)
-    (λ k d within. taker_below (length ps) _ _ some (claims_by_turn (map preference_list ps) (length ps) (round_of (length ps) weights) size some (round_named (length ps) weights))))
+    index_below (length ps) (weighted_maglev ps weights size) slot some (All-map (λ o. o < length ps)
+    (λ s. unwrap_or (taker s (claims (map preference_list ps) (round_of (length ps) weights) size)) 0) (range_with_len 0 size)
+    (λ k d within. taker_below (length ps) _ _ some (claims_by_turn (map preference_list ps) (length ps) (round_of (length ps) weights) size some
+    (round_named (length ps) weights))))
 
 pub table_pick_is_up : (plain : List ℕ → ℕ) (size : ℕ) (c : Candidates) (x : Flow) (b : Backend) → table_pick plain size c x ≡ Some b → Contains c.backends b
 table_pick_is_up plain size c x b h = read_is_in c.backends _ b h
 
-pub table_slots_below : (plain : List ℕ → ℕ) (size : ℕ) (ups : List Backend) (weights : List ℕ) (slot : ℕ) → 0 < length ups → slice_index (slots_among plain size ups weights) slot < length ups
+pub table_slots_below : (plain : List ℕ → ℕ) (size : ℕ) (ups : List Backend) (weights : List ℕ) (slot : ℕ) → 0 < length ups →
+    slice_index (slots_among plain size ups weights) slot < length ups
 unfolding slots_among
 table_slots_below plain size [] weights slot some = absurd (omega arith)
 table_slots_below plain size (b ∷ bs) weights slot some =
@@ -78,9 +84,11 @@ table_slots_below plain size (b ∷ bs) weights slot some =
 pub table_pick_is_none : (plain : List ℕ → ℕ) (size : ℕ) (c : Candidates) (x : Flow) → table_pick plain size c x ≡ None ↔ c.backends ≡ []
 table_pick_is_none plain size c x = read_is_none c.backends _ (table_slots_below plain size c.backends c.weights (slot_of_flow plain size x))
 
-pub table_pick_respects : (p q : List ℕ → ℕ) → ((message : List ℕ) → p message ≡ q message) → (size : ℕ) (c : Candidates) (x : Flow) → table_pick p size c x ≡ table_pick q size c x
+pub table_pick_respects : (p q : List ℕ → ℕ) → ((message : List ℕ) → p message ≡ q message) → (size : ℕ) (c : Candidates) (x : Flow) →
+    table_pick p size c x ≡ table_pick q size c x
 table_pick_respects p q e size c x = ap (λ (plain : List ℕ → ℕ). table_pick plain size c x) (fun_ext e)
 
 -- hashes that answer alike make one table
-pub table_respects : (p q : List ℕ → ℕ) → ((message : List ℕ) → p message ≡ q message) → (size : ℕ) (c : Candidates) (t : NamedTable) → IsTableOf p size c t → IsTableOf q size c t
+pub table_respects : (p q : List ℕ → ℕ) → ((message : List ℕ) → p message ≡ q message) → (size : ℕ) (c : Candidates) (t : NamedTable) → IsTableOf p size c t →
+    IsTableOf q size c t
 table_respects p q e size c t = subst (λ (plain : List ℕ → ℕ). IsTableOf plain size c t) (fun_ext e)

@@ -258,7 +258,9 @@ impl<H: FlowHash> Scheme for Maglev<H> {
 
     ghost pick_is_steady = { λ _ s size ups x t u. refl };
 
-    ghost prepared_respects_eq = { λ a b e size ups p. table_respects (H.plain a.hash) (H.plain b.hash) (H.equal_values_hash_alike a.hash b.hash e) size ups p };
+    ghost prepared_respects_eq = { λ a b e size ups p. table_respects (H.plain a.hash) (H.plain b.hash)
+        (H.equal_values_hash_alike a.hash b.hash e) size ups p };
 
-    ghost pick_respects_eq = { λ a b e size ups x turn. table_pick_respects (H.plain a.hash) (H.plain b.hash) (H.equal_values_hash_alike a.hash b.hash e) size ups x };
+    ghost pick_respects_eq = { λ a b e size ups x turn. table_pick_respects (H.plain a.hash) (H.plain b.hash)
+        (H.equal_values_hash_alike a.hash b.hash e) size ups x };
 }

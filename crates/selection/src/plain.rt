@@ -62,5 +62,6 @@ impl<H: FlowHash> Scheme for PlainHash<H> {
 
     ghost prepared_respects_eq = { λ a b e size ups p h. h };
 
-    ghost pick_respects_eq = { λ a b e size ups x turn. plain_pick_respects (H.plain a.hash) (H.plain b.hash) (H.equal_values_hash_alike a.hash b.hash e) ups.backends x };
+    ghost pick_respects_eq = { λ a b e size ups x turn. plain_pick_respects (H.plain a.hash) (H.plain b.hash)
+        (H.equal_values_hash_alike a.hash b.hash e) ups.backends x };
 }

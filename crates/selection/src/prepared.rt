@@ -1,5 +1,5 @@
 //! A version, prepared for a scheme.
-ghost use Rattle.std.specs.Prelude.{◌≡◌, ◌<◌, ◌↔◌, true, option_copied, MatchOption, IsErrOf, IsSomeAnd, Contains, IfOk, IfSome, None, [], length, count_by};
+ghost use Rattle.std.specs.Prelude.{◌≡◌, ◌<◌, ◌↔◌, true, option_copied, MatchOption, IsErrOf, IsSomeAnd, IfOk, IfSome, None, count_by};
 ghost use Rattle.std.specs.Arc.{arc_value};
 ghost use Rattle.std.specs.HashMap.{get};
 ghost use Rattle.std.specs.List.{list_any};
@@ -46,10 +46,22 @@ impl<S: Scheme> Model for PreparedVersion<S> {
 
     ghost Value = { Readied S };
 
-    ghost view = { λ a. record { scheme = a.scheme; size = a.size; number = a.number; services = a.services.items; source = map parts_of (arc_value a.version).services.items } };
+    ghost view = { λ a. record {
+      scheme = a.scheme;
+      size = a.size;
+      number = a.number;
+      services = a.services.items;
+      source = map parts_of (arc_value a.version).services.items;
+    } };
 
     ghost invariant = { λ a. AreFor a.scheme a.size a.services.items × ArePlaced (get same_key a.places) a.services.items
-        × (record { scheme = a.scheme; size = a.size; number = a.number; services = a.services.items; source = map parts_of (arc_value a.version).services.items }
+        × (record {
+          scheme = a.scheme;
+          size = a.size;
+          number = a.number;
+          services = a.services.items;
+          source = map parts_of (arc_value a.version).services.items;
+        }
         ≡ readied_version a.scheme a.size (arc_value a.version)) };
 }
 

@@ -40,9 +40,17 @@ impl<S: Scheme> Model for Ready<S> {
 
     ghost Value = { ReadiedService S };
 
-    ghost view = { λ a. record { scheme = a.scheme; size = a.size; vip = a.key.vip; proto = a.key.proto; port = a.key.port; ups = among (arc_value a.choices).ups.backends (arc_value a.choices).ups.weights a.draining.items } };
+    ghost view = { λ a. record {
+      scheme = a.scheme;
+      size = a.size;
+      vip = a.key.vip;
+      proto = a.key.proto;
+      port = a.key.port;
+      ups = among (arc_value a.choices).ups.backends (arc_value a.choices).ups.weights a.draining.items;
+    } };
 
-    ghost invariant = { λ a. StandsFor (λ s z c p. S.is_prepared s z c p) a.scheme a.size (arc_value a.choices).ups (arc_value a.choices) × AscendsByName a.draining.items };
+    ghost invariant = { λ a. StandsFor (λ s z c p. S.is_prepared s z c p) a.scheme a.size (arc_value a.choices).ups (arc_value a.choices)
+        × AscendsByName a.draining.items };
 }
 
 impl<S: Scheme> fmt::Debug for Ready<S> {

@@ -1,5 +1,5 @@
 //! What a scheme is.
-ghost use Rattle.std.specs.Prelude.{◌≡◌, ◌↔◌, Bool, true, ℕ, List, [], length, map, Option, Some, None, IfOk, IfErr, Contains};
+ghost use Rattle.std.specs.Prelude.{◌≡◌, ◌↔◌, Bool, true, ℕ, [], length, Option, Some, None, IfOk, IfErr, Contains};
 ghost use Rattle.five_tuple.specs.declared.Flow.{Flow};
 ghost use Rattle.pool_versions.specs.declared.backend.Backend.{Backend};
 ghost use Rattle.selection.specs.Candidates.{Candidates, WhoeverDrains};
@@ -89,13 +89,16 @@ pub trait Scheme: Copy + Eq {
         requires { (size : ℕ) × (ups : Candidates) × is_prepared self.now size ups prepared.now }
         ensures { (size : ℕ) (ups : Candidates) → is_prepared self.now size ups prepared.now → result ≡ pick self.now size ups flow.now turn };
 
-    ghost pick_is_up: { (s : Self) (size : ℕ) (ups : Candidates) (x : Flow) (turn : ℕ) (b : Backend) → pick s size ups x turn ≡ Some b → Contains ups.backends b };
+    ghost pick_is_up: { (s : Self) (size : ℕ) (ups : Candidates) (x : Flow) (turn : ℕ) (b : Backend) → pick s size ups x turn ≡ Some b →
+        Contains ups.backends b };
 
     ghost pick_is_none: { (s : Self) (size : ℕ) (ups : Candidates) (x : Flow) (turn : ℕ) → pick s size ups x turn ≡ None ↔ ups.backends ≡ [] };
 
     ghost pick_is_steady: { STEADY ≡ true → (s : Self) (size : ℕ) (ups : Candidates) (x : Flow) (t u : ℕ) → pick s size ups x t ≡ pick s size ups x u };
 
-    ghost prepared_respects_eq: { (a b : Self) → Self.eq a b ≡ true → (size : ℕ) (ups : Candidates) (p : Self.Prepared) → is_prepared a size ups p → is_prepared b size ups p };
+    ghost prepared_respects_eq: { (a b : Self) → Self.eq a b ≡ true → (size : ℕ) (ups : Candidates) (p : Self.Prepared) → is_prepared a size ups p →
+        is_prepared b size ups p };
 
-    ghost pick_respects_eq: { (a b : Self) → Self.eq a b ≡ true → (size : ℕ) (ups : Candidates) (x : Flow) (turn : ℕ) → pick a size ups x turn ≡ pick b size ups x turn };
+    ghost pick_respects_eq: { (a b : Self) → Self.eq a b ≡ true → (size : ℕ) (ups : Candidates) (x : Flow) (turn : ℕ) →
+        pick a size ups x turn ≡ pick b size ups x turn };
 }

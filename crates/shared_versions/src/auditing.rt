@@ -1,6 +1,6 @@
 //! All nodes of a run are audited at once, on versions that were prepared once.
-ghost use Rattle.std.specs.Prelude.{◌≡◌, ◌↔◌, ◌<◌, [], true, ℕ, List, Ok, Some, IfOk, IsTrue, All, length, slice_get, slice_index_or};
-ghost use Rattle.cluster_core.specs.Deployed.{Deployed, rules_of};
+ghost use Rattle.std.specs.Prelude.{◌≡◌, ◌↔◌, ◌<◌, [], true, ℕ, Ok, Some, IfOk, IsTrue, All, length, slice_get, slice_index_or};
+ghost use Rattle.cluster_core.specs.Deployed.{rules_of};
 ghost use Rattle.cluster_core.specs.Runs.{verdicts};
 ghost use Rattle.cluster_node.specs.declared.packets.Packet.{Packet};
 ghost use Rattle.cluster_node.specs.Records.{WasRead};

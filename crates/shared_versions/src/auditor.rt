@@ -1,9 +1,9 @@
 //! Replays of recorded histories, all on versions that were prepared once.
-ghost use Rattle.std.specs.Prelude.{◌≡◌, ◌↔◌, [], ℕ, true, Some, IfOk, OnOk, OnErr, IsTrue, slice_get};
+ghost use Rattle.std.specs.Prelude.{◌≡◌, ◌↔◌, [], ℕ, true, Some, IfOk, IsTrue, slice_get};
 ghost use Rattle.cluster_node.specs.declared.packets.Packet.{Packet};
 ghost use Rattle.cluster_node.specs.Records.{WasRead};
 ghost use Rattle.cluster_core.specs.Deployed.{Deployed, rules_of};
-ghost use Rattle.cluster_core.specs.Setups.{Fixed, rules_for};
+ghost use Rattle.cluster_core.specs.Setups.{rules_for};
 ghost use Rattle.cluster_core.specs.Runs.{AreGood, verdicts};
 ghost use Rattle.shared_versions.specs.PrivateHeld.{is_held, are_held};
 

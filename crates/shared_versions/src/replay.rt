@@ -1,10 +1,9 @@
 //! A cluster under events that are learnt one by one, over versions that were prepared before.
 ghost use Rattle.std.specs.Prelude.{◌≡◌, ◌<◌, ◌^◌, [], true, List, length, replicate, IfOk, Option, option_copied};
-ghost use Rattle.cluster_node.specs.Rules.{Rules};
 ghost use Rattle.cluster_node.specs.declared.events.LogEntry.{LogEntry};
 ghost use Rattle.cluster_node.specs.Record.{fresh};
 ghost use Rattle.cluster_node.specs.Records.{WasRead, node_of};
-ghost use Rattle.cluster_core.specs.Setups.{Fixed, rules_for};
+ghost use Rattle.cluster_core.specs.Setups.{rules_for};
 ghost use Rattle.cluster_core.specs.RunView.{RunView};
 ghost use Rattle.cluster_core.specs.Runs.{AreGood, RunStands, RunGoes, is_known_in};
 ghost use Rattle.shared_versions.specs.PrivateHeld.{is_held};
@@ -70,7 +69,12 @@ fn fresh_nodes<S: Scheme, H: FlowHash, T: ConnTable>(
     alloc: Global,
     setup: &Setup<S, H>,
 ) -> Result<Vec<Node<S, T>>, AllocError>
-    ensures fresh { IfOk result (λ v. v.items ≡ replicate (length setup.now.nodes) (record { newest = 0; installed = []; cursor = 0; workers = replicate setup.now.workers (fresh setup.now.capacity setup.now.idle) })) }
+    ensures fresh { IfOk result (λ v. v.items ≡ replicate (length setup.now.nodes) (record {
+      newest = 0;
+      installed = [];
+      cursor = 0;
+      workers = replicate setup.now.workers (fresh setup.now.capacity setup.now.idle);
+    })) }
     ensures workers { 0 < setup.now.workers }
 {
     let workers = setup.workers();

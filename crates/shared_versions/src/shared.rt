@@ -2,7 +2,6 @@
 ghost use Rattle.std.specs.Prelude.{◌≡◌, ◌++◌, ◌∷◌, ◌==◌, ◌||◌, [], ℕ, Bool, map, IfOk, OnOk, option_map, option_copied};
 ghost use Rattle.std.specs.Arc.{arc_value};
 ghost use Rattle.std.specs.List.{list_any};
-ghost use Rattle.cluster_core.specs.Setups.{Fixed};
 ghost use Rattle.cluster_node.specs.Record.{prepared_at};
 ghost use Rattle.selection.specs.Readied.{readied_version};
 ghost use Rattle.shared_versions.specs.Installed.{installs, is_installed, AreWanted};

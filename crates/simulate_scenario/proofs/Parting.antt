@@ -5,7 +5,6 @@ use Rattle.pcap_file.specs.declared.format.InputEnd.{InputEnd}
 use Rattle.pcap_file.specs.Device.{Tape}
 use Rattle.pool_versions.specs.Pool.{AreSound}
 use Rattle.spreader.specs.Choices.{Choice}
-use Rattle.cluster_node.specs.declared.events.LogEntry.{LogEntry}
 use Rattle.cluster_node.specs.Records.{Judged}
 use Rattle.cluster_core.specs.Cluster.{Cluster}
 use Rattle.event_trace.specs.Trace.{Trace}
@@ -14,9 +13,8 @@ use Rattle.scenario.specs.declared.plan.Scenario.{Scenario}
 use Rattle.simulation.specs.declared.fault.SimulationFault.{SimulationFault}
 use Rattle.simulation.specs.Plans.{Planned}
 use Rattle.simulation.specs.Simulated.{Simulated, Stopped}
-use Rattle.node_part.specs.Parts.{of_part, part_of, part_trace, part_judge, LeavesOthers}
-use Rattle.node_part.specs.Played.{PartSimulated}
-use Rattle.node_part.proofs.Parts.{none_of, part_judged}
+use Rattle.node_part.specs.Parts.{of_part, part_of, part_trace}
+use Rattle.node_part.proofs.Parts.{part_judged}
 use Rattle.node_part.proofs.Wholes.{verdicts_own}
 use Rattle.node_part.proofs.Ends.{Ended, part_ended, part_stopped}
 use Rattle.simulate_scenario.specs.Described.{rules_in, cluster_in, choice_in, plan_in, lookups_in}

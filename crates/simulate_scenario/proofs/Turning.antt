@@ -8,7 +8,6 @@ use Rattle.cluster_node.specs.declared.events.LogEntry.{LogEntry}
 use Rattle.cluster_core.specs.Cluster.{Cluster}
 use Rattle.event_trace.specs.Trace.{Trace}
 use Rattle.run_report.specs.Causes.{Lookups}
-use Rattle.change_share.specs.declared.counts.ChangeCounts.{ChangeCounts}
 use Rattle.connection_starts.specs.declared.ordinals.Ordinals.{Ordinals}
 use Rattle.connection_changes.specs.declared.turned.TurnedBook.{TurnedBook}
 use Rattle.connection_changes.specs.Turns.{Reckoning}
@@ -23,7 +22,7 @@ use Rattle.simulate_scenario.specs.Asked.{keeps_changes}
 use Rattle.simulate_scenario.specs.Described.{rules_in, cluster_in, choice_in, plan_in, lookups_in}
 use Rattle.simulate_scenario.specs.Paging.{ArePaged, lines_if}
 use Rattle.simulate_scenario.specs.Told.{AnswersBy}
-use Rattle.simulate_scenario.specs.Turned.{unturned, reckoned_by, turned_if, turned_summary_if, turned_behind, turned_report, turned_counts_if, AreTurnedNotes, IsTurnedAnswer, TurnedToldIn}
+use Rattle.simulate_scenario.specs.Turned.{unturned, turned_if, turned_summary_if, turned_behind, turned_report, turned_counts_if, AreTurnedNotes, IsTurnedAnswer, TurnedToldIn}
 use Rattle.simulate_scenario.specs.declared.asking.Answer.{Answer}
 use Rattle.simulate_scenario.specs.declared.asking.Wanted.{Wanted}
 use Rattle.simulate_scenario.specs.declared.notes.Notebook.{Notebook}

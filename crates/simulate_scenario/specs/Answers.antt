@@ -70,7 +70,8 @@ summary_if form false lookups idle trace = []
 abbrev pub report_behind : List ℕ → Lookups → Option ℕ → Wanted → Trace → ℕ → InputEnd → List ℕ
 report_behind listing lookups idle wanted trace packets ending =
     (((listing ++ splits_if wanted.form wanted.places wanted.splits lookups idle trace)
-    ++ plain_report wanted.form trace packets ending) ++ shares_as wanted.form (asked_shares wanted) trace.past) ++ summary_if wanted.form wanted.summary lookups idle trace
+    ++ plain_report wanted.form trace packets ending) ++ shares_as wanted.form (asked_shares wanted) trace.past)
+    ++ summary_if wanted.form wanted.summary lookups idle trace
 
 -- the report with what is wanted before it, and after it
 abbrev pub report_of : Lookups → Option ℕ → Wanted → Trace → ℕ → InputEnd → List ℕ
@@ -83,7 +84,8 @@ send_at history k = option_and_then (λ s. send_of s.outcome) (slice_get history
 -- why the packets of two events went where they went, behind the lines of these events, where they are asked for
 abbrev pub explanation_of : Lookups → Trace → TwoEvents → List ℕ
 explanation_of lookups trace two =
-    explanation_as two.form (lines_of_two two trace.past) (explained lookups.slot (send_at (reverse trace.past) two.one) (send_at (reverse trace.past) two.other))
+    explanation_as two.form (lines_of_two two trace.past) (explained lookups.slot (send_at (reverse trace.past) two.one)
+    (send_at (reverse trace.past) two.other))
     (left_drained lookups (sent_at trace.past two.one) (sent_at trace.past two.other))
 
 -- the answer, by the scenario's idle limit
@@ -102,7 +104,8 @@ counts_for (Report wanted) past = counts_if (keeps_changes wanted.places wanted.
 counts_for (Events two) past = None
 
 -- the scenario ran over the whole input, the output got what was sent, and the text answers what was asked
-pub record Answers (cluster : Cluster) (choice : Choice) (plan : Planned) (lookups : Lookups) (idle : Option ℕ) (asked : Query) (input input' output output' : Tape) (text : List ℕ) : Type 0 where
+pub record Answers (cluster : Cluster) (choice : Choice) (plan : Planned) (lookups : Lookups) (idle : Option ℕ) (asked : Query)
+    (input input' output output' : Tape) (text : List ℕ) : Type 0 where
   pub trace : Trace
   pub packets : ℕ
   pub ending : InputEnd
@@ -116,7 +119,8 @@ CountedAnswers cluster choice plan lookups idle asked input input' output output
 
 -- the same of a scenario's cluster
 abbrev pub AnswersIn : Scenario → Query → Tape → Tape → Tape → Tape → List ℕ → Type 0
-AnswersIn s asked input input' output output' text = Answers (cluster_in s) (choice_in s) (plan_in s) (lookups_in s) s.idle asked input input' output output' text
+AnswersIn s asked input input' output output' text =
+    Answers (cluster_in s) (choice_in s) (plan_in s) (lookups_in s) s.idle asked input input' output output' text
 
 abbrev pub CountedIn : Scenario → Query → Tape → Tape → Tape → Tape → List ℕ → Option ChangeCounts → Type 0
 CountedIn s asked input input' output output' text counts =

@@ -1,5 +1,5 @@
 -- What is kept of a run's events for what is asked of it.
-use Rattle.std.specs.Prelude.{◌≡◌, ℕ, Bool, true, false, List, ◌++◌, length, reverse, string_bytes, slice_get}
+use Rattle.std.specs.Prelude.{◌≡◌, Bool, true, false, List, ◌++◌, length, reverse, string_bytes, slice_get}
 use Rattle.cluster_node.specs.declared.events.LogEntry.{LogEntry}
 use Rattle.cluster_core.specs.Histories.{outcomes_of}
 use Rattle.event_trace.specs.Counting.{CountsAre}
@@ -56,7 +56,8 @@ pub record KeepsTwo (two : TwoEvents) (past : List LogEntry) (n : Notebook) : Ty
 -- the books are the record's, those that what is wanted of a report needs
 abbrev pub KeepsBooks : Wanted → List LogEntry → Notebook → Type 0
 KeepsBooks wanted past n =
-    BookIf (keeps_splits (keeps_changes wanted.places wanted.summary) wanted.splits) past n.book × ChangesIf (keeps_changes wanted.places wanted.summary) past n.changes
+    BookIf (keeps_splits (keeps_changes wanted.places wanted.summary) wanted.splits) past n.book
+    × ChangesIf (keeps_changes wanted.places wanted.summary) past n.changes
     × AreShareBooksOf (asked_shares wanted) past n.shares
 
 -- what is kept beside the counts of a report
@@ -67,5 +68,6 @@ KeepsMore wanted past n =
 
 -- the notes are those of a record, for what is asked, and know whether a report alone is, or one beside which only the changes are kept
 abbrev pub AreOf : Query → List LogEntry → Notebook → Type 0
-AreOf (Report wanted) past n = CountsAre (outcomes_of past) n.counts × KeepsMore wanted past n × (n.is_plain ≡ is_plain wanted) × (n.only_changes ≡ keeps_only_changes wanted)
+AreOf (Report wanted) past n = CountsAre (outcomes_of past) n.counts × KeepsMore wanted past n × (n.is_plain ≡ is_plain wanted)
+    × (n.only_changes ≡ keeps_only_changes wanted)
 AreOf (Events two) past n = KeepsTwo two past n

@@ -17,7 +17,8 @@ use Rattle.simulate_scenario.specs.declared.asking.Query.TheVariants.{Report}
 use Rattle.simulate_scenario.specs.declared.asking.Wanted.{Wanted}
 
 -- the scenario ran over the whole input, the output got what was sent, and of this run something holds
-pub record AnswersBy (holds : Lookups → Option ℕ → Trace → ℕ → InputEnd → Type 0) (cluster : Cluster) (choice : Choice) (plan : Planned) (lookups : Lookups) (idle : Option ℕ)
+pub record AnswersBy (holds : Lookups → Option ℕ → Trace → ℕ → InputEnd → Type 0)
+    (cluster : Cluster) (choice : Choice) (plan : Planned) (lookups : Lookups) (idle : Option ℕ)
     (input input' output output' : Tape) : Type 0 where
   pub trace : Trace
   pub packets : ℕ
@@ -27,7 +28,8 @@ pub record AnswersBy (holds : Lookups → Option ℕ → Trace → ℕ → Input
 
 -- the answer is that to what is asked of a run
 abbrev pub IsAnswer : Query → Answer → Lookups → Option ℕ → Trace → ℕ → InputEnd → Type 0
-IsAnswer asked a lookups idle trace packets ending = (string_bytes a.text ≡ answer_of lookups idle asked trace packets ending) × (a.counts ≡ counts_for asked trace.past)
+IsAnswer asked a lookups idle trace packets ending = (string_bytes a.text ≡ answer_of lookups idle asked trace packets ending)
+    × (a.counts ≡ counts_for asked trace.past)
 
 -- The answer is that to a report, behind what the pages were told since they were the first.
 pub record IsToldAnswer {P : Type 0} (told : P → P → List ℕ → List ℕ → Type 0) (wanted : Wanted) (firsts : List P) (pages : P) (a : Answer)
@@ -39,7 +41,8 @@ pub record IsToldAnswer {P : Type 0} (told : P → P → List ℕ → List ℕ �
 
 -- A scenario was played, and a report of the run is the whole of what was told, with this text behind it. These are the
 -- counts of its connections.
-pub record ToldIn (s : Scenario) (wanted : Wanted) (told : List ℕ → List ℕ → Type 0) (input input' output output' : Tape) (text : List ℕ) (counts : Option ChangeCounts) : Type 0 where
+pub record ToldIn (s : Scenario) (wanted : Wanted) (told : List ℕ → List ℕ → Type 0)
+    (input input' output output' : Tape) (text : List ℕ) (counts : Option ChangeCounts) : Type 0 where
   pub whole : List ℕ
   pub counted : CountedIn s (Report wanted) input input' output output' whole counts
   pub is_told : told text whole

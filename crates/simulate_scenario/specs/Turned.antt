@@ -70,7 +70,8 @@ pub record AreTurnedNotes {P : Type 0} (told : P → P → List ℕ → List ℕ
   pub book_is : IsTurnedBookOf turns past book
 
 -- The answer is that to a report by these ordinals, behind what the pages were told since they were the first.
-pub record IsTurnedAnswer {P : Type 0} (told : P → P → List ℕ → List ℕ → Type 0) (wanted : Wanted) (firsts : List P) (ordinals : List Ordinals) (pages : P) (a : Answer)
+pub record IsTurnedAnswer {P : Type 0} (told : P → P → List ℕ → List ℕ → Type 0)
+    (wanted : Wanted) (firsts : List P) (ordinals : List Ordinals) (pages : P) (a : Answer)
     (lookups : Lookups) (idle : Option ℕ) (trace : Trace) (packets : ℕ) (ending : InputEnd) : Type 0 where
   pub first : P
   pub first_is : firsts ≡ first ∷ []

@@ -1,5 +1,5 @@
 //! What answers what is asked of a run.
-ghost use Rattle.std.specs.Prelude.{◌≡◌, ◌≤◌, ◌++◌, ℕ, List, Option, IfOk, OnOk, IfSome, string_bytes, reverse, true, option_and_then};
+ghost use Rattle.std.specs.Prelude.{◌≡◌, ◌++◌, ℕ, List, Option, IfOk, OnOk, IfSome, string_bytes, reverse, true, option_and_then};
 ghost use Rattle.hash_laws.specs.Any.{plain_of};
 ghost use Rattle.selection.specs.Picks.{slot_of_flow};
 ghost use Rattle.cluster_node.specs.Records.{Judged};
@@ -70,7 +70,8 @@ fn push_places_of<S: Scheme, H: FlowHash>(
     changes: &ChangeBook,
 ) -> Result<(), AllocError>
     ensures { (past : List LogEntry) → IsChangeBookOf past changes.now →
-        OnOk result (string_bytes text.new ≡ string_bytes text.old ++ places_as form (lookups_of (H.plain deployment.now.setup.hash) deployment.now.setup.size deployment.now.catalogue) deployment.now.setup.idle past) }
+        OnOk result (string_bytes text.new ≡ string_bytes text.old
+        ++ places_as form (lookups_of (H.plain deployment.now.setup.hash) deployment.now.setup.size deployment.now.catalogue) deployment.now.setup.idle past) }
 {
     let setup = deployment.setup();
     let catalogue = deployment.catalogue();
@@ -85,7 +86,8 @@ fn push_splits_of<S: Scheme, H: FlowHash, T: Copy>(
     book: &SplitBook<T>,
 ) -> Result<(), AllocError>
     ensures { (past : List LogEntry) → IsBookOf past book.now →
-        OnOk result (string_bytes text.new ≡ string_bytes text.old ++ splits_as form (lookups_of (H.plain deployment.now.setup.hash) deployment.now.setup.size deployment.now.catalogue) past) }
+        OnOk result (string_bytes text.new ≡ string_bytes text.old
+        ++ splits_as form (lookups_of (H.plain deployment.now.setup.hash) deployment.now.setup.size deployment.now.catalogue) past) }
 {
     let hash = deployment.setup().hash();
     form.push_splits(text, &hash, deployment.catalogue(), book)
@@ -100,7 +102,8 @@ fn push_summary_of<S: Scheme, H: FlowHash>(
     changes: &ChangeBook,
 ) -> Result<(), AllocError>
     ensures { (past : List LogEntry) → IsChangeBookOf past changes.now →
-        OnOk result (string_bytes text.new ≡ string_bytes text.old ++ summary_as form (lookups_of (H.plain deployment.now.setup.hash) deployment.now.setup.size deployment.now.catalogue) deployment.now.setup.idle past) }
+        OnOk result (string_bytes text.new ≡ string_bytes text.old
+        ++ summary_as form (lookups_of (H.plain deployment.now.setup.hash) deployment.now.setup.size deployment.now.catalogue) deployment.now.setup.idle past) }
 {
     let idle = deployment.setup().idle();
     form.push_summary(alloc, text, deployment.catalogue(), idle, changes)
@@ -114,8 +117,10 @@ fn push_kept_splits<S: Scheme, H: FlowHash>(
     book: &SplitBook<()>,
     changes: &ChangeBook,
 ) -> Result<(), AllocError>
-    ensures { (past : List LogEntry) → wanted.splits ≡ true → BookIf (keeps_splits (keeps_changes wanted.places wanted.summary) wanted.splits) past book.now → ChangesIf (keeps_changes wanted.places wanted.summary) past changes.now →
-        OnOk result (string_bytes text.new ≡ string_bytes text.old ++ splits_as wanted.form (lookups_of (H.plain deployment.now.setup.hash) deployment.now.setup.size deployment.now.catalogue) past) }
+    ensures { (past : List LogEntry) → wanted.splits ≡ true → BookIf (keeps_splits (keeps_changes wanted.places wanted.summary) wanted.splits) past book.now →
+        ChangesIf (keeps_changes wanted.places wanted.summary) past changes.now →
+        OnOk result (string_bytes text.new ≡ string_bytes text.old
+        ++ splits_as wanted.form (lookups_of (H.plain deployment.now.setup.hash) deployment.now.setup.size deployment.now.catalogue) past) }
 {
     if wanted.keeps_changes() {
         push_splits_of(wanted.form, text, deployment, changes.splits())
@@ -132,8 +137,11 @@ fn push_splits_if<S: Scheme, H: FlowHash>(
     book: &SplitBook<()>,
     changes: &ChangeBook,
 ) -> Result<(), AllocError>
-    ensures { (trace : Trace) → BookIf (keeps_splits (keeps_changes wanted.places wanted.summary) wanted.splits) trace.past book.now → ChangesIf (keeps_changes wanted.places wanted.summary) trace.past changes.now →
-        OnOk result (string_bytes text.new ≡ string_bytes text.old ++ splits_if wanted.form wanted.places wanted.splits (lookups_of (H.plain deployment.now.setup.hash) deployment.now.setup.size deployment.now.catalogue) deployment.now.setup.idle trace) }
+    ensures { (trace : Trace) → BookIf (keeps_splits (keeps_changes wanted.places wanted.summary) wanted.splits) trace.past book.now →
+        ChangesIf (keeps_changes wanted.places wanted.summary) trace.past changes.now →
+        OnOk result (string_bytes text.new ≡ string_bytes text.old
+        ++ splits_if wanted.form wanted.places wanted.splits
+        (lookups_of (H.plain deployment.now.setup.hash) deployment.now.setup.size deployment.now.catalogue) deployment.now.setup.idle trace) }
 {
     if wanted.places {
         push_places_of(wanted.form, text, deployment, changes)
@@ -153,7 +161,9 @@ fn push_summary_if<S: Scheme, H: FlowHash>(
     changes: &ChangeBook,
 ) -> Result<(), AllocError>
     ensures { (trace : Trace) → ChangesIf (keeps_changes wanted.places wanted.summary) trace.past changes.now →
-        OnOk result (string_bytes text.new ≡ string_bytes text.old ++ summary_if wanted.form wanted.summary (lookups_of (H.plain deployment.now.setup.hash) deployment.now.setup.size deployment.now.catalogue) deployment.now.setup.idle trace) }
+        OnOk result (string_bytes text.new ≡ string_bytes text.old
+        ++ summary_if wanted.form wanted.summary (lookups_of
+        (H.plain deployment.now.setup.hash) deployment.now.setup.size deployment.now.catalogue) deployment.now.setup.idle trace) }
 {
     if !wanted.summary {
         return Ok(());
@@ -173,7 +183,8 @@ pub(crate) fn report<S: Scheme, H: FlowHash>(
     requires balance { IsBalanced (reverse ended.now.trace.past) }
     requires counts { CountsAre (outcomes_of ended.now.trace.past) notes.now.counts }
     requires books { KeepsBooks wanted ended.now.trace.past notes.now }
-    ensures { IfOk result (λ s. string_bytes s ≡ report_behind (string_bytes lines) (lookups_of (H.plain deployment.now.setup.hash) deployment.now.setup.size deployment.now.catalogue) deployment.now.setup.idle
+    ensures { IfOk result (λ s. string_bytes s ≡ report_behind (string_bytes lines) (lookups_of
+        (H.plain deployment.now.setup.hash) deployment.now.setup.size deployment.now.catalogue) deployment.now.setup.idle
         wanted ended.now.trace ended.now.packets ended.now.ending) }
 {
     let report = plain_report(alloc, wanted.form, ended, &notes.counts)?;
@@ -193,7 +204,8 @@ fn verdict<S: Scheme, H: FlowHash>(
 ) -> Verdict
     requires one { S.STEADY ≡ true → IfSome one (λ o. PickedSend (rules_of (λ s z. S.pick s z) (λ h. H.plain h) deployment.now) (send_of o)) }
     requires other { S.STEADY ≡ true → IfSome other (λ o. PickedSend (rules_of (λ s z. S.pick s z) (λ h. H.plain h) deployment.now) (send_of o)) }
-    ensures { result ≡ explained (λ x. slot_of_flow (H.plain deployment.now.setup.hash) deployment.now.setup.size x) (option_and_then (λ o. send_of o) one) (option_and_then (λ o. send_of o) other) }
+    ensures { result ≡ explained (λ x. slot_of_flow (H.plain deployment.now.setup.hash) deployment.now.setup.size x) (option_and_then (λ o. send_of o) one)
+        (option_and_then (λ o. send_of o) other) }
 {
     let Some(one) = one else {
         return Verdict::NotSent;
@@ -215,7 +227,8 @@ fn explanation<S: Scheme, H: FlowHash>(
     requires other { S.STEADY ≡ true → IfSome notes.now.other (λ o. PickedSend (rules_of (λ s z. S.pick s z) (λ h. H.plain h) deployment.now) (send_of o)) }
     ensures { let lookups = lookups_of (H.plain deployment.now.setup.hash) deployment.now.setup.size deployment.now.catalogue in
         let one = option_and_then (λ o. send_of o) notes.now.one in let other = option_and_then (λ o. send_of o) notes.now.other in
-        IfOk result (λ s. string_bytes s ≡ explanation_as form (string_bytes notes.now.lines) (explained lookups.slot one other) (left_drained lookups notes.now.first notes.now.later)) }
+        IfOk result (λ s. string_bytes s ≡ explanation_as form (string_bytes notes.now.lines) (explained lookups.slot one other)
+        (left_drained lookups notes.now.first notes.now.later)) }
 {
     let verdict = verdict(deployment, notes.one, notes.other);
     let drained = left_drained(deployment.catalogue(), notes.first, notes.later);

@@ -79,7 +79,8 @@ fn push_event_if(
     packet: Option<&Packet>,
     outcome: &Outcome,
 ) -> Result<(), AllocError>
-    ensures { OnOk result (string_bytes lines.new ≡ string_bytes lines.old ++ event_if two number (said_by event.now (option_copied packet.entry) outcome.now)) }
+    ensures { OnOk result (string_bytes lines.new ≡ string_bytes lines.old
+        ++ event_if two number (said_by event.now (option_copied packet.entry) outcome.now)) }
 {
     if !two.lists(number) {
         return Ok(());
@@ -120,7 +121,8 @@ impl Notebook {
         packet: Option<&Packet>,
         outcome: &Outcome,
     ) -> Result<(), AllocError>
-        ensures lists { (past : List LogEntry) → Lists form past self.old → OnOk result (Lists form (said_by event.now (option_copied packet.entry) outcome.now ∷ past) self.new) }
+        ensures lists { (past : List LogEntry) → Lists form past self.old →
+            OnOk result (Lists form (said_by event.now (option_copied packet.entry) outcome.now ∷ past) self.new) }
         ensures is_plain { self.new.is_plain ≡ self.old.is_plain }
         ensures only_changes { self.new.only_changes ≡ self.old.only_changes }
         ensures counts { self.new.counts ≡ self.old.counts }
@@ -162,7 +164,8 @@ impl Notebook {
     // An event goes into the book, where splits are asked for.
     #[inline(always)]
     fn book_if(&mut self, splits: bool, event: &Event, outcome: &Outcome) -> Result<(), AllocError>
-        ensures books { (past : List LogEntry) (packet : Option Packet) → BookIf splits past self.old.book → OnOk result (BookIf splits (said_by event.now packet outcome.now ∷ past) self.new.book) }
+        ensures books { (past : List LogEntry) (packet : Option Packet) → BookIf splits past self.old.book →
+            OnOk result (BookIf splits (said_by event.now packet outcome.now ∷ past) self.new.book) }
         ensures lines { self.new.lines ≡ self.old.lines }
         ensures number { self.new.number ≡ self.old.number }
         ensures is_plain { self.new.is_plain ≡ self.old.is_plain }
@@ -187,7 +190,8 @@ impl Notebook {
         packet: Option<&Packet>,
         outcome: &Outcome,
     ) -> Result<(), AllocError>
-        ensures changes { (past : List LogEntry) → NotedChangesIf changes past self.old.changes → OnOk result (NotedChangesIf changes (said_by event.now (option_copied packet.entry) outcome.now ∷ past) self.new.changes) }
+        ensures changes { (past : List LogEntry) → NotedChangesIf changes past self.old.changes →
+            OnOk result (NotedChangesIf changes (said_by event.now (option_copied packet.entry) outcome.now ∷ past) self.new.changes) }
         ensures rest { self.new ≡ record self.old { changes = self.new.changes } }
     {
         if changes {
@@ -204,7 +208,8 @@ impl Notebook {
         packet: Option<&Packet>,
         outcome: &Outcome,
     ) -> Result<(), AllocError>
-        ensures shares { (asked : AskedShares) (past : List LogEntry) → AreShareBooksOf asked past self.old.shares → OnOk result (AreShareBooksOf asked (said_by event.now (option_copied packet.entry) outcome.now ∷ past) self.new.shares) }
+        ensures shares { (asked : AskedShares) (past : List LogEntry) → AreShareBooksOf asked past self.old.shares →
+            OnOk result (AreShareBooksOf asked (said_by event.now (option_copied packet.entry) outcome.now ∷ past) self.new.shares) }
         ensures rest { self.new ≡ record self.old { shares = self.new.shares } }
     {
         self.shares.note(event, packet, outcome)
@@ -218,7 +223,8 @@ impl Notebook {
         packet: Option<&Packet>,
         outcome: &Outcome,
     ) -> Result<(), AllocError>
-        ensures more { (past : List LogEntry) → KeepsMore wanted past self.old → OnOk result (KeepsMore wanted (said_by event.now (option_copied packet.entry) outcome.now ∷ past) self.new) }
+        ensures more { (past : List LogEntry) → KeepsMore wanted past self.old →
+            OnOk result (KeepsMore wanted (said_by event.now (option_copied packet.entry) outcome.now ∷ past) self.new) }
         ensures is_plain { self.new.is_plain ≡ self.old.is_plain }
         ensures only_changes { self.new.only_changes ≡ self.old.only_changes }
         ensures counts { self.new.counts ≡ self.old.counts }
@@ -238,7 +244,8 @@ impl Notebook {
         packet: Option<&Packet>,
         outcome: &Outcome,
     ) -> Result<(), AllocError>
-        ensures { (past : List LogEntry) → AreOf (Report wanted.now) past self.old → OnOk result (AreOf (Report wanted.now) (said_by event.now (option_copied packet.entry) outcome.now ∷ past) self.new) }
+        ensures { (past : List LogEntry) → AreOf (Report wanted.now) past self.old →
+            OnOk result (AreOf (Report wanted.now) (said_by event.now (option_copied packet.entry) outcome.now ∷ past) self.new) }
     {
         self.counts.count(outcome)?;
         if self.is_plain {

@@ -1,6 +1,5 @@
 //! A report whose listing goes to pages as the run goes.
 ghost use Rattle.std.specs.Prelude.{◌≡◌, ◌+◌, ◌++◌, ◌∷◌, [], List, length, reverse, IfOk, OnOk, string_bytes, option_copied};
-ghost use Rattle.hash_laws.specs.Any.{plain_of};
 ghost use Rattle.cluster_node.specs.declared.events.LogEntry.{LogEntry};
 ghost use Rattle.event_trace.specs.Noting.{said_by};
 ghost use Rattle.json_lines.specs.Forms.{listing_as};
@@ -52,7 +51,8 @@ pub(crate) fn asking_paged<P: Pages>(
     key: TableKey,
     listing: Listing<P>,
 ) -> Result<Asking<Paged<P>, PagedNotes<P>>, AllocError>
-    ensures fresh { IfOk result (λ a. ArePaged (λ first pages text whole. P.told first pages text whole) a.asked.wanted a.asked.unlisted a.asked.first.items [] a.notes.kept a.notes.number (string_bytes a.notes.lines) a.notes.pages) }
+    ensures fresh { IfOk result (λ a. ArePaged (λ first pages text whole. P.told first pages text whole) a.asked.wanted a.asked.unlisted
+        a.asked.first.items [] a.notes.kept a.notes.number (string_bytes a.notes.lines) a.notes.pages) }
     ensures asked { IfOk result (λ a. a.asked.wanted ≡ listing.wanted) }
     ensures first { IfOk result (λ a. a.asked.first.items ≡ listing.pages ∷ []) }
 {
@@ -93,10 +93,12 @@ impl<P: Pages> PagedNotes<P> {
         packet: Option<&Packet>,
         outcome: &Outcome,
     ) -> Result<(), AllocError>
-        ensures numbers { (past : List LogEntry) → NumbersIf wanted.list past self.old.number → OnOk result (NumbersIf wanted.list (said_by event.now (option_copied packet.entry) outcome.now ∷ past) self.new.number) }
+        ensures numbers { (past : List LogEntry) → NumbersIf wanted.list past self.old.number →
+            OnOk result (NumbersIf wanted.list (said_by event.now (option_copied packet.entry) outcome.now ∷ past) self.new.number) }
         ensures lines { (first : P) (past : List LogEntry) → NumbersIf wanted.list past self.old.number
             → P.told first self.old.pages (string_bytes self.old.lines) (lines_if wanted.form wanted.list past)
-            → OnOk result (P.told first self.new.pages (string_bytes self.new.lines) (lines_if wanted.form wanted.list (said_by event.now (option_copied packet.entry) outcome.now ∷ past))) }
+            → OnOk result (P.told first self.new.pages (string_bytes self.new.lines) (lines_if wanted.form wanted.list
+            (said_by event.now (option_copied packet.entry) outcome.now ∷ past))) }
         ensures kept { self.new.kept ≡ self.old.kept }
     {
         if wanted.list {
@@ -117,7 +119,8 @@ impl<P: Pages> PagedNotes<P> {
         ensures number { OnOk result (self.new.number ≡ self.old.number + 1) }
         ensures lines { (first : P) (past : List LogEntry) → self.old.number ≡ length past
             → P.told first self.old.pages (string_bytes self.old.lines) (begun form ++ listing_as form (reverse past))
-            → OnOk result (P.told first self.new.pages (string_bytes self.new.lines) (begun form ++ listing_as form (reverse (said_by event.now (option_copied packet.entry) outcome.now ∷ past)))) }
+            → OnOk result (P.told first self.new.pages (string_bytes self.new.lines) (begun form
+            ++ listing_as form (reverse (said_by event.now (option_copied packet.entry) outcome.now ∷ past)))) }
         ensures kept { self.new.kept ≡ self.old.kept }
     {
         form.push_event(&mut self.lines, self.number, event, packet, outcome)?;
@@ -132,7 +135,8 @@ impl<P: Pages> Notes for PagedNotes<P> {
 
     ghost use Rattle.simulate_scenario.specs.Paging.{ArePaged};
 
-    ghost are_of = { λ asked past notes. ArePaged (λ first pages text whole. P.told first pages text whole) asked.wanted asked.unlisted asked.first.items past notes.kept notes.number (string_bytes notes.lines) notes.pages };
+    ghost are_of = { λ asked past notes. ArePaged (λ first pages text whole. P.told first pages text whole) asked.wanted asked.unlisted
+        asked.first.items past notes.kept notes.number (string_bytes notes.lines) notes.pages };
 
     #[inline(always)]
     fn note(
@@ -152,7 +156,8 @@ impl<P: Pages> Answering for PagedNotes<P> {
     ghost use Rattle.simulate_scenario.specs.Told.{IsToldAnswer};
 
     ghost is_answered = { λ asked notes answer lookups idle trace packets ending.
-        IsToldAnswer (λ first pages text whole. P.told first pages text whole) asked.wanted asked.first.items notes.pages answer lookups idle trace packets ending };
+        IsToldAnswer (λ first pages text whole. P.told first pages text whole) asked.wanted asked.first.items notes.pages answer lookups idle trace
+        packets ending };
 
     fn answer(
         &mut self,

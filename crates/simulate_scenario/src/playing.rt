@@ -1,5 +1,5 @@
 //! A scenario is played.
-ghost use Rattle.std.specs.Prelude.{◌≡◌, ◌≤◌, [], ◌∷◌, ℕ, List, IfOk, IfErr, string_bytes, length, reverse};
+ghost use Rattle.std.specs.Prelude.{◌≡◌, ◌≤◌, [], ◌∷◌, ℕ, List, IfOk, IfErr, string_bytes, length};
 ghost use Rattle.hash_laws.specs.Any.{plain_of};
 ghost use Rattle.event_trace.specs.Steps.{below};
 ghost use Rattle.cluster_core.specs.Deployed.{cluster_of};
@@ -224,8 +224,10 @@ pub fn play_scenario<I: Source, O: Outlet>(
     input: &mut I,
     output: &mut O,
 ) -> Result<Answer, SimulationFault>
-    ensures ok { IfOk result (λ a. AnswersIn scenario asked (I.tape input.old) (I.tape input.new) (O.tape output.old) (O.tape output.new) (string_bytes a.text)) }
-    ensures counts { IfOk result (λ a. CountedIn scenario asked (I.tape input.old) (I.tape input.new) (O.tape output.old) (O.tape output.new) (string_bytes a.text) a.counts) }
+    ensures ok { IfOk result (λ a. AnswersIn scenario asked (I.tape input.old) (I.tape input.new) (O.tape output.old) (O.tape output.new)
+        (string_bytes a.text)) }
+    ensures counts { IfOk result (λ a. CountedIn scenario asked (I.tape input.old) (I.tape input.new) (O.tape output.old) (O.tape output.new)
+        (string_bytes a.text) a.counts) }
     ensures kept { IfOk result (λ a.
         (answers : AnswersIn scenario asked (I.tape input.old) (I.tape input.new) (O.tape output.old) (O.tape output.new) (string_bytes a.text)) →
         KeepsPromises scenario answers.trace) }
@@ -376,7 +378,8 @@ fn play_turned_part<P: Pages, I: Source, O: Outlet>(
 ) -> Result<(Answer, P), ListingGivenUp<P>>
     ensures ok { let s = part.whole in
         IfOk result (λ r. AnswersBy (λ l i t p e.
-        IsTurnedAnswer (λ first pages text whole. P.told first pages text whole) listing.listing.wanted (listing.listing.pages ∷ []) (listing.ordinals ∷ []) r.1 r.0 l i (part_trace part.only t) p e)
+        IsTurnedAnswer (λ first pages text whole. P.told first pages text whole) listing.listing.wanted (listing.listing.pages ∷ []) (listing.ordinals
+        ∷ []) r.1 r.0 l i (part_trace part.only t) p e)
         (part_of part.only (cluster_in s)) (choice_in s) (plan_in s) (lookups_in s) s.idle
         (I.tape input.old) (I.tape input.new) (O.tape output.old) (O.tape output.new)) }
     ensures stopped { let s = part.whole in IfErr result (λ g. Stopped (part_of part.only (cluster_in s)) (choice_in s) (plan_in s)
@@ -410,7 +413,8 @@ pub fn play_turned<P: Pages, I: Source, O: Outlet>(
     input: &mut I,
     output: &mut O,
 ) -> Result<(Answer, P), ListingGivenUp<P>>
-    ensures ok { IfOk result (λ r. TurnedToldIn listing.ordinals part.only part.whole listing.listing.wanted (λ text whole. P.told listing.listing.pages r.1 text whole)
+    ensures ok { IfOk result (λ r. TurnedToldIn listing.ordinals part.only part.whole listing.listing.wanted
+        (λ text whole. P.told listing.listing.pages r.1 text whole)
         (I.tape input.old) (I.tape input.new) (O.tape output.old) (O.tape output.new) (string_bytes r.0.text) r.0.counts) }
     ensures kept { IfOk result (λ r. PartKeeps part.only part.whole (I.tape input.old) (I.tape input.new) (O.tape output.old) (O.tape output.new)) }
     ensures stopped { IfErr result (λ g.

@@ -1,9 +1,6 @@
 //! A report in which a flow that begins again is another connection.
-ghost use Rattle.std.specs.Prelude.{◌≡◌, ◌++◌, ◌∷◌, [], ℕ, List, Option, IfOk, IfErr, OnOk, string_bytes};
-ghost use Rattle.hash_laws.specs.Any.{plain_of};
-ghost use Rattle.run_report.specs.Causes.{Lookups, lookups_of};
-ghost use Rattle.event_trace.specs.Trace.{Trace};
-ghost use Rattle.pcap_file.specs.declared.format.InputEnd.{InputEnd};
+ghost use Rattle.std.specs.Prelude.{◌≡◌, ◌++◌, ◌∷◌, [], List, Option, IfOk, OnOk, string_bytes};
+ghost use Rattle.run_report.specs.Causes.{lookups_of};
 ghost use Rattle.connection_starts.specs.declared.ordinals.Ordinals.{Ordinals};
 ghost use Rattle.connection_changes.specs.Turns.{reckoned};
 ghost use Rattle.cluster_node.specs.declared.events.LogEntry.{LogEntry};
@@ -58,7 +55,9 @@ fn push_turned_if<S: Scheme, H: FlowHash>(
     wanted: Wanted,
     account: Account<'_>,
 ) -> Result<(), AllocError>
-    ensures { OnOk result (string_bytes text.new ≡ string_bytes text.old ++ turned_if wanted.form wanted.places wanted.splits (lookups_of (H.plain deployment.now.setup.hash) deployment.now.setup.size deployment.now.catalogue) deployment.now.setup.idle (reckoned account.entry)) }
+    ensures { OnOk result (string_bytes text.new ≡ string_bytes text.old ++ turned_if wanted.form wanted.places wanted.splits
+        (lookups_of (H.plain deployment.now.setup.hash) deployment.now.setup.size deployment.now.catalogue) deployment.now.setup.idle
+        (reckoned account.entry)) }
 {
     let setup = deployment.setup();
     let hash = setup.hash();
@@ -90,7 +89,9 @@ fn push_turned_summary_if<S: Scheme, H: FlowHash>(
     wanted: Wanted,
     account: Account<'_>,
 ) -> Result<(), AllocError>
-    ensures { OnOk result (string_bytes text.new ≡ string_bytes text.old ++ turned_summary_if wanted.form wanted.summary (lookups_of (H.plain deployment.now.setup.hash) deployment.now.setup.size deployment.now.catalogue) deployment.now.setup.idle (reckoned account.entry)) }
+    ensures { OnOk result (string_bytes text.new ≡ string_bytes text.old ++ turned_summary_if wanted.form wanted.summary
+        (lookups_of (H.plain deployment.now.setup.hash) deployment.now.setup.size deployment.now.catalogue) deployment.now.setup.idle
+        (reckoned account.entry)) }
 {
     if !wanted.summary {
         return Ok(());
@@ -103,7 +104,8 @@ fn push_turned_summary_if<S: Scheme, H: FlowHash>(
 
 // How many connections there were, and how many of them changed their server, where this is wanted.
 fn turned_counts_if(wanted: Wanted, account: Account<'_>) -> Option<ChangeCounts>
-    ensures { (o : Ordinals) (past : List LogEntry) → reckoned account.entry ≡ reckoned_by o past → result ≡ turned_counts_if (keeps_changes wanted.places wanted.summary) o past }
+    ensures { (o : Ordinals) (past : List LogEntry) → reckoned account.entry ≡ reckoned_by o past →
+        result ≡ turned_counts_if (keeps_changes wanted.places wanted.summary) o past }
 {
     if !wanted.keeps_changes() {
         return None;
@@ -120,7 +122,9 @@ pub(crate) fn asking_turned<P: Pages>(
     key: TableKey,
     listing: TurnedListing<P>,
 ) -> Result<Asking<Turned<P>, TurnedNotes<P>>, AllocError>
-    ensures fresh { IfOk result (λ a. AreTurnedNotes (λ first pages text whole. P.told first pages text whole) a.asked.wanted a.asked.paged.wanted a.asked.paged.unlisted a.asked.paged.first.items a.asked.ordinals.items
+    ensures fresh { IfOk result (λ a. AreTurnedNotes
+        (λ first pages text whole. P.told first pages text whole) a.asked.wanted a.asked.paged.wanted
+        a.asked.paged.unlisted a.asked.paged.first.items a.asked.ordinals.items
         [] a.notes.paged.kept a.notes.paged.number (string_bytes a.notes.paged.lines) a.notes.paged.pages a.notes.book) }
     ensures asked { IfOk result (λ a. a.asked.wanted ≡ listing.listing.wanted) }
     ensures first { IfOk result (λ a. a.asked.paged.first.items ≡ listing.listing.pages ∷ []) }
@@ -162,7 +166,9 @@ impl<P: Pages> Notes for TurnedNotes<P> {
 
     ghost use Rattle.simulate_scenario.specs.Turned.{AreTurnedNotes};
 
-    ghost are_of = { λ asked past notes. AreTurnedNotes (λ first pages text whole. P.told first pages text whole) asked.wanted asked.paged.wanted asked.paged.unlisted asked.paged.first.items asked.ordinals.items
+    ghost are_of = { λ asked past notes. AreTurnedNotes
+        (λ first pages text whole. P.told first pages text whole) asked.wanted asked.paged.wanted asked.paged.unlisted
+        asked.paged.first.items asked.ordinals.items
         past notes.paged.kept notes.paged.number (string_bytes notes.paged.lines) notes.paged.pages notes.book };
 
     fn note(
@@ -182,7 +188,8 @@ impl<P: Pages> Answering for TurnedNotes<P> {
     ghost use Rattle.simulate_scenario.specs.Turned.{IsTurnedAnswer};
 
     ghost is_answered = { λ asked notes answer lookups idle trace packets ending.
-        IsTurnedAnswer (λ first pages text whole. P.told first pages text whole) asked.wanted asked.paged.first.items asked.ordinals.items notes.paged.pages answer lookups idle trace packets ending };
+        IsTurnedAnswer (λ first pages text whole. P.told first pages text whole) asked.wanted asked.paged.first.items asked.ordinals.items
+        notes.paged.pages answer lookups idle trace packets ending };
 
     fn answer(
         &mut self,

@@ -92,7 +92,8 @@ SeenMore false text seen left t = Seen text seen left t × (is_some t.ended ≡ 
 
 -- one record was read, or how the input ends
 abbrev pub ReadOrEnded : Head → ℕ → Tape → Tape → Record → Option InputEnd → Type 0
-ReadOrEnded head given before after r None = Gave head given before.bytes after.bytes (Ok r) × Unfailed before after × CallsAtMost (length r.bytes + 2016) before after × (given < max_records)
+ReadOrEnded head given before after r None = Gave head given before.bytes after.bytes (Ok r) × Unfailed before after
+    × CallsAtMost (length r.bytes + 2016) before after × (given < max_records)
 ReadOrEnded head given before after r (Some ending) = Gave head given before.bytes after.bytes (Err (ending_of ending)) × Unfailed before after
 
 -- the next record was refused

@@ -29,7 +29,8 @@ counted_here all ss trace = counted_from (first_time all) (drop trace.read (map 
 
 -- to run the steps that are left from here is to run the plan
 abbrev pub Left : Cluster → Choice → Planned → Link → List Record → List TimedStep → Trace → Type 0
-Left cluster choice plan link all ss trace = run (world_of cluster choice (packets_of link plan.check all)) (counted_here all ss trace) trace ≡ trace_of cluster choice plan link all
+Left cluster choice plan link all ss trace = run (world_of cluster choice (packets_of link plan.check all)) (counted_here all ss trace) trace
+    ≡ trace_of cluster choice plan link all
 
 -- after the header the output got what was sent so far
 abbrev pub SentSoFar : Planned → Link → List Record → Trace → Tape → Tape → Type 0

@@ -25,7 +25,8 @@ use Rattle.simulation.specs.declared.staging.Stage.{Stage}
 
 -- where all the records are these: the queues of frames mirror the trace, and after the header the output got what was sent
 -- so far
-pub record Sound (cluster : Cluster) (plan : Planned) (link : Link) (all : List Record) (trace : Trace) (qs : List (List Record)) (begun out : Tape) : Type 0 where
+pub record Sound (cluster : Cluster) (plan : Planned) (link : Link) (all : List Record) (trace : Trace) (qs : List (List Record))
+    (begun out : Tape) : Type 0 where
   pub workers : cluster.workers ≤ 16
   pub room : cluster.nodes * 16 ≤ length qs
   pub orderly : Orderly cluster
@@ -53,13 +54,15 @@ CutIn result cluster plan move old out out' = (w : World) (all : List Record) (b
     → IfErr result (λ fault. SentUntil fault plan old.intake.head.link all (move w old.play.trace) begun out')
 
 -- where all the records are these: what is left to be done leads to the trace of the whole plan
-pub record Going {P : Type 0} (cluster : Cluster) (choice : Choice) (plan : Planned) (link : Link) (all : List Record) (ss : List TimedStep) (stage : Stage P) (begun out : Tape) : Type 0 where
+pub record Going {P : Type 0} (cluster : Cluster) (choice : Choice) (plan : Planned) (link : Link) (all : List Record) (ss : List TimedStep) (stage : Stage P)
+    (begun out : Tape) : Type 0 where
   pub left : Left cluster choice plan link all ss stage.play.trace
   pub sound : Sound cluster plan link all stage.play.trace stage.relay.waiting begun out
 
 -- With these steps left: some records were handed out, and just those of them are kept that a step left names. Whatever can
 -- come after them, the run is going.
-pub record Reached {P : Type 0} (cluster : Cluster) (choice : Choice) (plan : Planned) (text begun : Tape) (ss : List TimedStep) (stage : Stage P) (left out : Tape) : Type 0 where
+pub record Reached {P : Type 0} (cluster : Cluster) (choice : Choice) (plan : Planned) (text begun : Tape) (ss : List TimedStep) (stage : Stage P)
+    (left out : Tape) : Type 0 where
   pub seen : List Record
   pub read : Seen text seen left stage.intake
   pub place : stage.play.trace.read ≡ length seen
@@ -88,7 +91,8 @@ still_until false end ss = ss
 
 -- The steps are done and the input was read to its end. The records after the header are these, the trace is the plan's
 -- over them, and the output got all that it sends.
-pub record IsOver (cluster : Cluster) (choice : Choice) (plan : Planned) (head : Head) (text left begun out : Tape) (trace : Trace) (packets : ℕ) (ending : InputEnd) : Type 0 where
+pub record IsOver (cluster : Cluster) (choice : Choice) (plan : Planned) (head : Head) (text left begun out : Tape) (trace : Trace) (packets : ℕ)
+    (ending : InputEnd) : Type 0 where
   pub records : List Record
   pub told : IsTold head text.bytes records ending
   pub unfailed : Unfailed text left

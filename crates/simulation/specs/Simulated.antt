@@ -38,7 +38,8 @@ sendings cluster choice plan link records = sent (traffic_of plan link records) 
 
 -- The trace is that of the input's records, of which there are so many, up to how the input ends. The output got the
 -- capture of all that it sends; neither device failed.
-pub record Simulated (cluster : Cluster) (choice : Choice) (plan : Planned) (input input' output output' : Tape) (trace : Trace) (packets : ℕ) (ending : InputEnd) : Type 0 where
+pub record Simulated (cluster : Cluster) (choice : Choice) (plan : Planned) (input input' output output' : Tape) (trace : Trace) (packets : ℕ)
+    (ending : InputEnd) : Type 0 where
   pub head : Head
   pub records : List Record
   pub input_is : InputIs input.bytes head records ending

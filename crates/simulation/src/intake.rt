@@ -36,7 +36,14 @@ impl Model for Intake {
 
     ghost Value = { Taking };
 
-    ghost view = { λ i. record { head = i.head; record_read = lent_or (λ f. packet f.value) i.lent (packet i.frame); given = i.given; ended = i.ended; ahead = ahead_if i.waits (packet i.coming); first = i.first } };
+    ghost view = { λ i. record {
+      head = i.head;
+      record_read = lent_or (λ f. packet f.value) i.lent (packet i.frame);
+      given = i.given;
+      ended = i.ended;
+      ahead = ahead_if i.waits (packet i.coming);
+      first = i.first;
+    } };
 
     ghost invariant = { λ i. Within i.given i.waits i.ended };
 }

@@ -1,5 +1,5 @@
 //! A scenario's steps over a capture.
-ghost use Rattle.std.specs.Prelude.{◌≡◌, ◌≤◌, [], IfOk, OnOk, IfErr, length};
+ghost use Rattle.std.specs.Prelude.{◌≡◌, ◌≤◌, [], IfOk, IfErr, length};
 ghost use Rattle.cluster_core.specs.Cluster.{Orderly};
 ghost use Rattle.event_trace.specs.Steps.{below};
 ghost use Rattle.simulation.specs.Plans.{planned};

@@ -1,5 +1,6 @@
 //! A run record by record.
-ghost use Rattle.std.specs.Prelude.{is_some, None, ◌≡◌, ◌≢◌, ◌<◌, ◌≤◌, ◌+◌, ◌^◌, ◌∷◌, ◌++◌, [], ℕ, List, Some, true, false, length, slice_get, IfOk, IfErr, OnOk};
+ghost use Rattle.std.specs.Prelude.{is_some, None, ◌≡◌, ◌≢◌, ◌<◌, ◌≤◌, ◌+◌, ◌^◌, ◌∷◌, ◌++◌, [], ℕ, List, Some, true, false, length, slice_get, IfOk, IfErr};
+ghost use Rattle.std.specs.Prelude.{OnOk};
 ghost use Rattle.pcap_file.specs.Device.{Tape};
 ghost use Rattle.pcap_file.specs.Format.{Record, packet, max_records};
 ghost use Rattle.timed_steps.specs.declared.TimedStep.{TimedStep};
@@ -15,7 +16,8 @@ ghost use Rattle.simulation.specs.Simulated.{IsOfRun};
 ghost use Rattle.simulation.specs.PrivateGoing.{Shortened};
 ghost use Rattle.simulation.specs.Intake.{IsNext, Seen, SeenMore, StandsStill, ReadStops};
 ghost use Rattle.simulation.specs.PrivateKeeping.{KeepsNamed};
-ghost use Rattle.simulation.specs.PrivateStages.{SoundAt, StaysSound, SentUntil, CutIn, Reached, IsOver, still_to_take, still_to_lose, one_of_until, still_until};
+ghost use Rattle.simulation.specs.PrivateStages.{SoundAt, StaysSound, SentUntil, CutIn, Reached, IsOver, still_to_take, still_to_lose, one_of_until};
+ghost use Rattle.simulation.specs.PrivateStages.{still_until};
 
 use crate::fault::SimulationFault;
 use crate::intake::Intake;

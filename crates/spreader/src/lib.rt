@@ -4,7 +4,7 @@
 //! packet, since the live nodes change: nothing that the cluster promises rests on its choices.
 #![tactic(auto)]
 
-ghost use Rattle.std.specs.Prelude.{◌≡◌, ◌<◌, ◌%◌, ℕ, List, Option, length, slice_get, refl};
+ghost use Rattle.std.specs.Prelude.{◌≡◌, ◌<◌, ℕ, List, Option, refl};
 ghost use Rattle.std.specs.Option.{option_copied};
 ghost use Rattle.five_tuple.specs.declared.Flow.{Flow};
 ghost use Rattle.spreader.specs.Choices.{Choice, ChoosesLive, ChoosesWhereLive, ChoosesNoneOfNone, node_at, node_by_turn, node_by_hash};

@@ -1,6 +1,6 @@
 //! The counts, beside a ledger for each.
 ghost use Rattle.std.specs.Prelude.{◌≡◌, ◌+◌, ◌<◌, ◌↔◌, true, false, ℕ, MatchBool, replicate, slice_index};
-ghost use Rattle.stats_book.specs.Counts.{Counted, one_more};
+ghost use Rattle.stats_book.specs.Counts.{one_more};
 ghost use Rattle.stats_book.specs.Moves.{IsReceived, IsForwarded, IsDropped};
 ghost use Rattle.stats_book.specs.Names.{Unnamed};
 

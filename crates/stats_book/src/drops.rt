@@ -31,7 +31,9 @@ impl<B: Names> Model for DropBooks<B> {
 
     ghost Value = { List ℕ };
 
-    ghost view = { λ d. d.not_ipv4.total ∷ d.truncated.total ∷ d.bad_header.total ∷ d.bad_checksum.total ∷ d.fragment.total ∷ d.not_tcp_udp.total ∷ d.bad_transport.total ∷ d.too_large.total ∷ d.no_service.total ∷ d.no_backend.total ∷ d.no_version.total ∷ d.rings_full.total ∷ d.lost_at_restart.total ∷ [] };
+    ghost view = { λ d. d.not_ipv4.total ∷ d.truncated.total ∷ d.bad_header.total ∷ d.bad_checksum.total ∷ d.fragment.total ∷ d.not_tcp_udp.total
+        ∷ d.bad_transport.total ∷ d.too_large.total ∷ d.no_service.total ∷ d.no_backend.total ∷ d.no_version.total ∷ d.rings_full.total
+        ∷ d.lost_at_restart.total ∷ [] };
 }
 
 // Shares of the drops' ledgers, of each as many parts.
@@ -58,9 +60,17 @@ impl<B: Names> Model for DropShares<B> {
 
     ghost Value = { Dropped };
 
-    ghost view = { λ d. record { parts = d.not_ipv4.parts; amounts = d.not_ipv4.amount ∷ d.truncated.amount ∷ d.bad_header.amount ∷ d.bad_checksum.amount ∷ d.fragment.amount ∷ d.not_tcp_udp.amount ∷ d.bad_transport.amount ∷ d.too_large.amount ∷ d.no_service.amount ∷ d.no_backend.amount ∷ d.no_version.amount ∷ d.rings_full.amount ∷ d.lost_at_restart.amount ∷ [] } };
+    ghost view = { λ d. record {
+      parts = d.not_ipv4.parts;
+      amounts = d.not_ipv4.amount ∷ d.truncated.amount ∷ d.bad_header.amount ∷ d.bad_checksum.amount
+          ∷ d.fragment.amount ∷ d.not_tcp_udp.amount ∷ d.bad_transport.amount ∷ d.too_large.amount ∷ d.no_service.amount ∷ d.no_backend.amount
+          ∷ d.no_version.amount ∷ d.rings_full.amount ∷ d.lost_at_restart.amount ∷ [];
+    } };
 
-    ghost invariant = { λ d. (d.truncated.parts ≡ d.not_ipv4.parts) × (d.bad_header.parts ≡ d.not_ipv4.parts) × (d.bad_checksum.parts ≡ d.not_ipv4.parts) × (d.fragment.parts ≡ d.not_ipv4.parts) × (d.not_tcp_udp.parts ≡ d.not_ipv4.parts) × (d.bad_transport.parts ≡ d.not_ipv4.parts) × (d.too_large.parts ≡ d.not_ipv4.parts) × (d.no_service.parts ≡ d.not_ipv4.parts) × (d.no_backend.parts ≡ d.not_ipv4.parts) × (d.no_version.parts ≡ d.not_ipv4.parts) × (d.rings_full.parts ≡ d.not_ipv4.parts) × (d.lost_at_restart.parts ≡ d.not_ipv4.parts) };
+    ghost invariant = { λ d. (d.truncated.parts ≡ d.not_ipv4.parts) × (d.bad_header.parts ≡ d.not_ipv4.parts) × (d.bad_checksum.parts ≡ d.not_ipv4.parts)
+        × (d.fragment.parts ≡ d.not_ipv4.parts) × (d.not_tcp_udp.parts ≡ d.not_ipv4.parts) × (d.bad_transport.parts ≡ d.not_ipv4.parts)
+        × (d.too_large.parts ≡ d.not_ipv4.parts) × (d.no_service.parts ≡ d.not_ipv4.parts) × (d.no_backend.parts ≡ d.not_ipv4.parts)
+        × (d.no_version.parts ≡ d.not_ipv4.parts) × (d.rings_full.parts ≡ d.not_ipv4.parts) × (d.lost_at_restart.parts ≡ d.not_ipv4.parts) };
 }
 
 // Some parts of a ledger, on which nothing is counted.
@@ -203,9 +213,17 @@ impl Model for DropBlanks {
 
     ghost Value = { Unnamed };
 
-    ghost view = { λ d. record { names = (d.not_ipv4.name ∷ d.truncated.name ∷ d.bad_header.name ∷ d.bad_checksum.name ∷ d.fragment.name ∷ d.not_tcp_udp.name ∷ d.bad_transport.name ∷ d.too_large.name ∷ d.no_service.name ∷ d.no_backend.name ∷ d.no_version.name ∷ d.rings_full.name ∷ d.lost_at_restart.name ∷ []); parts = d.not_ipv4.parts } };
+    ghost view = { λ d. record {
+      names = (d.not_ipv4.name ∷ d.truncated.name ∷ d.bad_header.name ∷ d.bad_checksum.name ∷ d.fragment.name ∷ d.not_tcp_udp.name
+          ∷ d.bad_transport.name ∷ d.too_large.name ∷ d.no_service.name ∷ d.no_backend.name ∷ d.no_version.name ∷ d.rings_full.name ∷ d.lost_at_restart.name
+          ∷ []);
+      parts = d.not_ipv4.parts;
+    } };
 
-    ghost invariant = { λ d. (d.truncated.parts ≡ d.not_ipv4.parts) × (d.bad_header.parts ≡ d.not_ipv4.parts) × (d.bad_checksum.parts ≡ d.not_ipv4.parts) × (d.fragment.parts ≡ d.not_ipv4.parts) × (d.not_tcp_udp.parts ≡ d.not_ipv4.parts) × (d.bad_transport.parts ≡ d.not_ipv4.parts) × (d.too_large.parts ≡ d.not_ipv4.parts) × (d.no_service.parts ≡ d.not_ipv4.parts) × (d.no_backend.parts ≡ d.not_ipv4.parts) × (d.no_version.parts ≡ d.not_ipv4.parts) × (d.rings_full.parts ≡ d.not_ipv4.parts) × (d.lost_at_restart.parts ≡ d.not_ipv4.parts) };
+    ghost invariant = { λ d. (d.truncated.parts ≡ d.not_ipv4.parts) × (d.bad_header.parts ≡ d.not_ipv4.parts) × (d.bad_checksum.parts ≡ d.not_ipv4.parts)
+        × (d.fragment.parts ≡ d.not_ipv4.parts) × (d.not_tcp_udp.parts ≡ d.not_ipv4.parts) × (d.bad_transport.parts ≡ d.not_ipv4.parts)
+        × (d.too_large.parts ≡ d.not_ipv4.parts) × (d.no_service.parts ≡ d.not_ipv4.parts) × (d.no_backend.parts ≡ d.not_ipv4.parts)
+        × (d.no_version.parts ≡ d.not_ipv4.parts) × (d.rings_full.parts ≡ d.not_ipv4.parts) × (d.lost_at_restart.parts ≡ d.not_ipv4.parts) };
 }
 
 impl DropBlanks {

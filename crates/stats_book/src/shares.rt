@@ -51,7 +51,12 @@ impl<B: Names> Shares<B> {
 
     /// The parts of both, and what was counted on both.
     pub fn merge(&mut self, other: Shares<B>)
-        ensures { self.new ≡ record { parts = self.old.parts + other.parts; received = self.old.received + other.received; forwarded = self.old.forwarded + other.forwarded; dropped = sums self.old.dropped other.dropped } }
+        ensures { self.new ≡ record {
+          parts = self.old.parts + other.parts;
+          received = self.old.received + other.received;
+          forwarded = self.old.forwarded + other.forwarded;
+          dropped = sums self.old.dropped other.dropped;
+        } }
     {
         let Shares {
             received,

@@ -1,5 +1,5 @@
 //! Counts that add up.
-ghost use Rattle.std.specs.Prelude.{◌≡◌, ◌+◌, ◌<◌, ◌↔◌, [], sum, true, false, MatchBool, replicate};
+ghost use Rattle.std.specs.Prelude.{◌≡◌, ◌+◌, ◌<◌, ◌↔◌, sum, true, false, MatchBool, replicate};
 ghost use Rattle.stats_book.specs.Counts.{place_of};
 
 use cluster_node::Cause;

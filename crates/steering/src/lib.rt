@@ -5,8 +5,9 @@
 //! home refused. Nothing here takes memory.
 #![tactic(auto)]
 
-ghost use Rattle.std.specs.Prelude.{◌≡◌, ◌≤◌, ◌<◌, ◌+◌, ◌∷◌, ℕ, List, [], true, false};
-ghost use Rattle.steering.specs.Steering.{Steering, home_of, ring_from, but, others, refuses, first_taker, place_for, cursor_after, next_of, rest_of, IsBelow, is_free};
+ghost use Rattle.std.specs.Prelude.{◌≡◌, ◌≤◌, ◌<◌, ◌+◌, [], true, false};
+ghost use Rattle.steering.specs.Steering.{Steering, home_of, ring_from, but, others, refuses, first_taker, place_for, cursor_after, next_of, rest_of};
+ghost use Rattle.steering.specs.Steering.{IsBelow, is_free};
 ghost use Rattle.steering.specs.Laws.{TriesArePlacings};
 
 use five_tuple::Flow;
@@ -149,7 +150,12 @@ impl Steerer {
     pub fn next_try(&mut self) -> Placed
         ensures next { result ≡ next_of self.old.left }
         ensures below { IsBelow self.old.workers result }
-        ensures after { self.new ≡ record { workers = self.old.workers; cursor = cursor_after self.old.at_home self.old.workers self.old.cursor; at_home = false; left = rest_of self.old.left } }
+        ensures after { self.new ≡ record {
+          workers = self.old.workers;
+          cursor = cursor_after self.old.at_home self.old.workers self.old.cursor;
+          at_home = false;
+          left = rest_of self.old.left;
+        } }
     {
         if self.at_home {
             self.at_home = false;

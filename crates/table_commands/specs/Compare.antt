@@ -70,7 +70,8 @@ slot_moved_as form old new slot = moved_line_as form slot (named_at old slot) (n
 -- the text of the command `compare` over two tables, in a form
 unfoldable pub compare_text_as : Form → NamedTable → NamedTable → List ℕ
 compare_text_as form old new =
-    compare_head_as form old.size (length old.ups) (length new.ups) (length (moved_slots old new)) ++ flat_map (slot_moved_as form old new) (moved_slots old new)
+    compare_head_as form old.size (length old.ups) (length new.ups) (length (moved_slots old new))
+    ++ flat_map (slot_moved_as form old new) (moved_slots old new)
 
 -- the text's words, split at single spaces, are these members
 abbrev pub AreMembers : List ℕ → List Member → Type 0

@@ -46,4 +46,5 @@ compare_json size before after moved =
 -- `{"type":"slot","slot":I,"old":{"backend":"NAME","address":"ADDRESS"},"new":null}`
 abbrev pub moved_json : ℕ → Option Backend → Option Backend → List ℕ
 moved_json slot before after =
-    codes "{\"type\":\"slot\",\"slot\":" ++ (decimal slot ++ (codes ",\"old\":" ++ (backend_json before ++ (codes ",\"new\":" ++ (backend_json after ++ codes "}\n")))))
+    codes "{\"type\":\"slot\",\"slot\":" ++ (decimal slot
+    ++ (codes ",\"old\":" ++ (backend_json before ++ (codes ",\"new\":" ++ (backend_json after ++ codes "}\n")))))

@@ -1,5 +1,6 @@
 -- The command `pick`: the flow of a datagram, its slot and its backend, or why it is dropped.
-use Rattle.std.specs.Prelude.{◌≡◌, ◌<◌, ◌≤◌, ℕ, ◌-◌, ◌++◌, Bool, true, false, ◌==◌, if◌then◌else◌, List, take, length, slice_index, Option, Some, None, Ok, Err, IfSome, codes}
+use Rattle.std.specs.Prelude.{◌≡◌, ◌<◌, ◌≤◌, ℕ, ◌-◌, ◌++◌, Bool, true, false, ◌==◌, if◌then◌else◌, List, take, length, slice_index, Option, Some, None, Ok}
+use Rattle.std.specs.Prelude.{Err, IfSome, codes}
 use Rattle.std.specs.Fmt.{decimal}
 use Rattle.hash_laws.specs.declared.any.AnyHash.{AnyHash}
 use Rattle.hash_laws.specs.Any.{hash_of_word, plain_of}

@@ -1,8 +1,9 @@
-ghost use Rattle.std.specs.Prelude.{◌≡◌, ◌<◌, ◌++◌, ◌≤◌, map, length, IfOk, OnOk, string_bytes, All};
+ghost use Rattle.std.specs.Prelude.{◌≡◌, ◌<◌, ◌++◌, length, IfOk, OnOk, string_bytes, All};
 ghost use Rattle.std.specs.List.{flat_map};
 ghost use Rattle.selection.specs.Picks.{NamedTable, slot_names};
 ghost use Rattle.table_commands.specs.Objects.{compare_json, moved_json};
-ghost use Rattle.table_commands.specs.Compare.{name_alike, is_moved, moved_slots, moved_line, moved_line_as, slot_moved_as, compare_head, compare_head_as, compare_text_as, named_text};
+ghost use Rattle.table_commands.specs.Compare.{name_alike, is_moved, moved_slots, moved_line, moved_line_as, slot_moved_as, compare_head, compare_head_as};
+ghost use Rattle.table_commands.specs.Compare.{compare_text_as, named_text};
 
 use super::objects::BackendObject;
 use json_lines::{Form, push_json_head};

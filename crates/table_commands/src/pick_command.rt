@@ -3,7 +3,8 @@ ghost use Rattle.hash_laws.specs.Any.{plain_of};
 ghost use Rattle.pcap_file.specs.Device.{Unfailed, ReadRefused};
 ghost use Rattle.command_faults.specs.Printing.{Prints, BreaksOff};
 ghost use Rattle.table_commands.specs.Refusals.{AreFew, IsTableWork};
-ghost use Rattle.table_commands.specs.Pick.{longest, without_newline, IsHexOf, found_text_as, pick_text_as, HexFails, InputFails, IsPickTextAs, IsPickTextAsOf, IsPickLineOf, IsShort, PickFailsWith, PickFails};
+ghost use Rattle.table_commands.specs.Pick.{longest, without_newline, IsHexOf, found_text_as, pick_text_as, HexFails, InputFails, IsPickTextAs};
+ghost use Rattle.table_commands.specs.Pick.{IsPickTextAsOf, IsPickLineOf, IsShort, PickFailsWith, PickFails};
 
 use super::names::{name_at, names_for};
 use super::options::TableOptions;

@@ -79,7 +79,8 @@ pub fn table_as<S: Sink>(
     ensures written { OnOk result (Prints (IsTableTextAsOf options.entry.form options.entry.hash.now options.entry.size (map (λ w. w.now) words.now))
         (S.tape out.old) (S.tape out.new)) }
     ensures broken { IfErr result (λ fault. fault ≡ CliFault.Write →
-        BreaksOff (IsTableTextAsOf options.entry.form options.entry.hash.now options.entry.size (map (λ w. w.now) words.now)) (S.tape out.old) (S.tape out.new)) }
+        BreaksOff (IsTableTextAsOf options.entry.form options.entry.hash.now options.entry.size (map (λ w. w.now) words.now)) (S.tape out.old)
+        (S.tape out.new)) }
     ensures silent { IfErr result (λ fault. fault ≢ CliFault.Write → out.new ≡ out.old) }
 
     // Each fault comes exactly when its reason is the first that holds, and none where nothing is wrong. Only Memory may

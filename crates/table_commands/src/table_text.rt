@@ -1,8 +1,8 @@
-ghost use Rattle.std.specs.Prelude.{◌≡◌, ◌<◌, ◌++◌, ◌∷◌, [], ℕ, length, IfOk, OnOk, string_bytes, slice_index};
-ghost use Rattle.maglev_table.specs.Turns.{slots_of, all_slots_of};
+ghost use Rattle.std.specs.Prelude.{◌≡◌, ◌<◌, ◌++◌, length, IfOk, OnOk, string_bytes};
 ghost use Rattle.table_entrants.specs.Ranking.{names_of};
 ghost use Rattle.table_commands.specs.Objects.{table_json, slot_json, count_json};
-ghost use Rattle.table_commands.specs.Text.{slot_line, count_line, head_line, slot_line_as, count_line_as, head_line_as, slot_lines_as, counts_text_as, table_text_as, dashed};
+ghost use Rattle.table_commands.specs.Text.{slot_line, count_line, head_line, slot_line_as, count_line_as, head_line_as, slot_lines_as, counts_text_as};
+ghost use Rattle.table_commands.specs.Text.{table_text_as, dashed};
 
 use super::names::name_at;
 use super::objects::NameObject;

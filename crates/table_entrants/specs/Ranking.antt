@@ -34,7 +34,8 @@ AreDistinct names = IsDistinct bytes_eq names
 -- the same names with their weights and places, in ascending order of bytes
 pub record IsRanked (given ranked : List Entrant) : Type 0 where
   pub permutation : IsPermutation given ranked
-  pub ascending : (i : ℕ) → suc i < length ranked → slice_cmp nat_cmp (slice_index_or (names_of ranked) i []) (slice_index_or (names_of ranked) (suc i) []) ≡ Less
+  pub ascending : (i : ℕ) → suc i < length ranked →
+      slice_cmp nat_cmp (slice_index_or (names_of ranked) i []) (slice_index_or (names_of ranked) (suc i) []) ≡ Less
 
 -- the preference lists of some names
 abbrev pub lists_of : (List ℕ → ℕ) → ℕ → List Entrant → List Preference

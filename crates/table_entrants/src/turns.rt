@@ -1,6 +1,5 @@
 //! The table that names share.
 ghost use Rattle.std.specs.Prelude.{◌≡◌, ◌<◌, ◌↔◌, [], length, All, IfOk, IsErrOf};
-ghost use Rattle.maglev_table.specs.Turns.{Owners};
 ghost use Rattle.table_entrants.specs.Ranking.{lists_of, weights_of, owners_of, probes_of};
 
 use crate::entrant::Entrant;

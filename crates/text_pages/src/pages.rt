@@ -1,5 +1,5 @@
 //! Where the pages of a text go.
-ghost use Rattle.std.specs.Prelude.{◌≡◌, ◌++◌, ℕ, List, OnOk, string_bytes};
+ghost use Rattle.std.specs.Prelude.{◌++◌, ℕ, List, OnOk, string_bytes};
 
 use std::alloc::AllocError;
 
@@ -10,7 +10,8 @@ pub trait Pages: Drop {
 
     /// Takes the text away where it fills a page, and leaves it empty. Where it can't, nothing more is known of the text.
     fn turn(&mut self, text: &mut String) -> Result<(), AllocError>
-        ensures { (first : Self) (whole : List ℕ) → told first self.old (string_bytes text.old) whole → OnOk result (told first self.new (string_bytes text.new) whole) };
+        ensures { (first : Self) (whole : List ℕ) → told first self.old (string_bytes text.old) whole →
+            OnOk result (told first self.new (string_bytes text.new) whole) };
 
     // at first the text is the whole
     ghost nothing_told: { (pages : Self) (text : List ℕ) → told pages pages text text };

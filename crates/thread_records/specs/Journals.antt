@@ -1,5 +1,6 @@
 -- A node's journal: the history that its driver writes, and what the next events depend on.
-use Rattle.std.specs.Prelude.{◌≡◌, ◌≤◌, ◌<◌, ◌%◌, ℕ, ◌+◌, Bool, false, true, List, [], ◌∷◌, ◌++◌, length, map, take, slice_index_or, slice_set, replicate, nat_lt, if◌then◌else◌}
+use Rattle.std.specs.Prelude.{◌≡◌, ◌≤◌, ◌<◌, ◌%◌, ℕ, ◌+◌, Bool, false, true, List, [], ◌∷◌, ◌++◌, length, map, take, slice_index_or, slice_set, replicate}
+use Rattle.std.specs.Prelude.{nat_lt, if◌then◌else◌}
 use Rattle.five_tuple.specs.declared.Flow.{Flow}
 use Rattle.steering.specs.Steering.{Steering, home_of, refuses, place_for, cursor_after}
 use Rattle.steering.specs.declared.Placed.{Placed as Placing}
@@ -103,7 +104,8 @@ put_on iss w i = slice_set iss w (placed_on iss w ++ i ∷ [])
 abbrev pub with_placing : ℕ → Flow → ℕ → Attempt → Placing → JournalView → JournalView
 with_placing k x t a placings.RingsFull j = with_event (record j { steering = a.steering; early = a.early }) (Arrive j.node k a.marks) (Dropped k RingsFull)
 with_placing k x t a (placings.Worker w) j =
-    with_event (record j { steering = a.steering; early = a.early; placed = put_on j.placed w (record { packet = k; flow = x; at = t; floor = j.newest }) }) (Arrive j.node k a.marks) (Placed w j.newest)
+    with_event (record j { steering = a.steering; early = a.early; placed = put_on j.placed w (record { packet = k; flow = x; at = t; floor = j.newest }) })
+    (Arrive j.node k a.marks) (Placed w j.newest)
 
 -- the attempt is one of a steerer, and a ring refused too early only where that is said
 pub record IsAttempt (plain : List ℕ → ℕ) (x : Flow) (j : JournalView) (a : Attempt) : Type 0 where
@@ -121,7 +123,10 @@ with_serve w h j = with_event j (serve_of j.node w h) (outcome_of j.node w h)
 
 -- after the life ended with so many packets left
 abbrev pub with_restart : ℕ → JournalView → JournalView
-with_restart left j = with_event (record j { steering = record { workers = j.steering.workers; cursor = 0; at_home = false; left = [] }; placed = map (λ is. []) j.placed }) (Restart j.node) (Restarted left)
+with_restart left j = with_event (record j {
+  steering = record { workers = j.steering.workers; cursor = 0; at_home = false; left = [] };
+  placed = map (λ is. []) j.placed;
+}) (Restart j.node) (Restarted left)
 
 -- the journal of a node that has done nothing
 abbrev pub fresh_journal : ℕ → ℕ → ℕ → JournalView
@@ -140,7 +145,8 @@ fresh_journal node ring workers = record {
 -- each of these packets was handled as one forwarder does that handled those before, by the rules, wherever its version
 -- is one that is known
 abbrev pub AllFit : Rules → List Handled → Type 0
-AllFit rules hs = (had : ℕ → Bool) (i : ℕ) (d : Handled) → i < length hs → had (slice_index_or hs i d).version ≡ true → Fits rules.pick (limits_in rules) had rules.ups (newest_first (take i hs)) (slice_index_or hs i d)
+AllFit rules hs = (had : ℕ → Bool) (i : ℕ) (d : Handled) → i < length hs → had (slice_index_or hs i d).version ≡ true →
+    Fits rules.pick (limits_in rules) had rules.ups (newest_first (take i hs)) (slice_index_or hs i d)
 
 -- so were those of each worker
 abbrev pub AllFitIn : Rules → List (List Handled) → Type 0

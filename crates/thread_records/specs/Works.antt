@@ -35,7 +35,8 @@ pub record Fits (pick : Pick) (limits : Limits) (has : ℕ → Bool) (here : ℕ
   pub known : has h.version ≡ true
   pub floor : h.item.floor ≤ h.version
   pub ascends : greatest (map handling_of earlier) ≤ h.version
-  pub answer : h.choice ≡ (told_after pick limits.capacity limits.idle (told pick limits.capacity limits.idle (map (serving_by here) earlier)) (serving_by here h)).choice
+  pub answer : h.choice ≡ (told_after pick limits.capacity limits.idle (told pick limits.capacity limits.idle (map (serving_by here) earlier))
+      (serving_by here h)).choice
 
 -- so were these, one after another
 abbrev pub Follow : Pick → Limits → (ℕ → Bool) → (ℕ → Flow → Option Candidates) → List Handled → List Handled → Type 0
@@ -68,8 +69,10 @@ working_view made worker handled = record { made = made; used = worker.used; for
 -- that it used
 pub record Worked {S : Type 0} (pick_of : S → ℕ → Pick) (w : WorkView S) : Type 0 where
   pub used_is : w.used ≡ greatest (map handling_of (newest_first w.handled))
-  pub stands : (pick : Pick) (here : ℕ → Flow → Option Candidates) → Agrees pick_of pick here w.made → w.forwarding ≡ forwarding_of pick w.forwarding.capacity w.forwarding.idle (map (serving_by here) (newest_first w.handled))
-  pub follow : (pick : Pick) (here : ℕ → Flow → Option Candidates) → Agrees pick_of pick here w.made → Follow pick (limits_of w.forwarding) always here [] w.handled
+  pub stands : (pick : Pick) (here : ℕ → Flow → Option Candidates) → Agrees pick_of pick here w.made →
+      w.forwarding ≡ forwarding_of pick w.forwarding.capacity w.forwarding.idle (map (serving_by here) (newest_first w.handled))
+  pub follow : (pick : Pick) (here : ℕ → Flow → Option Candidates) → Agrees pick_of pick here w.made →
+      Follow pick (limits_of w.forwarding) always here [] w.handled
 
 -- a worker's record is one of a run with these rules: the versions that it used have their pick and their candidates
 pub record IsOf {S : Type 0} (pick_of : S → ℕ → Pick) (rules : Rules) (w : WorkView S) : Type 0 where

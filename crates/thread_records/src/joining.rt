@@ -18,16 +18,19 @@ use std::alloc::{AllocError, Global};
 pub fn join_nodes(alloc: Global, nodes: &[NodeRecord]) -> Result<History, AllocError>
     ensures events { IfOk result (λ h. h.events.items ≡ all_events nodes.now) }
     ensures outcomes { IfOk result (λ h. h.outcomes.items ≡ all_outcomes nodes.now) }
-    ensures told { (rules : Rules) (packets : List Packet) → EachTold rules packets 0 nodes.now → IfOk result (λ h. h.outcomes.items ≡ verdicts rules [] packets h.events.items) }
+    ensures told { (rules : Rules) (packets : List Packet) → EachTold rules packets 0 nodes.now →
+        IfOk result (λ h. h.outcomes.items ≡ verdicts rules [] packets h.events.items) }
     ensures own { (rules : Rules) (packets : List Packet) → EachTold rules packets 0 nodes.now →
-        IfOk result (λ h. (n : ℕ) (r : NodeRecord) → slice_get nodes.now n ≡ Some r → past_of rules packets n h.events.items ≡ past_of rules packets n r.events.items) }
+        IfOk result (λ h. (n : ℕ) (r : NodeRecord) → slice_get nodes.now n ≡ Some r →
+        past_of rules packets n h.events.items ≡ past_of rules packets n r.events.items) }
 {
     join_all(alloc, nodes)
 }
 
 /// The same, of runs of all nodes.
 pub fn join_runs(alloc: Global, nodes: &[NodeRecord]) -> Result<History, AllocError>
-    ensures { (rules : Rules) (packets : List Packet) (ring : ℕ) (commands : List (List Command)) → AreRuns rules packets ring 0 commands nodes.now → IfOk result (λ h. JoinsRuns rules packets nodes.now h) }
+    ensures { (rules : Rules) (packets : List Packet) (ring : ℕ) (commands : List (List Command)) → AreRuns rules packets ring 0 commands nodes.now →
+        IfOk result (λ h. JoinsRuns rules packets nodes.now h) }
 {
     join_nodes(alloc, nodes)
 }

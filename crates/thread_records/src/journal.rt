@@ -1,7 +1,5 @@
 //! A node's journal: the history that its driver writes, life by life.
-ghost use Rattle.std.specs.Prelude.{◌≡◌, ◌≤◌, ◌<◌, ◌++◌, ◌∷◌, [], ℕ, Bool, List, true, length, map, replicate, Option, Some, None, IfOk, OnOk, slice_get};
-ghost use Rattle.std.specs.List.{list_any};
-ghost use Rattle.steering.specs.Steering.{Steering};
+ghost use Rattle.std.specs.Prelude.{◌≡◌, ◌≤◌, ◌<◌, ◌++◌, ◌∷◌, [], Bool, List, true, length, map, replicate, Option, Some, None, IfOk, OnOk, slice_get};
 ghost use Rattle.cluster_node.specs.Rules.{Rules};
 ghost use Rattle.cluster_node.specs.declared.packets.Packet.{Packet};
 ghost use Rattle.cluster_node.specs.declared.events.Event.TheVariants.{Arrive};
@@ -14,7 +12,8 @@ ghost use Rattle.thread_records.specs.Histories.{commands_of, past_of, NoneWaits
 ghost use Rattle.thread_records.specs.Lean.{sends_told};
 ghost use Rattle.thread_records.specs.Runs.{IsRunOf};
 ghost use Rattle.thread_records.specs.Ends.{JudgesRun};
-ghost use Rattle.thread_records.specs.Journals.{JournalView, fresh_journal, put_on, placed_on, Tells, Drives, with_event, with_install, Attempt, IsAttempt, with_placing, no_marks};
+ghost use Rattle.thread_records.specs.Journals.{JournalView, fresh_journal, put_on, Tells, Drives, with_event, with_install, Attempt, IsAttempt};
+ghost use Rattle.thread_records.specs.Journals.{with_placing, no_marks};
 
 use crate::lean::LeanRecord;
 use crate::merging::merged;
@@ -68,7 +67,17 @@ impl Model for Journal {
 
     ghost Value = { JournalView };
 
-    ghost view = { λ j. record { node = j.node; ring = j.ring; newest = j.newest; installed = j.installed.items; steering = j.steerer; placed = map (λ v. v.items) j.placed.items; events = j.events.items; outcomes = j.outcomes.items; early = j.early } };
+    ghost view = { λ j. record {
+      node = j.node;
+      ring = j.ring;
+      newest = j.newest;
+      installed = j.installed.items;
+      steering = j.steerer;
+      placed = map (λ v. v.items) j.placed.items;
+      events = j.events.items;
+      outcomes = j.outcomes.items;
+      early = j.early;
+    } };
 
     ghost invariant = { λ j. (length j.placed.items ≡ j.steerer.workers) × (0 < j.steerer.workers) × (j.steerer.workers ≤ 16) };
 }
@@ -175,7 +184,8 @@ impl Journal {
         at: u64,
         rings: &mut R,
     ) -> Result<Outcome, AllocError>
-        ensures after { OnOk result ((a : Attempt) × IsAttempt (H.plain hash.now) flow self.old a × (self.new ≡ with_placing packet flow at a a.placing self.old)) }
+        ensures after { OnOk result ((a : Attempt) × IsAttempt (H.plain hash.now) flow self.old a
+            × (self.new ≡ with_placing packet flow at a a.placing self.old)) }
         ensures told { IfOk result (λ o. self.new.outcomes ≡ self.old.outcomes ++ o ∷ []) }
         ensures arrives { IfOk result (λ o. is_arrival o ≡ true) }
         ensures paced { R.paced ≡ true → OnOk result (self.new.events ≡ self.old.events ++ Arrive self.old.node packet no_marks ∷ []) }
@@ -227,7 +237,8 @@ impl Journal {
 
     /// A version is installed, if the catalogue has it and it is newer than the newest one.
     pub fn install(&mut self, known: bool, version: u32) -> Result<Outcome, AllocError>
-        ensures drives { (rules : Rules) (packets : List Packet) → rules.known version ≡ known → Drives rules packets self.old → OnOk result (Drives rules packets self.new) }
+        ensures drives { (rules : Rules) (packets : List Packet) → rules.known version ≡ known → Drives rules packets self.old →
+            OnOk result (Drives rules packets self.new) }
         ensures command { OnOk result (commands_of self.new.events ≡ commands_of self.old.events ++ Publish version ∷ []) }
         ensures lost { OnOk result (losses self.new.outcomes ≡ losses self.old.outcomes) }
         ensures kept { OnOk result ((self.new.node ≡ self.old.node) × (self.new.ring ≡ self.old.ring)) }
@@ -245,7 +256,8 @@ impl Journal {
         packet: u32,
         rings: &mut R,
     ) -> Result<Outcome, AllocError>
-        ensures drives { (rules : Rules) → rules.plain ≡ H.plain hash.now → Drives rules packets.now self.old → OnOk result (Drives rules packets.now self.new) }
+        ensures drives { (rules : Rules) → rules.plain ≡ H.plain hash.now → Drives rules packets.now self.old →
+            OnOk result (Drives rules packets.now self.new) }
         ensures told { IfOk result (λ o. self.new.outcomes ≡ self.old.outcomes ++ o ∷ []) }
         ensures arrives { IfOk result (λ o. ArrivesAs (slice_get packets.now packet) o) }
         ensures paced { R.paced ≡ true → OnOk result (self.new.events ≡ self.old.events ++ Arrive self.old.node packet no_marks ∷ []) }
@@ -283,7 +295,8 @@ impl Journal {
         packet: u32,
         rings: &mut R,
     ) -> Result<Outcome, AllocError>
-        ensures drives { (rules : Rules) → rules.plain ≡ H.plain hash.now → Drives rules packets.now self.old → OnOk result (Drives rules packets.now self.new) }
+        ensures drives { (rules : Rules) → rules.plain ≡ H.plain hash.now → Drives rules packets.now self.old →
+            OnOk result (Drives rules packets.now self.new) }
         ensures command { OnOk result (commands_of self.new.events ≡ commands_of self.old.events ++ Offer packet ∷ []) }
         ensures lost { OnOk result (losses self.new.outcomes ≡ losses self.old.outcomes) }
         ensures told { IfOk result (λ o. self.new.outcomes ≡ self.old.outcomes ++ o ∷ []) }
@@ -320,8 +333,10 @@ impl Journal {
     /// ring refused a packet before it had taken as many as it has places, or a life's list isn't a merge of what its workers sent.
     pub fn finish(self, sent: Vec<Vec<u32>>) -> Result<LeanRecord, LifeFault>
         ensures judged { JudgesRun self (sends_told self.outcomes sent.items) result }
-        ensures is { IfOk result (λ r. (r.events.items ≡ self.events) × (r.outcomes.items ≡ self.outcomes) × (map (λ v. v.items) r.sent.items ≡ sends_told self.outcomes sent.items)) }
-        ensures run { (rules : Rules) (packets : List Packet) (cs : List Command) → Tells rules packets self → NoneWaits (past_of rules packets self.node self.events) →
+        ensures is { IfOk result (λ r. (r.events.items ≡ self.events) × (r.outcomes.items ≡ self.outcomes)
+            × (map (λ v. v.items) r.sent.items ≡ sends_told self.outcomes sent.items)) }
+        ensures run { (rules : Rules) (packets : List Packet) (cs : List Command) → Tells rules packets self →
+            NoneWaits (past_of rules packets self.node self.events) →
             commands_of self.events ≡ map as_written cs → KeepDrained (drained_lives cs) (losses self.outcomes) →
             IfOk result (λ r. IsRunOf rules packets self.node self.ring cs r) }
     {

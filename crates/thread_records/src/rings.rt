@@ -1,6 +1,6 @@
 //! Rings that take packets, and a packet's way to one of them.
 ghost use Rattle.std.specs.Prelude.{◌≡◌, ◌≤◌, ◌<◌, ℕ, Bool, true, false, length, map};
-ghost use Rattle.steering.specs.Steering.{Steering, home_of, refuses, place_for, cursor_after, IsBelow};
+ghost use Rattle.steering.specs.Steering.{home_of, refuses, place_for, cursor_after, IsBelow};
 ghost use Rattle.thread_records.specs.Journals.{placed_on, no_marks};
 
 use cluster_node::Item;
@@ -40,12 +40,15 @@ pub(crate) fn steer<H: FlowHash, R: Rings>(
     requires some { 0 < steerer.old.workers }
     requires limit { steerer.old.workers ≤ 16 }
     requires lists { length taken.now ≡ steerer.old.workers }
-    ensures placed { result.placed ≡ place_for result.refused steerer.old.workers (home_of (H.plain hash.now) steerer.old.workers item.flow) steerer.old.cursor }
+    ensures placed { result.placed ≡ place_for result.refused steerer.old.workers
+        (home_of (H.plain hash.now) steerer.old.workers item.flow) steerer.old.cursor }
     ensures below { IsBelow steerer.old.workers result.placed }
-    ensures cursor { steerer.new.cursor ≡ cursor_after (refuses result.refused (home_of (H.plain hash.now) steerer.old.workers item.flow)) steerer.old.workers steerer.old.cursor }
+    ensures cursor { steerer.new.cursor ≡ cursor_after
+        (refuses result.refused (home_of (H.plain hash.now) steerer.old.workers item.flow)) steerer.old.workers steerer.old.cursor }
     ensures workers { steerer.new.workers ≡ steerer.old.workers }
     ensures paced { R.paced ≡ true → result.refused ≡ no_marks }
-    ensures due { result.early ≡ false → (was_early ≡ false) × ((w : ℕ) → refuses result.refused w ≡ true → ring ≤ length (placed_on (map (λ v. v.items) taken.now) w)) }
+    ensures due { result.early ≡ false → (was_early ≡ false) × ((w : ℕ) → refuses result.refused w ≡ true →
+        ring ≤ length (placed_on (map (λ v. v.items) taken.now) w)) }
 {
     let mut refused = [false; 16];
     let mut early = was_early;

@@ -1,6 +1,5 @@
 //! What a worker keeps of a version that it used.
-ghost use Rattle.std.specs.Prelude.{◌≡◌, ◌↔◌, IfOk, IsTrue};
-ghost use Rattle.cluster_core.specs.Setups.{Fixed};
+ghost use Rattle.std.specs.Prelude.{◌↔◌, IfOk, IsTrue};
 ghost use Rattle.thread_records.specs.Sources.{MadeOf, IsMadeOf, IsFrom};
 
 use backend_names::TableSize;

@@ -4,7 +4,7 @@ ghost use Rattle.std.specs.Arc.{arc_value};
 ghost use Rattle.forwarder.specs.Forwarding.{unused};
 ghost use Rattle.forwarder.specs.Serving.{IsForward};
 ghost use Rattle.connection_table.specs.Touches.{last_touch};
-ghost use Rattle.cluster_core.specs.Setups.{Fixed, rules_for};
+ghost use Rattle.cluster_core.specs.Setups.{rules_for};
 ghost use Rattle.thread_records.specs.Sources.{MadeOf, IsMadeOf, IsFrom, IsMore};
 ghost use Rattle.thread_records.specs.Steps.{MatchStep, is_behind};
 ghost use Rattle.thread_records.specs.Workers.{limits_of};
@@ -62,7 +62,13 @@ impl<S: Scheme, T: ConnTable> Model for WorkerRecord<S, T> {
 
     ghost view = { λ r. record { made = r.sources.items; used = r.worker.used; forwarding = r.worker.forwarding; handled = r.handled.items } };
 
-    ghost invariant = { λ r. Worked (λ s z. S.pick s z) (record { made = r.sources.items; used = r.worker.used; forwarding = r.worker.forwarding; handled = r.handled.items }) × (limits_of r.worker.forwarding ≡ record { capacity = r.capacity; idle = r.idle }) × IfSome r.current (λ p. (m : MadeOf S) × Contains r.sources.items m × IsMadeOf (arc_value p) m) };
+    ghost invariant = { λ r. Worked (λ s z. S.pick s z) (record {
+      made = r.sources.items;
+      used = r.worker.used;
+      forwarding = r.worker.forwarding;
+      handled = r.handled.items;
+    }) × (limits_of r.worker.forwarding ≡ record { capacity = r.capacity; idle = r.idle })
+        × IfSome r.current (λ p. (m : MadeOf S) × Contains r.sources.items m × IsMadeOf (arc_value p) m) };
 }
 
 // A worker handles a packet under a version, and what it handled is written. Where memory is refused nothing is done.
@@ -76,11 +82,15 @@ fn handle_under<S: Scheme, T: ConnTable>(
         (λ s. handled.new.items ≡ handled.old.items ++ record { item = item.now; version = version.now.number; choice = s.choice; unstored = s.unstored } ∷ [])
         ((worker.new ≡ worker.old) × (handled.new.items ≡ handled.old.items))) }
     ensures behind { IfOk result (λ step. is_behind step ≡ (nat_lt version.now.number item.now.floor || nat_lt version.now.number worker.old.used)) }
-    ensures due { IfOk result (λ step. MatchStep step (λ s. IsTrue s.unstored → IsNone (last_touch item.now.flow worker.old.forwarding.entries) × IsForward s.choice) (Unit {0})) }
+    ensures due { IfOk result (λ step. MatchStep step (λ s. IsTrue s.unstored → IsNone (last_touch item.now.flow worker.old.forwarding.entries)
+        × IsForward s.choice) (Unit {0})) }
     ensures err { OnErr result ((worker.new ≡ worker.old) × (handled.new.items ≡ handled.old.items)) }
     ensures limits { limits_of worker.new.forwarding ≡ limits_of worker.old.forwarding }
-    ensures again { (made : List (MadeOf S)) (m : MadeOf S) → Contains made m → IsMadeOf version.now m → Worked (λ s z. S.pick s z) (working_view made worker.old handled.old.items) → Worked (λ s z. S.pick s z) (working_view made worker.new handled.new.items) }
-    ensures more { (made : List (MadeOf S)) (m : MadeOf S) → IsMadeOf version.now m → Worked (λ s z. S.pick s z) (working_view made worker.old handled.old.items) →
+    ensures again { (made : List (MadeOf S)) (m : MadeOf S) → Contains made m → IsMadeOf version.now m →
+        Worked (λ s z. S.pick s z) (working_view made worker.old handled.old.items) →
+        Worked (λ s z. S.pick s z) (working_view made worker.new handled.new.items) }
+    ensures more { (made : List (MadeOf S)) (m : MadeOf S) → IsMadeOf version.now m →
+        Worked (λ s z. S.pick s z) (working_view made worker.old handled.old.items) →
         IfOk result (λ step. MatchStep step (λ s. Worked (λ s z. S.pick s z) (working_view (made ++ m ∷ []) worker.new handled.new.items)) (Unit {0})) }
 {
     handled.reserve(1)?;
@@ -121,10 +131,17 @@ impl<S: Scheme, T: ConnTable> WorkerRecord<S, T> {
         item: &Item,
     ) -> Result<Step, AllocError>
         ensures done { IfOk result (λ step. MatchStep step
-            (λ s. self.new.handled ≡ self.old.handled ++ record { item = item.now; version = (arc_value version.now).number; choice = s.choice; unstored = s.unstored } ∷ [])
+            (λ s. self.new.handled ≡ self.old.handled ++ record {
+              item = item.now;
+              version = (arc_value version.now).number;
+              choice = s.choice;
+              unstored = s.unstored;
+            } ∷ [])
             (self.new ≡ self.old)) }
-        ensures behind { IfOk result (λ step. is_behind step ≡ (nat_lt (arc_value version.now).number item.now.floor || nat_lt (arc_value version.now).number self.old.used)) }
-        ensures due { IfOk result (λ step. MatchStep step (λ s. IsTrue s.unstored → IsNone (last_touch item.now.flow self.old.forwarding.entries) × IsForward s.choice) (Unit {0})) }
+        ensures behind { IfOk result (λ step. is_behind step ≡ (nat_lt (arc_value version.now).number item.now.floor
+            || nat_lt (arc_value version.now).number self.old.used)) }
+        ensures due { IfOk result (λ step. MatchStep step (λ s. IsTrue s.unstored → IsNone (last_touch item.now.flow self.old.forwarding.entries)
+            × IsForward s.choice) (Unit {0})) }
         ensures err { OnErr result (self.new ≡ self.old) }
         ensures made { IsMore (arc_value version.now) self.old.made self.new.made }
         ensures limits { limits_of self.new.forwarding ≡ limits_of self.old.forwarding }
@@ -144,10 +161,17 @@ impl<S: Scheme, T: ConnTable> WorkerRecord<S, T> {
         item: &Item,
     ) -> Result<Step, AllocError>
         ensures done { IfOk result (λ step. MatchStep step
-            (λ s. self.new.handled ≡ self.old.handled ++ record { item = item.now; version = (arc_value version.now).number; choice = s.choice; unstored = s.unstored } ∷ [])
+            (λ s. self.new.handled ≡ self.old.handled ++ record {
+              item = item.now;
+              version = (arc_value version.now).number;
+              choice = s.choice;
+              unstored = s.unstored;
+            } ∷ [])
             (self.new ≡ self.old)) }
-        ensures behind { IfOk result (λ step. is_behind step ≡ (nat_lt (arc_value version.now).number item.now.floor || nat_lt (arc_value version.now).number self.old.used)) }
-        ensures due { IfOk result (λ step. MatchStep step (λ s. IsTrue s.unstored → IsNone (last_touch item.now.flow self.old.forwarding.entries) × IsForward s.choice) (Unit {0})) }
+        ensures behind { IfOk result (λ step. is_behind step ≡ (nat_lt (arc_value version.now).number item.now.floor
+            || nat_lt (arc_value version.now).number self.old.used)) }
+        ensures due { IfOk result (λ step. MatchStep step (λ s. IsTrue s.unstored → IsNone (last_touch item.now.flow self.old.forwarding.entries)
+            × IsForward s.choice) (Unit {0})) }
         ensures err { OnErr result (self.new ≡ self.old) }
         ensures made { IsMore (arc_value version.now) self.old.made self.new.made }
         ensures limits { limits_of self.new.forwarding ≡ limits_of self.old.forwarding }

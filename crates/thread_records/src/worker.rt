@@ -1,9 +1,8 @@
 //! One worker of a node in one life: its forwarder and the version that it used last.
-ghost use Rattle.std.specs.Prelude.{◌≡◌, ◌≤◌, ◌<◌, ◌∷◌, ◌||◌, [], ℕ, List, IfOk, IsTrue, IsNone, nat_lt};
+ghost use Rattle.std.specs.Prelude.{◌≡◌, ◌<◌, ◌∷◌, ◌||◌, List, IfOk, IsTrue, IsNone, nat_lt};
 ghost use Rattle.forwarder.specs.Forwarding.{unused};
 ghost use Rattle.forwarder.specs.Serving.{Serving, told_after, told, serving_of, forwarding_of, IsForward};
 ghost use Rattle.connection_table.specs.Touches.{last_touch};
-ghost use Rattle.cluster_core.specs.Setups.{Fixed};
 ghost use Rattle.thread_records.specs.Steps.{is_behind, MatchStep};
 ghost use Rattle.thread_records.specs.Workers.{limits_of};
 
@@ -66,12 +65,14 @@ impl<S: Scheme, T: ConnTable> Worker<S, T> {
         ensures behind { is_behind result ≡ (nat_lt version.now.number item.now.floor || nat_lt version.now.number self.old.used) }
         ensures same { MatchStep result (λ s. Unit {0}) (self.new ≡ self.old) }
         ensures used { MatchStep result (λ s. self.new.used ≡ version.now.number) (Unit {0}) }
-        ensures due { MatchStep result (λ s. IsTrue s.unstored → IsNone (last_touch item.now.flow self.old.forwarding.entries) × IsForward s.choice) (Unit {0}) }
+        ensures due { MatchStep result (λ s. IsTrue s.unstored → IsNone (last_touch item.now.flow self.old.forwarding.entries)
+            × IsForward s.choice) (Unit {0}) }
         ensures limits { limits_of self.new.forwarding ≡ limits_of self.old.forwarding }
         ensures done { let pick = S.pick version.now.scheme version.now.size in let limits = limits_of self.old.forwarding in
             (past : List Serving) → self.old.forwarding ≡ forwarding_of pick limits.capacity limits.idle past →
             MatchStep result
-            (λ s. (s.choice ≡ (told_after pick limits.capacity limits.idle (told pick limits.capacity limits.idle past) (serving_of version.now item.now.flow item.now.at s.unstored)).choice)
+            (λ s. (s.choice ≡ (told_after pick limits.capacity limits.idle (told pick limits.capacity limits.idle past)
+            (serving_of version.now item.now.flow item.now.at s.unstored)).choice)
             × (self.new.forwarding ≡ forwarding_of pick limits.capacity limits.idle (serving_of version.now item.now.flow item.now.at s.unstored ∷ past)))
             (Unit {0}) }
     {

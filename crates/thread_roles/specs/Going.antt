@@ -63,7 +63,15 @@ pub record Asked (S H : Type 0) : Type 0 where
   pub commands : List Command
 
 abbrev pub asked_by : {S H : Type 0} → Fixed S H → Pools → List Packet → ℕ → ℕ → Bool → List Command → Asked S H
-asked_by setup pools packets node ring paced commands = record { setup = setup; catalogue = pools; packets = packets; node = node; ring = ring; paced = paced; commands = commands }
+asked_by setup pools packets node ring paced commands = record {
+  setup = setup;
+  catalogue = pools;
+  packets = packets;
+  node = node;
+  ring = ring;
+  paced = paced;
+  commands = commands;
+}
 
 -- the same of a driver that doesn't wait
 abbrev pub asked_of : {S H : Type 0} → Fixed S H → Pools → List Packet → ℕ → ℕ → List Command → Asked S H

@@ -1,16 +1,17 @@
 //! What the driver does in one life.
-ghost use Rattle.std.specs.Prelude.{◌≡◌, ◌≤◌, ◌<◌, ◌++◌, ◌∷◌, [], ℕ, Bool, true, false, List, Some, take, length, IfOk, IfErr, OnOk, MatchResult, is_some, slice_get};
+ghost use Rattle.std.specs.Prelude.{◌≡◌, ◌≤◌, ◌<◌, ◌++◌, ◌∷◌, [], ℕ, Bool, true, false, List, Some, take, length, IfOk, IfErr, OnOk, MatchResult, is_some};
+ghost use Rattle.std.specs.Prelude.{slice_get};
 ghost use Rattle.std.specs.Arc.{arc_value};
 ghost use Rattle.version_board.specs.Seats.{published_by};
 ghost use Rattle.pool_versions.specs.Pool.{version_at};
-ghost use Rattle.cluster_core.specs.Setups.{Fixed, rules_for};
+ghost use Rattle.cluster_core.specs.Setups.{rules_for};
 ghost use Rattle.cluster_node.specs.declared.packets.Packet.{Packet};
 ghost use Rattle.thread_records.specs.declared.command.Command.{Command};
 ghost use Rattle.thread_records.specs.declared.command.Command.TheVariants.{Publish, Offer};
 ghost use Rattle.thread_records.specs.Arrivals.{ArrivesAs};
 ghost use Rattle.thread_records.specs.Histories.{commands_of};
 ghost use Rattle.thread_records.specs.Losses.{losses};
-ghost use Rattle.thread_records.specs.Journals.{JournalView, Drives};
+ghost use Rattle.thread_records.specs.Journals.{Drives};
 ghost use Rattle.thread_records.specs.Paced.{AreUnmarked};
 ghost use Rattle.stats_book.specs.Counts.{Counted};
 ghost use Rattle.thread_roles.specs.Counts.{AreRead, Counts, with_came, with_drop};
@@ -67,7 +68,8 @@ fn show_next<S: Scheme, H: FlowHash, G: Gate, B: Names, R: Wait + Drop>(
 ) -> Result<(), RunFault>
     ensures published { OnOk result (published_by desk.new.seat ≡ published_by desk.old.seat ++ number ∷ []) }
     ensures newest { OnOk result (number_of arc_value newest.new ≡ number) }
-    ensures newer { is_some (version_at number plan.entry.catalogue.now.versions) ≡ true → last_published desk.old.seat < number → IfErr result (λ fault. fault ≡ Memory) }
+    ensures newer { is_some (version_at number plan.entry.catalogue.now.versions) ≡ true → last_published desk.old.seat < number →
+        IfErr result (λ fault. fault ≡ Memory) }
 {
     // Only a version that the catalogue has is installed.
     let Some(version) = plan.catalogue.get(number) else {
@@ -91,9 +93,11 @@ fn publish<S: Scheme, H: FlowHash, G: Gate, B: Names, R: Wait + Drop>(
     number: u32,
 ) -> Result<(), RunFault>
     ensures going { let rules = rules_for (λ s z. S.pick s z) (λ h. H.plain h) plan.entry.setup.now plan.entry.catalogue.now in
-        (packets : List Packet) (cs : List Command) (n : ℕ) (places : ℕ) → Going rules packets cs n places journal.old → OnOk result (Going rules packets (cs ++ Publish number ∷ []) n places journal.new) }
+        (packets : List Packet) (cs : List Command) (n : ℕ) (places : ℕ) → Going rules packets cs n places journal.old →
+        OnOk result (Going rules packets (cs ++ Publish number ∷ []) n places journal.new) }
     ensures counts { (lost : Bool) (shares : Counted) → Counts lost shares journal.old.outcomes → OnOk result (Counts lost shares journal.new.outcomes) }
-    ensures published { last_published desk.old.seat ≡ journal.old.newest → MatchResult result (λ _. last_published desk.new.seat ≡ journal.new.newest) (λ fault. fault ≡ Memory) }
+    ensures published { last_published desk.old.seat ≡ journal.old.newest →
+        MatchResult result (λ _. last_published desk.new.seat ≡ journal.new.newest) (λ fault. fault ≡ Memory) }
     ensures unmarked { AreUnmarked journal.old.events → OnOk result (AreUnmarked journal.new.events) }
     ensures newest { number_of arc_value newest.old ≡ journal.old.newest → OnOk result (number_of arc_value newest.new ≡ journal.new.newest) }
 {
@@ -179,9 +183,11 @@ fn offer<S: Scheme, H: FlowHash, G, B: Names, R: Wait>(
 ) -> Result<(), RunFault>
     requires { 0 < tally.old.shares.parts }
     ensures going { let rules = rules_for (λ s z. S.pick s z) (λ h. H.plain h) plan.entry.setup.now plan.entry.catalogue.now in
-        (cs : List Command) (n : ℕ) (places : ℕ) → Going rules plan.entry.packets.now cs n places journal.old → OnOk result (Going rules plan.entry.packets.now (cs ++ Offer packet ∷ []) n places journal.new) }
+        (cs : List Command) (n : ℕ) (places : ℕ) → Going rules plan.entry.packets.now cs n places journal.old →
+        OnOk result (Going rules plan.entry.packets.now (cs ++ Offer packet ∷ []) n places journal.new) }
     ensures parts { tally.new.shares.parts ≡ tally.old.shares.parts }
-    ensures counts { AreRead plan.entry.packets.now → Counts tally.old.lost tally.old.shares journal.old.outcomes → OnOk result (Counts tally.new.lost tally.new.shares journal.new.outcomes) }
+    ensures counts { AreRead plan.entry.packets.now → Counts tally.old.lost tally.old.shares journal.old.outcomes →
+        OnOk result (Counts tally.new.lost tally.new.shares journal.new.outcomes) }
     ensures unmarked { plan.entry.paced ≡ true → AreUnmarked journal.old.events → OnOk result (AreUnmarked journal.new.events) }
     ensures newest { OnOk result (journal.new.newest ≡ journal.old.newest) }
     ensures fault { IfErr result (λ fault. fault ≡ Memory) }
@@ -224,14 +230,17 @@ pub fn drive<S: Scheme, H: FlowHash, G: Gate, B: Names, R: Wait, W: Wait + Drop>
     inputs: &mut Inputs,
 ) -> Result<Progress<S, B>, RunFault>
     requires within { progress.at ≤ length plan.commands.now }
-    requires going { let rules = rules_for (λ s z. S.pick s z) (λ h. H.plain h) plan.setup.now plan.catalogue.now in Going rules plan.packets.now (take progress.at plan.commands.now) plan.node plan.ring progress.journal }
+    requires going { let rules = rules_for (λ s z. S.pick s z) (λ h. H.plain h) plan.setup.now plan.catalogue.now in
+        Going rules plan.packets.now (take progress.at plan.commands.now) plan.node plan.ring progress.journal }
     requires some { 0 < progress.tally.shares.parts }
     requires counts { AreRead plan.packets.now → Counts progress.tally.lost progress.tally.shares progress.journal.outcomes }
-    ensures driven { let rules = rules_for (λ s z. S.pick s z) (λ h. H.plain h) plan.entry.setup.now plan.entry.catalogue.now in IfOk result (λ d. IsDriven rules plan.entry.packets.now plan.entry.commands.now plan.entry.node plan.entry.ring progress.at d.at d.journal) }
+    ensures driven { let rules = rules_for (λ s z. S.pick s z) (λ h. H.plain h) plan.entry.setup.now plan.entry.catalogue.now in
+        IfOk result (λ d. IsDriven rules plan.entry.packets.now plan.entry.commands.now plan.entry.node plan.entry.ring progress.at d.at d.journal) }
     ensures parts { IfOk result (λ d. d.tally.shares.parts ≡ progress.tally.shares.parts) }
     ensures counts { AreRead plan.entry.packets.now → IfOk result (λ d. Counts d.tally.lost d.tally.shares d.journal.outcomes) }
     ensures unmarked { plan.entry.paced ≡ true → AreUnmarked progress.journal.events → IfOk result (λ d. AreUnmarked d.journal.events) }
-    ensures published { last_published desk.old.seat ≡ progress.journal.newest → MatchResult result (λ d. last_published desk.new.seat ≡ d.journal.newest) (λ fault. fault ≡ Memory) }
+    ensures published { last_published desk.old.seat ≡ progress.journal.newest →
+        MatchResult result (λ d. last_published desk.new.seat ≡ d.journal.newest) (λ fault. fault ≡ Memory) }
 {
     let Progress {
         journal,

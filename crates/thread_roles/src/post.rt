@@ -121,7 +121,9 @@ fn announce<S: Scheme, R: Wait + Drop>(
     requires seated { IsPublisherOf board.now seat.old }
     requires shown { number_of arc_value (published stage.now).version ≡ number }
     ensures seated { IsPublisherOf board.now seat.new }
-    ensures published { MatchResult result (λ _. (newest (published_by seat.old) < number) × (published_by seat.new ≡ published_by seat.old ++ number ∷ [])) (λ _. (number ≤ newest (published_by seat.old)) × (published_by seat.new ≡ published_by seat.old)) }
+    ensures published { MatchResult result (λ _. (newest (published_by seat.old) < number)
+        × (published_by seat.new ≡ published_by seat.old ++ number ∷ [])) (λ _. (number ≤ newest (published_by seat.old))
+        × (published_by seat.new ≡ published_by seat.old)) }
 {
     let _ = stage.has_pending_operations();
     board.publish(seat, number)

@@ -1,6 +1,5 @@
 //! What a worker's thread promises.
 ghost use Rattle.std.specs.Prelude.{MatchResult};
-ghost use Rattle.thread_records.specs.Works.{WorkView};
 ghost use Rattle.thread_roles.specs.Counts.{IsWork};
 ghost use Rattle.thread_roles.specs.Faults.{IsRefusal};
 

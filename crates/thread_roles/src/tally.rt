@@ -1,6 +1,6 @@
 //! What one thread counts in the book of a run.
 ghost use Rattle.std.specs.Prelude.{◌≡◌, ◌+◌, ◌<◌, false, replicate};
-ghost use Rattle.stats_book.specs.Counts.{Counted, one_more};
+ghost use Rattle.stats_book.specs.Counts.{one_more};
 ghost use Rattle.thread_roles.specs.Counts.{plus, with_arrival, with_choice, with_lost};
 
 use cluster_node::Cause;
@@ -92,7 +92,8 @@ impl<B: Names> ThreadShares<B> {
     pub fn drop_one<R: Wait>(&mut self, rt: &R, book: &Mutex<StatsBook<B>>, cause: Cause)
         requires { 0 < self.old.shares.parts }
         ensures parts { self.new.shares.parts ≡ self.old.shares.parts }
-        ensures lost { self.new.lost ≡ false → (self.old.lost ≡ false) × (self.new.shares ≡ record self.old.shares { dropped = one_more self.old.shares.dropped cause }) }
+        ensures lost { self.new.lost ≡ false → (self.old.lost ≡ false)
+            × (self.new.shares ≡ record self.old.shares { dropped = one_more self.old.shares.dropped cause }) }
     {
         let mut guard = book.lock(rt);
         if !guard.dropped_one(&mut self.shares, cause) {

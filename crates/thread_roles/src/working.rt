@@ -1,6 +1,5 @@
 //! What a worker's thread does.
 ghost use Rattle.std.specs.Prelude.{◌≡◌, ◌<◌, ◌++◌, ◌∷◌, [], ℕ, IfOk, IfErr, OnOk, MatchResult};
-ghost use Rattle.thread_records.specs.Works.{WorkView};
 ghost use Rattle.thread_roles.specs.Counts.{IsWork};
 ghost use Rattle.thread_roles.specs.Faults.{IsRefusal};
 
@@ -62,7 +61,8 @@ fn serve_one<S: Scheme, T: ConnTable, R: Wait>(
     worker: &mut WorkerRecord<S, T>,
     item: &Item,
 ) -> Result<Served, RunFault>
-    ensures served { IfOk result (λ s. (version : ℕ) × (worker.new.handled ≡ worker.old.handled ++ record { item = item.now; version = version; choice = s.choice; unstored = s.unstored } ∷ [])) }
+    ensures served { IfOk result (λ s. (version : ℕ)
+        × (worker.new.handled ≡ worker.old.handled ++ record { item = item.now; version = version; choice = s.choice; unstored = s.unstored } ∷ [])) }
     ensures fault { IfErr result (λ fault. IsRefusal fault) }
 {
     let mut idle = Idle::new();

@@ -19,7 +19,8 @@ holder_refl (holders.Node n) = nat_eq_equiv.refl n
 
 holder_symm : (a b : Holder) → same_holder a b ≡ same_holder b a
 holder_symm (holders.Backend a) (holders.Backend b) =
-    ap (λ (v : Bool). v && (a.addr == b.addr)) (nat_list_eq_equiv.symm a.name b.name) ∙ ap (λ (v : Bool). pointwise nat_eq b.name a.name && v) (nat_eq_equiv.symm a.addr b.addr)
+    ap (λ (v : Bool). v && (a.addr == b.addr)) (nat_list_eq_equiv.symm a.name b.name) ∙ ap (λ (v : Bool). pointwise nat_eq b.name a.name
+    && v) (nat_eq_equiv.symm a.addr b.addr)
 holder_symm (holders.Backend a) (holders.Node m) = refl
 holder_symm (holders.Node n) (holders.Backend b) = refl
 holder_symm (holders.Node n) (holders.Node m) = nat_eq_equiv.symm n m
@@ -27,7 +28,8 @@ holder_symm (holders.Node n) (holders.Node m) = nat_eq_equiv.symm n m
 holder_congr : (a b c : Holder) → same_holder a b ≡ true → same_holder a c ≡ same_holder b c
 holder_congr (holders.Backend a) (holders.Backend b) (holders.Backend c) h =
     let p = both (pointwise nat_eq a.name b.name) (a.addr == b.addr) h in
-    ap (λ (v : Bool). v && (a.addr == c.addr)) (nat_list_eq_equiv.congr a.name b.name c.name p.0) ∙ ap (λ (v : Bool). pointwise nat_eq b.name c.name && v) (nat_eq_equiv.congr a.addr b.addr c.addr p.1)
+    ap (λ (v : Bool). v && (a.addr == c.addr)) (nat_list_eq_equiv.congr a.name b.name c.name p.0) ∙ ap (λ (v : Bool). pointwise nat_eq b.name c.name
+    && v) (nat_eq_equiv.congr a.addr b.addr c.addr p.1)
 holder_congr (holders.Backend a) (holders.Backend b) (holders.Node k) h = refl
 holder_congr (holders.Backend a) (holders.Node m) c h = absurd (false≢true h)
 holder_congr (holders.Node n) (holders.Backend b) c h = absurd (false≢true h)

@@ -58,7 +58,13 @@ abbrev pub taken : Portion → ℕ × ℕ × ℕ
 taken p = (p.packets, p.bytes, length p.flows)
 
 abbrev pub row_with : (ShareKey → Portion) → ShareKey → ShareRow
-row_with portion k = record { version = k.version; holder = k.holder; packets = (portion k).packets; bytes = (portion k).bytes; flows = length (portion k).flows }
+row_with portion k = record {
+  version = k.version;
+  holder = k.holder;
+  packets = (portion k).packets;
+  bytes = (portion k).bytes;
+  flows = length (portion k).flows;
+}
 
 -- the rows of a record
 abbrev pub rows_of : ShareKind → List LogEntry → List ShareRow

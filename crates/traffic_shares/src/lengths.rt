@@ -58,7 +58,8 @@ impl Lengths {
     /// One event more, with the packet that it names where it is an arrival. Where memory is refused nothing more is known of
     /// these.
     pub(crate) fn note(&mut self, event: &Event, packet: Option<&Packet>) -> Result<(), AllocError>
-        ensures { (past : List LogEntry) (outcome : Outcome) → AreLengthsOf past self.old → OnOk result (AreLengthsOf (said_by event.now (option_copied packet.entry) outcome ∷ past) self.new) }
+        ensures { (past : List LogEntry) (outcome : Outcome) → AreLengthsOf past self.old →
+            OnOk result (AreLengthsOf (said_by event.now (option_copied packet.entry) outcome ∷ past) self.new) }
     {
         match measured_by(event, packet) {
             None => Ok(()),

@@ -1,7 +1,7 @@
 //! What each backend and each node took of the traffic, under each version: packets, bytes and flows.
 //!
-//! `ShareBook` counts as a cluster's events come, and `ShareBooks` are the two that can be asked for. A packet counts under the version under which it was served, which need not
-//! be the one under which its backend was chosen.
+//! `ShareBook` counts as a cluster's events come, and `ShareBooks` are the two that can be asked for. A packet counts under the version
+//! under which it was served, which need not be the one under which its backend was chosen.
 #![tactic(auto)]
 
 mod book;

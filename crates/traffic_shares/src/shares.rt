@@ -1,5 +1,5 @@
 //! The shares of backends, or of nodes.
-ghost use Rattle.std.specs.Prelude.{◌≡◌, ◌+◌, ◌==◌, [], List, map, IfOk, OnOk, if◌then◌else◌};
+ghost use Rattle.std.specs.Prelude.{◌≡◌, ◌+◌, [], List, map, IfOk, OnOk};
 ghost use Rattle.five_tuple.specs.declared.Flow.{Flow};
 ghost use Rattle.traffic_shares.specs.declared.holders.ShareKey.{ShareKey};
 ghost use Rattle.traffic_shares.specs.Holders.{placed};
@@ -152,7 +152,8 @@ impl Shares {
 
     /// The rows, in order.
     pub(crate) fn rows(&self, alloc: Global) -> Result<Vec<ShareRow>, AllocError>
-        ensures { (keys : List ShareKey) (portion : ShareKey → Portion) → AreShares keys portion self.now → IfOk result (λ rows. rows.items ≡ map (λ k. row_with portion k) keys) }
+        ensures { (keys : List ShareKey) (portion : ShareKey → Portion) → AreShares keys portion self.now →
+            IfOk result (λ rows. rows.items ≡ map (λ k. row_with portion k) keys) }
     {
         let mut rows = Vec::new(alloc);
         for holder in self.holders.as_slice() {

@@ -34,7 +34,9 @@ pub trait VersionBoard {
     fn publish(&self, seat: &mut Self::PublisherSeat, number: u32) -> Result<(), NotNewer>
         requires { publisher_of self.now seat.old }
         ensures own { publisher_of self.now seat.new }
-        ensures published { MatchResult result (λ _. (newest (published seat.old) < number) × (published seat.new ≡ published seat.old ++ number ∷ [])) (λ _. (number ≤ newest (published seat.old)) × (published seat.new ≡ published seat.old)) };
+        ensures published { MatchResult result (λ _. (newest (published seat.old) < number)
+            × (published seat.new ≡ published seat.old ++ number ∷ [])) (λ _. (number ≤ newest (published seat.old))
+            × (published seat.new ≡ published seat.old)) };
 
     /// Tells the workers to halt, in one atomic step. A board that was told so stays so.
     fn halt(&self, seat: &mut Self::PublisherSeat)

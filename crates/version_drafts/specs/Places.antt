@@ -103,10 +103,12 @@ rest_flaw f v ms (Some None) = whole_flaw f v ms
 rest_flaw f v ms (Some (Some base)) = based_flaw f v ms
 
 unfoldable pub version_draft_flaw : Format → ℕ → Members → Option Place
-version_draft_flaw f v ms = option_or (option_map (λ x. place.Version v x) (bad_value key.Number (number_of key.Number ms))) (rest_flaw f v ms (number_if_of key.Base ms))
+version_draft_flaw f v ms = option_or (option_map (λ x. place.Version v x) (bad_value key.Number (number_of key.Number ms)))
+    (rest_flaw f v ms (number_if_of key.Base ms))
 
 abbrev pub version_flaw : Format → ℕ → Data → Option Place
-version_flaw f v d = given_or (place.Version v flaw.NoTable) (λ ms. if has_only (version_keys f) ms then version_draft_flaw f v ms else Some (place.Version v flaw.Unknown)) (as_table d)
+version_flaw f v d = given_or (place.Version v flaw.NoTable) (λ ms. if has_only (version_keys f) ms then version_draft_flaw f v ms
+    else Some (place.Version v flaw.Unknown)) (as_table d)
 
 -- the first place in the versions, counted from v
 abbrev pub versions_from : Format → ℕ → Items → Option Place
@@ -127,7 +129,8 @@ order_flaw ds = option_map (λ v. place.Version v (flaw.Value key.Base)) (first_
 
 -- the first place in the versions of a document whose words are read with these servers
 abbrev pub flaw_with : Format → List Backend → Members → Option Place
-flaw_with f servers ms = option_or (versions_flaw f ms) (option_and_then order_flaw (option_and_then (all_items (version_in f servers)) (items_at (key_name key.Versions) ms)))
+flaw_with f servers ms = option_or (versions_flaw f ms)
+    (option_and_then order_flaw (option_and_then (all_items (version_in f servers)) (items_at (key_name key.Versions) ms)))
 
 -- a key of the table of servers is no name, or its value no address; or a place in the versions
 abbrev pub flaw_by_servers : Format → Members → Option (List Backend) → Option Place

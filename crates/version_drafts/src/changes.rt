@@ -1,9 +1,9 @@
 //! The changes that a table holds.
-ghost use Rattle.std.specs.Prelude.{◌≡◌, ◌++◌, is_some, map, option_map, IfOk};
+ghost use Rattle.std.specs.Prelude.{◌≡◌, ◌++◌, is_some, option_map, IfOk};
 ghost use Rattle.std.specs.List.{list_any};
 ghost use Rattle.std.specs.Result.{result_ok, result_err};
 ghost use Rattle.toml.specs.Data.{get_member};
-ghost use Rattle.toml.specs.View.{table_view, view, items_view};
+ghost use Rattle.toml.specs.View.{table_view, items_view};
 ghost use Rattle.scenario_keys.specs.Lookups.{all_items};
 ghost use Rattle.scenario_keys.specs.Keys.{key_name};
 ghost use Rattle.version_drafts.specs.Words.{change_keys};

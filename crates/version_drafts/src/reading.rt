@@ -75,7 +75,8 @@ fn based_draft(
     base: u32,
     table: &Table,
 ) -> Result<Result<VersionDraft, Place>, AllocError>
-    ensures value { IfOk result (λ r. option_map plain_version_draft (result_ok r) ≡ based_draft format servers.now heading.number base (table_view table.now)) }
+    ensures value { IfOk result (λ r. option_map plain_version_draft (result_ok r)
+        ≡ based_draft format servers.now heading.number base (table_view table.now)) }
     ensures place { IfOk result (λ r. result_err r ≡ based_flaw format heading.place (table_view table.now)) }
 {
     let changes = match changes_in(alloc, servers, table)? {

@@ -1,5 +1,5 @@
 //! Services as a document holds them.
-ghost use Rattle.std.specs.Prelude.{◌≡◌, map, option_map, IfOk};
+ghost use Rattle.std.specs.Prelude.{◌≡◌, option_map, IfOk};
 ghost use Rattle.std.specs.Result.{result_ok, result_err};
 ghost use Rattle.toml.specs.Data.{get_member};
 ghost use Rattle.toml.specs.View.{table_view, view, items_view};
@@ -8,8 +8,10 @@ ghost use Rattle.scenario_keys.specs.Keys.{key_name, number_of};
 ghost use Rattle.scenario_keys.specs.declared.key.Key.TheVariants as key;
 ghost use Rattle.version_drafts.specs.Words.{change_keys};
 ghost use Rattle.version_drafts.specs.Drafts.{plain_service_draft, plain_service_drafts};
-ghost use Rattle.version_drafts.specs.Reading.{word_of, of_changes, changes_of, members_in, parts_of, plain_parts, service_draft, service_in, services_at, services_if};
-ghost use Rattle.version_drafts.specs.Places.{item_from, is_text, texts_flaw, lists_flaw, parts_flaw, service_draft_flaw, service_flaw, services_from, services_flaw, services_if_flaw};
+ghost use Rattle.version_drafts.specs.Reading.{word_of, of_changes, changes_of, members_in, parts_of, plain_parts, service_draft, service_in, services_at};
+ghost use Rattle.version_drafts.specs.Reading.{services_if};
+ghost use Rattle.version_drafts.specs.Places.{item_from, is_text, texts_flaw, lists_flaw, parts_flaw, service_draft_flaw, service_flaw, services_from};
+ghost use Rattle.version_drafts.specs.Places.{services_flaw, services_if_flaw};
 
 use crate::change::Change;
 use crate::changes::{changes_in, misplaced};
@@ -77,7 +79,8 @@ fn changed_parts(
     servers: &[Backend],
     table: &Table,
 ) -> Result<Result<Parts, Flaw>, AllocError>
-    ensures value { IfOk result (λ r. option_map plain_parts (result_ok r) ≡ option_map of_changes (changes_of servers.now change_keys (table_view table.now))) }
+    ensures value { IfOk result (λ r. option_map plain_parts (result_ok r)
+        ≡ option_map of_changes (changes_of servers.now change_keys (table_view table.now))) }
     ensures flaw { IfOk result (λ r. result_err r ≡ lists_flaw change_keys (table_view table.now)) }
 {
     match changes_in(alloc, servers, table)? {

@@ -1,10 +1,10 @@
 //! The words of versions: servers, members and changes.
-ghost use Rattle.std.specs.Prelude.{◌≡◌, nat_eq, find, option_map, option_copied, is_some, IfOk};
-ghost use Rattle.std.specs.Cmp.Lexicographic.{pointwise};
-ghost use Rattle.toml.specs.View.{table_view, members_view, view};
+ghost use Rattle.std.specs.Prelude.{◌≡◌, option_map, option_copied, is_some, IfOk};
+ghost use Rattle.toml.specs.View.{table_view, view};
 ghost use Rattle.maglev_texts.specs.Parsing.{before_first, behind_first, behind_star};
 ghost use Rattle.scenario_keys.specs.declared.formats.Format.TheVariants.{Three};
-ghost use Rattle.version_drafts.specs.Words.{server_of, servers_of, servers_in, server_named, in_use, with_state, served_at, served_member_of, member_in, name_in, weight_in, change_in};
+ghost use Rattle.version_drafts.specs.Words.{server_of, servers_of, servers_in, server_named, in_use, with_state, served_member_of, member_in};
+ghost use Rattle.version_drafts.specs.Words.{name_in, weight_in, change_in};
 
 use crate::change::Change;
 use backend_names::{Name, Weight};

@@ -10,7 +10,8 @@ use Rattle.waiting_frames.specs.Queues.{queue_at}
 
 -- at each worker of the cluster the records of the capture that wait are those of the packets that wait, in their order
 abbrev pub Mirrors : List Record → Cluster → List LogEntry → List (List Record) → Type 0
-Mirrors all k past qs = (n w : ℕ) → n < k.nodes → w < k.workers → map (λ r. Some r) (queue_at qs n w) ≡ map (λ i. slice_get all i) (queue_by (lines_at past n w))
+Mirrors all k past qs = (n w : ℕ) → n < k.nodes → w < k.workers →
+    map (λ r. Some r) (queue_at qs n w) ≡ map (λ i. slice_get all i) (queue_by (lines_at past n w))
 
 -- the queues mirror a record, have room for the cluster, and what the cluster says next is its judge's
 pub record CanFollow (all : List Record) (k : Cluster) (past : List LogEntry) (s : LogEntry) (qs : List (List Record)) : Type 0 where

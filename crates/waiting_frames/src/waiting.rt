@@ -2,14 +2,16 @@
 //!
 //! A cluster's core queues packets by their places in a capture. Where the capture isn't kept, `Waiting` keeps the frames
 //! beside those queues. It follows the record of events, and a frame is there exactly while its packet waits.
-ghost use Rattle.std.specs.Prelude.{◌≡◌, true, ◌*◌, ◌<◌, ◌∷◌, ◌++◌, [], ℕ, Bool, false, List, length, drop, replicate, slice_get, slice_set, option_map, Some, IfOk, OnOk, OnErr, IfSome, IsSomeAnd};
+ghost use Rattle.std.specs.Prelude.{◌≡◌, ◌*◌, ◌<◌, ◌∷◌, ◌++◌, [], ℕ, Bool, false, List, length, drop, replicate, slice_get, slice_set, option_map};
+ghost use Rattle.std.specs.Prelude.{Some, IfOk, OnOk, OnErr, IfSome, IsSomeAnd};
 ghost use Rattle.pcap_file.specs.Format.{Record, packet};
 ghost use Rattle.cluster_node.specs.declared.events.LogEntry.{LogEntry};
 ghost use Rattle.cluster_node.specs.declared.events.Event.TheVariants.{Arrive, Serve};
 ghost use Rattle.cluster_node.specs.declared.outcomes.Outcome.TheVariants.{Placed, Forward};
 ghost use Rattle.cluster_node.specs.Record.{accepted};
 ghost use Rattle.cluster_core.specs.Cluster.{Cluster};
-ghost use Rattle.waiting_frames.specs.Queues.{place_of, Moves, only_at, placed_by, arrived, settled_by, settled, taken_by, taken_out, changed_at, first_at, emptied, is_free, passes};
+ghost use Rattle.waiting_frames.specs.Queues.{place_of, Moves, placed_by, arrived, settled_by, settled, taken_by, taken_out, changed_at, first_at};
+ghost use Rattle.waiting_frames.specs.Queues.{emptied, is_free, passes};
 ghost use Rattle.waiting_frames.specs.Mirrors.{Mirrors, CanFollow, ComesAs, IsNoArrival};
 
 use crate::queue::Queue;
@@ -153,7 +155,12 @@ impl Waiting {
     /// be kept.
     #[inline(always)]
     pub fn passes(&self, read: &Packet, node: u16, worker: u16, outcome: &Outcome) -> bool
-        ensures { (place floor version : ℕ) (marks : List Bool) → result ≡ passes (record { event = Arrive node place marks; packet = Some read.now; outcome = Placed worker floor }) (record { event = Serve node worker version false; packet = None; outcome = outcome.now }) self.now }
+        ensures { (place floor version : ℕ) (marks : List Bool) →
+            result ≡ passes (record {
+              event = Arrive node place marks;
+              packet = Some read.now;
+              outcome = Placed worker floor;
+            }) (record { event = Serve node worker version false; packet = None; outcome = outcome.now }) self.now }
     {
         let is_good = matches!(read, Packet::Good { .. });
         is_good && is_accepted(outcome) && self.is_free(node, worker)
@@ -180,7 +187,8 @@ impl Waiting {
     /// are.
     #[inline(always)]
     pub fn waits(&self, said: &LogEntry) -> bool
-        ensures mirrors { (all : List Record) (k : Cluster) (past : List LogEntry) (r : Record) → result ≡ false → CanFollow all k past said.now self.now → ComesAs all r said.now.event →
+        ensures mirrors { (all : List Record) (k : Cluster) (past : List LogEntry) (r : Record) → result ≡ false → CanFollow all k past said.now self.now →
+            ComesAs all r said.now.event →
             Mirrors all k (said.now ∷ past) self.now }
     {
         placed_by(said).is_some()
@@ -192,7 +200,8 @@ impl Waiting {
     pub fn arrive(&mut self, said: &LogEntry, frame: Rc<Frame>) -> Result<(), AllocError>
         ensures queues { OnOk result (Moves self.old self.new (arrived said.now (packet frame.value))) }
         ensures err { OnErr result (self.new ≡ self.old) }
-        ensures mirrors { (all : List Record) (k : Cluster) (past : List LogEntry) → CanFollow all k past said.now self.old → ComesAs all (packet frame.value) said.now.event →
+        ensures mirrors { (all : List Record) (k : Cluster) (past : List LogEntry) → CanFollow all k past said.now self.old →
+            ComesAs all (packet frame.value) said.now.event →
             OnOk result (Mirrors all k (said.now ∷ past) self.new) }
     {
         match placed_by(said) {
@@ -211,7 +220,8 @@ impl Waiting {
         ensures mirrors { (all : List Record) (k : Cluster) (past : List LogEntry) → CanFollow all k past said.now self.old → IsNoArrival said.now.event →
             Mirrors all k (said.now ∷ past) self.new }
         ensures sent { (all : List Record) (k : Cluster) (past : List LogEntry) → CanFollow all k past said.now self.old →
-            (n w i : ℕ) (x : _) (b : _) (v : ℕ) → said.now.outcome ≡ Forward n w i x b v → IsSomeAnd result (λ frame. slice_get all i ≡ Some (packet frame.value)) }
+            (n w i : ℕ) (x : _) (b : _) (v : ℕ) → said.now.outcome ≡ Forward n w i x b v →
+            IsSomeAnd result (λ frame. slice_get all i ≡ Some (packet frame.value)) }
     {
         if is_accepted(&said.outcome) {
             self.settle_by(&said.event)

@@ -1,5 +1,4 @@
 //! What a gate is called with, on each node and by each worker.
-ghost use Rattle.std.specs.Prelude.{◌≡◌};
 
 use super::stop::{catalogue, packets};
 use super::{cluster, list};

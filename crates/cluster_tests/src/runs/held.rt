@@ -1,5 +1,4 @@
 //! One node of a cluster that stops while a packet is served and others wait, and what its neighbour does meanwhile.
-ghost use Rattle.std.specs.Prelude.{◌≡◌, length};
 
 use super::stop::catalogue;
 use super::{cluster, flow, is_audited, list, packet};

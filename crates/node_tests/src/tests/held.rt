@@ -1,5 +1,5 @@
 //! A driver that is held up before it steers a packet, so that the schedule is known.
-ghost use Rattle.std.specs.Prelude.{◌≡◌, true, refl, nat_eq};
+ghost use Rattle.std.specs.Prelude.{true, refl, nat_eq};
 ghost use Rattle.std.proofs.Common.{rules};
 ghost use Rattle.std.specs.Cmp.Rules.{comparing};
 ghost use Rattle.std.specs.Ordering.{on};

@@ -1,5 +1,5 @@
 //! The end of a life: what the workers served is compared with what was placed on them, and written.
-ghost use Rattle.std.specs.Prelude.{◌≡◌, ◌≤◌, ◌<◌, ◌==◌, ◌%◌, ◌^◌, ◌-◌, ◌++◌, ◌∷◌, ◌↔◌, [], ℕ, List, length, map, take, IfOk, IfErr, OnOk, IsTrue, All};
+ghost use Rattle.std.specs.Prelude.{◌≡◌, ◌≤◌, ◌<◌, ◌==◌, ◌%◌, ◌^◌, ◌-◌, ◌++◌, ◌∷◌, ◌↔◌, [], List, length, map, take, IfOk, IfErr, OnOk, IsTrue, All};
 ghost use Rattle.std.specs.List.{list_any, list_all};
 ghost use Rattle.cluster_node.specs.Rules.{Rules};
 ghost use Rattle.cluster_node.specs.declared.packets.Packet.{Packet};
@@ -8,7 +8,8 @@ ghost use Rattle.thread_records.specs.Histories.{outcome_of, past_of, commands_o
 ghost use Rattle.thread_records.specs.declared.command.Command.TheVariants.{Restart};
 ghost use Rattle.thread_records.specs.Losses.{losses, LosesNone};
 ghost use Rattle.thread_records.specs.Journals.{placed_on, Tells, Drives, AllFitIn, IsServed, with_serve, with_restart};
-ghost use Rattle.thread_records.specs.Ends.{all_handled, items_of, uses_installed, all_use_installed, ServesPlaced, AllServePlaced, IsLifeFault, JudgesLife, UnlessMemory, with_serves, with_all_serves, with_life_ended, left_over};
+ghost use Rattle.thread_records.specs.Ends.{all_handled, items_of, uses_installed, all_use_installed, ServesPlaced, AllServePlaced, IsLifeFault};
+ghost use Rattle.thread_records.specs.Ends.{JudgesLife, UnlessMemory, with_serves, with_all_serves, with_life_ended, left_over};
 
 use super::Journal;
 use crate::step::Handled;
@@ -306,7 +307,8 @@ impl Journal {
         ensures judged { JudgesLife drained self.old (all_handled workers.items) result }
         ensures unchanged { IfErr result (λ fault. UnlessMemory fault (self.new ≡ self.old)) }
         ensures after { OnOk result (self.new ≡ with_life_ended (all_handled workers.items) self.old) }
-        ensures drives { (rules : Rules) (packets : List Packet) → Drives rules packets self.old → All (λ w. IsOf (λ s z. S.pick s z) rules w) workers.items → OnOk result (Drives rules packets self.new) }
+        ensures drives { (rules : Rules) (packets : List Packet) → Drives rules packets self.old → All (λ w. IsOf (λ s z. S.pick s z) rules w) workers.items →
+            OnOk result (Drives rules packets self.new) }
         ensures command { OnOk result (commands_of self.new.events ≡ commands_of self.old.events ++ Restart ∷ []) }
         ensures kept { OnOk result ((self.new.node ≡ self.old.node) × (self.new.ring ≡ self.old.ring)) }
         ensures newest { OnOk result (self.new.newest ≡ self.old.newest) }
@@ -330,8 +332,11 @@ impl Journal {
         ensures judged { JudgesLife drained self.old (all_handled workers.items) result }
         ensures unchanged { IfErr result (λ fault. UnlessMemory fault (self.new ≡ self.old)) }
         ensures after { OnOk result (self.new ≡ with_all_serves 0 (all_handled workers.items) self.old) }
-        ensures tells { (rules : Rules) (packets : List Packet) → Drives rules packets self.old → All (λ w. IsOf (λ s z. S.pick s z) rules w) workers.items → OnOk result (Tells rules packets self.new) }
-        ensures drained { (rules : Rules) (packets : List Packet) → Drives rules packets self.old → All (λ w. IsOf (λ s z. S.pick s z) rules w) workers.items → IsTrue drained → OnOk result (NoneWaits (past_of rules packets self.new.node self.new.events)) }
+        ensures tells { (rules : Rules) (packets : List Packet) → Drives rules packets self.old → All (λ w. IsOf (λ s z. S.pick s z) rules w) workers.items →
+            OnOk result (Tells rules packets self.new) }
+        ensures drained { (rules : Rules) (packets : List Packet) → Drives rules packets self.old →
+            All (λ w. IsOf (λ s z. S.pick s z) rules w) workers.items → IsTrue drained →
+            OnOk result (NoneWaits (past_of rules packets self.new.node self.new.events)) }
         ensures served { OnOk result (IsServed self.old self.new) }
     {
         match self.close_life(workers, drained) {

@@ -1,4 +1,3 @@
-use Rattle.std.proofs.Common.{string_bytes}
 use Rattle.json_lines.proofs.Pieces.{three_told}
 use Rattle.json_lines.proofs.summaries.push_line.Goals as goal
 

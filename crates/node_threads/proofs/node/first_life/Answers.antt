@@ -1,4 +1,4 @@
-use Rattle.std.proofs.Common.{◌≡◌, [], false, sym, subst, ap, arith}
+use Rattle.std.proofs.Common.{[], false, sym, subst, ap, arith}
 use Rattle.cluster_node.specs.Rules.{Rules}
 use Rattle.cluster_core.specs.Setups.{rules_for}
 use Rattle.thread_records.specs.Histories.{commands_of}

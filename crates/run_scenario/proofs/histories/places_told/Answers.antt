@@ -1,4 +1,4 @@
-use Rattle.std.proofs.Common.{◌≡◌, ℕ, List, ◌++◌, ap, ◌∙◌}
+use Rattle.std.proofs.Common.{ℕ, List, ◌++◌, ap, ◌∙◌}
 use Rattle.hash_laws.specs.Any.{plain_of}
 use Rattle.run_report.specs.Causes.{lookups_of}
 use Rattle.json_lines.specs.Forms.{places_as}

@@ -7,7 +7,6 @@ use Rattle.cluster_node.specs.declared.events.LogEntry.{LogEntry}
 use Rattle.cluster_node.specs.declared.outcomes.Outcome.{Outcome}
 use Rattle.cluster_core.specs.Runs.{packet_of}
 use Rattle.event_trace.specs.Noting.{said_by}
-use Rattle.traffic_shares.specs.declared.books.AskedShares.{AskedShares}
 use Rattle.traffic_shares.specs.Books.{AreShareBooksOf}
 use Rattle.run_scenario.proofs.Whole.{event_more, event_end, drop_at, drop_past}
 use Rattle.run_scenario.proofs.shares.note_node.Goals as goal

@@ -1,4 +1,4 @@
-use Rattle.std.proofs.Common.{rules, ◌≡◌, ◌∙◌, ℕ, List, Option, Some, option_map, option_and_then, ap, sym, subst, inr, refl}
+use Rattle.std.proofs.Common.{◌∙◌, Option, option_map, option_and_then, ap, sym, subst, inr, refl}
 use Rattle.pool_versions.specs.declared.service.Version.{Version}
 use Rattle.command_faults.specs.declared.fault.CliFault.{CliFault}
 use Rattle.rollout_plan.specs.Plans.{version_in}

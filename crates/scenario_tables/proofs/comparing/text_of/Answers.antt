@@ -1,4 +1,4 @@
-use Rattle.std.proofs.Common.{rules, ◌≡◌, ℕ, List, ap, ◌∙◌, sym}
+use Rattle.std.proofs.Common.{rules}
 use Rattle.scenario_tables.proofs.comparing.text_of.Goals as goal
 
 pub returns-clause-text : goal.returns-clause-text

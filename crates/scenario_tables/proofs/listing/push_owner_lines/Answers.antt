@@ -1,4 +1,4 @@
-use Rattle.std.proofs.Common.{◌≡◌, ◌++◌, List, ℕ, ap, ◌∙◌, sym, append_assoc, string_bytes}
+use Rattle.std.proofs.Common.{◌++◌, List, ℕ, ap, ◌∙◌, sym, append_assoc, string_bytes}
 use Rattle.std.specs.List.{flat_map, range_with_len}
 use Rattle.scenario_tables.specs.Tables.{owner_line_as}
 use Rattle.scenario_tables.proofs.Lines.{one_place_more}

@@ -1,4 +1,4 @@
-use Rattle.std.proofs.Common.{◌≡◌, ℕ, List, Option, option_map, map, ap, sym, subst, inr, Bor, refl}
+use Rattle.std.proofs.Common.{ℕ, List, Option, option_map, map, ap, sym, subst, inr, Bor, refl}
 use Rattle.pool_versions.specs.declared.service.Version.{Version}
 use Rattle.pool_versions.specs.Pool.{key_of}
 use Rattle.command_faults.specs.declared.fault.CliFault.{CliFault}

@@ -1,8 +1,4 @@
-use Rattle.std.proofs.Common.{rules, ◌≡◌, ℕ, List, Option, ap, ◌∙◌, sym, option_map, Bor}
-use Rattle.pool_versions.specs.declared.key.ServiceKey.{ServiceKey}
-use Rattle.scenario_tables.specs.Services.{asked_key}
-use Rattle.scenario_tables.specs.Tables.{slots_text_as}
-use Rattle.rollout_plan.specs.Tables.{table_by}
+use Rattle.std.proofs.Common.{rules}
 use Rattle.scenario_tables.proofs.listing.text_of.Goals as goal
 
 pub returns-clause-text : goal.returns-clause-text

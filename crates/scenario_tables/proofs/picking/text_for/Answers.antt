@@ -1,4 +1,4 @@
-use Rattle.std.proofs.Common.{rules, ◌≡◌, ℕ, List, ap, ◌∙◌}
+use Rattle.std.proofs.Common.{rules, ℕ, List, ap, ◌∙◌}
 use Rattle.cluster_node.specs.declared.packets.Packet.{Packet}
 use Rattle.rollout_plan.specs.Tables.{rule_of}
 use Rattle.table_commands.specs.Pick.{packet_of}

@@ -1,4 +1,4 @@
-use Rattle.std.proofs.Common.{ℕ, List, [], ◌∷◌, ◌++◌, ◌∙◌, ap, sym, subst, string_bytes}
+use Rattle.std.proofs.Common.{ℕ, List, [], ◌∷◌, ◌++◌, ◌∙◌, ap, sym, subst}
 use Rattle.simulate_scenario.specs.Asked.{begun}
 use Rattle.simulate_scenario.specs.Paging.{lines_if}
 use Rattle.simulate_scenario.proofs.Listed.{none_numbered, none_listed}

@@ -1,4 +1,4 @@
-use Rattle.std.proofs.Common.{[], ◌∷◌, ◌∙◌, ap, refl, sym, subst, string_bytes}
+use Rattle.std.proofs.Common.{◌∷◌, ◌∙◌, ap}
 use Rattle.simulate_scenario.proofs.turned.asking_turned.Goals as goal
 
 pub returns-clause-fresh : goal.returns-clause-fresh

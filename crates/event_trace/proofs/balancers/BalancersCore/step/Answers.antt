@@ -1,5 +1,4 @@
 use Rattle.std.proofs.Common.{◌∷◌, Ok, Option, subst}
-use Rattle.std.specs.Prelude.{option_copied}
 use Rattle.std.specs.declared.alloc.AllocError.{AllocError}
 use Rattle.cluster_node.specs.declared.packets.Packet.{Packet}
 use Rattle.cluster_node.specs.declared.outcomes.Outcome.{Outcome}

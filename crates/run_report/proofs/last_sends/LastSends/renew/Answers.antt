@@ -29,7 +29,7 @@ returns-clause-last g c sent hit h =
       sending = record { number = c.args.number; flow = flow; version = c.version_of-version.result; backend = backend; origin = c.in-Forward.origin };
       beside = c.args.beside;
     } in
-    let at : slice_get old.backends first.place ≡ Some backend = c.is_at.ensures c.if-not-is_at.false in
+    let at : slice_get old.backends first.place ≡ Some backend = c.is_at.ensures.there c.if-not-is_at.false in
     let known : value_of flow old.sends ≡ Some first = c.value_at.ensures.known in
     let count : length old.sends + (if is_some (value_of flow old.sends) then 0 else 1) ≡ length old.sends =
     ap (λ (o : Option (LastSend g.row.T.Denot)). length old.sends + (if is_some o then 0 else 1)) known ∙ (let e : length old.sends + 0 ≡ length old.sends = omega arith in e) in
