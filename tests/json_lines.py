@@ -272,18 +272,44 @@ def test_shares():
     changed, connections = (int(dict(objects.lines_of(found.summary()))[word]) for word in ("changed", "connections"))
     check("one of three changed", (changed, connections) == (1, 3), found.summary())
     lines = found.report() + found.summary()
+    above = "warning: 1 of 3 connections changed their server: --fail-above wants fewer\n"
     for share, status in [("0", 3), ("0.333333", 3), ("0.3", 3), ("0.333334", 0), ("0.5", 0), ("1", 0), ("1.0", 0)]:
         answer = rows.simulated(apart, capture("xxyz"), ["--fail-above", share])
-        check(f"above {share}", answer[:3] == (status, lines.encode(), b""), answer)
-    none = rows.simulated(scenario(["take 1"]), capture("x"), ["--fail-above", "0"])
-    warned = b"warning: nothing was sent, so that --fail-above had nothing to judge\n"
-    check("no connection is no share", (none[0], none[2]) == (0, warned), none)
+        said = above if status else ""
+        check(f"above {share}", answer[:3] == (status, lines.encode(), said.encode()), answer)
+        check(f"above {share}, by the rule", found.judged(round(float(share) * 1_000_000)) == ([said[9:-1]] * (said != ""), status), share)
     told = objects.text_of([*objects.ran(found, "--summary")])
     answer = rows.ran(apart, capture("xxyz"), ["--json", "--fail-above", "0"])
-    check("above on threads", answer[:3] == (3, told.encode(), b""), f"{answer} {told}")
+    said = objects.text_of([{"type": "warning", "detail": above[9:-1]}])
+    check("above on threads", answer[:3] == (3, told.encode(), said.encode()), f"{answer} {told}")
     for word in ("", "2", "1.1", "-0.1", ".5", "0.1234567", "0,5", "a", "1e-1"):
         answer = rows.simulated(apart, capture("x"), [f"--fail-above={word}"])
         check(f"no share: {word!r}", answer[0] == 2 and answer[1] == b"" and answer[2].startswith(b"error: "), answer)
+
+
+def test_what_a_share_leaves_out():
+    """`--fail-above` tells what connections don't count: packets that no server got, events that were refused, a run without
+    connections. Where `-v` tells the refused events it tells them once."""
+    gone = (ALL, B_DOWN, [])
+    for name, steps, versions, letters in [
+        ("no version", ["take 1"], (ALL,), "x"),
+        ("a service without a server", ["live 0", "install 0 1", "take 2", "install 0 3", "take 2"], gone, "yzyz"),
+        ("no service", ["live 0", "install 0 1", "take 3"], (ALL,), "xww"),
+        ("a version that isn't there", ["live 0", "install 0 1", "take 1", "install 0 22", "take 1"], (ALL,), "xx"),
+        ("one that isn't newer", ["live 0", "install 0 2", "install 0 1", "install 0 2", "take 2"], (ALL, B_DOWN), "xy"),
+        ("all workers full", ["live 0", "install 0 1", "full 0 0", "take 2"], (ALL,), "xy"),
+        ("what waited at a restart", ["live 0", "install 0 1", "hold 0", "take 2", "restart 0", "take 1"], (ALL,), "xyz"),
+        ("both, and a change", ["live 0", "install 0 1", "take 1", "restart 0", "install 0 1", "install 0 2", "take 2"], (ALL, B_DOWN), "xxw"),
+    ]:
+        text, data = scenario(steps, versions), capture(letters)
+        lines, status = model.Run(text, data).judged(0)
+        answer = rows.simulated(text, data, ["--fail-above", "0"])
+        check(f"left out: {name}", lines and answer[::2] == (status, "".join(f"warning: {line}\n" for line in lines).encode()), f"{answer} {lines}")
+        answer = rows.simulated(text, data, ["--json", "--fail-above", "0"])
+        wanted = objects.text_of([{"type": "warning", "detail": line} for line in lines])
+        check(f"left out, as objects: {name}", answer[::2] == (status, wanted.encode()), f"{answer} {wanted}")
+        said = rows.simulated(text, data, ["-v", "--fail-above", "0"])[2].decode()
+        check(f"left out, each line once with -v: {name}", all(said.count(line) == 1 for line in lines), f"{said} {lines}")
 
 
 if __name__ == "__main__":

@@ -108,7 +108,8 @@ def test_limits():
     for node, wanted in (("0", 3), ("1", 0)):
         words = ["simulate", "--fail-above", "0.5", "--node", node, "s.toml", "in.pcap", "out.pcap"]
         status, _, err = with_files(text, capture("xxx"), lambda folder: run(words, cwd=folder))
-        check(f"the share of part {node}", (status, err) == (wanted, b""), f"{status} {err!r}")
+        said = b"warning: 1 of 1 connections changed their server: --fail-above wants fewer\n" if wanted else b""
+        check(f"the share of part {node}", (status, err) == (wanted, said), f"{status} {err!r}")
 
 
 if __name__ == "__main__":

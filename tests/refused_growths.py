@@ -130,6 +130,7 @@ WARNED += "warning: 1 event refused, as an install of a version that isn't newer
 # A frame of Ethernet with a VLAN tag.
 TAGGED_FRAME = bytes(12) + bytes.fromhex("810000010800") + CAPTURE[40:]
 TAGGED = {"s.toml": SCENARIO, "in.pcap": CAPTURE[:23] + b"\x01" + CAPTURE[24:32] + 2 * len(TAGGED_FRAME).to_bytes(4, "big") + TAGGED_FRAME}
+ABOVE = "warning: 1 of 1 connections changed their server: --fail-above wants fewer\n"
 TAG_SAID = WARNED.splitlines(keepends=True)[1] + "warning: of 1 packets 1 was dropped as NotIpv4: the first frame has a VLAN tag (EtherType 0x8100), "
 TAG_SAID += "which isn't read: docs/USING.md has commands that take tags off\n"
 # The sketch of six packets of which a snap length cut four bytes.
@@ -218,7 +219,7 @@ CASES = [
     Case(["explain", "s.toml", "in.pcap", "2", "2"], "same\n", files=FILES),
     Case(["plan", "--order", "s.toml", "1", "2"], ORDERS, files={"s.toml": REPLACED}),
     Case(["plan", "--order", "--json", "s.toml", "1", "2"], objects.text_of(objects.ordered(ORDERS)), files={"s.toml": REPLACED}, faults=IN_OBJECTS),
-    Case(["simulate", "--fail-above", "0.999999", "s.toml", "in.pcap", "out.pcap"], TWO + SUMMARY, files=SPLIT, status=3),
+    Case(["simulate", "--fail-above", "0.999999", "s.toml", "in.pcap", "out.pcap"], TWO + SUMMARY, files=SPLIT, status=3, said=ABOVE),
     Case(["scenario", "--cut", "pad", "in.pcap"], SKETCHED_OF_CUT, files={"in.pcap": CUT_SIX}),
     Case(["table", "--json", "--size", "7", "--hash", "sum", "A", "B", "C"], objects.text_of(objects.tabled(TABLE)), faults=IN_OBJECTS),
     Case(["compare", "--json", "--scenario", "s.toml", "--from", "1", "--to", "2"], objects.text_of(objects.compared(DOWN)), files=SPLIT, faults=IN_OBJECTS),

@@ -17,7 +17,7 @@ use lazy_files::{OutputFile, ReportText, StandardOutput};
 use node_part::PartSetup;
 use pcap_file::{PcapFault, ToWrite};
 use read_progress::AtEnd;
-use report_advice::{advice_of, up_to_report};
+use report_advice::{Asked, advice_of, up_to_report};
 use rollout_order::order;
 use rollout_plan::plan_as;
 use scenario::{Played, read};
@@ -77,7 +77,12 @@ fn warn(rt: &HostRuntime, voice: Voice<'_>, played: Played, text: &[u8]) -> Resu
 const REPORT: usize = 4096;
 
 // Tells what may be amiss in a run, by its report and by how INPUT begins.
-fn advise(rt: &HostRuntime, voice: Voice<'_>, printed: &Printed<'_>) -> Result<(), AllocError> {
+fn advise(
+    rt: &HostRuntime,
+    voice: Voice<'_>,
+    asked: Asked,
+    printed: &Printed<'_>,
+) -> Result<(), AllocError> {
     let Ok(text) = str::from_utf8(printed.report.text()) else {
         return Ok(());
     };
@@ -86,7 +91,7 @@ fn advise(rt: &HostRuntime, voice: Voice<'_>, printed: &Printed<'_>) -> Result<(
     let Ok(text) = str::from_utf8(&text[start..]) else {
         return Ok(());
     };
-    let advice = advice_of(rt.alloc(), text, printed.head.bytes())?;
+    let advice = advice_of(rt.alloc(), asked, text, printed.head.bytes())?;
     for line in advice.iter() {
         voice.warn(line.as_str());
     }
@@ -131,10 +136,31 @@ fn limit_of(matches: &ArgMatches<'_>) -> Result<Option<Share>, ()> {
     }
 }
 
+// Why a command ends with a status of its own. Where memory is refused the status says it alone.
+fn tell_above(rt: &HostRuntime, voice: Voice<'_>, counts: ChangeCounts) {
+    let ChangeCounts {
+        connections,
+        changed,
+    } = counts;
+    if let Ok(line) = format!(in rt.alloc();
+        "{changed} of {connections} connections changed their server: --fail-above wants fewer"
+    ) {
+        voice.warn(line.as_str());
+    }
+}
+
 // The status of a run that was printed. Where nothing was sent no share could be above the limit, which is warned of.
-fn judged(voice: Voice<'_>, limit: Option<Share>, counts: Option<ChangeCounts>) -> u8 {
+fn judged(
+    rt: &HostRuntime,
+    voice: Voice<'_>,
+    limit: Option<Share>,
+    counts: Option<ChangeCounts>,
+) -> u8 {
     match (limit, counts) {
-        (Some(share), Some(counts)) if counts.is_above(share) => ABOVE,
+        (Some(share), Some(counts)) if counts.is_above(share) => {
+            tell_above(rt, voice, counts);
+            ABOVE
+        }
         (Some(_), Some(counts)) if counts.connections == 0 => {
             voice.warn("nothing was sent, so that --fail-above had nothing to judge");
             0
@@ -159,10 +185,12 @@ fn judged_end(
     match done {
         Ok(printed) => {
             ended(rt, voice, paths, played, text, &Ok(()));
-            if voice.says_more() {
-                let _ = advise(rt, voice, &printed);
-            }
-            judged(voice, limit, printed.counts)
+            let asked = Asked {
+                all: voice.says_more(),
+                judged: limit.is_some(),
+            };
+            let _ = advise(rt, voice, asked, &printed);
+            judged(rt, voice, limit, printed.counts)
         }
         Err(trouble) => ended(rt, voice, paths, played, text, &Err(trouble)),
     }

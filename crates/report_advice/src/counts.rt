@@ -17,6 +17,8 @@ pub(crate) struct Counts<'a> {
     pub(crate) refused: u64,
     pub(crate) rings_full: u64,
     pub(crate) truncated: u64,
+    /// Packets with a flow that no server got.
+    pub(crate) unserved: u64,
     /// The cause for which most packets were dropped.
     pub(crate) most: Drops<'a>,
 }
@@ -41,6 +43,14 @@ fn is_cause(word: &str) -> bool {
     )
 }
 
+// Whether packets that are dropped for a cause have a flow, and a balancer.
+fn is_of_flow(cause: &str) -> bool {
+    matches!(
+        cause,
+        "NoService" | "NoBackend" | "NoVersion" | "RingsFull" | "LostAtRestart"
+    )
+}
+
 impl<'a> Counts<'a> {
     fn none() -> Counts<'a> {
         Counts {
@@ -51,6 +61,7 @@ impl<'a> Counts<'a> {
             refused: 0,
             rings_full: 0,
             truncated: 0,
+            unserved: 0,
             most: Drops {
                 cause: "",
                 count: 0,
@@ -64,6 +75,9 @@ impl<'a> Counts<'a> {
             "RingsFull" => self.rings_full = count,
             "Truncated" => self.truncated = count,
             _ => {}
+        }
+        if is_of_flow(cause) {
+            self.unserved = self.unserved.saturating_add(count);
         }
         if count > self.most.count {
             self.most = Drops { cause, count };

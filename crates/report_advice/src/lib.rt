@@ -11,4 +11,4 @@ mod first_frame;
 mod words;
 
 pub use ends::up_to_report;
-pub use words::advice_of;
+pub use words::{Asked, advice_of};

@@ -139,14 +139,57 @@ fn advise_refused(
     )
 }
 
+// Of packets that a count of connections leaves out, since no server got them.
+fn advise_unserved(
+    alloc: Global,
+    counts: &Counts<'_>,
+    advice: &mut Vec<String>,
+) -> Result<(), AllocError> {
+    let Counts {
+        received,
+        unserved,
+        ..
+    } = *counts;
+    if unserved == 0 {
+        return Ok(());
+    }
+    tell(
+        advice,
+        format!(in alloc;
+            "of {received} packets {unserved} got no server: --fail-above doesn't count them"
+        )?,
+    )
+}
+
+/// What a run's end is looked at for.
+#[derive(Clone, Copy, Debug)]
+pub struct Asked {
+    /// All that may be amiss is told.
+    pub all: bool,
+    /// The command's status goes by the connections, so that what these leave out is told.
+    pub judged: bool,
+}
+
 /// A line for each thing that may be amiss in a run over a capture, by the report that a text ends with and by the capture's first
 /// bytes, up to its first frame's Ethernet header: no line where nothing is.
-pub fn advice_of(alloc: Global, report: &str, head: &[u8]) -> Result<Vec<String>, AllocError> {
+pub fn advice_of(
+    alloc: Global,
+    asked: Asked,
+    report: &str,
+    head: &[u8],
+) -> Result<Vec<String>, AllocError> {
     let counts = Counts::of_report(report);
     let mut advice = Vec::new(alloc);
-    advise_drops(alloc, &counts, head, &mut advice)?;
-    advise_unrouted(alloc, &counts, &mut advice)?;
-    advise_left(alloc, &counts, &mut advice)?;
-    advise_refused(alloc, &counts, &mut advice)?;
+    if asked.all {
+        advise_drops(alloc, &counts, head, &mut advice)?;
+        advise_unrouted(alloc, &counts, &mut advice)?;
+        advise_left(alloc, &counts, &mut advice)?;
+    }
+    if asked.judged {
+        advise_unserved(alloc, &counts, &mut advice)?;
+    }
+    if asked.all || asked.judged {
+        advise_refused(alloc, &counts, &mut advice)?;
+    }
     Ok(advice)
 }

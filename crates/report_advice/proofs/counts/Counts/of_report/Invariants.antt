@@ -1,4 +1,4 @@
-use Rattle.std.proofs.Common.{◌≡◌, ℕ, ◌+◌, ◌-◌, ◌*◌, ◌<◌, ◌≤◌, length}
+use Rattle.std.proofs.Common.{◌-◌}
 use denote.Text.{Utf8}
 use denote.Shadow.{shadow}
 use Rattle.report_advice.proofs.counts.Counts.of_report.Given as goal
