@@ -88,6 +88,7 @@ def test_captures_that_work():
         ways.append(("cooked", capture(113, cooked), using("editcap -F pcap -L -C 16")))
         ways.append(("cooked, version 2", capture(276, cooked_again), using("editcap -F pcap -L -C 16").replace("16", "20")))
         ways.append(("two VLAN tags", capture(1, ethernet + bytes.fromhex("88a80005810000070800")), using("editcap -F pcap -L -C 12:8")))
+        ways.append(("raw IP under another number", capture(12, b""), using("editcap -F pcap -T rawip")))
         ways.append(("BSD's loopback", capture(0, bytes.fromhex("02000000")), using("editcap -F pcap -L -C 4")))
         ways.append(("gzip", None, using("gunzip -c")))
         ways.append(("zstd", None, using("zstd -d -c")))

@@ -1267,9 +1267,36 @@ def were(count):
     return "was" if count == 1 else "were"
 
 
+# What is said of refused events.
+REFUSED = "{} event{} refused, as an install of a version that isn't newer, or isn't there: simulate --list shows which"
+
+
+def counted(text):
+    """The numbers of a report's lines, or a summary's, by the words before them."""
+    return collections.defaultdict(int, {line.rsplit(" ", 1)[0]: int(line.rsplit(" ", 1)[1]) for line in text.splitlines() if line[-1].isdigit()})
+
+
+def judged(text, parts):
+    """What `--fail-above` says where so many parts per million of the connections may change their server, line by line, and the
+    status, by a report with its summary."""
+    count = counted(text)
+    unserved = sum(count[f"drop {cause}"] for cause in ("NoService", "NoBackend", "NoVersion", "RingsFull", "LostAtRestart"))
+    is_above = count["changed"] * 1_000_000 > parts * count["connections"]
+    lines = []
+    if unserved:
+        lines.append(f"of {count['received']} packets {unserved} got no server: --fail-above doesn't count them")
+    if count["refused"]:
+        lines.append(REFUSED.format(count["refused"], "s" * (count["refused"] != 1)))
+    if is_above:
+        lines.append(f"{count['changed']} of {count['connections']} connections changed their server: --fail-above wants fewer")
+    if not count["connections"]:
+        lines.append("nothing was sent, so that --fail-above had nothing to judge")
+    return lines, 3 if is_above else 0
+
+
 def advised(text):
     """What may be amiss by a report, line by line."""
-    count = collections.defaultdict(int, {line.rsplit(" ", 1)[0]: int(line.rsplit(" ", 1)[1]) for line in text.splitlines() if line[-1].isdigit()})
+    count = counted(text)
     few = count["forwarded"] <= count["received"] // 10
     causes = [(cause, count[f"drop {cause}"]) for cause in HELPS if count[f"drop {cause}"]]
     most = max(causes, key=lambda one: one[1], default=None) if few else None
@@ -1279,7 +1306,7 @@ def advised(text):
     for word, what in [
         ("unrouted", "{} packet{} came when no balancer was live"),
         ("left", "{} record{} at the end of INPUT: no step reads them"),
-        ("refused", "{} event{} refused, as an install of a version that isn't newer, or isn't there: simulate --list shows which"),
+        ("refused", REFUSED),
     ]:
         if count[word]:
             lines.append(what.format(count[word], "s" * (count[word] != 1)))

@@ -277,7 +277,11 @@ def test_shares():
         answer = rows.simulated(apart, capture("xxyz"), ["--fail-above", share])
         said = above if status else ""
         check(f"above {share}", answer[:3] == (status, lines.encode(), said.encode()), answer)
-        check(f"above {share}, by the rule", found.judged(round(float(share) * 1_000_000)) == ([said[9:-1]] * (said != ""), status), share)
+        check(f"above {share}, by the rule", rows.judged(lines, round(float(share) * 1_000_000)) == ([said[9:-1]] * (said != ""), status), share)
+    none = rows.simulated(scenario(["take 1"]), capture("x"), ["--fail-above", "0"])
+    warned = b"warning: of 1 packets 1 got no server: --fail-above doesn't count them\n"
+    warned += b"warning: nothing was sent, so that --fail-above had nothing to judge\n"
+    check("no connection is no share", (none[0], none[2]) == (0, warned), none)
     told = objects.text_of([*objects.ran(found, "--summary")])
     answer = rows.ran(apart, capture("xxyz"), ["--json", "--fail-above", "0"])
     said = objects.text_of([{"type": "warning", "detail": above[9:-1]}])
@@ -302,7 +306,8 @@ def test_what_a_share_leaves_out():
         ("both, and a change", ["live 0", "install 0 1", "take 1", "restart 0", "install 0 1", "install 0 2", "take 2"], (ALL, B_DOWN), "xxw"),
     ]:
         text, data = scenario(steps, versions), capture(letters)
-        lines, status = model.Run(text, data).judged(0)
+        run_of = model.Run(text, data)
+        lines, status = rows.judged(run_of.report() + run_of.summary(), 0)
         answer = rows.simulated(text, data, ["--fail-above", "0"])
         check(f"left out: {name}", lines and answer[::2] == (status, "".join(f"warning: {line}\n" for line in lines).encode()), f"{answer} {lines}")
         answer = rows.simulated(text, data, ["--json", "--fail-above", "0"])

@@ -585,19 +585,6 @@ class Run:
         lines += [f"changes {cause} {causes.count(cause)}" for cause in CHANGES]
         return "".join(line + "\n" for line in lines)
 
-    def judged(self, parts):
-        """What `--fail-above` says where so many parts per million may change their server, line by line, and the status: packets
-        with a flow that no server got, events that were refused, and how many connections changed."""
-        count = {word: int(number) for word, _, number in (line.rpartition(" ") for line in (self.report() + self.summary()).splitlines()) if number.isdigit()}
-        unserved = sum(count.get(f"drop {cause}", 0) for cause in ("NoService", "NoBackend", "NoVersion", "RingsFull", "LostAtRestart"))
-        is_above = count["changed"] * 1_000_000 > parts * count["connections"]
-        lines = [f"of {count['received']} packets {unserved} got no server: --fail-above doesn't count them"] * (unserved > 0)
-        one = "event" if count["refused"] == 1 else "events"
-        lines += [f"{count['refused']} {one} refused, as an install of a version that isn't newer, or isn't there: simulate --list shows which"] * (count["refused"] > 0)
-        lines += [f"{count['changed']} of {count['connections']} connections changed their server: --fail-above wants fewer"] * is_above
-        lines += ["nothing was sent, so that --fail-above had nothing to judge"] * (count["connections"] == 0)
-        return lines, 3 if is_above else 0
-
     def shares(self, by_node=False):
         """What each backend, or each node, took under each version: as the version under which packets were served, the backend
         or the node, and how many packets, bytes and flows."""
