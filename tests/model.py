@@ -533,11 +533,13 @@ class Run:
     def pairs(self):
         """Each two sends of one connection to different backends, with none of it between them: the number and the text of both
         events, and what was sent."""
-        sends = [(place, event, sent) for place, (event, outcome, sent) in enumerate(self.events) if outcome.startswith("forward")]
-        for later, one in enumerate(sends):
-            before = [other for other in sends[:later] if self.connection(other[2]) == self.connection(one[2])]
-            if before and before[-1][2][3] != one[2][3]:
-                yield before[-1], one
+        newest = {}
+        for place, (event, outcome, sent) in enumerate(self.events):
+            if outcome.startswith("forward"):
+                before = newest.get(self.connection(sent))
+                if before and before[2][3] != sent[3]:
+                    yield before, (place, event, sent)
+                newest[self.connection(sent)] = place, event, sent
 
     def change(self, first, later):
         """Why a connection changed its server between two sends."""
