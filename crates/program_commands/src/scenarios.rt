@@ -189,7 +189,9 @@ fn judged_end(
                 all: voice.says_more(),
                 judged: limit.is_some(),
             };
-            let _ = advise(rt, voice, asked, &printed);
+            if asked.all || asked.judged {
+                let _ = advise(rt, voice, asked, &printed);
+            }
             judged(rt, voice, limit, printed.counts)
         }
         Err(trouble) => ended(rt, voice, paths, played, text, &Err(trouble)),

@@ -23,32 +23,31 @@ pub(crate) struct Counts<'a> {
     pub(crate) most: Drops<'a>,
 }
 
-// Whether a word is a cause for which a packet is dropped.
-fn is_cause(word: &str) -> bool {
-    matches!(
-        word,
-        "NotIpv4"
-            | "Truncated"
-            | "BadHeader"
-            | "BadChecksum"
-            | "Fragment"
-            | "NotTcpUdp"
-            | "BadTransport"
-            | "TooLarge"
-            | "NoService"
-            | "NoBackend"
-            | "NoVersion"
-            | "RingsFull"
-            | "LostAtRestart"
-    )
+// What a dropped packet lacked.
+#[derive(Clone, Copy)]
+enum Loss {
+    // It wasn't read as a datagram with a flow.
+    Unread,
+    // It has a flow, and no server got it.
+    Unserved,
 }
 
-// Whether packets that are dropped for a cause have a flow, and a balancer.
-fn is_of_flow(cause: &str) -> bool {
-    matches!(
-        cause,
-        "NoService" | "NoBackend" | "NoVersion" | "RingsFull" | "LostAtRestart"
-    )
+// What packets lacked that are dropped for a cause. None where the word is none.
+fn loss_of(word: &str) -> Option<Loss> {
+    match word {
+        "NotIpv4"
+        | "Truncated"
+        | "BadHeader"
+        | "BadChecksum"
+        | "Fragment"
+        | "NotTcpUdp"
+        | "BadTransport"
+        | "TooLarge" => Some(Loss::Unread),
+        "NoService" | "NoBackend" | "NoVersion" | "RingsFull" | "LostAtRestart" => Some(
+            Loss::Unserved,
+        ),
+        _ => None,
+    }
 }
 
 impl<'a> Counts<'a> {
@@ -69,14 +68,14 @@ impl<'a> Counts<'a> {
         }
     }
 
-    // A cause, with how many packets were dropped for it.
-    fn drop(&mut self, cause: &'a str, count: u64) {
+    // A cause, with what its packets lacked, and how many were dropped for it.
+    fn drop(&mut self, cause: &'a str, loss: Loss, count: u64) {
         match cause {
             "RingsFull" => self.rings_full = count,
             "Truncated" => self.truncated = count,
             _ => {}
         }
-        if is_of_flow(cause) {
+        if let Loss::Unserved = loss {
             self.unserved = self.unserved.saturating_add(count);
         }
         if count > self.most.count {
@@ -93,8 +92,9 @@ impl<'a> Counts<'a> {
             "unrouted" => self.unrouted = count,
             "left" => self.left = count,
             "refused" => self.refused = count,
-            _ if is_cause(word) => self.drop(word, count),
-            _ => {}
+            _ => if let Some(loss) = loss_of(word) {
+                self.drop(word, loss, count);
+            },
         }
     }
 

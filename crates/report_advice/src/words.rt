@@ -171,7 +171,7 @@ pub struct Asked {
 }
 
 /// A line for each thing that may be amiss in a run over a capture, by the report that a text ends with and by the capture's first
-/// bytes, up to its first frame's Ethernet header: no line where nothing is.
+/// bytes, up to its first frame's Ethernet header: no line where nothing is. Refused events are told whatever is asked.
 pub fn advice_of(
     alloc: Global,
     asked: Asked,
@@ -188,8 +188,6 @@ pub fn advice_of(
     if asked.judged {
         advise_unserved(alloc, &counts, &mut advice)?;
     }
-    if asked.all || asked.judged {
-        advise_refused(alloc, &counts, &mut advice)?;
-    }
+    advise_refused(alloc, &counts, &mut advice)?;
     Ok(advice)
 }
