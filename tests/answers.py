@@ -293,36 +293,39 @@ def test_tables_against_the_model():
 
 
 def long_capture(source, packets):
-    """A capture of so many datagrams of some hundred flows, of which some are no datagrams, and some cut."""
+    """A capture of so many TCP datagrams of some hundred flows, of which one in a hundred is of another protocol, and one is cut."""
     flows = [bytes(source.randrange(256) for _ in range(2)) for _ in range(300)]
     records = []
     for number in range(packets):
         one = bytearray(rows.P)
         one[14:16], one[21] = source.choice(flows), source.choice([0xE8, 0xE9])
-        spoiled = source.random() < 0.02
-        one[9] = source.choice([0, 1, 6]) if spoiled else 6
-        records.append(rows.record(bytes(one[: 30 if spoiled else 60]), 1 + number // 20_000, number % 20_000 * 1000))
+        drawn = source.randrange(100)
+        if drawn == 0:
+            one[9] = 1
+        elif drawn == 1:
+            del one[30:]
+        records.append(rows.record(bytes(one), 1 + number // 20_000, number % 20_000 * 1000))
     return HEAD + b"".join(records)
 
 
 def test_long_captures():
-    """The same over captures of 60,050 records, of which some are no datagrams and some are cut, with steps of each kind between their
-    packets."""
+    """What is told of connections and shares over captures of 60,050 records, with steps of each kind between their packets, is what
+    the model says."""
     steps = ["install 0 1", "install 1 1", "take 20000", "install 0 2", "full 1 0", "take 7000", "hold 0", "take 900", "drain 0", "full 1", "take 100"]
     steps += ["restart 1", "take 50", "install 1 2", "again 7", "again 19000", "live 1", "take 15000", "install 0 3", "install 1 3", "live 0 1", "take 17000"]
     for seed, (workers, capacity) in enumerate([(1, 300), (3, 50)]):
         text = scenario(steps, [ALL, B_DOWN, rows.A_DOWN], workers=workers, more="check = false\n").replace("capacity = 2", f"capacity = {capacity}")
         data = long_capture(random.Random(seed), 60_050)
         found = model.Run(text, data)
-        splits, lines, rest = found.splits(), found.splits(True), found.report()
-        taken = found.taken() + found.taken(True)
-        check(f"long capture {seed} has changes", "changed 0\n" not in found.summary(), found.summary())
+        sent, rest, told_of = found.output(), found.report(), found.summary()
+        check(f"long capture {seed} has drops", all(f"drop {cause} " in rest for cause in ("NotTcpUdp", "Truncated")), rest)
+        check(f"long capture {seed} has changes", "changed 0\n" not in told_of, told_of)
         for words, whole in [
-            (["--summary"], rest + found.summary()),
-            (["--splits"], splits + rest),
-            (["--where", "--per-backend", "--per-node", "--summary"], lines + rest + taken + found.summary()),
+            (["--summary"], rest + told_of),
+            (["--splits"], found.splits() + rest),
+            (["--where", "--per-backend", "--per-node", "--summary"], found.splits(True) + rest + found.taken() + found.taken(True) + told_of),
         ]:
-            simulates(f"long capture {seed}: {' '.join(words)}", text, data, whole, found.output(), words)
+            simulates(f"long capture {seed}: {' '.join(words)}", text, data, whole, sent, words)
 
 
 def test_any_step():

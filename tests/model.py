@@ -536,10 +536,11 @@ class Run:
         newest = {}
         for place, (event, outcome, sent) in enumerate(self.events):
             if outcome.startswith("forward"):
-                before = newest.get(self.connection(sent))
+                one, key = (place, event, sent), self.connection(sent)
+                before = newest.get(key)
                 if before and before[2][3] != sent[3]:
-                    yield before, (place, event, sent)
-                newest[self.connection(sent)] = place, event, sent
+                    yield before, one
+                newest[key] = one
 
     def change(self, first, later):
         """Why a connection changed its server between two sends."""
