@@ -2,8 +2,8 @@
 """Refuses each thread of a run in turn, and each growth of a node's memory, and compares what the program then says.
 
 The program `example_node` runs a node of two workers through two lives, on threads; `maglev run` runs two such nodes, of which
-one has two lives, with `--splits` two of a worker, and with `--pace` one of a worker over 40,000 records. They print their
-whole answer, or why there is none, alone: `fault: ThreadLost` where a thread couldn't be started, and `fault: Memory` where
+one has two lives, with `--splits` two of a worker, with `--pace` one of a worker over 40,000 records, and one of sixteen workers
+whose lives have a packet or none. They print their whole answer, or why there is none, alone: `fault: ThreadLost` where a thread couldn't be started, and `fault: Memory` where
 memory was refused, which comes first where both were. A thread of the audit may be refused: the caller's thread then audits
 that node, or all of them, and the run says what it always says. A thread that reads a part of a large capture may be refused
 too: the caller's thread then reads that part. `refuse_thread.c` refuses threads, and `refused_growths.py` has how growths are
@@ -24,8 +24,9 @@ NODE = growths.Case(["node"], "1 from 1\n2 from 1\n1 from 2\n1 from 2\n")
 # Two workers and a mux in each of two lives.
 NODE_THREADS = 6
 CLUSTER = growths.Case(["run", "s.toml", "in.pcap", "out.pcap"], growths.RESTARTED, files=growths.CLUSTER)
-# Those of three lives, and the nodes' drivers.
-CLUSTER_THREADS = 11
+# The nodes' drivers, a worker and the mux of each of node 0's two lives, whose packets are all at home at worker 0, and those of node
+# 1's life, which has packets for both of its workers.
+CLUSTER_THREADS = 9
 # Those of its audit, at most: one for each node, and where splits are told one that audits them.
 AUDIT_THREADS = 3
 # Two nodes of a worker, each with one life, and what is told of the splits.
@@ -38,6 +39,12 @@ READ = growths.Case(["run", "--pace", "s.toml", "in.pcap", "out.pcap"], growths.
 # Those that read beside the caller's, and those of the node.
 READING_THREADS = 2
 READ_THREADS = 3
+# A node of 16 workers with three lives, of which the second has no packets: only workers that can get one have a thread, and the mux
+# has one where a worker has.
+LIVES = ALONE.replace(b"workers = 1", b"workers = 16").replace(b'"take 40000"', b'"take 1", "restart 0", "restart 0", "take 1"')
+SPARING = growths.Case(["run", "s.toml", "in.pcap", "out.pcap"], growths.TWO + "audit agrees\n", files={"s.toml": LIVES, "in.pcap": growths.CAPTURE + growths.CAPTURE[24:]})
+# The node's driver, and a worker and the mux of its first and its third life.
+SPARING_THREADS = 5
 LOST = growths.LOST
 # The thread that is refused, and what is said where the first growth of any thread but the first one is refused too. An 'r' in
 # front tells that one was. Where the first driver isn't started no other thread is; where the second one isn't, the first is
@@ -106,6 +113,7 @@ def main():
         counts.append(refuse_threads(library, [program, *CLUSTER.arguments], CLUSTER, CLUSTER_THREADS, AUDIT_THREADS))
         counts.append(refuse_threads(library, [program, *SPLIT.arguments], SPLIT, SPLIT_THREADS, AUDIT_THREADS))
         counts.append(refuse_threads(library, [program, *READ.arguments], READ, READ_THREADS, before=READING_THREADS))
+        counts.append(refuse_threads(library, [program, *SPARING.arguments], SPARING, SPARING_THREADS, AUDIT_THREADS))
         counts.append(explains_why(library, program))
         counts.append(refuse_both([library, growths.compiled(folder)], program))
         counts.append(growths.refuse_all(folder, [NODE]))

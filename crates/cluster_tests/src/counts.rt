@@ -85,6 +85,21 @@ fn causes_in_their_order(rt: HostRuntime) {
     );
 }
 
+// Of one run a packet was sent. Of the other one was dropped, and one waits.
+#[test]
+fn counts_of_two_runs_are_added(rt: HostRuntime) {
+    let mut one = Stats::new();
+    let mut other = Stats::new();
+    holds(&rt, one.receive() && one.forwarded_one(), "sent");
+    let dropped = other.receive() && other.dropped_one(Cause::RingsFull);
+    holds(&rt, dropped && other.receive(), "dropped, and waiting");
+    holds(&rt, one.add(&other), "added");
+    let numbers = (one.received, one.forwarded, one.waiting);
+    holds(&rt, numbers == (3, 1, 1), "the sums");
+    holds(&rt, one.dropped[11] == 1, "the drop");
+    holds(&rt, one.dropped[12] == 0, "no other drop");
+}
+
 // They lie in another order than they are printed in.
 #[test]
 fn counts_are_printed_in_their_order(rt: HostRuntime) {

@@ -1,13 +1,13 @@
 -- One more node.
-use Rattle.std.proofs.Common.{◌≡◌, ◌+◌, ◌++◌, ◌∷◌, [], ℕ, false, List, length, map, refl, sym, ap, ◌∙◌, subst, arith}
+use Rattle.std.proofs.Common.{◌≡◌, ◌+◌, ◌++◌, ◌∷◌, [], ℕ, List, length, map, sym, ap, ◌∙◌, subst, arith}
 use Rattle.std.specs.Prelude.{Result, Ok, Err, IfOk, IfErr, MatchResult}
 use Rattle.std.proofs.lemmas.List.{append-nil, append_assoc}
 use Rattle.std.proofs.lemmas.List.Elements.{All-push}
-use Rattle.stats_book.specs.Counts.{Counted}
+use Rattle.stats_book.specs.Moves.{IsSum}
+use Rattle.stats_book.specs.declared.stats.Stats.{Stats}
 use Rattle.cluster_node.specs.declared.outcomes.Outcome.{Outcome}
 use Rattle.thread_records.specs.Joins.{all_outcomes}
-use Rattle.thread_roles.specs.Counts.{counted, plus}
-use Rattle.thread_roles.proofs.Counting.{counts_plus}
+use Rattle.thread_roles.specs.Counts.{AreTotals}
 use Rattle.thread_records.specs.declared.nodes.NodeRecord.{NodeRecord}
 use Rattle.thread_records.specs.Paced.{AreUnmarked, NoneRefused}
 use Rattle.thread_records.specs.Runs.{IsRunOf, AreRuns}
@@ -17,6 +17,7 @@ use Rattle.thread_records.specs.declared.command.Command.{Command}
 use Rattle.node_threads.specs.Handed.{IsCounted}
 use Rattle.node_threads.specs.Orders.{AllAsked, asked_one}
 use Rattle.node_threads.specs.PrivateClusters.{AreNumbered, AreCounted}
+use Rattle.node_threads.proofs.Totals.{totals_more}
 
 pub numbered_more : (k m : ℕ) (ns : List ℕ) → AreNumbered k ns → m ≡ k + length ns → AreNumbered k (ns ++ m ∷ [])
 numbered_more k m [] h e = (omega (arith, e), tt)
@@ -37,18 +38,16 @@ pub none_left : {A B : Type 0} (f : A → B) (xs : List A) (ys : List B) → len
 none_left f [] ys e = append-nil ys
 none_left f (x ∷ xs) ys e = absurd (omega (arith, e))
 
--- one more node's run, and what was counted on it
-pub counted_more : {S H : Type 0} (rules : Rules) (all : AllAsked S H) (m : ℕ) (cs : List (List Command)) (c : List Command) (rs new : List NodeRecord) (r : NodeRecord) (had own sum : Counted) →
-    AreCounted rules all cs rs had → m ≡ length cs → IsCounted rules (asked_one all m c) r own → new ≡ rs ++ r ∷ [] → sum ≡ plus had own → AreCounted rules all (cs ++ c ∷ []) new sum
-counted_more rules all m cs c rs new r had own sum h len is items put = record {
+-- one more node's run, and its totals
+pub counted_more : {S H : Type 0} (rules : Rules) (all : AllAsked S H) (m : ℕ) (cs : List (List Command)) (c : List Command) (rs new : List NodeRecord) (r : NodeRecord) (had own both : Stats) →
+    AreCounted rules all cs rs had → m ≡ length cs → IsCounted rules (asked_one all m c) r own → new ≡ rs ++ r ∷ [] → IsSum had own both → AreCounted rules all (cs ++ c ∷ []) new both
+counted_more rules all m cs c rs new r had own both h len is items put = record {
   runs = subst (λ (l : List NodeRecord). AreRuns rules all.packets all.ring 0 (cs ++ c ∷ []) l) (sym items) (runs_more rules all.packets all.ring 0 m cs c rs r h.runs (omega (arith, len)) is.run);
-  counts = λ read.
-      let both : sum ≡ counted sum.parts (all_outcomes rs ++ r.outcomes.items) = counts_plus false false false had own sum (all_outcomes rs) r.outcomes.items (λ e. (refl, refl)) put (λ e. h.counts read) (λ e. is.counts read) refl in
-      both ∙ ap (λ (os : List Outcome). counted sum.parts os) (sym (ap all_outcomes items ∙ outcomes_push rs r));
+  counts = λ read. subst (λ (os : List Outcome). AreTotals both os) (sym (ap all_outcomes items ∙ outcomes_push rs r)) (totals_more (all_outcomes rs) r.outcomes.items had own both put (h.counts read) (is.counts read));
   unmarked = λ paced. subst (λ (l : List NodeRecord). NoneRefused l) (sym items) (All-push (λ (x : NodeRecord). AreUnmarked x.events.items) rs r (h.unmarked paced) (is.unmarked paced));
 }
 
 -- what an answer is by its clauses, two of them under premises
-pub by_clauses : {X E : Type 0} (A B : Type 0) (P Q R S All : X → Type 0) (Faults : E → Type 0) (r : Result X E) → ((x : X) → P x → Q x → (A → R x) → (B → S x) → All x) → IfOk r P → IfOk r Q → (A → IfOk r R) → (B → IfOk r S) → IfErr r Faults → MatchResult r All Faults
-by_clauses A B P Q R S All Faults (Ok x) all p q s t told = all x p q s t
-by_clauses A B P Q R S All Faults (Err e) all p q s t told = told
+pub by_clauses : {X E : Type 0} (A B : Type 0) (P R S All : X → Type 0) (Faults : E → Type 0) (r : Result X E) → ((x : X) → P x → (A → R x) → (B → S x) → All x) → IfOk r P → (A → IfOk r R) → (B → IfOk r S) → IfErr r Faults → MatchResult r All Faults
+by_clauses A B P R S All Faults (Ok x) all p s t told = all x p s t
+by_clauses A B P R S All Faults (Err e) all p s t told = told

@@ -1,6 +1,6 @@
--- Faults that are passed on, and what they tell.
+-- What a node's run tells of a fault.
 use Rattle.std.proofs.Common.{◌≡◌, ℕ, Bool, List, inl, inr, sym, subst}
-use Rattle.std.specs.Prelude.{Result, Ok, Err, IfErr, IsErrAnd, MatchResult}
+use Rattle.std.specs.Prelude.{Err}
 use Rattle.cluster_node.specs.Rules.{Rules}
 use Rattle.cluster_node.specs.declared.outcomes.Outcome.{Outcome}
 use Rattle.thread_records.specs.declared.nodes.NodeRecord.{NodeRecord}
@@ -8,44 +8,13 @@ use Rattle.thread_records.specs.declared.journal.closing.LifeFault.TheVariants a
 use Rattle.thread_records.specs.Ends.{JudgesRun}
 use Rattle.thread_records.specs.Journals.{JournalView}
 use Rattle.thread_records.specs.Runs.{IsRunOf}
-use Rattle.thread_records.specs.Works.{WorkView}
-use Rattle.thread_roles.specs.Faults.{IsRefusal}
-use Rattle.thread_roles.specs.Going.{Asked, IsDriven, IsLast}
+use Rattle.thread_roles.specs.Going.{Asked, IsLast}
 use Rattle.thread_roles.specs.declared.fault.RunFault.{RunFault}
 use Rattle.thread_roles.specs.declared.fault.RunFault.TheVariants.{Foreign, RingLost, ThreadLost, BookLost, Memory}
-use Rattle.node_ends.specs.Judged.{JudgesEnd, drained_at}
-use Rattle.node_threads.specs.Told.{LifeTells, NodeTells}
-
--- a fault that is passed on
-pub err_exit : {T E : Type 0} (P : E → Type 0) (r : Result T E) (e : E) → IsErrAnd r (λ f. f ≡ e) → P e → IfErr r P
-err_exit P (Ok x) e is p = absurd is
-err_exit P (Err f) e is p = subst P (sym is) p
-
-pub match_exit : {T E : Type 0} (Q : T → Type 0) (P : E → Type 0) (r : Result T E) (e : E) → IsErrAnd r (λ f. f ≡ e) → P e → MatchResult r Q P
-match_exit Q P (Ok x) e is p = absurd is
-match_exit Q P (Err f) e is p = subst P (sym is) p
-
-pub is_memory : (fault : RunFault) → fault ≡ Memory → IsRefusal fault
-is_memory fault e = subst IsRefusal (sym e) tt
+use Rattle.node_life.specs.Told.{LifeTells}
+use Rattle.node_threads.specs.Told.{NodeTells}
 
 module _ {S H : Type 0} (eq : S → S → Bool) (rules : Rules) (asked : Asked S H) where
-  pub refusal_tells : (start : ℕ) (fault : RunFault) → IsRefusal fault → LifeTells eq rules asked start fault
-  unfolding LifeTells
-  refusal_tells start Foreign h = absurd h
-  refusal_tells start RingLost h = absurd h
-  refusal_tells start ThreadLost h = tt
-  refusal_tells start BookLost h = absurd h
-  refusal_tells start Memory h = tt
-
-  pub end_tells : {A : Type 0} (start stop : ℕ) (j : JournalView) (ws : List (WorkView S)) (r : Result A RunFault) (fault : RunFault) → r ≡ Err fault → IsDriven rules asked.packets asked.commands asked.node asked.ring start stop j → JudgesEnd {A = A} eq asked.setup asked.catalogue (drained_at asked.commands stop) j ws r → LifeTells eq rules asked start fault
-  unfolding LifeTells
-  end_tells start stop j ws (Ok x) fault e d h = absurd (cc)
-  end_tells start stop j ws (Err Foreign) fault e d h = let same : Foreign ≡ fault = cc in subst (λ (x : RunFault). LifeTells eq rules asked start x) same (record { stop = stop; journal = j; workers = ws; driven = d; judged = h })
-  end_tells start stop j ws (Err RingLost) fault e d h = let same : RingLost ≡ fault = cc in subst (λ (x : RunFault). LifeTells eq rules asked start x) same (record { stop = stop; journal = j; workers = ws; driven = d; judged = h })
-  end_tells start stop j ws (Err ThreadLost) fault e d h = let same : ThreadLost ≡ fault = cc in subst (λ (x : RunFault). LifeTells eq rules asked start x) same (tt)
-  end_tells start stop j ws (Err BookLost) fault e d h = absurd h
-  end_tells start stop j ws (Err Memory) fault e d h = let same : Memory ≡ fault = cc in subst (λ (x : RunFault). LifeTells eq rules asked start x) same (tt)
-
   pub life_tells : (start : ℕ) (fault : RunFault) → LifeTells eq rules asked start fault → NodeTells eq rules asked fault
   unfolding LifeTells NodeTells
   life_tells start Foreign h = (start, h)

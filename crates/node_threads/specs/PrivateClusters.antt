@@ -1,13 +1,13 @@
 -- The nodes of a cluster by number, their runs with what was counted on all of them, and the first of their faults.
 use Rattle.std.specs.Prelude.{◌≡◌, ℕ, ◌+◌, true, List, [], ◌∷◌, Option, Some, None, Result, Ok, Err, nat_le, if◌then◌else◌, Contains}
-use Rattle.stats_book.specs.Counts.{Counted}
+use Rattle.stats_book.specs.declared.stats.Stats.{Stats}
 use Rattle.cluster_node.specs.Rules.{Rules}
 use Rattle.thread_records.specs.declared.command.Command.{Command}
 use Rattle.thread_records.specs.declared.nodes.NodeRecord.{NodeRecord}
 use Rattle.thread_records.specs.Joins.{all_outcomes}
 use Rattle.thread_records.specs.Paced.{NoneRefused}
 use Rattle.thread_records.specs.Runs.{AreRuns}
-use Rattle.thread_roles.specs.Counts.{AreRead, counted}
+use Rattle.thread_roles.specs.Counts.{AreRead, AreTotals}
 use Rattle.thread_roles.specs.declared.fault.RunFault.{RunFault}
 use Rattle.thread_roles.specs.declared.fault.RunFault.TheVariants.{Foreign, RingLost, ThreadLost, BookLost, Memory}
 use Rattle.node_threads.specs.Orders.{AllAsked}
@@ -38,9 +38,9 @@ IsSumUp fs (Some ThreadLost) = Unit {0}
 IsSumUp fs (Some BookLost) = ComesFirst BookLost fs
 IsSumUp fs (Some Memory) = Unit {0}
 
--- runs of all nodes, and shares with what all their outcomes come to
+-- runs of all nodes, and the totals of all their outcomes
 pub record AreCounted {S H : Type 0} (rules : Rules) (all : AllAsked S H) (commands : List (List Command)) (rs : List NodeRecord)
-    (shares : Counted) : Type 0 where
+    (stats : Stats) : Type 0 where
   pub runs : AreRuns rules all.packets all.ring 0 commands rs
-  pub counts : AreRead all.packets → shares ≡ counted shares.parts (all_outcomes rs)
+  pub counts : AreRead all.packets → AreTotals stats (all_outcomes rs)
   pub unmarked : all.paced ≡ true → NoneRefused rs

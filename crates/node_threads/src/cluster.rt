@@ -1,7 +1,8 @@
 //! A cluster on threads: each node's run, with its driver in a thread of its own.
-ghost use Rattle.std.specs.Prelude.{◌≡◌, ◌≤◌, ◌<◌, ◌+◌, ◌*◌, ◌++◌, ◌∷◌, [], ℕ, List, ◌↔◌};
+ghost use Rattle.std.specs.Prelude.{◌≡◌, ◌≤◌, ◌<◌, ◌++◌, ◌∷◌, [], ℕ, List, ◌↔◌};
 ghost use Rattle.std.specs.Prelude.{length, map, true, Option, None, Some, Ok, IfOk, IfErr, IfSome, IsSomeAnd, IsTrue, MatchResult, All, slice_get};
-ghost use Rattle.std.specs.Prelude.{slice_index, slice_index_or};
+ghost use Rattle.std.specs.Prelude.{slice_index_or};
+ghost use Rattle.stats_book.specs.Moves.{IsSum};
 ghost use Rattle.cluster_core.specs.Setups.{rules_for};
 ghost use Rattle.cluster_core.specs.Headline.{Agreement, Keeping};
 ghost use Rattle.cluster_core.specs.Histories.{IsSteady};
@@ -12,20 +13,20 @@ ghost use Rattle.thread_records.specs.declared.nodes.NodeRecord.{NodeRecord};
 ghost use Rattle.thread_records.specs.Joins.{all_outcomes};
 ghost use Rattle.thread_records.specs.Paced.{NoneRefused};
 ghost use Rattle.thread_records.specs.Runs.{AreRuns, JoinsRuns};
-ghost use Rattle.thread_roles.specs.Counts.{AreRead, AreTotals, counted, plus};
+ghost use Rattle.thread_roles.specs.Assigned.{asked_in};
+ghost use Rattle.thread_roles.specs.Counts.{AreRead, AreTotals};
 ghost use Rattle.thread_roles.specs.Faults.{IsRefusal};
-ghost use Rattle.thread_roles.specs.Going.{asked_by};
 ghost use Rattle.thread_roles.specs.declared.fault.RunFault.{RunFault};
-ghost use Rattle.node_threads.specs.declared.run.CountedRun.{CountedRun};
+ghost use Rattle.node_threads.specs.declared.run.LeanRun.{LeanRun};
 ghost use Rattle.node_threads.specs.Handed.{IsCounted};
 ghost use Rattle.node_threads.specs.Orders.{asked_all, asked_each, asked_one};
 ghost use Rattle.node_threads.specs.PrivateClusters.{AreNumbered, AreCounted, first_fault, fault_in, IsSumUp};
 ghost use Rattle.node_threads.specs.Reported.{rank_of, ClusterTells};
 ghost use Rattle.node_threads.specs.Told.{NodeTells};
 
-use crate::node::run_counted;
+use crate::node::run_order;
 use crate::order::{ClusterOrder, OfNode, RingRules};
-use crate::run::CountedRun;
+use crate::run::LeanRun;
 use cluster_core::Setup;
 use cluster_node::{Event, Outcome, Packet};
 use connection_table::ConnTable;
@@ -33,17 +34,13 @@ use hash_laws::FlowHash;
 use pool_versions::Catalogue;
 use selection::Scheme;
 use shared_versions::{Auditor, SharedVersions, audit_nodes};
-use stats_book::{Blanks, Names, Shares, Stats, StatsBook};
+use stats_book::Stats;
 use std::alloc::{AllocError, Global};
-use std::marker::Brand;
-use std::sync::{Mutex, Wait};
+use std::sync::Wait;
 use std::thread;
 use std::thread::{Promise, PromisedHandle, Scope, Threads};
 use thread_records::{Command, History, LeanRecord, NodeRecord, join_runs, open_all};
 use thread_roles::{Gate, RunFault};
-
-// Parts of the counts for 64 drivers and 16 workers of each, and one more.
-const PARTS: u64 = 64 * 17 + 1;
 
 /// What the nodes of a cluster did, each for itself.
 #[derive(Debug, Drop)]
@@ -144,44 +141,28 @@ impl ClusterRun {
     }
 }
 
-// A book of all nodes, and shares of it on which nothing was counted: parts for 64 drivers and 16 workers of each, and one more.
-#[derive(Drop)]
-struct Supply<'e, B: Names> {
-    book: &'e Mutex<StatsBook<B>>,
-    shares: Shares<B>,
-    ghost enough: { 64 * 17 < shares.parts },
-    ghost fresh: { shares ≡ counted shares.parts [] },
-}
-
 // What a driver's thread answers.
-type Answer<B> = Result<CountedRun<B>, RunFault>;
+type Answer = Result<LeanRun, RunFault>;
 
-impl<'e, S: Scheme, H: FlowHash, B: Names> Promise<Result<CountedRun<B>, RunFault>>
-    for OfNode<'e, S, H> {
-    ghost kept_by = { λ p r. let asked = asked_by p.setup.now p.catalogue.now p.packets.now p.node p.ring p.paced p.commands.now in
+impl<'e, S: Scheme, H: FlowHash> Promise<Result<LeanRun, RunFault>> for OfNode<'e, S, H> {
+    ghost kept_by = { λ p r. let asked = asked_in p.assignment in
         let rules = rules_for (λ s z. S.pick s z) (λ h. H.plain h) asked.setup asked.catalogue in
-        MatchResult r (λ run. IsCounted rules asked run.record run.shares) (λ fault. NodeTells (λ a b. S.eq a b) rules asked fault) };
+        MatchResult r (λ run. IsCounted rules asked run.record run.stats) (λ fault. NodeTells (λ a b. S.eq a b) rules asked fault) };
 }
 
 // The drivers' threads, and why not all were started.
 #[derive(Drop)]
-struct Drivers<'e, S: Scheme, H: FlowHash, B: Names> {
-    handles: Vec<PromisedHandle<Answer<B>, OfNode<'e, S, H>>>,
+struct Drivers<'e, S: Scheme, H: FlowHash> {
+    handles: Vec<PromisedHandle<Answer, OfNode<'e, S, H>>>,
     fault: Option<RunFault>,
 }
 
-// What all nodes did, and what was counted.
+// What was joined so far: what the nodes did, and the sums of what their books have. Once there is a fault the rest is kept for
+// nothing.
 #[derive(Drop)]
-struct Gathered<B: Names> {
+struct Joined {
     nodes: Vec<LeanRecord>,
-    shares: Shares<B>,
-}
-
-// What was joined so far. Once there is a fault the rest is kept for nothing.
-#[derive(Drop)]
-struct Joined<B: Names> {
-    nodes: Vec<LeanRecord>,
-    shares: Shares<B>,
+    stats: Stats,
     fault: Option<RunFault>,
 }
 
@@ -208,21 +189,24 @@ fn first_of(fault: Option<RunFault>, other: RunFault) -> RunFault
     }
 }
 
-impl<B: Names> Joined<B> {
-    // Keeps what a node did, or why it has no record.
+impl Joined {
+    // Keeps what a node did, or why it has no record. More packets than can be counted are taken for more than memory has room for.
     #[tactic(auto, using(crate::proofs::Reporting::sums_none, crate::proofs::Reporting::sums_some, crate::proofs::Reporting::refused_still))]
-    fn keep(&mut self, answer: Answer<B>)
+    fn keep(&mut self, answer: Answer)
         ensures kept { self.new.fault ≡ None → (self.old.fault ≡ None)
-            × ((r : CountedRun _) × (answer ≡ Ok r)
-            × (self.new.nodes.items ≡ self.old.nodes.items ++ r.record ∷ []) × (self.new.shares ≡ plus self.old.shares r.shares)) }
+            × ((r : LeanRun) × (answer ≡ Ok r)
+            × (self.new.nodes.items ≡ self.old.nodes.items ++ r.record ∷ []) × IsSum self.old.stats r.stats self.new.stats) }
         ensures told { (fs : List (Option RunFault)) → IsSumUp fs self.old.fault → IsSumUp (fs ++ fault_in answer ∷ []) self.new.fault }
         ensures refused { IsSomeAnd self.old.fault (λ fault. IsRefusal fault) → IsSomeAnd self.new.fault (λ fault. IsRefusal fault) }
     {
         match answer {
             Err(fault) => self.fault = Some(first_of(self.fault, fault)),
             Ok(run) => {
-                let CountedRun { record, shares } = run;
-                self.shares.merge(shares);
+                let LeanRun { record, stats } = run;
+                if !self.stats.add(&stats) {
+                    self.fault = Some(RunFault::Memory);
+                    return;
+                }
                 let Ok(()) = self.nodes.push(record) else {
                     self.fault = Some(RunFault::Memory);
                     return;
@@ -240,30 +224,20 @@ fn start_drivers<
     H: FlowHash + Send + Sync + 'e,
     T: ConnTable + Send + 'e,
     G: Gate + Sync + 'e,
-    B: Names + Send + Sync + 'e,
     R: Threads + Wait + Sync + 'e,
 >(
     scope: &Scope<'s, &'e ()>,
     rt: &'e R,
     alloc: Global,
     order: &ClusterOrder<'e, S, H, G>,
-    book: &'e Mutex<StatsBook<B>>,
-    shares: &mut Shares<B>,
-) -> Drivers<'e, S, H, B>
+) -> Drivers<'e, S, H>
 where
     S::Prepared: Send + Sync,
-    requires parts { 64 * 17 < shares.old.parts }
-    requires fresh { shares.old ≡ counted shares.old.parts [] }
-    ensures same { All (λ h. let p = h.promise in
-        asked_by p.setup.now p.catalogue.now p.packets.now p.node p.ring p.paced p.commands.now
-        ≡ asked_one order.now p.node p.commands.now) result.handles.items }
-    ensures numbered { AreNumbered 0 (map (λ h. h.promise.node) result.handles.items) }
+    ensures same { All (λ h. let asked = asked_in h.promise.assignment in asked ≡ asked_one order.now asked.node asked.commands) result.handles.items }
+    ensures numbered { AreNumbered 0 (map (λ h. h.promise.assignment.node) result.handles.items) }
     ensures fault { IfSome result.fault (λ fault. IsRefusal fault) }
-    ensures lists { result.fault ≡ None → map (λ h. h.promise.commands.now) result.handles.items ≡ order.now.commands }
-    ensures parts { result.fault ≡ None → shares.new.parts + length result.handles.items * (order.now.setup.workers + 1) ≡ shares.old.parts }
-    ensures rest { shares.new ≡ record shares.old { parts = shares.new.parts } }
+    ensures lists { result.fault ≡ None → map (λ h. h.promise.assignment.commands.now) result.handles.items ≡ order.now.commands }
 {
-    let each = u64::from(order.workers()) + 1;
     let mut handles = Vec::new(alloc);
     for node in 0..order.nodes() {
         if handles.reserve(1).is_err() {
@@ -271,16 +245,16 @@ where
             return Drivers { handles, fault };
         }
         let own = order.order_of(node);
-        let promise = own.promise();
-        let task = own.task(book, shares.split_off(each));
+        let promise = OfNode {
+            assignment: own.assignment,
+        };
         match scope.spawn_with(
             promise,
-            move || -> Result<CountedRun<B>, RunFault>
-                ensures { let t = task.entry in
-                    let asked = asked_by t.setup.now t.catalogue.now t.packets.now t.node t.ring t.paced t.commands.now in
+            move || -> Result<LeanRun, RunFault>
+                ensures { let asked = asked_in own.entry.assignment in
                     let rules = rules_for (λ s z. S.pick s z) (λ h. H.plain h) asked.setup asked.catalogue in
-                    MatchResult result (λ run. IsCounted rules asked run.record run.shares) (λ fault. NodeTells (λ a b. S.eq a b) rules asked fault) }
-            { run_counted::<S, H, T, G, B, R>(rt, alloc, task) },
+                    MatchResult result (λ run. IsCounted rules asked run.record run.stats) (λ fault. NodeTells (λ a b. S.eq a b) rules asked fault) }
+            { run_order::<S, H, T, G, R>(rt, alloc, own) },
         ) {
             Ok(handle) => handles.push_reserved(handle),
             Err(_) => {
@@ -303,37 +277,24 @@ fn run_drivers<
     H: FlowHash + Send + Sync + 'e,
     T: ConnTable + Send + 'e,
     G: Gate + Sync + 'e,
-    B: Names + Send + Sync + 'e,
     R: Threads + Wait + Sync + 'e,
 >(
     scope: &Scope<'s, &'e ()>,
     rt: &'e R,
     alloc: Global,
     order: ClusterOrder<'e, S, H, G>,
-    supply: Supply<'e, B>,
-) -> Result<Gathered<B>, RunFault>
+) -> Result<NodesRun, RunFault>
 where
     S::Prepared: Send + Sync,
     ensures { let all = order.entry in
         let rules = rules_for (λ s z. S.pick s z) (λ h. H.plain h) all.setup all.catalogue in
-        MatchResult result
-        (λ v. AreCounted rules all all.commands v.nodes.items v.shares × (v.shares.parts ≡ supply.entry.shares.parts))
-        (λ fault. ClusterTells (λ a b. S.eq a b) rules all fault) }
+        MatchResult result (λ v. AreCounted rules all all.commands v.nodes.items v.stats) (λ fault. ClusterTells (λ a b. S.eq a b) rules all fault) }
 {
-    let Supply { book, shares } = supply;
-    let mut shares = shares;
-    let drivers: Drivers<'e, S, H, B> = start_drivers::<S, H, T, G, B, R>(
-        scope,
-        rt,
-        alloc,
-        &order,
-        book,
-        &mut shares,
-    );
+    let drivers: Drivers<'e, S, H> = start_drivers::<S, H, T, G, R>(scope, rt, alloc, &order);
     let Drivers { handles, fault } = drivers;
     let mut joined = Joined {
         nodes: Vec::new(alloc),
-        shares,
+        stats: Stats::new(),
         fault,
     };
     for handle in handles {
@@ -341,11 +302,11 @@ where
     }
     let Joined {
         nodes,
-        shares,
+        stats,
         fault,
     } = joined;
     match fault {
-        None => Ok(Gathered { nodes, shares }),
+        None => Ok(NodesRun { nodes, stats }),
         Some(fault) => Err(fault),
     }
 }
@@ -357,78 +318,23 @@ fn run_nodes<
     H: FlowHash + Send + Sync + 'e,
     T: ConnTable + Send + 'e,
     G: Gate + Sync + 'e,
-    B: Names + Send + Sync + 'e,
     R: Threads + Wait + Sync + 'e,
->(
-    rt: &'e R,
-    alloc: Global,
-    order: ClusterOrder<'e, S, H, G>,
-    supply: Supply<'e, B>,
-) -> Result<Gathered<B>, RunFault>
+>(rt: &'e R, alloc: Global, order: ClusterOrder<'e, S, H, G>) -> Result<NodesRun, RunFault>
 where
     S::Prepared: Send + Sync,
     ensures { let all = order.entry in
         let rules = rules_for (λ s z. S.pick s z) (λ h. H.plain h) all.setup all.catalogue in
-        MatchResult result
-        (λ v. AreCounted rules all all.commands v.nodes.items v.shares × (v.shares.parts ≡ supply.entry.shares.parts))
-        (λ fault. ClusterTells (λ a b. S.eq a b) rules all fault) }
+        MatchResult result (λ v. AreCounted rules all all.commands v.nodes.items v.stats) (λ fault. ClusterTells (λ a b. S.eq a b) rules all fault) }
 {
     thread::scope(
         thread::scope_env(),
         rt,
-        move |scope| -> Result<Gathered<B>, RunFault>
+        move |scope| -> Result<NodesRun, RunFault>
             ensures { let all = order.entry in
                 let rules = rules_for (λ s z. S.pick s z) (λ h. H.plain h) all.setup all.catalogue in
-                MatchResult result
-                (λ v. AreCounted rules all all.commands v.nodes.items v.shares × (v.shares.parts ≡ supply.entry.shares.parts))
-                (λ fault. ClusterTells (λ a b. S.eq a b) rules all fault) }
-        { run_drivers::<S, H, T, G, B, R>(scope, rt, alloc, order, supply) },
+                MatchResult result (λ v. AreCounted rules all all.commands v.nodes.items v.stats) (λ fault. ClusterTells (λ a b. S.eq a b) rules all fault) }
+        { run_drivers::<S, H, T, G, R>(scope, rt, alloc, order) },
     )
-}
-
-// The run of a cluster with a book of its own.
-fn run_booked<
-    S: Scheme + Send + Sync,
-    H: FlowHash + Send + Sync,
-    T: ConnTable + Send,
-    G: Gate + Sync,
-    B: Names + Send + Sync,
-    R: Threads + Wait + Sync,
->(
-    rt: &R,
-    alloc: Global,
-    order: ClusterOrder<'_, S, H, G>,
-    blanks: Blanks,
-) -> Result<NodesRun, RunFault>
-where
-    S::Prepared: Send + Sync,
-    requires names { (n : ℕ) → slice_index blanks.names n ≡ B.names n }
-    requires parts { (blanks.parts ≡ B.parts) × (64 * 17 < B.parts) }
-    ensures runs { let all = order.entry in
-        let rules = rules_for (λ s z. S.pick s z) (λ h. H.plain h) all.setup all.catalogue in
-        IfOk result (λ run. AreRuns rules all.packets all.ring 0 all.commands run.nodes.items) }
-    ensures stats { AreRead order.entry.packets → IfOk result (λ run. AreTotals run.stats (all_outcomes run.nodes.items)) }
-    ensures paced { order.entry.paced ≡ true → IfOk result (λ run. NoneRefused run.nodes.items) }
-    ensures told { let all = order.entry in
-        let rules = rules_for (λ s z. S.pick s z) (λ h. H.plain h) all.setup all.catalogue in
-        IfErr result (λ fault. ClusterTells (λ a b. S.eq a b) rules all fault) }
-{
-    let _ = order.nodes();
-    let (book, shares) = StatsBook::<B>::open(blanks);
-    let book = Mutex::new(book);
-    let supply = Supply {
-        book: &book,
-        shares,
-    };
-    let gathered = run_nodes::<S, H, T, G, B, R>(rt, alloc, order, supply)?;
-    let Gathered { nodes, shares } = gathered;
-    let mut book = book.into_inner();
-    let mut shares = shares;
-    book.audit(&mut shares);
-    Ok(NodesRun {
-        nodes,
-        stats: book.stats(),
-    })
 }
 
 /// The runs of all nodes of a cluster at once, as in [`run_cluster`], without the one history of all of them. That is a copy
@@ -469,7 +375,8 @@ where
         IfOk result (λ run. AreRuns rules packets.now rings.places 0 (map (λ c. c.items) commands.now) run.nodes.items) }
     // where the drivers wait at full rings, no arrival marks a worker as refusing
     ensures paced { rings.paced ≡ true → IfOk result (λ run. NoneRefused run.nodes.items) }
-    // where all packets were read, the counts are the totals of the nodes' outcomes, and nothing waits
+    // where all packets were read, the counts are the totals of the nodes' outcomes, and nothing waits; each node has a book of
+    // its own, and these are their sums
     ensures stats { AreRead packets.now → IfOk result (λ run. AreTotals run.stats (all_outcomes run.nodes.items)) }
     ensures told { let all = asked_each setup.now catalogue.now packets.now rings.places rings.paced (map (λ c. c.items) commands.now) in
         let rules = rules_for (λ s z. S.pick s z) (λ h. H.plain h) all.setup all.catalogue in
@@ -485,8 +392,8 @@ where
         ring: rings.places,
         paced: rings.paced,
     };
-    let blanks = Blanks::new(PARTS);
-    run_booked::<S, H, T, G, Brand, R>(rt, alloc, order, blanks)
+    let run = run_nodes::<S, H, T, G, R>(rt, alloc, order)?;
+    Ok(run)
 }
 
 /// The runs of all nodes of a cluster at once, each as `run_node` does it, with its driver in a thread of its own. There is

@@ -1,7 +1,6 @@
 //! What nodes are to do.
-ghost use Rattle.std.specs.Prelude.{◌≡◌, ◌<◌, ◌≤◌, ◌+◌, [], length, slice_index_or};
-ghost use Rattle.thread_roles.specs.Counts.{counted};
-ghost use Rattle.thread_roles.specs.Going.{asked_by};
+ghost use Rattle.std.specs.Prelude.{◌≡◌, ◌<◌, ◌≤◌, [], length, slice_index_or};
+ghost use Rattle.thread_roles.specs.Assigned.{asked_in};
 ghost use Rattle.node_threads.specs.Orders.{asked_one};
 
 use cluster_core::Setup;
@@ -10,12 +9,10 @@ use hash_laws::FlowHash;
 use pool_versions::Catalogue;
 use selection::Scheme;
 use shared_versions::SharedVersions;
-use stats_book::{Names, Shares, StatsBook};
 use std::fmt;
 use std::marker::Model;
-use std::sync::Mutex;
 use thread_records::Command;
-use thread_roles::NodeTask;
+use thread_roles::Assignment;
 
 /// The rings of a cluster's run.
 #[derive(Clone, Copy, Debug, PartialEq, Eq)]
@@ -26,117 +23,41 @@ pub struct RingRules {
     pub paced: bool,
 }
 
-/// What a node is to do, before there is a book. By its type the node is there and a ring has places.
+/// A node's assignment, before there is a book. By its type the node is there and a ring has places.
 #[derive(Drop)]
 pub struct NodeOrder<'e, S: Scheme, H: FlowHash, G> {
-    /// The cluster.
-    pub setup: &'e Setup<S, H>,
-    /// Its versions.
-    pub catalogue: &'e Catalogue,
-    /// Those of them that were prepared for all nodes.
+    /// What the node is to do.
+    pub assignment: Assignment<'e, S, H>,
+    /// The versions that were prepared for all nodes.
     pub prepared: &'e SharedVersions<S>,
-    /// The packets that the commands offer, by number.
-    pub packets: &'e [Packet],
-    /// The commands of the node's driver.
-    pub commands: &'e [Command],
     /// What is called round each serving.
     pub gate: &'e G,
-    /// The node's place among the cluster's nodes.
-    pub node: u16,
-    /// The places of a ring.
-    pub ring: u32,
-    /// A driver waits at a full ring.
-    pub paced: bool,
-}
-
-impl<'e, S: Scheme, H: FlowHash, G> Model for NodeOrder<'e, S, H, G> {
-    ghost use Rattle.std.specs.Prelude.{◌<◌, ◌≤◌, length};
-    ghost use Rattle.thread_roles.specs.Going.{Asked, asked_by};
-
-    ghost Value = { Asked S H };
-
-    ghost view = { λ o. asked_by o.setup.now o.catalogue.now o.packets.now o.node o.ring o.paced o.commands.now };
-
-    ghost invariant = { λ o. (o.node < length o.setup.now.nodes) × (0 < o.ring) × (o.ring ≤ 65536) };
+    pub ghost there: { assignment.node < length assignment.setup.now.nodes },
+    pub ghost some: { 0 < assignment.ring },
+    pub ghost limit: { assignment.ring ≤ 65536 },
 }
 
 impl<S: Scheme, H: FlowHash, G> fmt::Debug for NodeOrder<'_, S, H, G> {
     fn fmt<W: fmt::Write>(&self, f: &mut fmt::Formatter<W>) -> fmt::Result {
         f.debug_struct("NodeOrder")
-            .field("node", &self.node)
-            .field("ring", &self.ring)
+            .field("assignment", &self.assignment)
             .finish_non_exhaustive()
     }
 }
 
-/// What a driver's thread promises: a run of its node's commands, whose outcomes it counted, or a fault that the node's records
-/// tell.
+/// What a driver's thread promises: a run of its node's commands with the totals of its outcomes, or a fault that the node's
+/// records tell.
 #[derive(Drop)]
 pub struct OfNode<'e, S: Scheme, H: FlowHash> {
-    /// The cluster.
-    pub setup: &'e Setup<S, H>,
-    /// Its versions.
-    pub catalogue: &'e Catalogue,
-    /// The packets that the commands offer, by number.
-    pub packets: &'e [Packet],
-    /// The commands of the node's driver.
-    pub commands: &'e [Command],
-    /// The node's place among the cluster's nodes.
-    pub node: u16,
-    /// The places of a ring.
-    pub ring: u32,
-    /// A driver waits at a full ring.
-    pub paced: bool,
+    /// What the node is to do.
+    pub assignment: Assignment<'e, S, H>,
 }
 
 impl<S: Scheme, H: FlowHash> fmt::Debug for OfNode<'_, S, H> {
     fn fmt<W: fmt::Write>(&self, f: &mut fmt::Formatter<W>) -> fmt::Result {
         f.debug_struct("OfNode")
-            .field("node", &self.node)
-            .field("ring", &self.ring)
-            .finish_non_exhaustive()
-    }
-}
-
-impl<'e, S: Scheme, H: FlowHash, G> NodeOrder<'e, S, H, G> {
-    /// What the thread that obeys it promises.
-    pub fn promise(&self) -> OfNode<'e, S, H>
-        ensures { asked_by result.setup.now result.catalogue.now result.packets.now result.node result.ring result.paced result.commands.now ≡ self.now }
-    {
-        OfNode {
-            setup: self.setup,
-            catalogue: self.catalogue,
-            packets: self.packets,
-            commands: self.commands,
-            node: self.node,
-            ring: self.ring,
-            paced: self.paced,
-        }
-    }
-
-    /// The same beside a book, with shares of it.
-    pub fn task<B: Names>(
-        self,
-        book: &'e Mutex<StatsBook<B>>,
-        shares: Shares<B>,
-    ) -> NodeTask<'e, S, H, G, B>
-        requires parts { shares.parts ≡ self.setup.workers + 1 }
-        requires fresh { shares ≡ counted shares.parts [] }
-        ensures { asked_by result.setup.now result.catalogue.now result.packets.now result.node result.ring result.paced result.commands.now ≡ self.entry }
-    {
-        NodeTask {
-            setup: self.setup,
-            catalogue: self.catalogue,
-            prepared: self.prepared,
-            packets: self.packets,
-            commands: self.commands,
-            gate: self.gate,
-            book,
-            node: self.node,
-            ring: self.ring,
-            paced: self.paced,
-            shares,
-        }
+            .field("assignment", &self.assignment)
+            .finish()
     }
 }
 
@@ -202,18 +123,21 @@ impl<'e, S: Scheme, H: FlowHash, G> ClusterOrder<'e, S, H, G> {
     /// What a node is to do.
     pub fn order_of(&self, node: u16) -> NodeOrder<'e, S, H, G>
         requires { node < length self.now.commands }
-        ensures { result ≡ asked_one self.now node (slice_index_or self.now.commands node []) }
+        ensures { asked_in result.assignment ≡ asked_one self.now node (slice_index_or self.now.commands node []) }
     {
-        NodeOrder {
+        let assignment = Assignment {
             setup: self.setup,
             catalogue: self.catalogue,
-            prepared: self.prepared,
             packets: self.packets,
             commands: self.lists[node as usize].as_slice(),
-            gate: self.gate,
             node,
             ring: self.ring,
             paced: self.paced,
+        };
+        NodeOrder {
+            assignment,
+            prepared: self.prepared,
+            gate: self.gate,
         }
     }
 }

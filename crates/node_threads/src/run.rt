@@ -33,6 +33,15 @@ impl<B: Names> fmt::Debug for CountedRun<B> {
     }
 }
 
+/// A node's record as it is kept, and what its threads counted meanwhile.
+#[derive(Debug, Drop)]
+pub struct LeanRun {
+    /// What the node did.
+    pub record: LeanRecord,
+    /// The counts of its run.
+    pub stats: Stats,
+}
+
 /// What a node did, and what its threads counted meanwhile.
 #[derive(Debug, Drop)]
 pub struct NodeRun {

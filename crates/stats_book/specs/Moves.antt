@@ -2,7 +2,7 @@
 use Rattle.std.specs.Prelude.{◌≡◌, ◌+◌}
 use Rattle.cluster_node.specs.declared.outcomes.Cause.{Cause}
 use Rattle.stats_book.specs.declared.stats.Stats.{Stats}
-use Rattle.stats_book.specs.Counts.{one_more}
+use Rattle.stats_book.specs.Counts.{one_more, sums}
 
 -- one packet came, and waits
 pub record IsReceived (old new : Stats) : Type 0 where
@@ -24,3 +24,10 @@ pub record IsDropped (cause : Cause) (old new : Stats) : Type 0 where
   pub forwarded : new.forwarded ≡ old.forwarded
   pub dropped : new.dropped ≡ one_more old.dropped cause
   pub waiting : new.waiting + 1 ≡ old.waiting
+
+-- the counts of two lists of packets together
+pub record IsSum (some others both : Stats) : Type 0 where
+  pub received : both.received ≡ some.received + others.received
+  pub forwarded : both.forwarded ≡ some.forwarded + others.forwarded
+  pub dropped : both.dropped ≡ sums some.dropped others.dropped
+  pub waiting : both.waiting ≡ some.waiting + others.waiting

@@ -1,6 +1,6 @@
 //! Counts that add up.
-ghost use Rattle.std.specs.Prelude.{◌≡◌, ◌+◌, ◌<◌, ◌↔◌, sum, true, false, MatchBool, replicate};
-ghost use Rattle.stats_book.specs.Counts.{place_of};
+ghost use Rattle.std.specs.Prelude.{◌≡◌, ◌+◌, ◌<◌, ◌≤◌, ◌↔◌, sum, true, false, MatchBool, replicate};
+ghost use Rattle.stats_book.specs.Counts.{place_of, sums};
 
 use cluster_node::Cause;
 use std::fmt;
@@ -55,8 +55,20 @@ fn place_of(cause: Cause) -> usize
     }
 }
 
+// The drops of both, cause by cause.
+fn both_drops(some: &[u64; 13], others: &[u64; 13]) -> [u64; 13]
+    requires { sum some.now + sum others.now ≤ u64.MAX }
+    ensures { result ≡ sums some.now others.now }
+{
+    let mut drops = *some;
+    for at in 0..13usize {
+        drops[at] += others[at];
+    }
+    drops
+}
+
 impl Stats {
-    ghost use Rattle.stats_book.specs.Moves.{IsReceived, IsForwarded, IsDropped};
+    ghost use Rattle.stats_book.specs.Moves.{IsReceived, IsForwarded, IsDropped, IsSum};
 
     /// Before any packet.
     pub fn new() -> Stats
@@ -125,6 +137,24 @@ impl Stats {
         } = self;
         dropped[at] += 1;
         *waiting -= 1;
+        true
+    }
+
+    /// The counts of other packets beside these. The answer is false, and nothing is changed, exactly where more packets came than can
+    /// be counted.
+    pub fn add(&mut self, others: &Stats) -> bool
+        ensures full { (result ≡ false) ↔ (u64.MAX < self.old.received + others.now.received) }
+        ensures moved { MatchBool result (IsSum self.old others.now self.new) (self.new ≡ self.old) }
+    {
+        let Some(received) = self.received.checked_add(others.received) else {
+            return false;
+        };
+        *self = Stats {
+            received,
+            forwarded: self.forwarded + others.forwarded,
+            waiting: self.waiting + others.waiting,
+            dropped: both_drops(&self.dropped, &others.dropped),
+        };
         true
     }
 }

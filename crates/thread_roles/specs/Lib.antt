@@ -1,3 +1,4 @@
+pub mod Assigned
 pub mod Counts
 pub mod Faults
 pub mod Going

@@ -14,6 +14,7 @@ ghost use Rattle.thread_records.specs.Losses.{losses};
 ghost use Rattle.thread_records.specs.Journals.{Drives};
 ghost use Rattle.thread_records.specs.Paced.{AreUnmarked};
 ghost use Rattle.stats_book.specs.Counts.{Counted};
+ghost use Rattle.thread_roles.specs.Assigned.{asked_in};
 ghost use Rattle.thread_roles.specs.Counts.{AreRead, Counts, with_came, with_drop};
 ghost use Rattle.thread_roles.specs.Going.{Going, IsDriven, stops};
 ghost use Rattle.thread_roles.specs.Shown.{number_of, last_published};
@@ -53,7 +54,7 @@ fn next_of<S: Scheme, H: FlowHash, G, B: Names>(
 {
     match plan.prepared.find(version.number) {
         Some(shared) => Arc::try_clone(shared),
-        None => prepare_after(alloc, plan.setup, version, newest),
+        None => prepare_after(alloc, plan.assignment.setup, version, newest),
     }
 }
 
@@ -68,14 +69,14 @@ fn show_next<S: Scheme, H: FlowHash, G: Gate, B: Names, R: Wait + Drop>(
 ) -> Result<(), RunFault>
     ensures published { OnOk result (published_by desk.new.seat ≡ published_by desk.old.seat ++ number ∷ []) }
     ensures newest { OnOk result (number_of arc_value newest.new ≡ number) }
-    ensures newer { is_some (version_at number plan.entry.catalogue.now.versions) ≡ true → last_published desk.old.seat < number →
+    ensures newer { is_some (version_at number plan.entry.assignment.catalogue.now.versions) ≡ true → last_published desk.old.seat < number →
         IfErr result (λ fault. fault ≡ Memory) }
 {
     // Only a version that the catalogue has is installed.
-    let Some(version) = plan.catalogue.get(number) else {
+    let Some(version) = plan.assignment.catalogue.get(number) else {
         return Err(RunFault::Foreign);
     };
-    plan.gate.preparing(plan.node, number);
+    plan.gate.preparing(plan.assignment.node, number);
     let next = next_of(alloc, plan, newest, version)?;
     desk.publish(&next)?;
     *newest = Some(next);
@@ -92,7 +93,7 @@ fn publish<S: Scheme, H: FlowHash, G: Gate, B: Names, R: Wait + Drop>(
     newest: &mut Option<Shared<S>>,
     number: u32,
 ) -> Result<(), RunFault>
-    ensures going { let rules = rules_for (λ s z. S.pick s z) (λ h. H.plain h) plan.entry.setup.now plan.entry.catalogue.now in
+    ensures going { let rules = rules_for (λ s z. S.pick s z) (λ h. H.plain h) plan.entry.assignment.setup.now plan.entry.assignment.catalogue.now in
         (packets : List Packet) (cs : List Command) (n : ℕ) (places : ℕ) → Going rules packets cs n places journal.old →
         OnOk result (Going rules packets (cs ++ Publish number ∷ []) n places journal.new) }
     ensures counts { (lost : Bool) (shares : Counted) → Counts lost shares journal.old.outcomes → OnOk result (Counts lost shares journal.new.outcomes) }
@@ -101,8 +102,8 @@ fn publish<S: Scheme, H: FlowHash, G: Gate, B: Names, R: Wait + Drop>(
     ensures unmarked { AreUnmarked journal.old.events → OnOk result (AreUnmarked journal.new.events) }
     ensures newest { number_of arc_value newest.old ≡ journal.old.newest → OnOk result (number_of arc_value newest.new ≡ journal.new.newest) }
 {
-    let _ = plan.setup.workers();
-    match journal.install(knows(plan.catalogue, number), number) {
+    let _ = plan.assignment.setup.workers();
+    match journal.install(knows(plan.assignment.catalogue, number), number) {
         Ok(Outcome::Installed) => match show_next(alloc, plan, desk, newest, number) {
             Ok(()) => Ok(()),
             Err(fault) => Err(fault),
@@ -154,22 +155,22 @@ fn arrive<S: Scheme, H: FlowHash, G, B: Names, R: Wait>(
     inputs: &mut Inputs,
     packet: u32,
 ) -> Result<Outcome, AllocError>
-    ensures drives { let rules = rules_for (λ s z. S.pick s z) (λ h. H.plain h) plan.entry.setup.now plan.entry.catalogue.now in
-        Drives rules plan.entry.packets.now journal.old → OnOk result (Drives rules plan.entry.packets.now journal.new) }
+    ensures drives { let rules = rules_for (λ s z. S.pick s z) (λ h. H.plain h) plan.entry.assignment.setup.now plan.entry.assignment.catalogue.now in
+        Drives rules plan.entry.assignment.packets.now journal.old → OnOk result (Drives rules plan.entry.assignment.packets.now journal.new) }
     ensures command { OnOk result (commands_of journal.new.events ≡ commands_of journal.old.events ++ Offer packet ∷ []) }
     ensures lost { OnOk result (losses journal.new.outcomes ≡ losses journal.old.outcomes) }
     ensures told { IfOk result (λ o. journal.new.outcomes ≡ journal.old.outcomes ++ o ∷ []) }
-    ensures arrives { IfOk result (λ o. ArrivesAs (slice_get plan.entry.packets.now packet) o) }
+    ensures arrives { IfOk result (λ o. ArrivesAs (slice_get plan.entry.assignment.packets.now packet) o) }
     ensures kept { OnOk result ((journal.new.node ≡ journal.old.node) × (journal.new.ring ≡ journal.old.ring)) }
     ensures newest { OnOk result (journal.new.newest ≡ journal.old.newest) }
-    ensures unmarked { plan.entry.paced ≡ true → AreUnmarked journal.old.events → OnOk result (AreUnmarked journal.new.events) }
+    ensures unmarked { plan.entry.assignment.paced ≡ true → AreUnmarked journal.old.events → OnOk result (AreUnmarked journal.new.events) }
 {
-    let hash = plan.setup.hash();
-    if plan.paced {
+    let hash = plan.assignment.setup.hash();
+    if plan.assignment.paced {
         let mut rings = PacedInputs { rt, inputs };
-        return journal.arrive(&hash, plan.packets, packet, &mut rings);
+        return journal.arrive(&hash, plan.assignment.packets, packet, &mut rings);
     }
-    journal.arrive(&hash, plan.packets, packet, inputs)
+    journal.arrive(&hash, plan.assignment.packets, packet, inputs)
 }
 
 // A packet arrives. Where it is there it is counted first, and as dropped once it is.
@@ -182,18 +183,18 @@ fn offer<S: Scheme, H: FlowHash, G, B: Names, R: Wait>(
     packet: u32,
 ) -> Result<(), RunFault>
     requires { 0 < tally.old.shares.parts }
-    ensures going { let rules = rules_for (λ s z. S.pick s z) (λ h. H.plain h) plan.entry.setup.now plan.entry.catalogue.now in
-        (cs : List Command) (n : ℕ) (places : ℕ) → Going rules plan.entry.packets.now cs n places journal.old →
-        OnOk result (Going rules plan.entry.packets.now (cs ++ Offer packet ∷ []) n places journal.new) }
+    ensures going { let rules = rules_for (λ s z. S.pick s z) (λ h. H.plain h) plan.entry.assignment.setup.now plan.entry.assignment.catalogue.now in
+        (cs : List Command) (n : ℕ) (places : ℕ) → Going rules plan.entry.assignment.packets.now cs n places journal.old →
+        OnOk result (Going rules plan.entry.assignment.packets.now (cs ++ Offer packet ∷ []) n places journal.new) }
     ensures parts { tally.new.shares.parts ≡ tally.old.shares.parts }
-    ensures counts { AreRead plan.entry.packets.now → Counts tally.old.lost tally.old.shares journal.old.outcomes →
+    ensures counts { AreRead plan.entry.assignment.packets.now → Counts tally.old.lost tally.old.shares journal.old.outcomes →
         OnOk result (Counts tally.new.lost tally.new.shares journal.new.outcomes) }
-    ensures unmarked { plan.entry.paced ≡ true → AreUnmarked journal.old.events → OnOk result (AreUnmarked journal.new.events) }
+    ensures unmarked { plan.entry.assignment.paced ≡ true → AreUnmarked journal.old.events → OnOk result (AreUnmarked journal.new.events) }
     ensures newest { OnOk result (journal.new.newest ≡ journal.old.newest) }
     ensures fault { IfErr result (λ fault. fault ≡ Memory) }
 {
-    let _ = plan.catalogue.size();
-    count_arrival(rt, plan.book, tally, plan.packets, packet);
+    let _ = plan.assignment.catalogue.size();
+    count_arrival(rt, plan.book, tally, plan.assignment.packets, packet);
     match arrive(rt, plan, journal, inputs, packet) {
         Ok(outcome) => {
             count_drop(rt, plan.book, tally, &outcome);
@@ -229,16 +230,18 @@ pub fn drive<S: Scheme, H: FlowHash, G: Gate, B: Names, R: Wait, W: Wait + Drop>
     desk: &mut Desk<'_, S, W>,
     inputs: &mut Inputs,
 ) -> Result<Progress<S, B>, RunFault>
-    requires within { progress.at ≤ length plan.commands.now }
-    requires going { let rules = rules_for (λ s z. S.pick s z) (λ h. H.plain h) plan.setup.now plan.catalogue.now in
-        Going rules plan.packets.now (take progress.at plan.commands.now) plan.node plan.ring progress.journal }
+    requires within { progress.at ≤ length plan.assignment.commands.now }
+    requires going { let asked = asked_in plan.assignment in
+        let rules = rules_for (λ s z. S.pick s z) (λ h. H.plain h) asked.setup asked.catalogue in
+        Going rules asked.packets (take progress.at asked.commands) asked.node asked.ring progress.journal }
     requires some { 0 < progress.tally.shares.parts }
-    requires counts { AreRead plan.packets.now → Counts progress.tally.lost progress.tally.shares progress.journal.outcomes }
-    ensures driven { let rules = rules_for (λ s z. S.pick s z) (λ h. H.plain h) plan.entry.setup.now plan.entry.catalogue.now in
-        IfOk result (λ d. IsDriven rules plan.entry.packets.now plan.entry.commands.now plan.entry.node plan.entry.ring progress.at d.at d.journal) }
+    requires counts { AreRead plan.assignment.packets.now → Counts progress.tally.lost progress.tally.shares progress.journal.outcomes }
+    ensures driven { let asked = asked_in plan.entry.assignment in
+        let rules = rules_for (λ s z. S.pick s z) (λ h. H.plain h) asked.setup asked.catalogue in
+        IfOk result (λ d. IsDriven rules asked.packets asked.commands asked.node asked.ring progress.at d.at d.journal) }
     ensures parts { IfOk result (λ d. d.tally.shares.parts ≡ progress.tally.shares.parts) }
-    ensures counts { AreRead plan.entry.packets.now → IfOk result (λ d. Counts d.tally.lost d.tally.shares d.journal.outcomes) }
-    ensures unmarked { plan.entry.paced ≡ true → AreUnmarked progress.journal.events → IfOk result (λ d. AreUnmarked d.journal.events) }
+    ensures counts { AreRead plan.entry.assignment.packets.now → IfOk result (λ d. Counts d.tally.lost d.tally.shares d.journal.outcomes) }
+    ensures unmarked { plan.entry.assignment.paced ≡ true → AreUnmarked progress.journal.events → IfOk result (λ d. AreUnmarked d.journal.events) }
     ensures published { last_published desk.old.seat ≡ progress.journal.newest →
         MatchResult result (λ d. last_published desk.new.seat ≡ d.journal.newest) (λ fault. fault ≡ Memory) }
 {
@@ -251,8 +254,8 @@ pub fn drive<S: Scheme, H: FlowHash, G: Gate, B: Names, R: Wait, W: Wait + Drop>
     let mut journal = journal;
     let mut newest = newest;
     let mut tally = tally;
-    for at in from..plan.commands.len() {
-        match command_at(plan.commands, at) {
+    for at in from..plan.assignment.commands.len() {
+        match command_at(plan.assignment.commands, at) {
             Command::Publish(number) => {
                 publish(alloc, plan, &mut journal, desk, &mut newest, number)?;
             }
@@ -272,7 +275,7 @@ pub fn drive<S: Scheme, H: FlowHash, G: Gate, B: Names, R: Wait, W: Wait + Drop>
     Ok(Progress {
         journal,
         newest,
-        at: plan.commands.len(),
+        at: plan.assignment.commands.len(),
         tally,
     })
 }

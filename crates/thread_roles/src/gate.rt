@@ -16,7 +16,7 @@ pub trait Gate {
     /// The worker has taken a packet out of its ring and has not looked at the board for it yet.
     fn before(&self, node: u16, worker: u16, nth: u64);
 
-    /// The packet was served and counted. `stats` are the counts of the whole run, taken in one step with that count. Where
+    /// The packet was served and counted. `stats` are the counts of its node's run, taken in one step with that count. Where
     /// memory was refused in the serving, this call doesn't come.
     fn counted(&self, node: u16, worker: u16, stats: Stats);
 

@@ -3,6 +3,7 @@
 //! shares of the counts. `node_threads` starts these threads and joins them.
 #![tactic(auto)]
 
+mod assignment;
 mod driving;
 mod fault;
 mod gate;
@@ -15,6 +16,7 @@ mod ring;
 mod tally;
 mod working;
 
+pub use assignment::Assignment;
 pub use driving::{drive, stops_at};
 pub use fault::{RunFault, fault_of};
 pub use gate::{Gate, OpenGate};

@@ -97,18 +97,18 @@ fn serve_gated<S: Scheme, H: FlowHash, T: ConnTable, G: Gate, B: Names, R: Wait>
     ensures work { IsWork run.old.record run.old.tally.lost run.old.tally.shares → OnOk result (IsWork run.new.record run.new.tally.lost run.new.tally.shares) }
     ensures fault { IfErr result (λ fault. IsRefusal fault) }
 {
-    plan.gate.before(plan.node, ends.number, nth);
+    plan.gate.before(plan.assignment.node, ends.number, nth);
     let WorkerRun { record, tally } = run;
     match serve_one(rt, &mut ends.post, record, item) {
         Ok(served) => {
             send_on(rt, &mut ends.out, ends.number, nth, &served);
             let stats = tally.serve_one(rt, plan.book, served.choice);
-            plan.gate.counted(plan.node, ends.number, stats);
-            plan.gate.after(plan.node, ends.number, nth);
+            plan.gate.counted(plan.assignment.node, ends.number, stats);
+            plan.gate.after(plan.assignment.node, ends.number, nth);
             Ok(())
         }
         Err(fault) => {
-            plan.gate.after(plan.node, ends.number, nth);
+            plan.gate.after(plan.assignment.node, ends.number, nth);
             Err(fault)
         }
     }
@@ -122,7 +122,7 @@ fn begin<S: Scheme, H: FlowHash, T: ConnTable, G, B: Names>(
 ) -> Result<WorkerRun<S, T, B>, AllocError>
     ensures { IfOk result (λ w. IsWork w.record w.tally.lost w.tally.shares) }
 {
-    let record = WorkerRecord::make(alloc, plan.setup)?;
+    let record = WorkerRecord::make(alloc, plan.assignment.setup)?;
     Ok(WorkerRun {
         record,
         tally: ThreadShares::of_part(part),

@@ -31,12 +31,12 @@ struct Call {
     method: Method,
 }
 
-/// Writes each call down, and the counts that it was shown.
+/// Writes each call down, and the counts that it was shown, with the node whose they are.
 #[derive(Drop)]
 struct Recorder<'r, R: Wait> {
     rt: &'r R,
     calls: Mutex<Vec<Call>>,
-    shown: Mutex<Vec<Stats>>,
+    shown: Mutex<Vec<(u16, Stats)>>,
     // What there was no memory for.
     missed: AtomicU64,
 }
@@ -71,7 +71,7 @@ impl<R: Wait> Gate for Recorder<'_, R> {
     fn counted(&self, node: u16, worker: u16, stats: Stats) {
         self.write(node, Some(worker), Method::Counted);
         let mut shown = self.shown.lock(self.rt);
-        if shown.push(stats).is_err() {
+        if shown.push((node, stats)).is_err() {
             self.missed.store(1, Ordering::SeqCst);
         }
     }
@@ -187,22 +187,34 @@ fn are_called(
     same_methods(rt, found.as_slice(), &SECOND_OF_SECOND, 1, Some(1));
 }
 
-// How often counts with so many forwarded were shown.
-fn times_shown(shown: &[Stats], forwarded: u64) -> usize {
+// How often a node's counts with so many forwarded were shown.
+fn times_shown(shown: &[(u16, Stats)], of_node: u16, forwarded: u64) -> usize {
     shown
         .iter()
-        .filter(|stats| stats.forwarded == forwarded)
+        .filter(|(node, stats)| *node == of_node && stats.forwarded == forwarded)
         .count()
 }
 
-// Each serving was shown the counts of the whole run with itself: from one forwarded packet to all of them, each once.
-fn are_shown(rt: &impl Abort, shown: &[Stats], last: &Stats) {
-    holds(rt, shown.len() as u64 == last.forwarded, "a count each");
-    for forwarded in 0..last.forwarded {
-        let times = times_shown(shown, forwarded.wrapping_add(1));
+// Each serving of a node was shown the counts of its node with itself: from one forwarded packet to all of them, each once. The
+// answer is how many there were.
+fn are_shown_of(rt: &impl Abort, shown: &[(u16, Stats)], node: u16) -> u64 {
+    let all = shown.iter().filter(|one| one.0 == node).count() as u64;
+    for forwarded in 0..all {
+        let times = times_shown(shown, node, forwarded.wrapping_add(1));
         holds(rt, times == 1, "each count once");
     }
-    for stats in shown {
+    all
+}
+
+// So were those of all nodes, which come to the counts of the run. Each shows counts of one moment, which add up.
+fn are_shown(rt: &impl Abort, shown: &[(u16, Stats)], last: &Stats) {
+    let mut all = 0u64;
+    for node in 0..3u16 {
+        all = all.wrapping_add(are_shown_of(rt, shown, node));
+    }
+    holds(rt, all == last.forwarded, "a count each");
+    holds(rt, shown.len() as u64 == all, "no other count");
+    for (_, stats) in shown {
         let lost = stats.dropped[12];
         let left = stats
             .received

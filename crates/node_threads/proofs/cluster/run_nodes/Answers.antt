@@ -11,13 +11,11 @@ scoped-requires g c =
         b.send-S,
         b.send-H,
         param_send 2 _ (arg_send _ no _ b.send-T),
-        param_send 4 _ (arg_send _ no _ b.send-B),
-        param_send 6 _ (arg_send _ no _ b.send-S-Prepared),
+        param_send 5 _ (arg_send _ no _ b.send-S-Prepared),
         b.sync-S,
         b.sync-H,
         param_sync 3 _ (arg_sync _ no _ b.sync-G),
-        param_sync 4 _ (arg_sync _ no _ b.sync-B),
-        param_sync 5 _ (arg_sync _ no _ b.sync-R),
-        param_sync 6 _ (arg_sync _ no _ b.sync-S-Prepared),
+        param_sync 4 _ (arg_sync _ no _ b.sync-R),
+        param_sync 5 _ (arg_sync _ no _ b.sync-S-Prepared),
       );
     }

@@ -11,13 +11,13 @@ use Rattle.node_threads.proofs.node.first_life.Goals as goal
 
 pub new-requires-2 : goal.new-requires-2
 new-requires-2 g c =
-    let rules : Rules = rules_for (λ s z. g.S.Scheme.pick s z) (λ h. g.H.FlowHash.plain h) c.args.plan.setup.now c.args.plan.catalogue.now in
+    let rules : Rules = rules_for (λ s z. g.S.Scheme.pick s z) (λ h. g.H.FlowHash.plain h) c.args.plan.assignment.setup.now c.args.plan.assignment.catalogue.now in
     let fresh = c.in_ok-new.ensures.fresh in
     record {
       begins = record {
         within = omega arith;
         going = record {
-          drives = c.in_ok-new.ensures.drives rules c.args.plan.packets.now c.requires.there c.workers.ensures.workers;
+          drives = c.in_ok-new.ensures.drives rules c.args.plan.assignment.packets.now c.requires.there c.workers.ensures.workers;
           obeyed = ap (λ (j : JournalView). commands_of j.events) fresh;
           kept = subst (λ (j : JournalView). KeepDrained [] (losses j.outcomes)) (sym fresh) tt;
           own = ap (λ (j : JournalView). j.node) fresh;

@@ -9,10 +9,10 @@ use Rattle.thread_roles.proofs.driving.drive.Given as goal
 
 abbrev pub invariant-loop-at : goal.invariant-loop-at
 invariant-loop-at g l = record {
-  going : Going (rules_for (λ s z. g.S.Scheme.pick s z) (λ h. g.H.FlowHash.plain h) l.plan.setup.now l.plan.catalogue.now) l.plan.packets.now (take l.at l.plan.commands.now) l.plan.node l.plan.ring l.journal;
+  going : Going (rules_for (λ s z. g.S.Scheme.pick s z) (λ h. g.H.FlowHash.plain h) l.plan.assignment.setup.now l.plan.assignment.catalogue.now) l.plan.assignment.packets.now (take l.at l.plan.assignment.commands.now) l.plan.assignment.node l.plan.assignment.ring l.journal;
   parts : l.tally.shares.parts ≡ l.fn.progress.tally.shares.parts;
-  counts : AreRead l.plan.packets.now → Counts l.tally.lost l.tally.shares l.journal.outcomes;
-  unmarked : l.plan.paced ≡ true → AreUnmarked l.fn.progress.journal.events → AreUnmarked l.journal.events;
+  counts : AreRead l.plan.assignment.packets.now → Counts l.tally.lost l.tally.shares l.journal.outcomes;
+  unmarked : l.plan.assignment.paced ≡ true → AreUnmarked l.fn.progress.journal.events → AreUnmarked l.journal.events;
   prepared : number_of arc_value l.newest ≡ l.journal.newest;
   published : last_published l.initial.desk.seat ≡ l.fn.progress.journal.newest → last_published l.desk.seat ≡ l.journal.newest;
 }

@@ -25,10 +25,10 @@ returns-in-Ok-clause-counts g c = λ lost shares had. subst (λ (j : JournalView
 
 pub returns-in-Ok-show_next-clause-going : goal.returns-in-Ok-show_next-clause-going
 returns-in-Ok-show_next-clause-going g c = λ packets cs n places going.
-    let rules : Rules = rules_for (λ s z. g.S.Scheme.pick s z) (λ h. g.H.FlowHash.plain h) c.args.plan.setup.now c.args.plan.catalogue.now in
+    let rules : Rules = rules_for (λ s z. g.S.Scheme.pick s z) (λ h. g.H.FlowHash.plain h) c.args.plan.assignment.setup.now c.args.plan.assignment.catalogue.now in
     goes_more rules packets cs n places (Publish c.args.number) c.args.journal.now c.install.new.self going (c.in-Ok-Installed.ensures.drives rules packets (sym c.knows.ensures) going.drives) c.in-Ok-Installed.ensures.command (keeps_on cs (Publish c.args.number) c.args.journal.now.outcomes c.install.new.self.outcomes refl c.in-Ok-Installed.ensures.lost going.kept) c.in-Ok-Installed.ensures.kept.0 c.in-Ok-Installed.ensures.kept.1
 
 pub returns-in-Ok-clause-going : goal.returns-in-Ok-clause-going
 returns-in-Ok-clause-going g c = λ packets cs n places going.
-    let rules : Rules = rules_for (λ s z. g.S.Scheme.pick s z) (λ h. g.H.FlowHash.plain h) c.args.plan.setup.now c.args.plan.catalogue.now in
+    let rules : Rules = rules_for (λ s z. g.S.Scheme.pick s z) (λ h. g.H.FlowHash.plain h) c.args.plan.assignment.setup.now c.args.plan.assignment.catalogue.now in
     goes_more rules packets cs n places (Publish c.args.number) c.args.journal.now c.install.new.self going (c.in-Ok.ensures.drives rules packets (sym c.knows.ensures) going.drives) c.in-Ok.ensures.command (keeps_on cs (Publish c.args.number) c.args.journal.now.outcomes c.install.new.self.outcomes refl c.in-Ok.ensures.lost going.kept) c.in-Ok.ensures.kept.0 c.in-Ok.ensures.kept.1

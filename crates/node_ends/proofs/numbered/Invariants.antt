@@ -1,5 +1,0 @@
-use Rattle.std.proofs.Common.{◌≡◌, length}
-use Rattle.node_ends.proofs.numbered.Given as goal
-
-abbrev pub invariant-loop-serving : goal.invariant-loop-serving
-invariant-loop-serving g l = length l.numbers.items ≡ l.serving-index
