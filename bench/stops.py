@@ -8,9 +8,9 @@ import pathlib
 import subprocess
 import sys
 import tempfile
-import time
 
 from asked import HERE, PROGRAM
+from nodes import timed
 from pairs import scenario
 
 WORKERS = 1, 16
@@ -22,14 +22,6 @@ def text(workers, stops, packets):
     return scenario(["install 0 1", *life * stops], [["a@10.1.0.1", "b@10.1.0.2"]], workers=workers)
 
 
-def timed(folder, workers):
-    """The seconds of one run."""
-    start = time.monotonic()
-    words = [PROGRAM, "run", f"{workers}.toml", "in.pcap", os.devnull]
-    subprocess.run(words, cwd=folder, stdout=subprocess.DEVNULL, check=True)
-    return time.monotonic() - start
-
-
 def main():
     stops, turns = map(int, (sys.argv[1:] + ["45000", "3"][len(sys.argv) - 1 :])[:2])
     with tempfile.TemporaryDirectory() as made:
@@ -38,7 +30,8 @@ def main():
         for packets in 0, 1, 4:
             for workers in WORKERS:
                 (folder / f"{workers}.toml").write_text(text(workers, stops, packets))
-            one, sixteen = (min(took) for took in zip(*([timed(folder, workers) for workers in WORKERS] for _ in range(turns))))
+            runs = [[PROGRAM, "run", folder / f"{workers}.toml", folder / "in.pcap", os.devnull] for workers in WORKERS]
+            one, sixteen = (min(took) for took in zip(*([timed([run]) for run in runs] for _ in range(turns))))
             print(f"{stops} stops, {packets} packets a life: 1 worker {one:.2f} s, 16 workers {sixteen:.2f} s, {sixteen / one:.2f}", flush=True)
 
 

@@ -3,11 +3,11 @@
 
 The program `example_node` runs a node of two workers through two lives, on threads; `maglev run` runs two such nodes, of which
 one has two lives, with `--splits` two of a worker, with `--pace` one of a worker over 40,000 records, and one of sixteen workers
-whose lives have a packet or none. They print their whole answer, or why there is none, alone: `fault: ThreadLost` where a thread couldn't be started, and `fault: Memory` where
-memory was refused, which comes first where both were. A thread of the audit may be refused: the caller's thread then audits
-that node, or all of them, and the run says what it always says. A thread that reads a part of a large capture may be refused
-too: the caller's thread then reads that part. `refuse_thread.c` refuses threads, and `refused_growths.py` has how growths are
-refused. A growth that the system refuses while it starts a thread loses the thread.
+whose lives have a packet or none. They print their whole answer, or why there is none, alone: `fault: ThreadLost` where a thread
+couldn't be started, and `fault: Memory` where memory was refused, which comes first where both were. A thread of the audit may be
+refused: the caller's thread then audits that node, or all of them, and the run says what it always says. A thread that reads a
+part of a large capture may be refused too: the caller's thread then reads that part. `refuse_thread.c` refuses threads, and
+`refused_growths.py` has how growths are refused. A growth that the system refuses while it starts a thread loses the thread.
 
 The last line is 'N passed, N failed', which counts runs.
 """
