@@ -15,16 +15,20 @@ use std::alloc::{AllocError, Global};
 use std::collections::VecDeque;
 use std::fmt;
 use std::marker::Model;
+use std::mem::size_of;
 
 /// A packet that waits at a worker, to be served under a version that is not below its floor.
 #[derive(Clone, Copy, Debug, PartialEq, Eq)]
 pub struct Item {
     pub packet: u32,
     pub flow: Flow,
+    pub floor: u32,
     /// When it came, in microseconds.
     pub at: u64,
-    pub floor: u32,
 }
+
+// A packet that waits is kept until it is served, so no field leaves a gap.
+const _: () = prove!(size_of::<Item>() == 32);
 
 /// What came of a worker's turn.
 #[derive(Clone, Copy, Debug, PartialEq, Eq)]
