@@ -19,14 +19,13 @@ use cluster_core::Setup;
 use cluster_node::{Item, Outcome, Packet};
 use connection_table::ConnTable;
 use forwarder::Choice;
+use handled_list::{Handled, HandledList};
 use hash_laws::FlowHash;
 use pool_versions::Catalogue;
 use selection::Scheme;
 use shared_versions::{Shared, prepare_after};
 use std::alloc::{AllocError, Global};
-use thread_records::{
-    Command, Handled, Journal, LifeFault, NodeRecord, Rings, WorkerRecord, are_of,
-};
+use thread_records::{Command, Journal, LifeFault, NodeRecord, Rings, WorkerRecord, are_of};
 
 /// A queue of so many places for each worker, the oldest packet in front.
 #[derive(Drop)]
@@ -74,10 +73,14 @@ fn knows(catalogue: &Catalogue, number: u32) -> bool
 }
 
 // What a worker sent, by the numbers of its servings' events, of which the first has this one.
-fn gather(sent: &mut Vec<u32>, first: usize, handled: &[Handled]) -> Result<(), AllocError> {
+fn gather(sent: &mut Vec<u32>, first: usize, handled: &HandledList) -> Result<(), AllocError> {
     let mut number = u32::try_from(first).unwrap_or(u32::MAX);
-    for one in handled {
-        if let Choice::Forward { .. } = one.choice {
+    for at in 0..handled.len() {
+        if let Some(Handled {
+            choice: Choice::Forward { .. },
+            ..
+        }) = handled.get(at)
+        {
             sent.push(number)?;
         }
         number = number.wrapping_add(1);

@@ -1,6 +1,9 @@
-//! Tests of lists of outcomes, and of the places of their backends. With any one allocation refused they pass too.
+//! Tests of lists of outcomes and of what was handled, and of the places of their backends. With any one allocation refused
+//! they pass too.
 #![tactic(auto)]
 
+#[cfg(test)]
+mod handled;
 #[cfg(test)]
 mod lists;
 #[cfg(test)]

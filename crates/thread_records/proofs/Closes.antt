@@ -15,7 +15,7 @@ use Rattle.cluster_node.specs.Rules.{Rules}
 use Rattle.cluster_node.specs.Book.{Line, took}
 use Rattle.cluster_node.specs.Record.{accepted, installed_of, refusals_of, lines_of, placed_count, served_count}
 use Rattle.cluster_core.specs.Apart.{puts_on}
-use Rattle.thread_records.specs.declared.step.Handled.{Handled}
+use Rattle.handled_list.specs.declared.handled.Handled.{Handled}
 use Rattle.thread_records.specs.Workers.{limits_in}
 use Rattle.thread_records.specs.Works.{handling_of, newest_first, Fits}
 use Rattle.thread_records.specs.declared.command.Command.{Command}

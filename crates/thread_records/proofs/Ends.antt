@@ -1,16 +1,17 @@
 -- The end of a life: what the workers handled, beside what was placed on them, and what is written of it.
 use Rattle.std.proofs.Common.{◌≡◌, ℕ, ◌+◌, ◌-◌, ◌<◌, ◌≤◌, ◌%◌, ◌^◌, Bool, true, false, List, [], ◌∷◌, ◌++◌, length, map, take, drop, get_or, suc, zero, reverse, Some, refl, sym, ap, ◌∙◌, subst, arith}
-use Rattle.std.specs.Prelude.{◌==◌, All, slice_get}
+use Rattle.std.specs.Prelude.{◌==◌, All, slice_get, ◌&&◌, None}
 use Rattle.std.specs.List.{list_any, list_all}
 use Rattle.std.proofs.lemmas.Bool.{and_parts, true≢false}
-use Rattle.std.proofs.lemmas.List.{take_all, length-map, get_or-map, append-nil, append_assoc, reverse-append}
+use Rattle.std.proofs.lemmas.Option.{slice_get_within, get_or_from_slice_get}
+use Rattle.std.proofs.lemmas.List.{take_all, take_more, map_push, length-map, get_or-map, append-nil, append_assoc, reverse-append}
 use Rattle.std.proofs.lemmas.List.Elements.{All-same, All-head, All-tail}
-use Rattle.std.proofs.lemmas.List.Folds.{list_all-map}
+use Rattle.std.proofs.lemmas.List.Folds.{list_all-map, list_all-append}
 use Rattle.std.proofs.Math.Nat.{mod-add-mod}
 use Rattle.cluster_node.specs.declared.serving.Item.{Item}
 use Rattle.cluster_node.specs.declared.packets.Packet.{Packet}
 use Rattle.cluster_node.specs.Rules.{Rules}
-use Rattle.thread_records.specs.declared.step.Handled.{Handled}
+use Rattle.handled_list.specs.declared.handled.Handled.{Handled}
 use Rattle.thread_records.specs.Works.{newest_first, WorkView}
 use Rattle.thread_records.specs.declared.command.Command.TheVariants as commands
 use Rattle.thread_records.specs.Histories.{past_of, commands_of, NoneWaits}
@@ -51,6 +52,48 @@ installed_at : (installed : List ℕ) (hs : List Handled) (k : ℕ) (h : Handled
 installed_at installed [] k h e lt = absurd (omega arith)
 installed_at installed (g ∷ hs) zero h e lt = (and_parts (list_any (λ u. u == g.version) installed) (uses_installed installed hs) e).0
 installed_at installed (g ∷ hs) (suc k) h e lt = installed_at installed hs k h (and_parts (list_any (λ u. u == g.version) installed) (uses_installed installed hs) e).1 (omega arith)
+
+-- where there is a packet there is one to be had
+pub none_within : (hs : List Handled) (k : ℕ) → slice_get hs k ≡ None → k < length hs → ⊥
+none_within [] k e lt = absurd (omega arith)
+none_within (h ∷ hs) zero e lt = cc
+none_within (h ∷ hs) (suc k) e lt = none_within hs k e (omega arith)
+
+-- one more of them is the packet at its place
+pub begins_more : (hs : List Handled) (is : List Item) (k : ℕ) (h : Handled) (d : Item) → slice_get hs k ≡ Some h → k < length is → h.item ≡ get_or is k d → items_of (take k hs) ≡ take k is → items_of (take (k + 1) hs) ≡ take (k + 1) is
+begins_more hs is k h d at below same had =
+    let last : get_or hs k h ≡ h = get_or_from_slice_get hs k h h at in
+    ap items_of (take_more hs k h (slice_get_within hs k h at))
+    ∙ map_push (λ g. g.item) (take k hs) (get_or hs k h)
+    ∙ ap (λ (l : List Item). l ++ (get_or hs k h).item ∷ []) had
+    ∙ ap (λ (i : Item). take k is ++ i ∷ []) (ap (λ (g : Handled). g.item) last ∙ same)
+    ∙ sym (take_more is k d below)
+
+-- one of them is not
+pub begins_not : (hs : List Handled) (is : List Item) (k : ℕ) (h : Handled) (d : Item) → slice_get hs k ≡ Some h → (h.item ≡ get_or is k d → ⊥) → items_of hs ≡ take (length hs) is → ⊥
+begins_not hs is k h d at other all =
+    let last : get_or hs k h ≡ h = get_or_from_slice_get hs k h h at in
+    other (ap (λ (g : Handled). g.item) (sym last) ∙ item_at hs is k h d all (slice_get_within hs k h at))
+
+-- one more of them was served under a version that was installed
+pub uses_more : (installed : List ℕ) (hs : List Handled) (k : ℕ) (h : Handled) → slice_get hs k ≡ Some h → uses_installed installed (take k hs) ≡ true → list_any (λ u. u == h.version) installed ≡ true → uses_installed installed (take (k + 1) hs) ≡ true
+uses_more installed hs k h is had one =
+    let last : get_or hs k h ≡ h = get_or_from_slice_get hs k h h is in
+    ap (λ (l : List Handled). uses_installed installed l) (take_more hs k h (slice_get_within hs k h is))
+    ∙ list_all-append (λ (g : Handled). list_any (λ u. u == g.version) installed) (take k hs) (get_or hs k h ∷ [])
+    ∙ ap (λ (b : Bool). b && uses_installed installed (get_or hs k h ∷ [])) had
+    ∙ ap (λ (g : Handled). uses_installed installed (g ∷ [])) last
+    ∙ ap (λ (b : Bool). b && true) one
+
+-- one that was not
+pub uses_not : (installed : List ℕ) (hs : List Handled) (k : ℕ) (h : Handled) → slice_get hs k ≡ Some h → list_any (λ u. u == h.version) installed ≡ false → uses_installed installed hs ≡ false
+uses_not installed hs k h is one = go (uses_installed installed hs) refl
+  where
+    go : (b : Bool) → uses_installed installed hs ≡ b → b ≡ false
+    go false e = refl
+    go true e =
+        let last : get_or hs k h ≡ h = get_or_from_slice_get hs k h h is in
+        sym (installed_at installed hs k h e (slice_get_within hs k h is)) ∙ ap (λ (g : Handled). list_any (λ u. u == g.version) installed) last ∙ one
 
 -- what stands at a place of a list
 record At {A : Type 0} (xs : List A) (n : ℕ) (x : A) (rest : List A) : Type 0 where

@@ -23,7 +23,7 @@ use Rattle.cluster_node.specs.Records.{node_of, of_node}
 use Rattle.cluster_core.specs.Runs.{verdict, say, verdicts, packet_of}
 use Rattle.cluster_core.specs.Apart.{Popped, serving, greatest, settled}
 use Rattle.cluster_core.proofs.Apart.{taken_apart}
-use Rattle.thread_records.specs.declared.step.Handled.{Handled}
+use Rattle.handled_list.specs.declared.handled.Handled.{Handled}
 use Rattle.thread_records.specs.Workers.{limits_in}
 use Rattle.thread_records.specs.Works.{handling_of, serving_by, Fits}
 use Rattle.thread_records.specs.Histories.{said_on, record_of, past_of, AreOf, serve_of, outcome_of, stage_after, may_follow, stage_of, is_by_lives, commands_of}

@@ -7,7 +7,7 @@ use Rattle.std.proofs.lemmas.List.{take_all}
 use Rattle.std.proofs.lemmas.List.Elements.{All-more, Contains-append_right}
 use Rattle.selection.specs.Readied.{Readied}
 use Rattle.forwarder.specs.Serving.{Pick}
-use Rattle.thread_records.specs.declared.step.Handled.{Handled}
+use Rattle.handled_list.specs.declared.handled.Handled.{Handled}
 use Rattle.thread_records.specs.Sources.{MadeOf, IsMadeOf}
 use Rattle.thread_records.specs.Workers.{Limits, Working, limits_of}
 use Rattle.thread_records.specs.Works.{working_view, Worked}

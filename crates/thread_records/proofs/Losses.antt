@@ -16,7 +16,7 @@ use Rattle.cluster_node.specs.Record.{of_choice}
 use Rattle.cluster_core.specs.OutcomeCounts.{is_arrival}
 use Rattle.thread_records.specs.declared.command.Command.{Command}
 use Rattle.thread_records.specs.declared.command.Command.TheVariants.{Publish, Offer, Restart, Stop}
-use Rattle.thread_records.specs.declared.step.Handled.{Handled}
+use Rattle.handled_list.specs.declared.handled.Handled.{Handled}
 use Rattle.thread_records.specs.Arrivals.{ArrivesAs}
 use Rattle.thread_records.specs.Histories.{outcome_of}
 use Rattle.thread_records.specs.Journals.{JournalView, with_event, with_install}

@@ -7,7 +7,7 @@ use Rattle.cluster_node.specs.declared.events.Event.TheVariants.{Install, Arrive
 use Rattle.cluster_node.specs.declared.outcomes.Outcome.TheVariants.{Installed, Refused}
 use Rattle.cluster_node.specs.declared.outcomes.Reason.TheVariants.{NotNewer}
 use Rattle.thread_records.specs.declared.nodes.NodeRecord.{NodeRecord}
-use Rattle.thread_records.specs.declared.step.Handled.{Handled}
+use Rattle.handled_list.specs.declared.handled.Handled.{Handled}
 use Rattle.thread_records.specs.Histories.{serve_of}
 use Rattle.thread_records.specs.Journals.{JournalView, with_event, with_install, with_serve, no_marks}
 use Rattle.thread_records.specs.Ends.{with_serves, with_all_serves, with_life_ended}

@@ -12,7 +12,7 @@ use Rattle.pool_versions.specs.Pool.{Pools, version_at}
 use Rattle.pool_versions.specs.Same.{AreSame}
 use Rattle.selection.proofs.Sources.{ups_same}
 use Rattle.cluster_core.specs.Setups.{Fixed, rules_for}
-use Rattle.thread_records.specs.declared.step.Handled.{Handled}
+use Rattle.handled_list.specs.declared.handled.Handled.{Handled}
 use Rattle.thread_records.specs.Sources.{MadeOf, IsFrom}
 use Rattle.thread_records.specs.Workers.{Limits, limits_in}
 use Rattle.thread_records.specs.Works.{handling_of, onto, newest_first, Fits, Follow, Agrees, always, WorkView, Worked, IsOf}

@@ -12,7 +12,7 @@ use Rattle.forwarder.proofs.History.{history-none}
 use Rattle.selection.specs.Candidates.{Candidates, candidates_under}
 use Rattle.forwarder.specs.Serving.{Pick, Serving, ups_in, told, told_after, serving_of, forwarding_of}
 use Rattle.cluster_core.specs.Apart.{greatest}
-use Rattle.thread_records.specs.declared.step.Handled.{Handled}
+use Rattle.handled_list.specs.declared.handled.Handled.{Handled}
 use Rattle.thread_records.specs.Sources.{MadeOf, IsMadeOf}
 use Rattle.thread_records.specs.Workers.{Limits, limits_of}
 use Rattle.thread_records.specs.Works.{handling_of, serving_by, onto, newest_first, Fits, Follow, Agrees, always, WorkView, Worked}

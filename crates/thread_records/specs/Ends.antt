@@ -3,7 +3,7 @@ use Rattle.std.specs.Prelude.{◌≡◌, ℕ, ◌+◌, ◌-◌, ◌%◌, ◌^◌
 use Rattle.std.specs.Prelude.{None, Result, Ok, Err}
 use Rattle.std.specs.List.{list_any, list_all}
 use Rattle.cluster_node.specs.declared.serving.Item.{Item}
-use Rattle.thread_records.specs.declared.step.Handled.{Handled}
+use Rattle.handled_list.specs.declared.handled.Handled.{Handled}
 use Rattle.thread_records.specs.declared.journal.closing.LifeFault.{LifeFault}
 use Rattle.thread_records.specs.declared.journal.closing.LifeFault.TheVariants.{Foreign, RingLost, Memory}
 use Rattle.cluster_node.specs.declared.outcomes.Outcome.{Outcome}

@@ -11,7 +11,7 @@ use Rattle.cluster_node.specs.Book.{placed}
 use Rattle.cluster_node.specs.Record.{accepted, lines_of, of_choice, placed_count, served_count}
 use Rattle.cluster_node.specs.Records.{node_of, of_node}
 use Rattle.cluster_core.specs.Runs.{say, packet_of}
-use Rattle.thread_records.specs.declared.step.Handled.{Handled}
+use Rattle.handled_list.specs.declared.handled.Handled.{Handled}
 use Rattle.thread_records.specs.declared.command.Command.{Command}
 use Rattle.thread_records.specs.declared.command.Command.TheVariants.{Publish, Offer}
 use Rattle.thread_records.specs.declared.command.Command.TheVariants as commands

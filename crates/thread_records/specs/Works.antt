@@ -9,7 +9,7 @@ use Rattle.cluster_node.specs.Rules.{Rules}
 use Rattle.cluster_node.specs.Book.{serving_under}
 use Rattle.cluster_core.specs.Apart.{Handling, greatest}
 use Rattle.cluster_core.specs.Setups.{Fixed}
-use Rattle.thread_records.specs.declared.step.Handled.{Handled}
+use Rattle.handled_list.specs.declared.handled.Handled.{Handled}
 use Rattle.thread_records.specs.Sources.{MadeOf, IsFrom}
 use Rattle.thread_records.specs.Workers.{Limits, Working, limits_in, limits_of}
 

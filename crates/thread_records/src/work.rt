@@ -11,11 +11,12 @@ ghost use Rattle.thread_records.specs.Workers.{limits_of};
 ghost use Rattle.thread_records.specs.Works.{WorkView, working_view, Worked, IsOf, IsWorkerOf};
 
 use crate::source::Source;
-use crate::step::{Handled, Step};
+use crate::step::Step;
 use crate::worker::Worker;
 use cluster_core::Setup;
 use cluster_node::Item;
 use connection_table::ConnTable;
+use handled_list::{Handled, HandledList};
 use hash_laws::FlowHash;
 use pool_versions::Catalogue;
 use selection::{PreparedVersion, Scheme};
@@ -37,7 +38,7 @@ pub struct WorkerRecord<S: Scheme, T: ConnTable> {
     // The places of the worker's table, and how long an entry stands there after its last touch.
     capacity: u32,
     idle: Option<u64>,
-    handled: Vec<Handled>,
+    handled: HandledList,
 }
 
 impl<S: Scheme, T: ConnTable> fmt::Debug for WorkerRecord<S, T> {
@@ -74,7 +75,7 @@ impl<S: Scheme, T: ConnTable> Model for WorkerRecord<S, T> {
 // A worker handles a packet under a version, and what it handled is written. Where memory is refused nothing is done.
 fn handle_under<S: Scheme, T: ConnTable>(
     worker: &mut Worker<S, T>,
-    handled: &mut Vec<Handled>,
+    handled: &mut HandledList,
     version: &PreparedVersion<S>,
     item: &Item,
 ) -> Result<Step, AllocError>
@@ -93,7 +94,7 @@ fn handle_under<S: Scheme, T: ConnTable>(
         Worked (λ s z. S.pick s z) (working_view made worker.old handled.old.items) →
         IfOk result (λ step. MatchStep step (λ s. Worked (λ s z. S.pick s z) (working_view (made ++ m ∷ []) worker.new handled.new.items)) (Unit {0})) }
 {
-    handled.reserve(1)?;
+    handled.reserve()?;
     match worker.step(version, item) {
         Step::Behind => Ok(Step::Behind),
         Step::Done(served) => {
@@ -119,7 +120,7 @@ impl<S: Scheme, T: ConnTable> WorkerRecord<S, T> {
             worker: Worker::make(alloc, setup)?,
             capacity: setup.capacity(),
             idle: setup.idle(),
-            handled: Vec::new(alloc),
+            handled: HandledList::new(alloc),
         })
     }
 
@@ -191,15 +192,15 @@ impl<S: Scheme, T: ConnTable> WorkerRecord<S, T> {
     }
 
     /// What it handled, in order. All of it is what one forwarder answers by the versions that it used.
-    pub fn handled(&self) -> &[Handled]
-        ensures handled { result.now ≡ self.now.handled }
+    pub fn handled(&self) -> &HandledList
+        ensures handled { result.now.items ≡ self.now.handled }
         ensures worked { Worked (λ s z. S.pick s z) self.now }
     {
-        self.handled.as_slice()
+        &self.handled
     }
 
     /// The same as a list that is the caller's. The rest of the record goes.
-    pub fn into_handled(self) -> Vec<Handled>
+    pub fn into_handled(self) -> HandledList
         ensures handled { result.items ≡ self.handled }
         ensures worked { Worked (λ s z. S.pick s z) self }
     {

@@ -11,7 +11,7 @@ use Rattle.cluster_node.specs.declared.outcomes.Outcome.TheVariants as outcomes
 use Rattle.cluster_node.specs.declared.outcomes.Cause.TheVariants as causes
 use Rattle.cluster_node.specs.declared.packets.Packet.{Packet}
 use Rattle.cluster_node.specs.Records.{WasRead}
-use Rattle.thread_records.specs.declared.step.Handled.{Handled}
+use Rattle.handled_list.specs.declared.handled.Handled.{Handled}
 use Rattle.thread_records.specs.Histories.{outcome_of}
 use Rattle.thread_records.specs.Works.{WorkView}
 

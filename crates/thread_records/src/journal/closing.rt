@@ -12,11 +12,11 @@ ghost use Rattle.thread_records.specs.Ends.{all_handled, items_of, uses_installe
 ghost use Rattle.thread_records.specs.Ends.{JudgesLife, UnlessMemory, with_serves, with_all_serves, with_life_ended, left_over};
 
 use super::Journal;
-use crate::step::Handled;
 use crate::work::WorkerRecord;
 use cluster_node::{Cause, Event, Item, Outcome};
 use connection_table::ConnTable;
 use forwarder::Choice;
+use handled_list::{Handled, HandledList};
 use selection::Scheme;
 use std::alloc::AllocError;
 use thiserror::Error;
@@ -81,10 +81,18 @@ fn outcome_of(node: u16, worker: u16, handled: &Handled) -> Outcome
 }
 
 // Whether each version that was used was installed.
-fn uses_installed(installed: &[u32], handled: &[Handled]) -> bool
-    ensures { result ≡ uses_installed installed.now handled.now }
+fn uses_installed(installed: &[u32], handled: &HandledList) -> bool
+    ensures { result ≡ uses_installed installed.now handled.now.items }
 {
-    handled.iter().all(|one| has(installed, one.version))
+    for at in 0..handled.len() {
+        let Some(one) = handled.get(at) else {
+            return false;
+        };
+        if !has(installed, one.version) {
+            return false;
+        }
+    }
+    true
 }
 
 fn all_use_installed<S: Scheme, T: ConnTable>(
@@ -105,14 +113,17 @@ fn is_item(handled: &Handled, item: &Item) -> bool
 }
 
 // Whether what was handled is a prefix of what was placed.
-fn begins(placed: &[Item], handled: &[Handled]) -> bool
-    ensures { IsTrue result ↔ (items_of handled.now ≡ take (length handled.now) placed.now) }
+fn begins(placed: &[Item], handled: &HandledList) -> bool
+    ensures { IsTrue result ↔ (items_of handled.now.items ≡ take (length handled.now.items) placed.now) }
 {
     if handled.len() > placed.len() {
         return false;
     }
     for at in 0..handled.len() {
-        if !is_item(&handled[at], &placed[at]) {
+        let Some(one) = handled.get(at) else {
+            return false;
+        };
+        if !is_item(&one, &placed[at]) {
             return false;
         }
     }
@@ -120,8 +131,8 @@ fn begins(placed: &[Item], handled: &[Handled]) -> bool
 }
 
 // Whether what was handled is what was placed; where the life wasn't drained, a prefix of that.
-fn serves_placed(drained: bool, placed: &[Item], handled: &[Handled]) -> bool
-    ensures { IsTrue result ↔ ServesPlaced drained placed.now handled.now }
+fn serves_placed(drained: bool, placed: &[Item], handled: &HandledList) -> bool
+    ensures { IsTrue result ↔ ServesPlaced drained placed.now handled.now.items }
 {
     if drained && handled.len() != placed.len() {
         return false;
@@ -206,7 +217,7 @@ impl Journal {
     }
 
     // Writes the servings of a worker. What is written is given back meanwhile, so that a long life isn't held twice.
-    fn write_serves(&mut self, worker: u16, handled: Vec<Handled>) -> Result<(), AllocError>
+    fn write_serves(&mut self, worker: u16, handled: HandledList) -> Result<(), AllocError>
         ensures { OnOk result (self.new ≡ with_serves worker handled.items self.old) }
     {
         let mut rest = handled;
@@ -214,7 +225,7 @@ impl Journal {
         while let Some(one) = rest.pop() {
             self.write_serve(worker, &one)?;
             if rest.len().is_multiple_of(GIVEN_BACK) {
-                rest.shrink_to_fit();
+                rest.shrink();
             }
         }
         Ok(())

@@ -1,5 +1,5 @@
 use Rattle.std.proofs.Common.{◌≡◌, ◌++◌, ◌∷◌, [], refl, arith, rules}
-use Rattle.thread_records.specs.declared.step.Handled.{Handled}
+use Rattle.handled_list.specs.declared.handled.Handled.{Handled}
 use Rattle.thread_records.specs.Works.{working_view}
 use Rattle.thread_records.proofs.Works.{worked_step, agrees_less}
 use Rattle.std.proofs.lemmas.List.Elements.{Contains-append_right}

@@ -1,5 +1,5 @@
 use Rattle.std.proofs.Common.{◌∙◌}
-use Rattle.thread_records.specs.declared.step.Handled.{Handled}
+use Rattle.handled_list.specs.declared.handled.Handled.{Handled}
 use Rattle.thread_roles.proofs.Counting.{counts_choice}
 use Rattle.thread_roles.proofs.working.serve_gated.Goals as goal
 

@@ -3,7 +3,7 @@ use Rattle.std.proofs.lemmas.List.{map_push, append-nil, append_assoc, take_all,
 use Rattle.std.proofs.lemmas.List.Elements.{All-nil, All-push, All-get_or}
 use Rattle.std.specs.Prelude.{All}
 use Rattle.cluster_node.specs.declared.serving.Item.{Item}
-use Rattle.thread_records.specs.declared.step.Handled.{Handled}
+use Rattle.handled_list.specs.declared.handled.Handled.{Handled}
 use Rattle.thread_records.specs.Works.{WorkView, IsOf}
 use Rattle.thread_records.specs.Journals.{AllFit, placed_on}
 use Rattle.thread_records.specs.Ends.{all_handled, with_all_serves, left_over}
@@ -42,7 +42,7 @@ loop-worker-preserved g c =
     let within : c.loop-worker.number < length c.args.self.now.placed = omega (arith, more, all, was.2, c.requires.all) in
     let few : length done < 16 = omega (arith, more, all, c.requires.few) in
     let left_is : c.loop-worker.left ≡ left_over (take c.loop-worker.number c.args.self.now.placed) (all_handled done) % 2 ^ 64 = was.4 ∙ ap (λ (n : ℕ). left_over (take n c.args.self.now.placed) (all_handled done) % 2 ^ 64) (sym was.2) in
-    let lens : c.len.result ≡ length hs = omega (arith, c.len.ensures, c.into_handled-handled.result.ok.0) in
+    let lens : c.len.result ≡ length hs = c.len.ensures in
     let waiting = c.left_of.ensures ∙ ap (λ (l : List (List Item)). length (placed_on l c.loop-worker.number) - c.len.result) same ∙ ap (λ (n : ℕ). length (placed_on c.args.self.now.placed c.loop-worker.number) - n) lens in (
       done ++ one ∷ [],
       append_assoc done (one ∷ []) c.next.new.self.rest.items ∙ whole,

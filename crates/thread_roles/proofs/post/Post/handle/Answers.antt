@@ -1,7 +1,7 @@
 use Rattle.std.proofs.Common.{◌≡◌, ◌≤◌, ◌++◌, ◌∷◌, [], ℕ, List, ap, subst, ◌∙◌}
 use Rattle.std.specs.List.{All}
 use Rattle.version_board.specs.Seats.{seen_by}
-use Rattle.thread_records.specs.declared.step.Handled.{Handled}
+use Rattle.handled_list.specs.declared.handled.Handled.{Handled}
 use Rattle.thread_roles.proofs.Steps.{step_weaker}
 use Rattle.thread_roles.proofs.post.Post.handle.Goals as goal
 
