@@ -19,7 +19,7 @@ use cluster_core::Setup;
 use cluster_node::{Item, Outcome, Packet};
 use connection_table::ConnTable;
 use forwarder::Choice;
-use handled_list::{Handled, HandledList};
+use handled_list::HandledList;
 use hash_laws::FlowHash;
 use pool_versions::Catalogue;
 use selection::Scheme;
@@ -76,11 +76,10 @@ fn knows(catalogue: &Catalogue, number: u32) -> bool
 fn gather(sent: &mut Vec<u32>, first: usize, handled: &HandledList) -> Result<(), AllocError> {
     let mut number = u32::try_from(first).unwrap_or(u32::MAX);
     for at in 0..handled.len() {
-        if let Some(Handled {
-            choice: Choice::Forward { .. },
-            ..
-        }) = handled.get(at)
-        {
+        let Some(one) = handled.get(at) else {
+            break;
+        };
+        if let Choice::Forward { .. } = one.choice {
             sent.push(number)?;
         }
         number = number.wrapping_add(1);
