@@ -1,5 +1,4 @@
-//! Tests of lists of outcomes and of what was handled, and of the places of their backends. With any one allocation refused
-//! they pass too.
+//! Tests of lists of outcomes and of what was handled, and of the places of their backends.
 #![tactic(auto)]
 
 #[cfg(test)]
